@@ -1,0 +1,6 @@
+pub mod Steps
+pub mod Splices
+pub mod Cuts
+pub mod Trips
+pub mod Further
+pub mod Rises
