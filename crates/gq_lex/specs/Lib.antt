@@ -1,0 +1,4 @@
+pub mod Bytes
+pub mod Places
+pub mod Reading
+pub mod Tokens

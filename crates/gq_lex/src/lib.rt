@@ -1,0 +1,13 @@
+//! The tokens of a text.
+#![tactic(auto)]
+
+pub mod laws;
+pub mod lexer;
+pub mod token;
+
+pub use gq_text::Span;
+pub use lexer::lex;
+pub use token::{BadKind, Kind, LexFault, TOKENS_MAX, Token};
+
+#[cfg(test)]
+mod tests;
