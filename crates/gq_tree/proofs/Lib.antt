@@ -1,0 +1,4 @@
+pub mod ForestLemmas
+pub mod Trees
+pub mod Sameness
+pub mod NameLemmas

@@ -1,0 +1,8 @@
+use Rattle.std.proofs.Common.{◌≡◌, ◌++◌, drop}
+use Rattle.gq_tree.specs.Names.{spread_names, names_at}
+use Rattle.gq_tree.specs.Views.{sels_view}
+use Rattle.gq_tree.proofs.names.+gather.Given as goal
+
+abbrev pub invariant-gather_selections-loop-selection : goal.invariant-gather_selections-loop-selection
+invariant-gather_selections-loop-selection l =
+    names_at l.names.items ++ spread_names (sels_view (drop l.selection-index l.selections)) ≡ names_at l.initial.names.items ++ spread_names (sels_view l.selections)

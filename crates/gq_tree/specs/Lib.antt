@@ -1,0 +1,5 @@
+pub mod Forest
+pub mod Plain
+pub mod Views
+pub mod Names
+pub mod Same
