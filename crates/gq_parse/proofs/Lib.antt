@@ -1,0 +1,5 @@
+pub mod Unique
+pub mod Documents
+pub mod Missing
+pub mod Nesting
+pub mod Derivations

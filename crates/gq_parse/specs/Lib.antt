@@ -1,0 +1,5 @@
+pub mod Grammar
+pub mod Limits
+pub mod Derives
+pub mod Faults
+pub mod From
