@@ -1,0 +1,5 @@
+pub mod Making
+pub mod Naming
+pub mod Fitting
+pub mod Placing
+pub mod InOrder

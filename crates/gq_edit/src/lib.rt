@@ -1,0 +1,18 @@
+//! Edits of documents.
+#![tactic(auto)]
+
+pub mod applying;
+pub mod edit;
+pub mod positions;
+pub mod replacements;
+pub mod workspace;
+
+pub use applying::{apply, document};
+pub use edit::{DocumentEdit, Edit, EditFault};
+pub use gq_text::Replacement;
+pub use positions::to_positions;
+pub use replacements::{Replacements, replaced_fits, replaced_text};
+pub use workspace::{TextDocumentEdit, TextEdit, WorkspaceEdit};
+
+#[cfg(test)]
+mod tests;
