@@ -1,0 +1,5 @@
+pub mod Retelling
+pub mod Regrammar
+pub mod Renaming
+pub mod Spellings
+pub mod Answering

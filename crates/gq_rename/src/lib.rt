@@ -1,0 +1,14 @@
+//! Renames of fragments.
+#![tactic(auto)]
+
+pub mod name;
+pub mod refusal;
+pub mod rename;
+mod target;
+
+pub use name::is_fragment_name;
+pub use refusal::Refusal;
+pub use rename::rename_fragment;
+
+#[cfg(test)]
+mod tests;
