@@ -1,0 +1,11 @@
+pub mod Places
+pub mod Streams
+pub mod Sends
+pub mod Stable
+pub mod Bodies
+pub mod Paths
+pub mod Escapes
+pub mod Values
+pub mod Unique
+pub mod Framed
+pub mod Stays

@@ -1,0 +1,110 @@
+-- Which JSON value a message to the client is, the members of objects in byte order of their names, and its frame.
+use Rattle.std.specs.Prelude.{ℕ, ℤ, negsuc, List, [], ◌∷◌, ◌++◌, map, Bool, true, codes, Option, Some, None, if◌then◌else◌}
+use Rattle.serde_json.specs.Data.{Data, null, boolean, number, string, array, object, Members, no_members, member, unsigned}
+use Rattle.serde_json.specs.Find.{of_integer}
+use Rattle.serde_json.specs.View.{items_of}
+use Rattle.serde_json.specs.Written.{compact_text}
+use Rattle.gq_text.specs.declared.place.Position.{Position}
+use Rattle.gq_text.specs.declared.text.Range.{Range}
+use Rattle.gq_edit.specs.declared.workspace.TextEdit.{TextEdit}
+use Rattle.gq_edit.specs.declared.workspace.TextDocumentEdit.{TextDocumentEdit}
+use Rattle.gq_edit.specs.declared.workspace.WorkspaceEdit.{WorkspaceEdit}
+use Rattle.gq_rpc.specs.Frames.{frame}
+use Rattle.gq_rpc.specs.declared.messages.Id.{Id}
+use Rattle.gq_rpc.specs.declared.messages.Id.TheVariants as id
+use Rattle.gq_rpc.specs.declared.messages.ServerCapabilities.{ServerCapabilities}
+use Rattle.gq_rpc.specs.declared.messages.ResponseError.{ResponseError}
+use Rattle.gq_rpc.specs.declared.messages.ResponseError.TheVariants as error
+use Rattle.gq_rpc.specs.declared.messages.Outgoing.{Outgoing}
+use Rattle.gq_rpc.specs.declared.messages.Outgoing.TheVariants as outgoing
+
+abbrev pub id_value : Id → Data
+id_value (id.Number n) = number (of_integer n)
+id_value (id.Text s) = string s
+
+-- the id, or null
+abbrev pub id_or_null : Option Id → Data
+id_or_null (Some name) = id_value name
+id_or_null None = null
+
+-- a response with a result
+abbrev pub response : Id → Data → Data
+response name result = object (member (codes "id") (id_value name) (member (codes "jsonrpc") (string (codes "2.0")) (member (codes "result") result no_members)))
+
+-- a response with an error
+abbrev pub error_response : Option Id → ℤ → List ℕ → Data
+error_response name code message =
+    object (member (codes "error") (object (member (codes "code") (number (of_integer code)) (member (codes "message") (string message) no_members)))
+    (member (codes "id") (id_or_null name)
+    (member (codes "jsonrpc") (string (codes "2.0")) no_members)))
+
+-- ---- the result of initialize
+
+-- texts are sent whole when they are opened, and then by their changes
+abbrev pub synchronization : Data
+synchronization = object (member (codes "change") (number (unsigned 2)) (member (codes "openClose") (boolean true) no_members))
+
+abbrev pub capability_members : ServerCapabilities → Members
+capability_members capabilities =
+    if capabilities.rename_provider
+    then member (codes "renameProvider") (boolean true) (member (codes "textDocumentSync") synchronization no_members)
+    else member (codes "textDocumentSync") synchronization no_members
+
+abbrev pub initialize_result : ServerCapabilities → Data
+initialize_result capabilities =
+    object (member (codes "capabilities") (object (capability_members capabilities))
+    (member (codes "serverInfo") (object (member (codes "name") (string (codes "gqls")) no_members)) no_members))
+
+-- ---- the result of a rename
+
+abbrev pub position_value : Position → Data
+position_value p = object (member (codes "character") (number (unsigned p.character)) (member (codes "line") (number (unsigned p.line)) no_members))
+
+abbrev pub range_value : Range → Data
+range_value r = object (member (codes "end") (position_value r.end) (member (codes "start") (position_value r.start) no_members))
+
+abbrev pub text_edit_value : TextEdit → Data
+text_edit_value e = object (member (codes "newText") (string e.new_text) (member (codes "range") (range_value e.range) no_members))
+
+-- the document that an edit is of, with its version
+abbrev pub edited_document : TextDocumentEdit → Data
+edited_document d = object (member (codes "uri") (string d.uri) (member (codes "version") (number (of_integer d.version)) no_members))
+
+abbrev pub document_edit_value : TextDocumentEdit → Data
+document_edit_value d =
+    object (member (codes "edits") (array (items_of (map text_edit_value d.edits))) (member (codes "textDocument") (edited_document d) no_members))
+
+abbrev pub workspace_edit_value : WorkspaceEdit → Data
+workspace_edit_value w = object (member (codes "documentChanges") (array (items_of (map document_edit_value w.document_changes))) no_members)
+
+-- ---- errors
+
+-- the code of an error: -32700, -32600, -32601, -32602, -32002, -32803
+abbrev pub code_of : ResponseError → ℤ
+code_of error.ParseError = negsuc 32699
+code_of error.InvalidRequest = negsuc 32599
+code_of error.MethodNotFound = negsuc 32600
+code_of error.InvalidParams = negsuc 32601
+code_of error.NotInitialized = negsuc 32001
+code_of (error.RequestFailed why) = negsuc 32802
+
+abbrev pub words_of : ResponseError → List ℕ
+words_of error.ParseError = codes "parse error"
+words_of error.InvalidRequest = codes "invalid request"
+words_of error.MethodNotFound = codes "method not found"
+words_of error.InvalidParams = codes "invalid params"
+words_of error.NotInitialized = codes "not initialized"
+words_of (error.RequestFailed why) = why
+
+-- ---- messages
+
+-- the value that a message is
+abbrev pub value_of : Outgoing → Data
+value_of (outgoing.Initialized name capabilities) = response name (initialize_result capabilities)
+value_of (outgoing.Renamed name edit) = response name (workspace_edit_value edit)
+value_of (outgoing.ShutDown name) = response name null
+value_of (outgoing.Error name why) = error_response name (code_of why) (words_of why)
+
+-- what is written for a message
+abbrev pub frame_of : Outgoing → List ℕ
+frame_of message = frame (compact_text (value_of message))

@@ -1,0 +1,7 @@
+pub mod Lines
+pub mod Frames
+pub mod Cutting
+pub mod Devices
+pub mod Decoding
+pub mod Encoding
+pub mod Keys

@@ -1,0 +1,25 @@
+//! The language server's side of the wire: frames of bytes, the messages in them, and the keys of documents.
+#![tactic(auto)]
+
+pub mod devices;
+pub mod framer;
+pub mod header;
+pub mod keys;
+pub mod laws;
+pub mod messages;
+pub mod reads;
+pub mod writes;
+
+pub use devices::{Flagged, Reading, Sink, SinkFailed, Source, send};
+pub use framer::Framer;
+pub use header::{FrameFault, Scan, scan_front};
+pub use keys::key_of;
+pub use messages::{
+    ClientCapabilities, Id, Incoming, Notification, Outgoing, RenameParams, Request, ResponseError,
+    ServerCapabilities, TextDocumentItem,
+};
+pub use reads::{decode, read_message};
+pub use writes::encode;
+
+#[cfg(test)]
+mod tests;
