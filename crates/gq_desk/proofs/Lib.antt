@@ -1,0 +1,4 @@
+pub mod Openings
+pub mod Histories
+pub mod Answering
+pub mod Renaming

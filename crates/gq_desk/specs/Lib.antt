@@ -1,0 +1,4 @@
+pub mod Documents
+pub mod Session
+pub mod Replies
+pub mod History
