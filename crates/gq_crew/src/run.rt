@@ -1,0 +1,153 @@
+//! A run: the frames that come in, and the frames of the replies.
+ghost use Rattle.std.specs.Prelude.{Bool, Option, List, ℕ, ◌≡◌, ◌<◌, length, true, false, Some, None, IfSome};
+ghost use Rattle.gq_rpc.specs.Frames.{scan_of};
+ghost use Rattle.gq_rpc.specs.declared.header.Scan.TheVariants.{Partial};
+ghost use Rattle.gq_desk.specs.Session.{start};
+ghost use Rattle.gq_crew.specs.Runs.{SourceAfter, Runs};
+ghost use Rattle.gq_crew.specs.Turns.{TellsFault, TakesPiece, Turns};
+
+use crate::serving::{ServeFault, Served, serve_bodies};
+use gq_desk::Desk;
+use gq_rpc::{FrameFault, Framer, Reading, Sink, Source};
+use std::alloc::Global;
+use thiserror::Error;
+
+/// How many bytes are read at once, at most.
+const BUFFER_LEN: usize = 16_384;
+
+/// How often a run reads, at most.
+const READS_MAX: u64 = 1 << 60;
+
+/// The status of a run that a fault ended.
+const FAULT_STATUS: u8 = 3;
+
+/// The status of a run that the end of its input ended.
+const END_STATUS: u8 = 1;
+
+/// Why a run ended early. It is printed as its name.
+#[derive(Clone, Copy, Debug, PartialEq, Eq, Error)]
+pub enum RunFault {
+    /// No frame can be read from the input.
+    #[error("{0}")]
+    Frame(FrameFault),
+    /// The source or the sink has failed, or the source was read 2^60 times.
+    #[error("Device")]
+    Device,
+    /// A growth was refused.
+    #[error("NoMemory")]
+    NoMemory,
+}
+
+/// How a run ended.
+#[derive(Clone, Copy, Debug, PartialEq, Eq)]
+pub struct Ended {
+    /// The status of the process: that of `exit`; 1 where the input ended without it; 3 after a fault.
+    pub status: u8,
+    pub fault: Option<RunFault>,
+}
+
+/// What one read led to.
+#[derive(Clone, Copy, Debug, PartialEq, Eq)]
+pub enum Turn {
+    /// There is more to read.
+    Again,
+    Done(Ended),
+}
+
+/// The end at a fault.
+fn failed(fault: RunFault) -> Turn
+    ensures { result ≡ Turn.Done (record { status = 3; fault = Some fault }) }
+{
+    Turn::Done(Ended {
+        status: FAULT_STATUS,
+        fault: Some(fault),
+    })
+}
+
+/// The end without one.
+fn stopped(status: u8) -> Turn
+    ensures { result ≡ Turn.Done (record { status = status; fault = None }) }
+{
+    Turn::Done(Ended {
+        status,
+        fault: None,
+    })
+}
+
+/// Serves the bodies that a piece of the input completes.
+fn take_piece<K: Sink>(
+    alloc: Global,
+    desk: &mut Desk,
+    framer: &mut Framer,
+    piece: &[u8],
+    output: &mut K,
+) -> Turn
+    requires works { K.failed output.old ≡ false }
+    requires some { 0 < length piece.now }
+    ensures takes { IfSome framer.old (λ before. (source : SourceAfter) → TakesPiece desk.old desk.new before piece.now framer.new source
+        (K.held output.old) (record { held = K.held output.new; failed = K.failed output.new }) result) }
+    ensures sink { TellsFault false (K.failed output.new) result }
+{
+    let mut bodies = Vec::new(alloc);
+    let answer = framer.feed(alloc, piece, &mut bodies);
+    match serve_bodies(alloc, desk, &bodies, output) {
+        Served::Stop(status) => stopped(status),
+        Served::Failed(ServeFault::Device) => failed(RunFault::Device),
+        Served::Failed(ServeFault::NoMemory) => failed(RunFault::NoMemory),
+        Served::Go => match answer {
+            Ok(()) => Turn::Again,
+            Err(fault) => failed(RunFault::Frame(fault)),
+        },
+    }
+}
+
+/// Reads once, and serves what the bytes complete.
+fn take_turn<S: Source, K: Sink>(
+    alloc: Global,
+    desk: &mut Desk,
+    framer: &mut Framer,
+    buffer: &mut [u8],
+    input: &mut S,
+    output: &mut K,
+) -> Turn
+    requires works { K.failed output.old ≡ false }
+    requires room { 0 < length buffer.old }
+    ensures turns { IfSome framer.old (λ before. scan_of before ≡ Partial → Turns desk.old desk.new before framer.new (S.left input.old)
+        (record { left = S.left input.new; ended = S.ended input.new; failed = S.failed input.new })
+        (K.held output.old) (record { held = K.held output.new; failed = K.failed output.new }) result) }
+    ensures source { TellsFault (S.failed input.old) (S.failed input.new) result }
+    ensures sink { TellsFault false (K.failed output.new) result }
+{
+    match input.read(buffer) {
+        Reading::Bytes(n) => take_piece(alloc, desk, framer, &buffer[..n], output),
+        Reading::End => match framer.end() {
+            Ok(()) => stopped(END_STATUS),
+            Err(fault) => failed(RunFault::Frame(fault)),
+        },
+        Reading::Failed => failed(RunFault::Device),
+    }
+}
+
+/// Reads the input up to `exit`, its end or a fault, and writes the frames of replies to the bodies that stand in it, in
+/// order, however the reads cut it. After a fault of memory or of the sink what was written is a front of these frames.
+pub fn run_one<S: Source, K: Sink>(alloc: Global, input: &mut S, output: &mut K) -> Ended
+    requires { K.failed output.old ≡ false }
+    ensures runs { Runs start (S.left input.old) (record { left = S.left input.new; ended = S.ended input.new; failed = S.failed input.new })
+        (K.held output.old) (record { held = K.held output.new; failed = K.failed output.new }) result }
+    ensures source { S.failed input.old ≡ false → S.failed input.new ≡ true → result.fault ≡ Some RunFault.Device }
+    ensures sink { K.failed output.new ≡ true → result.fault ≡ Some RunFault.Device }
+{
+    let mut desk = Desk::new(alloc);
+    let mut framer = Framer::new(alloc);
+    let mut buffer = [0u8; BUFFER_LEN];
+    for reads in 0..READS_MAX {
+        match take_turn(alloc, &mut desk, &mut framer, &mut buffer, input, output) {
+            Turn::Again => {}
+            Turn::Done(ended) => return ended,
+        }
+    }
+    Ended {
+        status: FAULT_STATUS,
+        fault: Some(RunFault::Device),
+    }
+}
