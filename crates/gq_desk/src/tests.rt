@@ -1,4 +1,4 @@
-use crate::Desk;
+use crate::{Desk, Outcome};
 use gq_rpc::{encode, read_message};
 use std::alloc::Global;
 use std::process::Abort;
@@ -19,16 +19,16 @@ const EXIT: &str = r#"{"method":"exit"}"#;
 /// Takes one message: the body of the reply to it, `-` where there is none, and the status where it stops the session.
 fn tell(alloc: Global, desk: &mut Desk, body: &str) -> Result<(String, Option<u8>), Fail> {
     let message = read_message(alloc, body.as_bytes())?;
-    let outcome = desk.step(alloc, message)?;
-    let Some(reply) = outcome.reply else {
-        return Ok((String::from_str(alloc, "-")?, outcome.stop));
+    let Outcome { reply, stop } = desk.step(alloc, message)?;
+    let Some(reply) = reply else {
+        return Ok((String::from_str(alloc, "-")?, stop));
     };
     let frame = String::from_utf8(encode(alloc, &reply)?)?;
     let body = match frame.as_str().split_once("\r\n\r\n") {
         Some((_, body)) => String::from_str(alloc, body)?,
         None => frame,
     };
-    Ok((body, outcome.stop))
+    Ok((body, stop))
 }
 
 /// What opens q with this text.
