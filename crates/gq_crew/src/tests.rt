@@ -36,6 +36,9 @@ const SAME_NAME: &str =
 const NOTHING_HERE: &str =
     "Content-Length: 74\r\n\r\n{\"error\":{\"code\":-32803,\"message\":\"2 NothingHere\"},\"id\":2,\"jsonrpc\":\"2.0\"}";
 
+const NO_MEMORY: &str =
+    "Content-Length: 72\r\n\r\n{\"error\":{\"code\":-32803,\"message\":\"12 NoMemory\"},\"id\":2,\"jsonrpc\":\"2.0\"}";
+
 const SHUT_DOWN: &str = "Content-Length: 38\r\n\r\n{\"id\":3,\"jsonrpc\":\"2.0\",\"result\":null}";
 
 const INVALID: &str =
@@ -375,6 +378,41 @@ fn a_sink_that_fails_has_a_front(rt: HostRuntime) -> Result<(), Fail> {
                 assert_eq!(rt; sink.bytes.len(), want.len());
                 assert_eq!(rt; ended, stopped(0));
             }
+        }
+    }
+    Ok(())
+}
+
+/// Whether the bytes are a front of these texts, one after another.
+fn is_front(bytes: &[u8], texts: &[&str; 3]) -> bool {
+    let mut rest = bytes;
+    for text in texts {
+        let count = rest.len().min(text.len());
+        if rest[..count] != text.as_bytes()[..count] {
+            return false;
+        }
+        rest = &rest[count..];
+    }
+    rest.is_empty()
+}
+
+/// Whatever growth is refused: what is written is a front of the replies, or of the replies with the rename refused, and a
+/// run that does not come to its end says why.
+#[test]
+fn a_refused_growth_is_told(rt: HostRuntime) -> Result<(), Fail> {
+    let input = session(rt.alloc(), &[OPEN_S, OPEN_Q], 11, "B")?;
+    let (written, ended) = run(rt.alloc(), input.as_str().as_bytes(), usize::MAX);
+    let ample = is_front(&written, &[INITIALIZED, RENAMED, SHUT_DOWN]);
+    let refused = is_front(&written, &[INITIALIZED, NO_MEMORY, SHUT_DOWN]);
+    assert!(rt; ample || refused);
+    match ended.fault {
+        None => {
+            assert_eq!(rt; ended.status, 0);
+            assert!(rt; written.as_slice().ends_with(SHUT_DOWN.as_bytes()));
+        }
+        Some(fault) => {
+            assert_eq!(rt; ended.status, 3);
+            assert!(rt; fault != RunFault::Frame(FrameFault::Failed));
         }
     }
     Ok(())
