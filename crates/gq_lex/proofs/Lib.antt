@@ -1,3 +1,9 @@
+pub mod Characters
+pub mod Edges
+pub mod Faulting
+pub mod Numerals
 pub mod Pieces
+pub mod Quotes
 pub mod Readings
+pub mod Runs
 pub mod Standing

@@ -6,18 +6,19 @@ use Rattle.gq_lex.specs.declared.token.Kind.{Kind}
 use Rattle.gq_lex.specs.declared.token.BadKind.{BadKind}
 use Rattle.gq_lex.specs.Reading.{piece_at, Found, IsPiece}
 use Rattle.gq_lex.specs.Tokens.{IsBadAt, IsLimitAt, IsIgnored, IsToken, Lexeme, lexeme_at, ReadsTo, here, ignored, token, Reads, IsStuck}
-use Rattle.gq_lex.proofs.Pieces.{token_edges, ok_inj, ignored_is, token_is}
+use Rattle.gq_lex.proofs.Edges.{token_edges}
+use Rattle.gq_lex.proofs.Pieces.{ok_inj, ignored_is, token_is}
 use Rattle.gq_lex.proofs.Standing.{cut_of}
 
-pair_inj : {A B C : Type 0} {a c : A} {b d : B} → ◌≡◌ {A = Result (A × B) C} (Ok (a, b)) (Ok (c, d)) → (a ≡ c) × (b ≡ d)
+pub pair_inj : {A B C : Type 0} {a c : A} {b d : B} → ◌≡◌ {A = Result (A × B) C} (Ok (a, b)) (Ok (c, d)) → (a ≡ c) × (b ≡ d)
 pair_inj {A} {B} {C} {a} {c} {b} {d} h =
     let e : ◌≡◌ {A = A × B} (a, b) (c, d) = ok_inj h in
     (ap (λ (p : A × B). p.0) e, ap (λ (p : A × B). p.1) e)
 
-same_part : (text a x b y : List ℕ) → text ≡ a ++ x → text ≡ b ++ y → length a ≡ length b → a ≡ b
+pub same_part : (text a x b y : List ℕ) → text ≡ a ++ x → text ≡ b ++ y → length a ≡ length b → a ≡ b
 same_part text a x b y p q e = sym (take_at a x (length b) e) ∙ ap (take (length b)) (sym p ∙ q) ∙ take_at b y (length b) refl
 
-same_after : (text a x b y : List ℕ) → text ≡ a ++ x → text ≡ b ++ y → length a ≡ length b → x ≡ y
+pub same_after : (text a x b y : List ℕ) → text ≡ a ++ x → text ≡ b ++ y → length a ≡ length b → x ≡ y
 same_after text a x b y p q e = sym (drop_at a x (length b) e) ∙ ap (drop (length b)) (sym p ∙ q) ∙ drop_at b y (length b) refl
 
 no_ignored_empty : (part after : List ℕ) → [] ≡ part ++ after → IsIgnored part after → ⊥

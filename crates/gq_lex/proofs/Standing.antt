@@ -7,7 +7,7 @@ use Rattle.std.proofs.lemmas.List.Elements.{All-nil, All-cons}
 use Rattle.std.proofs.lemmas.Str.{IsCharBoundary-before_ascii, IsCharBoundary-after_ascii}
 use Rattle.gq_lex.specs.Tokens.{Lexeme, lexeme_at, ReadsTo, here, ignored, token, Reads}
 use Rattle.gq_lex.specs.Places.{StandIn, IsCutOf}
-use Rattle.gq_lex.proofs.Pieces.{Edges, token_edges}
+use Rattle.gq_lex.proofs.Edges.{Edges, token_edges}
 
 -- tokens that stand from a place on stand from an earlier one on
 pub stand_earlier : (text : List ℕ) (at to : ℕ) (tokens : List Lexeme) → at ≤ to → StandIn text to tokens → StandIn text at tokens

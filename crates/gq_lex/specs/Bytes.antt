@@ -1,6 +1,6 @@
 -- Classes of the bytes of a text in UTF-8. A character beyond ASCII has bytes from 128 on.
-use Rattle.std.specs.Prelude.{ℕ, ◌==◌, ◌||◌, nat_le, Bool, List, [], ◌∷◌, Option, Some, None, if◌then◌else◌}
-use Rattle.std.specs.Char.{is_ascii_alphabetic, is_ascii_alphanumeric}
+use Rattle.std.specs.Prelude.{◌≡◌, ℕ, ◌==◌, ◌||◌, nat_le, Bool, true, false, List, [], ◌∷◌, Option, Some, None, if◌then◌else◌}
+use Rattle.std.specs.Char.{is_ascii_alphabetic, is_ascii_alphanumeric, is_ascii_digit}
 use Rattle.gq_lex.specs.declared.token.Kind.{Kind}
 use Rattle.gq_lex.specs.declared.token.Kind.TheVariants.{Bang, Dollar, Ampersand, ParenOpen, ParenClose, Colon, Equals, At, BracketOpen, BracketClose, BraceOpen, Pipe, BraceClose}
 
@@ -23,6 +23,20 @@ is_name_start b = b == 95 || is_ascii_alphabetic b
 -- 2.1.9 NameContinue: a letter, a digit or an underscore
 abbrev pub is_name_continue : ℕ → Bool
 is_name_continue b = b == 95 || is_ascii_alphanumeric b
+
+-- 2.9.1 Digit
+abbrev pub is_digit : ℕ → Bool
+is_digit b = is_ascii_digit b
+
+-- each byte passes
+abbrev pub Passes : (ℕ → Bool) → List ℕ → Type 0
+Passes p [] = Unit {0}
+Passes p (b ∷ bs) = (p b ≡ true) × Passes p bs
+
+-- lookahead: the text ends, or its first byte does not pass
+abbrev pub Stops : (ℕ → Bool) → List ℕ → Type 0
+Stops p [] = Unit {0}
+Stops p (b ∷ bs) = p b ≡ false
 
 -- the value beside a number in a table
 abbrev pub look_up : {X : Type 0} → ℕ → List (ℕ × X) → Option X

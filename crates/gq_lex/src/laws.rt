@@ -3,12 +3,19 @@
 ghost use Rattle.std.specs.Prelude.{◌≡◌, ℕ, ◌^◌, ◌<◌, List, length, All};
 ghost use Rattle.std.specs.Str.{IsUtf8};
 ghost use Rattle.gq_lex.specs.declared.token.BadKind.{BadKind};
+ghost use Rattle.gq_lex.specs.declared.token.LexFault.{LexFault};
+ghost use Rattle.gq_lex.specs.Faults.{IsFault};
 ghost use Rattle.gq_lex.specs.Tokens.{Lexeme, Reads, IsBadAt, IsLimitAt};
 ghost use Rattle.gq_lex.specs.Places.{StandIn, IsCutOf};
 
 /// A text reads as at most one list of tokens.
 pub fn one_reading()
     ensures { (text : List ℕ) (a b : List Lexeme) → Reads text a → Reads text b → a ≡ b }
+{}
+
+/// A text has at most one fault: its place and what it is are determined.
+pub fn one_fault()
+    ensures { (text : List ℕ) (a b : LexFault) → IsFault text a → IsFault text b → a ≡ b }
 {}
 
 /// A text with a fault reads as no tokens.

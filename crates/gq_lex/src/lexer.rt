@@ -1,18 +1,20 @@
 //! Reads the tokens of a text: what stands at a place, and from there to the end.
 
 ghost use Rattle.std.specs.Prelude.{◌-◌, ◌≡◌, ℕ, ◌+◌, ◌^◌, ◌<◌, ◌≤◌, ◌++◌, ◌∷◌, [], IfOk, IfErr, OnOk, length, map, take, drop};
-ghost use Rattle.std.specs.List.{prefix_len};
 ghost use Rattle.std.specs.Str.{IsCharBoundary};
 ghost use Rattle.gq_lex.specs.declared.token.BadKind.{BadKind};
-ghost use Rattle.gq_lex.specs.Bytes.{is_white_space, is_line_terminator, is_name_start, is_name_continue, is_comment_byte, punctuator};
-ghost use Rattle.gq_lex.specs.Reading.{is_blank, class_of, sign_class, piece_at, whole_at, Found, IsFaulty};
+ghost use Rattle.gq_lex.specs.Bytes.{punctuator};
+ghost use Rattle.gq_lex.specs.Reading.{class_of, sign_class, piece_at, whole_at, Found, IsFaulty};
 ghost use Rattle.gq_lex.specs.Tokens.{Reads, IsBadAt, IsLimitAt, lexeme_of};
 
+use crate::bytes::{comment_len, is_blank, is_name_start, is_number_start, name_len};
+use crate::numbers::number;
+use crate::quoted::quoted;
 use crate::token::{BadKind, Kind, LexFault, TOKENS_MAX, Token};
 use gq_text::Span;
 use std::alloc::Global;
 
-/// The tokens of a text, in order (sections 2.1.6 to 2.1.9). `Err` tells what stands first in the text: what cannot be
+/// The tokens of a text, in order (sections 2.1.6 to 2.1.9, 2.9.1, 2.9.2, 2.9.4). `Err` tells what stands first in the text: what cannot be
 /// read, or the start of one token too many; `LexFault::NoMemory` only where a growth was refused.
 pub fn lex<'a>(alloc: Global, text: &'a str) -> Result<Vec<Token<'a>>, LexFault>
     // The tokens are those that the text reads as.
@@ -66,42 +68,6 @@ fn cut<'a>(text: &'a str, start: usize, end: usize) -> &'a str
     &text[start..end]
 }
 
-fn is_white_space(b: u8) -> bool
-    ensures { result ≡ is_white_space b }
-{
-    b == b'\t' || b == b' '
-}
-
-fn is_line_terminator(b: u8) -> bool
-    ensures { result ≡ is_line_terminator b }
-{
-    b == b'\n' || b == b'\r'
-}
-
-fn is_blank(b: u8) -> bool
-    ensures { result ≡ is_blank b }
-{
-    is_white_space(b) || is_line_terminator(b) || b == b','
-}
-
-fn is_name_start(b: u8) -> bool
-    ensures { result ≡ is_name_start b }
-{
-    b == b'_' || b.is_ascii_alphabetic()
-}
-
-fn is_name_continue(b: u8) -> bool
-    ensures { result ≡ is_name_continue b }
-{
-    b == b'_' || b.is_ascii_alphanumeric()
-}
-
-fn is_comment_byte(b: u8) -> bool
-    ensures { result ≡ is_comment_byte b }
-{
-    b >= b' ' || b == b'\t'
-}
-
 fn punctuator(b: u8) -> Option<Kind>
     ensures { result ≡ punctuator b }
 {
@@ -123,32 +89,6 @@ fn punctuator(b: u8) -> Option<Kind>
     }
 }
 
-// How many bytes of a name stand at the front.
-fn name_len(bytes: &[u8]) -> usize
-    ensures count { result ≡ prefix_len is_name_continue bytes.now }
-    ensures within { result ≤ length bytes.now }
-{
-    for (i, b) in bytes.iter().enumerate() {
-        if !is_name_continue(*b) {
-            return i;
-        }
-    }
-    bytes.len()
-}
-
-// How many bytes of a comment stand at the front.
-fn comment_len(bytes: &[u8]) -> usize
-    ensures count { result ≡ prefix_len is_comment_byte bytes.now }
-    ensures within { result ≤ length bytes.now }
-{
-    for (i, b) in bytes.iter().enumerate() {
-        if !is_comment_byte(*b) {
-            return i;
-        }
-    }
-    bytes.len()
-}
-
 // What a byte at the front begins.
 #[derive(Clone, Copy)]
 enum Class {
@@ -157,6 +97,8 @@ enum Class {
     Hash,
     Dot,
     Letter,
+    Figure,
+    Quotation,
     Sign(Kind),
     Other,
 }
@@ -168,11 +110,14 @@ fn class_of(b: u8) -> Class
         Class::Blank
     } else if is_name_start(b) {
         Class::Letter
+    } else if is_number_start(b) {
+        Class::Figure
     } else {
         match b {
             0xef => Class::Mark,
             b'#' => Class::Hash,
             b'.' => Class::Dot,
+            b'"' => Class::Quotation,
             _ => sign_class(b),
         }
     }
@@ -209,6 +154,8 @@ fn piece(bytes: &[u8]) -> Result<(Option<Kind>, usize), BadKind>
         Class::Hash => Ok((None, 1 + comment_len(&bytes[1..]))),
         Class::Dot => whole(bytes, b"...", Some(Kind::Spread)),
         Class::Letter => Ok((Some(Kind::Name), 1 + name_len(&bytes[1..]))),
+        Class::Figure => number(bytes),
+        Class::Quotation => quoted(bytes),
         Class::Sign(kind) => Ok((Some(kind), 1)),
         Class::Other => Err(BadKind::Char),
     }

@@ -1,8 +1,13 @@
 //! The tokens of a text.
 #![tactic(auto)]
 
+mod blocks;
+mod bytes;
 pub mod laws;
 pub mod lexer;
+mod numbers;
+mod quoted;
+mod strings;
 pub mod token;
 
 pub use gq_text::Span;

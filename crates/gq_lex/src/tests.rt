@@ -1,4 +1,6 @@
 use crate::{BadKind, Kind, LexFault, Span, lex};
+use std::alloc::Global;
+use std::process::Abort;
 use std::test::Fail;
 
 fn bad(place: usize) -> LexFault {
@@ -103,4 +105,245 @@ fn faults_are_told_in_words(rt: HostRuntime) -> Result<(), Fail> {
         assert_eq!(rt; format!(in rt.alloc(); "{fault}")?.as_str(), words);
     }
     Ok(())
+}
+
+// The kinds, starts and ends of a text's tokens.
+fn assert_tokens(
+    alloc: Global,
+    rt: &impl Abort,
+    text: &str,
+    want: &[(Kind, usize, usize)],
+) -> Result<(), Fail> {
+    let tokens = lex(alloc, text)?;
+    assert_eq!(rt; tokens.len(), want.len(), "{text:?}");
+    for (token, (kind, start, end)) in tokens.iter().zip(want) {
+        assert_eq!(rt; token.kind, *kind, "{text:?}");
+        assert_eq!(rt;
+            token.span,
+            Span {
+                start: *start,
+                end: *end
+            },
+            "{text:?}"
+        );
+    }
+    Ok(())
+}
+
+fn assert_faults(alloc: Global, rt: &impl Abort, kind: BadKind, table: &[(&str, usize)]) {
+    for (text, place) in table {
+        let fault = lex(alloc, text).err();
+        assert_eq!(rt;
+            fault,
+            Some(LexFault::Bad {
+                place: *place,
+                kind
+            }),
+            "{text:?}"
+        );
+    }
+}
+
+#[test]
+fn numbers_are_ints_and_floats(rt: HostRuntime) -> Result<(), Fail> {
+    assert_tokens(
+        rt.alloc(),
+        &rt,
+        "0 -0 7 -12 1.5 -0.0 1e5 1E+05 2e-0 1.25e7",
+        &[
+            (Kind::Int, 0, 1),
+            (Kind::Int, 2, 4),
+            (Kind::Int, 5, 6),
+            (Kind::Int, 7, 10),
+            (Kind::Float, 11, 14),
+            (Kind::Float, 15, 19),
+            (Kind::Float, 20, 23),
+            (Kind::Float, 24, 29),
+            (Kind::Float, 30, 34),
+            (Kind::Float, 35, 41),
+        ],
+    )?;
+    assert_tokens(
+        rt.alloc(),
+        &rt,
+        "1-2",
+        &[(Kind::Int, 0, 1), (Kind::Int, 1, 3)],
+    )?;
+    assert_tokens(rt.alloc(), &rt, "10#1.\n", &[(Kind::Int, 0, 2)])?;
+    assert_tokens(
+        rt.alloc(),
+        &rt,
+        "[1,0.5]1\"a\"",
+        &[
+            (Kind::BracketOpen, 0, 1),
+            (Kind::Int, 1, 2),
+            (Kind::Float, 3, 6),
+            (Kind::BracketClose, 6, 7),
+            (Kind::Int, 7, 8),
+            (Kind::String, 8, 11),
+        ],
+    )
+}
+
+#[test]
+fn numbers_end_where_no_digit_dot_or_letter_follows(rt: HostRuntime) {
+    let bad = [
+        ("01", 0),
+        ("1.", 0),
+        ("-", 0),
+        ("-a", 0),
+        ("-.5", 0),
+        ("00", 0),
+        ("-01", 0),
+        ("1a", 0),
+        ("1_", 0),
+        ("0x1", 0),
+        ("1.a", 0),
+        ("1.e5", 0),
+        ("1e", 0),
+        ("1e+", 0),
+        ("1e+-2", 0),
+        ("1e5a", 0),
+        ("1.0a", 0),
+        ("1.5.6", 0),
+        ("1e3.2", 0),
+        ("1...", 0),
+        ("{a(b:1.)}", 5),
+        ("0 -", 2),
+    ];
+    assert_faults(rt.alloc(), &rt, BadKind::Number, &bad);
+    assert_faults(
+        rt.alloc(),
+        &rt,
+        BadKind::Char,
+        &[(".5", 0), ("+1", 0), ("1é", 1)],
+    );
+}
+
+#[test]
+fn strings_hold_characters_and_escapes(rt: HostRuntime) -> Result<(), Fail> {
+    let whole = [
+        "\"\"",
+        "\"a b\"",
+        "\"#{,'\"",
+        "\"\\\"\\\\\\/\\b\\f\\n\\r\\t\"",
+        "\"\\u0041\\u00e9\\uFFFF\\u0000\"",
+        "\"\\uD7FF\\uE000\"",
+        "\"\\uD83D\\uDE00\"",
+        "\"\\udbff\\udfff\"",
+        "\"é😀\u{feff}\u{7f}\t\"",
+    ];
+    for text in whole {
+        assert_tokens(rt.alloc(), &rt, text, &[(Kind::String, 0, text.len())])?;
+    }
+    assert_tokens(
+        rt.alloc(),
+        &rt,
+        "\"a\"\"b\"",
+        &[(Kind::String, 0, 3), (Kind::String, 3, 6)],
+    )?;
+    assert_tokens(
+        rt.alloc(),
+        &rt,
+        "\"a\"\"\"",
+        &[(Kind::String, 0, 3), (Kind::String, 3, 5)],
+    )?;
+    assert_tokens(
+        rt.alloc(),
+        &rt,
+        "\"\"a",
+        &[(Kind::String, 0, 2), (Kind::Name, 2, 3)],
+    )
+}
+
+#[test]
+fn strings_that_do_not_end_or_hold_what_they_may_not(rt: HostRuntime) {
+    let bad = [
+        ("\"", 0),
+        ("\"\"\"\"", 0),
+        ("\"a", 0),
+        ("\"\\", 0),
+        ("\"\\\"", 0),
+        ("\"a\nb\"", 0),
+        ("\"a\r\"", 0),
+        ("\"\u{1}\"", 0),
+        ("\"\u{0}\"", 0),
+        ("\"\\x\"", 0),
+        ("\"\\U0041\"", 0),
+        ("\"\\u12\"", 0),
+        ("\"\\u12G4\"", 0),
+        ("\"\\u{41}\"", 0),
+        ("\"\\uD83D\"", 0),
+        ("\"\\uDE00\"", 0),
+        ("\"\\uD83Da\"", 0),
+        ("\"\\uD83D\\n\"", 0),
+        ("\"\\uD83D\\uD83D\"", 0),
+        ("\"\\uD83D\\u0041\"", 0),
+        ("\"\\uDE00\\uD83D\"", 0),
+        ("{a(b:\"c)}", 5),
+    ];
+    assert_faults(rt.alloc(), &rt, BadKind::Quote, &bad);
+}
+
+#[test]
+fn block_strings_end_at_the_first_three_quotes(rt: HostRuntime) -> Result<(), Fail> {
+    let whole = [
+        "\"\"\"\"\"\"",
+        "\"\"\"a\"\"\"",
+        "\"\"\"a\"b\"\"c\"\"\"",
+        "\"\"\"\"a\"\"\"",
+        "\"\"\"\"\"a\"\"\"",
+        "\"\"\"\\\"\"\"\"\"\"",
+        "\"\"\"a\\\"\"\"b\"\"\"",
+        "\"\"\"\\\\\"\"\"\"\"\"",
+        "\"\"\"a\nb\r\nc\rd\t\"\"\"",
+        "\"\"\"\\u12\\x\\n\"\"\"",
+        "\"\"\"é😀#\"\"\"",
+    ];
+    for text in whole {
+        assert_tokens(rt.alloc(), &rt, text, &[(Kind::BlockString, 0, text.len())])?;
+    }
+    assert_tokens(
+        rt.alloc(),
+        &rt,
+        "\"\"\"\"\"\"\"\"",
+        &[(Kind::BlockString, 0, 6), (Kind::String, 6, 8)],
+    )?;
+    assert_tokens(
+        rt.alloc(),
+        &rt,
+        "\"\"\"a\"\"\"\"\"",
+        &[(Kind::BlockString, 0, 7), (Kind::String, 7, 9)],
+    )?;
+    assert_tokens(
+        rt.alloc(),
+        &rt,
+        "{f(s:\"\"\"\n    a\n      b\n    \"\"\")}",
+        &[
+            (Kind::BraceOpen, 0, 1),
+            (Kind::Name, 1, 2),
+            (Kind::ParenOpen, 2, 3),
+            (Kind::Name, 3, 4),
+            (Kind::Colon, 4, 5),
+            (Kind::BlockString, 5, 30),
+            (Kind::ParenClose, 30, 31),
+            (Kind::BraceClose, 31, 32),
+        ],
+    )
+}
+
+#[test]
+fn block_strings_that_do_not_end_or_hold_what_they_may_not(rt: HostRuntime) {
+    let bad = [
+        ("\"\"\"", 0),
+        ("\"\"\"\"\"", 0),
+        ("\"\"\"a\"\"", 0),
+        ("\"\"\"a\\\"\"\"", 0),
+        ("\"\"\"\\\\\"\"\"", 0),
+        ("\"\"\"a\u{1}\"\"\"", 0),
+        ("\"\"\"a\"\"\"\"", 7),
+        ("\"\"\"a\"\"\"\"\"\"", 7),
+        ("\"\"\"\"\"\"\"", 6),
+    ];
+    assert_faults(rt.alloc(), &rt, BadKind::Quote, &bad);
 }

@@ -4,7 +4,7 @@ use gq_text::Span;
 use std::alloc::AllocFailed;
 use thiserror::Error;
 
-/// What a token is (section 2.1.7 of the October 2021 edition, "Lexical Tokens").
+/// What a token is (section 2.1.6 of the October 2021 edition, "Lexical Tokens").
 #[derive(Clone, Copy, Debug, PartialEq, Eq)]
 pub enum Kind {
     Bang,
@@ -22,6 +22,10 @@ pub enum Kind {
     Pipe,
     BraceClose,
     Name,
+    Int,
+    Float,
+    String,
+    BlockString,
 }
 
 /// A token, with the text of its span.
@@ -37,6 +41,10 @@ pub struct Token<'a> {
 pub enum BadKind {
     /// A character that begins no token, or that no text may hold.
     Char,
+    /// A digit or a minus sign that begins no number (sections 2.9.1 and 2.9.2).
+    Number,
+    /// A string or block string that does not end, or holds what it may not (section 2.9.4).
+    Quote,
 }
 
 /// Why a text has no tokens. Places are offsets in bytes.

@@ -1,5 +1,5 @@
 -- A text in which some of its names are replaced reads as the same tokens, those names changed.
-use Rattle.std.proofs.Common.{◌≡◌, ℕ, suc, ◌+◌, ◌-◌, ◌<◌, ◌≤◌, List, [], ◌∷◌, ◌++◌, length, take, drop, Bool, true, false, Option, Some, refl, sym, ap, subst, ◌∙◌, ◌⊎◌, inl, inr, arith, append_assoc, map}
+use Rattle.std.proofs.Common.{◌≡◌, ℕ, suc, ◌+◌, ◌-◌, ◌<◌, ◌≤◌, List, [], ◌∷◌, ◌++◌, length, take, drop, Bool, true, false, Option, Some, refl, sym, ap, subst, ◌∙◌, ◌⊎◌, inl, inr, arith, append_assoc, length-append, map}
 use Rattle.std.specs.Prelude.{◌==◌, if◌then◌else◌}
 use Rattle.std.proofs.lemmas.List.{drop_at, drop-drop}
 use Rattle.std.proofs.Math.Seq.{take-append-add, drop-append-add}
@@ -10,11 +10,13 @@ use Rattle.gq_text.specs.Replaced.{replaced_from, replaced}
 use Rattle.gq_edit.specs.Replacements.{AreDisjointFrom, FitText}
 use Rattle.gq_lex.specs.declared.token.Kind.{Kind}
 use Rattle.gq_lex.specs.declared.token.Kind.TheVariants as kind
-use Rattle.gq_lex.specs.Bytes.{look_up, punctuators, punctuator, is_name_start, is_name_continue, is_comment_byte}
+use Rattle.gq_lex.specs.Bytes.{Passes, Stops, look_up, punctuators, punctuator, is_name_start, is_name_continue, is_comment_byte}
 use Rattle.std.specs.Prelude.{All}
 use Rattle.std.specs.Str.{IsCharBoundary}
 use Rattle.gq_lex.specs.Places.{IsCutOf}
-use Rattle.gq_lex.specs.Tokens.{Passes, Stops, IsIgnored, unicode_bom, white_space, line_terminator, comment, comma, IsToken, sign, spread, name, Lexeme, lexeme_at, ReadsTo, here, ignored, token, Reads}
+use Rattle.gq_lex.specs.Numbers.{IsIntegerPart, zero as int_zero, negative_zero, digits, negative_digits, IsFloat, with_fraction, with_exponent, with_both, is_number_continue}
+use Rattle.gq_lex.specs.Strings.{is_quote}
+use Rattle.gq_lex.specs.Tokens.{IsIgnored, unicode_bom, white_space, line_terminator, comment, comma, IsToken, sign, spread, name, int, float, empty_string, string, block_string, Lexeme, lexeme_at, ReadsTo, here, ignored, token, Reads}
 
 -- a token, and whether it is replaced
 pub record Marked : Type 0 where
@@ -134,10 +136,26 @@ ignored_some (line_terminator e) = omega arith
 ignored_some (comment passes ends) = omega arith
 ignored_some comma = omega arith
 
+integer_some : {part : List ℕ} → IsIntegerPart part → 0 < length part
+integer_some int_zero = omega arith
+integer_some negative_zero = omega arith
+integer_some (digits first others) = omega arith
+integer_some (negative_digits first others) = omega arith
+
+float_some : {part : List ℕ} → IsFloat part → 0 < length part
+float_some (with_fraction a b is integer second) = omega (arith, ap length is, length-append a b, integer_some integer)
+float_some (with_exponent a b is integer third) = omega (arith, ap length is, length-append a b, integer_some integer)
+float_some (with_both a b c is integer second third) = omega (arith, ap length is, length-append a (b ++ c), integer_some integer)
+
 token_some : {k : Kind} {part after : List ℕ} → IsToken k part after → 0 < length part
 token_some (sign e) = omega arith
 token_some spread = omega arith
 token_some (name s p e) = omega arith
+token_some (int integer e) = integer_some integer
+token_some (float number e) = float_some number
+token_some (empty_string e) = omega arith
+token_some (string body value is some characters) = omega (arith, ap length is)
+token_some (block_string body) = omega arith
 
 is_name_kind : Kind → Bool
 is_name_kind kind.Name = true
@@ -179,6 +197,11 @@ pub spelled : {k : Kind} {part after : List ℕ} → IsToken k part after → k 
 spelled (sign {b} {kind = k} e) is = absurd (sign_no_name b k e is)
 spelled spread is = absurd (cc)
 spelled (name {b} {bs} s p e) is = record { first = b; others = bs; is = refl; starts = s; continues = p }
+spelled (int integer e) is = absurd (cc)
+spelled (float number e) is = absurd (cc)
+spelled (empty_string e) is = absurd (cc)
+spelled (string body value same some characters) is = absurd (cc)
+spelled (block_string body) is = absurd (cc)
 
 name_head : {k : Kind} {part after : List ℕ} (new rest : List ℕ) → IsToken k part after → k ≡ kind.Name → IsNameText new → HeadKept (part ++ after) (new ++ rest)
 name_head {part = part} {after} new rest h is text_is =
@@ -222,6 +245,20 @@ start_continues b h = grind (arith, nat_tests)
 start_comments : (b : ℕ) → is_name_start b ≡ true → is_comment_byte b ≡ true
 start_comments b h = grind (arith, nat_tests)
 
+start_numbers : (b : ℕ) → is_name_start b ≡ true → is_number_continue b ≡ true
+start_numbers b h = grind (arith, nat_tests)
+
+start_no_quote : (b : ℕ) → is_name_start b ≡ true → is_quote b ≡ false
+start_no_quote b h = grind (arith, nat_tests)
+
+-- where a byte does not stand that no Name begins with, it does not stand before a text whose head is kept
+fails_kept : (p : ℕ → Bool) → ((b : ℕ) → is_name_start b ≡ true → p b ≡ false) → (a b : List ℕ) → HeadKept a b → Stops p a → Stops p b
+fails_kept p fails [] [] h stops = tt
+fails_kept p fails [] (c ∷ b) h stops = absurd h
+fails_kept p fails (x ∷ a) [] h stops = absurd h
+fails_kept p fails (x ∷ a) (c ∷ b) (inl e) stops = ap p (sym e) ∙ stops
+fails_kept p fails (x ∷ a) (c ∷ b) (inr e) stops = fails c e.1
+
 -- where a run of bytes stops that a Name would go on with, it stops before a text whose head is kept
 stops_kept : (p : ℕ → Bool) → ((b : ℕ) → is_name_start b ≡ true → p b ≡ true) → (a b : List ℕ) → HeadKept a b → Stops p a → Stops p b
 stops_kept p starts [] [] h stops = tt
@@ -241,11 +278,21 @@ token_kept : {k : Kind} {part after : List ℕ} (other : List ℕ) → HeadKept 
 token_kept other kept (sign e) = sign e
 token_kept other kept spread = spread
 token_kept other kept (name {rest = after} s p e) = name s p (stops_kept is_name_continue start_continues after other kept e)
+token_kept other kept (int {rest = after} integer e) = int integer (stops_kept is_number_continue start_numbers after other kept e)
+token_kept other kept (float {rest = after} number e) = float number (stops_kept is_number_continue start_numbers after other kept e)
+token_kept other kept (empty_string {rest = after} e) = empty_string (fails_kept is_quote start_no_quote after other kept e)
+token_kept other kept (string body value is some characters) = string body value is some characters
+token_kept other kept (block_string body) = block_string body
 
 stops_behind : {k : Kind} {part after : List ℕ} → IsToken k part after → k ≡ kind.Name → Stops is_name_continue after
 stops_behind (sign {b} {kind = k} e) is = absurd (sign_no_name b k e is)
 stops_behind spread is = absurd (cc)
 stops_behind (name s p e) is = e
+stops_behind (int integer e) is = absurd (cc)
+stops_behind (float number e) is = absurd (cc)
+stops_behind (empty_string e) is = absurd (cc)
+stops_behind (string body value same some characters) is = absurd (cc)
+stops_behind (block_string body) is = absurd (cc)
 
 -- where a Name stands, another Name may stand
 name_again : {k : Kind} {part after : List ℕ} (new other : List ℕ) → HeadKept after other → IsToken k part after → k ≡ kind.Name → IsNameText new → IsToken kind.Name new other

@@ -5,8 +5,8 @@ use Rattle.std.specs.List.{list_all}
 use Rattle.std.specs.Str.{bytes_eq}
 use Rattle.std.proofs.lemmas.Slice.Eq.{bytes_eq-Decides}
 use Rattle.gq_lex.specs.declared.token.Kind.TheVariants as kind
-use Rattle.gq_lex.specs.Bytes.{is_name_start, is_name_continue}
-use Rattle.gq_lex.specs.Tokens.{Passes, IsToken, name}
+use Rattle.gq_lex.specs.Bytes.{Passes, is_name_start, is_name_continue}
+use Rattle.gq_lex.specs.Tokens.{IsToken, name}
 use Rattle.gq_rename.specs.Names.{IsFragmentNameText}
 use Rattle.gq_rename.specs.Spelling.{is_name_spelled}
 use Rattle.gq_rename.proofs.Retelling.{spelled}

@@ -1,7 +1,7 @@
 use Rattle.std.proofs.Common.{arith, sym, ◌∙◌}
 use Rattle.std.proofs.lemmas.List.Sums.{prefix_len-drop_yes, prefix_len-drop_no, prefix_len-drop_all}
 use Rattle.gq_lex.specs.Bytes.{is_comment_byte}
-use Rattle.gq_lex.proofs.lexer.comment_len.Goals as goal
+use Rattle.gq_lex.proofs.bytes.comment_len.Goals as goal
 
 pub loop-i-preserved : goal.loop-i-preserved
 loop-i-preserved c =
