@@ -1,5 +1,13 @@
 pub mod Unique
-pub mod Documents
+pub mod UniqueValues
+pub mod UniqueSelections
+pub mod UniqueDocuments
+pub mod Fronts
+pub mod MadeValues
+pub mod MadeParts
+pub mod MadeSelections
+pub mod MadeDefinitions
 pub mod Missing
+pub mod Places
 pub mod Nesting
 pub mod Derivations

@@ -3,3 +3,4 @@ pub mod Limits
 pub mod Derives
 pub mod Faults
 pub mod From
+pub mod Phrases

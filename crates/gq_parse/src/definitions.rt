@@ -1,16 +1,18 @@
 //! Definitions, by descent. Each function answers the phrase that stands at an index, and the index behind it.
-ghost use Rattle.std.specs.Prelude.{◌≡◌, ◌≢◌, ◌+◌, ◌<◌, ◌≤◌, ◌++◌, ◌∷◌, [], IfOk, IfErr, OnOk, Option, Some, None, length, List, map};
-ghost use Rattle.std.specs.Option.{option_map};
+ghost use Rattle.std.specs.Prelude.{◌≡◌, ◌≢◌, ◌+◌, ◌<◌, ◌≤◌, ◌++◌, ◌∷◌, [], IfOk, IfErr, OnOk, IfSome, IfNone, length, List, map};
 ghost use Rattle.gq_text.specs.declared.place.Span.{Span};
 ghost use Rattle.gq_tree.specs.Plain.{Def};
-ghost use Rattle.gq_tree.specs.Views.{name_of, def_view, document_view};
-ghost use Rattle.gq_parse.specs.Grammar.{Tokens, IsOptionalName, IsOperationDefinition, IsFragmentDefinition, IsDefinition, IsDocument};
+ghost use Rattle.gq_tree.specs.Views.{def_view, document_view};
+ghost use Rattle.gq_parse.specs.Grammar.{IsOperationType, IsOperationDefinition, IsFragmentDefinition, IsDefinition, IsDocument};
 ghost use Rattle.gq_parse.specs.From.{from};
+ghost use Rattle.gq_parse.specs.Phrases.{Lacks};
 
-use crate::phrases::{Miss, copied, fragment_name, keyword, over, token_at, type_condition};
+use crate::directives::directives;
+use crate::phrases::{Miss, covered, fragment_name, keyword, optional_name, type_condition};
 use crate::selections::selection_set;
-use gq_lex::{Kind, Token};
-use gq_tree::{Definition, Document, Fragment, Name, Operation};
+use crate::variables::variable_definitions;
+use gq_lex::Token;
+use gq_tree::{Definition, Document, Fragment, Operation, OperationKind};
 use std::alloc::Global;
 
 /// All tokens as a document.
@@ -22,13 +24,13 @@ pub(crate) fn document(alloc: Global, tokens: &[Token<'_>]) -> Result<Document, 
     let mut at = 0;
     while at < tokens.len() {
         let (one, end) = definition(alloc, tokens, at)?;
-        put(&mut definitions, one)?;
+        put_definition(&mut definitions, one)?;
         at = end;
     }
     Ok(Document { definitions })
 }
 
-fn put(definitions: &mut Vec<Definition>, one: Definition) -> Result<(), Miss>
+fn put_definition(definitions: &mut Vec<Definition>, one: Definition) -> Result<(), Miss>
     ensures ok { OnOk result (map def_view definitions.new.items ≡ map def_view definitions.old.items ++ def_view one ∷ []) }
     ensures err { IfErr result (λ e. e ≡ Miss.NoMemory) }
 {
@@ -43,7 +45,7 @@ fn definition(alloc: Global, tokens: &[Token<'_>], at: usize) -> Result<(Definit
     requires { at ≤ length tokens.now }
     ensures found { IfOk result (λ x. IsDefinition (def_view x.0) (from tokens.now at) (from tokens.now x.1)) }
     ensures within { IfOk result (λ x. (at < x.1) × (x.1 ≤ length tokens.now)) }
-    ensures none { IfErr result (λ miss. miss ≢ Miss.NoMemory → (d : Def Span) (rest : Tokens) → IsDefinition d (from tokens.now at) rest → ⊥) }
+    ensures none { IfErr result (λ miss. miss ≢ Miss.NoMemory → Lacks IsDefinition (from tokens.now at)) }
 {
     match keyword("fragment", tokens, at) {
         Some(_) => fragment(alloc, tokens, at),
@@ -56,51 +58,85 @@ fn operation(alloc: Global, tokens: &[Token<'_>], at: usize) -> Result<(Definiti
     requires { at ≤ length tokens.now }
     ensures found { IfOk result (λ x. IsOperationDefinition (def_view x.0) (from tokens.now at) (from tokens.now x.1)) }
     ensures within { IfOk result (λ x. (at < x.1) × (x.1 ≤ length tokens.now)) }
-    ensures none { IfErr result (λ miss. miss ≢ Miss.NoMemory → (d : Def Span) (rest : Tokens) → IsOperationDefinition d (from tokens.now at) rest → ⊥) }
+    ensures none { IfErr result (λ miss. miss ≢ Miss.NoMemory → Lacks IsOperationDefinition (from tokens.now at)) }
 {
-    match keyword("query", tokens, at) {
-        Some((first, behind)) => {
-            let (name, behind) = optional_name(alloc, tokens, behind)?;
-            let (set, end) = selection_set(alloc, tokens, behind)?;
-            let span = over(first, set.span);
-            let named = Operation { name, set, span };
-            Ok((Definition::Operation(named), end))
-        }
-        None => {
-            let (set, end) = selection_set(alloc, tokens, at)?;
-            let span = set.span;
-            let bare = Operation {
-                name: None,
-                set,
-                span,
-            };
-            Ok((Definition::Operation(bare), end))
-        }
+    match operation_type(tokens, at) {
+        Some((kind, behind)) => typed_operation(alloc, tokens, at, kind, behind),
+        None => bare_operation(alloc, tokens, at),
     }
 }
 
-// A name, or none where none stands.
-fn optional_name(
+// The type of an operation.
+fn operation_type(tokens: &[Token<'_>], at: usize) -> Option<(OperationKind, usize)>
+    ensures found { IfSome result (λ x. IsOperationType x.0 (from tokens.now at) (from tokens.now x.1)) }
+    ensures within { IfSome result (λ x. (at < x.1) × (x.1 ≤ length tokens.now)) }
+    ensures none { IfNone result (Lacks IsOperationType (from tokens.now at)) }
+{
+    if let Some((_, end)) = keyword("query", tokens, at) {
+        return Some((OperationKind::Query, end));
+    }
+    if let Some((_, end)) = keyword("mutation", tokens, at) {
+        return Some((OperationKind::Mutation, end));
+    }
+    if let Some((_, end)) = keyword("subscription", tokens, at) {
+        return Some((OperationKind::Subscription, end));
+    }
+    None
+}
+
+// An operation without its type: a selection set, where no such keyword stands.
+fn bare_operation(
     alloc: Global,
     tokens: &[Token<'_>],
     at: usize,
-) -> Result<(Option<Name>, usize), Miss>
-    requires { at ≤ length tokens.now }
-    ensures found { IfOk result (λ x. IsOptionalName (option_map name_of x.0) (from tokens.now at) (from tokens.now x.1)) }
-    ensures within { IfOk result (λ x. (at ≤ x.1) × (x.1 ≤ length tokens.now)) }
-    ensures err { IfErr result (λ e. e ≡ Miss.NoMemory) }
+) -> Result<(Definition, usize), Miss>
+    requires within { at ≤ length tokens.now }
+    requires no_type { Lacks IsOperationType (from tokens.now at) }
+    ensures found { IfOk result (λ x. IsOperationDefinition (def_view x.0) (from tokens.now at) (from tokens.now x.1)) }
+    ensures within { IfOk result (λ x. (at < x.1) × (x.1 ≤ length tokens.now)) }
+    ensures none { IfErr result (λ miss. miss ≢ Miss.NoMemory → Lacks IsOperationDefinition (from tokens.now at)) }
 {
-    match token_at(tokens, at) {
-        Some(token) => {
-            if token.kind == Kind::Name {
-                let name = copied(alloc, token)?;
-                Ok((Some(name), at + 1))
-            } else {
-                Ok((None, at))
-            }
-        }
-        None => Ok((None, at)),
-    }
+    let (set, end) = selection_set(alloc, tokens, at)?;
+    let span = set.span;
+    let bare = Operation {
+        kind: OperationKind::Query,
+        name: None,
+        variables: Vec::new(alloc),
+        directives: Vec::new(alloc),
+        set,
+        span,
+    };
+    Ok((Definition::Operation(bare), end))
+}
+
+// An operation, from its type to where it goes on behind that.
+fn typed_operation(
+    alloc: Global,
+    tokens: &[Token<'_>],
+    at: usize,
+    kind: OperationKind,
+    behind: usize,
+) -> Result<(Definition, usize), Miss>
+    requires begins { IsOperationType kind (from tokens.now at) (from tokens.now behind) }
+    requires within { (at < behind) × (behind ≤ length tokens.now) }
+    ensures found { IfOk result (λ x. IsOperationDefinition (def_view x.0) (from tokens.now at) (from tokens.now x.1)) }
+    ensures within { IfOk result (λ x. (at < x.1) × (x.1 ≤ length tokens.now)) }
+    ensures none { IfErr result (λ miss. miss ≢ Miss.NoMemory → Lacks IsOperationDefinition (from tokens.now at)) }
+{
+    let (name, behind) = optional_name(alloc, tokens, behind)?;
+    let (variables, behind) = variable_definitions(alloc, tokens, behind)?;
+    let (directives, behind) = directives(alloc, false, tokens, behind)?;
+    let (set, end) = selection_set(alloc, tokens, behind)?;
+    let span = covered(tokens, at, end);
+    let typed = Operation {
+        kind,
+        name,
+        variables,
+        directives,
+        set,
+        span,
+    };
+    Ok((Definition::Operation(typed), end))
 }
 
 // A fragment definition.
@@ -108,22 +144,22 @@ fn fragment(alloc: Global, tokens: &[Token<'_>], at: usize) -> Result<(Definitio
     requires { at ≤ length tokens.now }
     ensures found { IfOk result (λ x. IsFragmentDefinition (def_view x.0) (from tokens.now at) (from tokens.now x.1)) }
     ensures within { IfOk result (λ x. (at < x.1) × (x.1 ≤ length tokens.now)) }
-    ensures none { IfErr result (λ miss. miss ≢ Miss.NoMemory → (d : Def Span) (rest : Tokens) → IsFragmentDefinition d (from tokens.now at) rest → ⊥) }
+    ensures none { IfErr result (λ miss. miss ≢ Miss.NoMemory → Lacks IsFragmentDefinition (from tokens.now at)) }
 {
-    match keyword("fragment", tokens, at) {
-        Some((first, behind)) => {
-            let (name, behind) = fragment_name(alloc, tokens, behind)?;
-            let (on, behind) = type_condition(alloc, tokens, behind)?;
-            let (set, end) = selection_set(alloc, tokens, behind)?;
-            let span = over(first, set.span);
-            let fragment = Fragment {
-                name,
-                on,
-                set,
-                span,
-            };
-            Ok((Definition::Fragment(fragment), end))
-        }
-        None => Err(Miss::NoPhrase { at }),
-    }
+    let Some((_, behind)) = keyword("fragment", tokens, at) else {
+        return Err(Miss::NoPhrase { at });
+    };
+    let (name, behind) = fragment_name(alloc, tokens, behind)?;
+    let (on, behind) = type_condition(alloc, tokens, behind)?;
+    let (directives, behind) = directives(alloc, false, tokens, behind)?;
+    let (set, end) = selection_set(alloc, tokens, behind)?;
+    let span = covered(tokens, at, end);
+    let fragment = Fragment {
+        name,
+        on,
+        directives,
+        set,
+        span,
+    };
+    Ok((Definition::Fragment(fragment), end))
 }

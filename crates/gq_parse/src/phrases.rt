@@ -1,15 +1,17 @@
 //! The phrases of one token or a few: names, keywords and punctuators.
-ghost use Rattle.std.specs.Prelude.{◌≡◌, ◌≢◌, ◌+◌, ◌<◌, ◌≤◌, [], ◌∷◌, length, IfOk, IfErr, IfSome, IfNone, MatchOption};
+ghost use Rattle.std.specs.Prelude.{◌≡◌, ◌≢◌, ℕ, ◌+◌, ◌<◌, ◌≤◌, [], ◌∷◌, List, length, IfOk, IfErr, IfSome, IfNone, MatchOption, Option};
+ghost use Rattle.std.specs.Option.{option_map};
 ghost use Rattle.gq_text.specs.declared.place.Span.{Span};
 ghost use Rattle.gq_lex.specs.Tokens.{lexeme_of};
 ghost use Rattle.gq_tree.specs.Plain.{NameOf};
 ghost use Rattle.gq_tree.specs.Views.{name_of};
-ghost use Rattle.gq_parse.specs.Grammar.{Tokens, over, IsPunctuator, IsName, IsKeyword, IsFragmentName, IsTypeCondition, NotNext};
+ghost use Rattle.gq_parse.specs.Grammar.{Tokens, covered, IsPunctuator, IsSpelled, IsName, IsKeyword, IsFragmentName, IsTypeCondition, IsOptionalCondition, IsOptionalName, NotNext};
 ghost use Rattle.gq_parse.specs.From.{from};
+ghost use Rattle.gq_parse.specs.Phrases.{Lacks};
 
-use gq_lex::{Kind, Span, Token};
-use gq_text::OwnedText;
-use gq_tree::Name;
+use gq_lex::{Kind, Token};
+use gq_text::{OwnedText, Span};
+use gq_tree::{Literal, Name};
 use std::alloc::Global;
 
 /// Why a phrase is not given.
@@ -28,25 +30,25 @@ pub(crate) fn token_at<'a>(tokens: &[Token<'a>], at: usize) -> Option<Token<'a>>
     tokens.get(at).copied()
 }
 
-/// A punctuator, and the index behind it.
-pub(crate) fn punctuator(kind: Kind, tokens: &[Token<'_>], at: usize) -> Option<(Span, usize)>
-    ensures found { IfSome result (λ x. IsPunctuator kind x.0 (from tokens.now at) (from tokens.now x.1)) }
-    ensures within { IfSome result (λ x. (at < x.1) × (x.1 ≤ length tokens.now)) }
+/// The index behind a token of this kind.
+pub(crate) fn punctuator(kind: Kind, tokens: &[Token<'_>], at: usize) -> Option<usize>
+    ensures found { IfSome result (λ end. IsPunctuator kind (from tokens.now at) (from tokens.now end)) }
+    ensures within { IfSome result (λ end. (at < end) × (end ≤ length tokens.now)) }
     ensures none { IfNone result (NotNext kind (from tokens.now at)) }
 {
     let token = token_at(tokens, at)?;
     if token.kind == kind {
-        Some((token.span, at + 1))
+        Some(at + 1)
     } else {
         None
     }
 }
 
-/// A name that is this word, and the index behind it.
+/// The place of a name that is this word, and the index behind it.
 pub(crate) fn keyword(word: &str, tokens: &[Token<'_>], at: usize) -> Option<(Span, usize)>
     ensures found { IfSome result (λ x. IsKeyword word.now x.0 (from tokens.now at) (from tokens.now x.1)) }
     ensures within { IfSome result (λ x. (at < x.1) × (x.1 ≤ length tokens.now)) }
-    ensures none { IfNone result ((place : Span) (rest : Tokens) → IsKeyword word.now place (from tokens.now at) rest → ⊥) }
+    ensures none { IfNone result (Lacks (IsKeyword word.now) (from tokens.now at)) }
 {
     let token = token_at(tokens, at)?;
     if token.kind == Kind::Name && token.text == word {
@@ -56,15 +58,20 @@ pub(crate) fn keyword(word: &str, tokens: &[Token<'_>], at: usize) -> Option<(Sp
     }
 }
 
-/// A name, and the index behind it.
-pub(crate) fn name(alloc: Global, tokens: &[Token<'_>], at: usize) -> Result<(Name, usize), Miss>
-    ensures found { IfOk result (λ x. IsName (name_of x.0) (from tokens.now at) (from tokens.now x.1)) }
+/// A token of this kind with its spelling, and the index behind it.
+pub(crate) fn spelled(
+    alloc: Global,
+    kind: Kind,
+    tokens: &[Token<'_>],
+    at: usize,
+) -> Result<(Literal, usize), Miss>
+    ensures found { IfOk result (λ x. IsSpelled kind x.0.text x.0.span (from tokens.now at) (from tokens.now x.1)) }
     ensures within { IfOk result (λ x. (at < x.1) × (x.1 ≤ length tokens.now)) }
-    ensures none { IfErr result (λ miss. miss ≢ Miss.NoMemory → (n : NameOf Span) (rest : Tokens) → IsName n (from tokens.now at) rest → ⊥) }
+    ensures none { IfErr result (λ miss. miss ≢ Miss.NoMemory → NotNext kind (from tokens.now at)) }
 {
     match token_at(tokens, at) {
         Some(token) => {
-            if token.kind == Kind::Name {
+            if token.kind == kind {
                 Ok((copied(alloc, token)?, at + 1))
             } else {
                 Err(Miss::NoPhrase { at })
@@ -74,17 +81,47 @@ pub(crate) fn name(alloc: Global, tokens: &[Token<'_>], at: usize) -> Result<(Na
     }
 }
 
-/// The name that a token is.
-pub(crate) fn copied(alloc: Global, token: Token<'_>) -> Result<Name, Miss>
-    ensures ok { IfOk result (λ n. name_of n ≡ record { text = token.entry.text.now; place = token.entry.span }) }
+// The spelling of a token.
+fn copied(alloc: Global, token: Token<'_>) -> Result<Literal, Miss>
+    ensures ok { IfOk result (λ n. (n.text ≡ token.entry.text.now) × (n.span ≡ token.entry.span)) }
     ensures err { IfErr result (λ e. e ≡ Miss.NoMemory) }
 {
     match OwnedText::from_str(alloc, token.text) {
-        Ok(text) => Ok(Name {
+        Ok(text) => Ok(Literal {
             text,
             span: token.span,
         }),
         Err(_) => Err(Miss::NoMemory),
+    }
+}
+
+/// A name, and the index behind it.
+pub(crate) fn name(alloc: Global, tokens: &[Token<'_>], at: usize) -> Result<(Name, usize), Miss>
+    ensures found { IfOk result (λ x. IsName (name_of x.0) (from tokens.now at) (from tokens.now x.1)) }
+    ensures within { IfOk result (λ x. (at < x.1) × (x.1 ≤ length tokens.now)) }
+    ensures none { IfErr result (λ miss. miss ≢ Miss.NoMemory → NotNext Kind.Name (from tokens.now at)) }
+{
+    let (Literal { text, span }, end) = spelled(alloc, Kind::Name, tokens, at)?;
+    Ok((Name { text, span }, end))
+}
+
+/// A name, or none where none stands, and the index behind it.
+pub(crate) fn optional_name(
+    alloc: Global,
+    tokens: &[Token<'_>],
+    at: usize,
+) -> Result<(Option<Name>, usize), Miss>
+    requires { at ≤ length tokens.now }
+    ensures found { IfOk result (λ x. IsOptionalName (option_map name_of x.0) (from tokens.now at) (from tokens.now x.1)) }
+    ensures within { IfOk result (λ x. (at ≤ x.1) × (x.1 ≤ length tokens.now)) }
+    ensures none { IfErr result (λ miss. miss ≢ Miss.NoMemory → Lacks IsOptionalName (from tokens.now at)) }
+{
+    match punctuator(Kind::Name, tokens, at) {
+        Some(_) => {
+            let (name, end) = name(alloc, tokens, at)?;
+            Ok((Some(name), end))
+        }
+        None => Ok((None, at)),
     }
 }
 
@@ -96,7 +133,7 @@ pub(crate) fn fragment_name(
 ) -> Result<(Name, usize), Miss>
     ensures found { IfOk result (λ x. IsFragmentName (name_of x.0) (from tokens.now at) (from tokens.now x.1)) }
     ensures within { IfOk result (λ x. (at < x.1) × (x.1 ≤ length tokens.now)) }
-    ensures none { IfErr result (λ miss. miss ≢ Miss.NoMemory → (n : NameOf Span) (rest : Tokens) → IsFragmentName n (from tokens.now at) rest → ⊥) }
+    ensures none { IfErr result (λ miss. miss ≢ Miss.NoMemory → Lacks IsFragmentName (from tokens.now at)) }
 {
     let (name, end) = name(alloc, tokens, at)?;
     if name.text.as_str() == "on" {
@@ -113,20 +150,44 @@ pub(crate) fn type_condition(
 ) -> Result<(Name, usize), Miss>
     ensures found { IfOk result (λ x. IsTypeCondition (name_of x.0) (from tokens.now at) (from tokens.now x.1)) }
     ensures within { IfOk result (λ x. (at < x.1) × (x.1 ≤ length tokens.now)) }
-    ensures none { IfErr result (λ miss. miss ≢ Miss.NoMemory → (n : NameOf Span) (rest : Tokens) → IsTypeCondition n (from tokens.now at) rest → ⊥) }
+    ensures none { IfErr result (λ miss. miss ≢ Miss.NoMemory → Lacks IsTypeCondition (from tokens.now at)) }
 {
     match keyword("on", tokens, at) {
-        Some((_, behind)) => name(alloc, tokens, behind),
+        Some((_, behind)) => {
+            let (on, end) = name(alloc, tokens, behind)?;
+            Ok((on, end))
+        }
         None => Err(Miss::NoPhrase { at }),
     }
 }
 
-/// From the start of the one to the end of the other.
-pub(crate) fn over(first: Span, last: Span) -> Span
-    ensures { result ≡ over first last }
+/// The name in a type condition, or none where no name stands, and the index behind it.
+pub(crate) fn optional_condition(
+    alloc: Global,
+    tokens: &[Token<'_>],
+    at: usize,
+) -> Result<(Option<Name>, usize), Miss>
+    requires { at ≤ length tokens.now }
+    ensures found { IfOk result (λ x. IsOptionalCondition (option_map name_of x.0) (from tokens.now at) (from tokens.now x.1)) }
+    ensures within { IfOk result (λ x. (at ≤ x.1) × (x.1 ≤ length tokens.now)) }
+    ensures none { IfErr result (λ miss. miss ≢ Miss.NoMemory → Lacks IsOptionalCondition (from tokens.now at)) }
+{
+    match punctuator(Kind::Name, tokens, at) {
+        Some(_) => {
+            let (on, end) = type_condition(alloc, tokens, at)?;
+            Ok((Some(on), end))
+        }
+        None => Ok((None, at)),
+    }
+}
+
+/// From the start of the token at one index to the end of the last one before the other.
+pub(crate) fn covered(tokens: &[Token<'_>], at: usize, end: usize) -> Span
+    requires { (at < end) × (end ≤ length tokens.now) }
+    ensures { result ≡ covered (from tokens.now at) (from tokens.now end) }
 {
     Span {
-        start: first.start,
-        end: last.end,
+        start: tokens[at].span.start,
+        end: tokens[end - 1].span.end,
     }
 }

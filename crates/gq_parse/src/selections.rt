@@ -1,16 +1,19 @@
 //! Selection sets, by descent. Each function answers the phrase that stands at an index, and the index behind it.
-ghost use Rattle.std.specs.Prelude.{◌≡◌, ◌≢◌, ◌+◌, ◌<◌, ◌≤◌, ◌++◌, ◌∷◌, [], IfOk, IfErr, OnOk, Option, Some, None, length, map};
+ghost use Rattle.std.specs.Prelude.{◌≡◌, ◌≢◌, true, false, ◌+◌, ◌<◌, ◌≤◌, ◌++◌, ◌∷◌, [], IfOk, IfErr, OnOk, Option, length, map};
 ghost use Rattle.std.specs.Option.{option_map};
 ghost use Rattle.gq_text.specs.declared.place.Span.{Span};
-ghost use Rattle.gq_tree.specs.Forest.{none};
-ghost use Rattle.gq_tree.specs.Plain.{NameOf, Head, Sels, field, spread};
+ghost use Rattle.gq_lex.specs.declared.token.Kind.TheVariants as kind;
+ghost use Rattle.gq_tree.specs.Plain.{NameOf, Sels};
 ghost use Rattle.gq_tree.specs.Views.{name_of, sel_view, sels_view, below_of, braces_of};
-ghost use Rattle.gq_parse.specs.Grammar.{Tokens, over, IsFieldName, IsSelection, IsOptionalSet, IsSelectionSet, IsSelections};
+ghost use Rattle.gq_parse.specs.Grammar.{Tokens, covered, Closed, NotNext, IsPunctuator, IsFragmentName, IsOptionalCondition, IsFieldName, IsOptionalSet, IsSelectionSet};
 ghost use Rattle.gq_parse.specs.From.{from};
+ghost use Rattle.gq_parse.specs.Phrases.{Lacks, IsSel};
 
-use crate::phrases::{Miss, fragment_name, name, over, punctuator};
-use gq_lex::{Kind, Span, Token};
-use gq_tree::{Field, Name, Selection, SelectionSet, Spread};
+use crate::directives::directives;
+use crate::phrases::{Miss, covered, fragment_name, keyword, name, optional_condition, punctuator};
+use crate::values::arguments;
+use gq_lex::{Kind, Token};
+use gq_tree::{Field, InlineFragment, Name, Selection, SelectionSet, Spread};
 use std::alloc::Global;
 
 /// A selection set.
@@ -21,24 +24,23 @@ pub(crate) fn selection_set(
     at: usize,
 ) -> Result<(SelectionSet, usize), Miss>
     requires { at ≤ length tokens.now }
-    ensures found { IfOk result (λ x. IsSelectionSet (sels_view x.0.items.items) x.0.span (from tokens.now at) (from tokens.now x.1)) }
+    ensures found { IfOk result (λ x. IsSelectionSet (sels_view x.0.items.items) (from tokens.now at) (from tokens.now x.1)) }
+    ensures place { IfOk result (λ x. x.0.span ≡ covered (from tokens.now at) (from tokens.now x.1)) }
     ensures within { IfOk result (λ x. (at < x.1) × (x.1 ≤ length tokens.now)) }
-    ensures none { IfErr result (λ miss. miss ≢ Miss.NoMemory → (ss : Sels Span) (place : Span) (rest : Tokens) → IsSelectionSet ss place (from tokens.now at) rest → ⊥) }
+    ensures none { IfErr result (λ miss. miss ≢ Miss.NoMemory → Lacks IsSelectionSet (from tokens.now at)) }
 {
-    match punctuator(Kind::BraceOpen, tokens, at) {
-        Some((first, behind)) => {
-            let (items, last, end) = selections(alloc, tokens, behind)?;
-            if items.is_empty() {
-                return Err(Miss::NoPhrase { at: behind });
-            }
-            let span = over(first, last);
-            Ok((SelectionSet { span, items }, end))
-        }
-        None => Err(Miss::NoPhrase { at }),
+    let Some(behind) = punctuator(Kind::BraceOpen, tokens, at) else {
+        return Err(Miss::NoPhrase { at });
+    };
+    let (items, end) = selections(alloc, tokens, behind)?;
+    if items.is_empty() {
+        return Err(Miss::NoPhrase { at: behind });
     }
+    let span = covered(tokens, at, end);
+    Ok((SelectionSet { span, items }, end))
 }
 
-// A selection set, or none where none begins.
+// A selection set, or none where no brace opens.
 #[cycle(set)]
 fn optional_set(
     alloc: Global,
@@ -65,26 +67,25 @@ fn selections(
     alloc: Global,
     tokens: &[Token<'_>],
     start: usize,
-) -> Result<(Vec<Selection>, Span, usize), Miss>
+) -> Result<(Vec<Selection>, usize), Miss>
     requires { start ≤ length tokens.now }
-    ensures found { IfOk result (λ x. IsSelections (sels_view x.0.items) x.1 (from tokens.now start) (from tokens.now x.2)) }
-    ensures within { IfOk result (λ x. (start < x.2) × (x.2 ≤ length tokens.now)) }
-    ensures none { IfErr result (λ miss. miss ≢ Miss.NoMemory → (ss : Sels Span) (last : Span) (rest : Tokens) → IsSelections ss last (from tokens.now start) rest → ⊥) }
+    ensures found { IfOk result (λ x. Closed IsSel kind.BraceClose (map sel_view x.0.items) (from tokens.now start) (from tokens.now x.1)) }
+    ensures within { IfOk result (λ x. (start < x.1) × (x.1 ≤ length tokens.now)) }
+    ensures none { IfErr result (λ miss. miss ≢ Miss.NoMemory → Lacks (Closed IsSel kind.BraceClose) (from tokens.now start)) }
 {
     let mut items = Vec::new(alloc);
     let mut at = start;
-    while punctuator(Kind::BraceClose, tokens, at).is_none() {
-        let (one, end) = selection(alloc, tokens, at)?;
-        put(&mut items, one)?;
-        at = end;
-    }
-    match punctuator(Kind::BraceClose, tokens, at) {
-        Some((last, end)) => Ok((items, last, end)),
-        None => Err(Miss::NoPhrase { at }),
+    loop {
+        if let Some(end) = punctuator(Kind::BraceClose, tokens, at) {
+            return Ok((items, end));
+        }
+        let (one, behind) = selection(alloc, tokens, at)?;
+        put_selection(&mut items, one)?;
+        at = behind;
     }
 }
 
-fn put(items: &mut Vec<Selection>, one: Selection) -> Result<(), Miss>
+fn put_selection(items: &mut Vec<Selection>, one: Selection) -> Result<(), Miss>
     ensures ok { OnOk result (map sel_view items.new.items ≡ map sel_view items.old.items ++ sel_view one ∷ []) }
     ensures err { IfErr result (λ e. e ≡ Miss.NoMemory) }
 {
@@ -94,36 +95,60 @@ fn put(items: &mut Vec<Selection>, one: Selection) -> Result<(), Miss>
     }
 }
 
-// A field or a spread.
+// A field, a fragment spread or an inline fragment.
 #[cycle(set)]
 fn selection(alloc: Global, tokens: &[Token<'_>], at: usize) -> Result<(Selection, usize), Miss>
     requires { at ≤ length tokens.now }
-    ensures found { IfOk result (λ x. IsSelection (sel_view x.0).label (sel_view x.0).below (from tokens.now at) (from tokens.now x.1)) }
+    ensures found { IfOk result (λ x. IsSel (sel_view x.0) (from tokens.now at) (from tokens.now x.1)) }
     ensures within { IfOk result (λ x. (at < x.1) × (x.1 ≤ length tokens.now)) }
-    ensures none { IfErr result (λ miss. miss ≢ Miss.NoMemory → (h : Head Span) (ss : Sels Span) (rest : Tokens) → IsSelection h ss (from tokens.now at) rest → ⊥) }
+    ensures none { IfErr result (λ miss. miss ≢ Miss.NoMemory → Lacks IsSel (from tokens.now at)) }
 {
-    if let Some((dots, behind)) = punctuator(Kind::Spread, tokens, at) {
-        let (name, end) = fragment_name(alloc, tokens, behind)?;
-        return Ok((spread(name, dots), end));
+    match punctuator(Kind::Spread, tokens, at) {
+        Some(behind) => {
+            if names_fragment(tokens, behind) {
+                spread(alloc, tokens, at, behind)
+            } else {
+                inline_fragment(alloc, tokens, at, behind)
+            }
+        }
+        None => field(alloc, tokens, at),
     }
+}
+
+// Whether a fragment's name stands at an index: a name, but not `on`.
+fn names_fragment(tokens: &[Token<'_>], at: usize) -> bool
+    ensures yes { result ≡ true → Lacks IsOptionalCondition (from tokens.now at) }
+    ensures no { result ≡ false → Lacks IsFragmentName (from tokens.now at) }
+{
+    match punctuator(Kind::Name, tokens, at) {
+        Some(_) => keyword("on", tokens, at).is_none(),
+        None => false,
+    }
+}
+
+// A field, where no dots stand.
+#[cycle(set)]
+fn field(alloc: Global, tokens: &[Token<'_>], at: usize) -> Result<(Selection, usize), Miss>
+    requires within { at ≤ length tokens.now }
+    requires no_dots { NotNext kind.Spread (from tokens.now at) }
+    ensures found { IfOk result (λ x. IsSel (sel_view x.0) (from tokens.now at) (from tokens.now x.1)) }
+    ensures within { IfOk result (λ x. (at < x.1) × (x.1 ≤ length tokens.now)) }
+    ensures none { IfErr result (λ miss. miss ≢ Miss.NoMemory → Lacks IsSel (from tokens.now at)) }
+{
     let (alias, name, behind) = field_name(alloc, tokens, at)?;
+    let (arguments, behind) = arguments(alloc, false, tokens, behind)?;
+    let (directives, behind) = directives(alloc, false, tokens, behind)?;
     let (set, end) = optional_set(alloc, tokens, behind)?;
-    Ok((field(alias, name, set), end))
-}
-
-#[tactic(auto, using(gq_tree::proofs::Trees::views))]
-fn field(alias: Option<Name>, name: Name, set: Option<SelectionSet>) -> Selection
-    ensures { sel_view result ≡ record { label = field (option_map name_of alias) (name_of name) (braces_of set); below = below_of set } }
-{
-    Selection::Field(Field { alias, name, set })
-}
-
-#[tactic(auto, using(gq_tree::proofs::Trees::views))]
-fn spread(name: Name, dots: Span) -> Selection
-    ensures { sel_view result ≡ record { label = spread (name_of name) (over dots name.span); below = none } }
-{
-    let span = over(dots, name.span);
-    Selection::Spread(Spread { name, span })
+    let span = covered(tokens, at, end);
+    let field = Field {
+        alias,
+        name,
+        arguments,
+        directives,
+        set,
+        span,
+    };
+    Ok((Selection::Field(field), end))
 }
 
 // The name of a field, behind its alias and a colon where it has one.
@@ -138,10 +163,63 @@ fn field_name(
 {
     let (first, end) = name(alloc, tokens, at)?;
     match punctuator(Kind::Colon, tokens, end) {
-        Some((_, behind)) => {
+        Some(behind) => {
             let (second, end) = name(alloc, tokens, behind)?;
             Ok((Some(first), second, end))
         }
         None => Ok((None, first, end)),
     }
+}
+
+// A fragment spread, from its dots to where it goes on behind them.
+fn spread(
+    alloc: Global,
+    tokens: &[Token<'_>],
+    at: usize,
+    behind: usize,
+) -> Result<(Selection, usize), Miss>
+    requires dots { IsPunctuator kind.Spread (from tokens.now at) (from tokens.now behind) }
+    requires within { (at < behind) × (behind ≤ length tokens.now) }
+    requires no_condition { Lacks IsOptionalCondition (from tokens.now behind) }
+    ensures found { IfOk result (λ x. IsSel (sel_view x.0) (from tokens.now at) (from tokens.now x.1)) }
+    ensures within { IfOk result (λ x. (at < x.1) × (x.1 ≤ length tokens.now)) }
+    ensures none { IfErr result (λ miss. miss ≢ Miss.NoMemory → Lacks IsSel (from tokens.now at)) }
+{
+    let (name, behind) = fragment_name(alloc, tokens, behind)?;
+    let (directives, end) = directives(alloc, false, tokens, behind)?;
+    let span = covered(tokens, at, end);
+    let spread = Spread {
+        name,
+        directives,
+        span,
+    };
+    Ok((Selection::Spread(spread), end))
+}
+
+// An inline fragment, from its dots to where it goes on behind them.
+#[cycle(set)]
+fn inline_fragment(
+    alloc: Global,
+    tokens: &[Token<'_>],
+    at: usize,
+    behind: usize,
+) -> Result<(Selection, usize), Miss>
+    requires dots { IsPunctuator kind.Spread (from tokens.now at) (from tokens.now behind) }
+    requires within { (at < behind) × (behind ≤ length tokens.now) }
+    requires no_name { Lacks IsFragmentName (from tokens.now behind) }
+    ensures found { IfOk result (λ x. IsSel (sel_view x.0) (from tokens.now at) (from tokens.now x.1)) }
+    ensures within { IfOk result (λ x. (at < x.1) × (x.1 ≤ length tokens.now)) }
+    ensures none { IfErr result (λ miss. miss ≢ Miss.NoMemory → Lacks IsSel (from tokens.now at)) }
+{
+    let (on, behind) = optional_condition(alloc, tokens, behind)?;
+    let (directives, behind) = directives(alloc, false, tokens, behind)?;
+    let (set, end) = selection_set(alloc, tokens, behind)?;
+    let span = covered(tokens, at, end);
+    let inline = InlineFragment {
+        on,
+        directives,
+        set,
+        span,
+    };
+    Ok((Selection::Inline(inline), end))
 }

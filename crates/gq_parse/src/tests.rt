@@ -1,128 +1,177 @@
-use crate::{Definition, Document, Fault, Name, Selection, parse};
-use gq_text::Span;
-use gq_tree::fragment_names;
+use crate::printed::printed;
+use crate::{Fault, parse};
 use std::alloc::Global;
+use std::process::Abort;
 use std::test::Fail;
 
-// A document in one line: each name with where its token begins, and the span of each set and each definition.
-fn put_name(out: &mut String, name: &Name) -> Result<(), Fail> {
-    write!(out, "{}@{}", name.text.as_str(), name.span.start)?;
+fn assert_trees(alloc: Global, rt: &impl Abort, table: &[(&str, &str)]) -> Result<(), Fail> {
+    for (text, want) in table {
+        let document = parse(alloc, text)?;
+        assert_eq!(rt; printed(alloc, &document)?.as_str(), *want, "{text}");
+    }
     Ok(())
 }
 
-fn put_span(out: &mut String, span: Span) -> Result<(), Fail> {
-    write!(out, "[{},{}]", span.start, span.end)?;
-    Ok(())
-}
-
-#[cycle(printed)]
-fn put_selection(out: &mut String, selection: &Selection) -> Result<(), Fail> {
-    match selection {
-        Selection::Field(field) => {
-            match &field.alias {
-                Some(alias) => {
-                    put_name(out, alias)?;
-                    out.push_str(":")?;
-                }
-                None => {}
-            }
-            put_name(out, &field.name)?;
-            match &field.set {
-                Some(set) => {
-                    put_span(out, set.span)?;
-                    put_selections(out, &set.items)
-                }
-                None => Ok(()),
-            }
-        }
-        Selection::Spread(spread) => {
-            out.push_str("...")?;
-            put_name(out, &spread.name)?;
-            put_span(out, spread.span)
+fn assert_faults(alloc: Global, rt: &impl Abort, table: &[(&str, usize)]) {
+    for (text, place) in table {
+        match parse(alloc, text) {
+            Ok(_) => assert!(rt; false, "{text}"),
+            Err(fault) => assert_eq!(rt; fault, Fault::Syntax { place: *place }, "{text}"),
         }
     }
-}
-
-#[cycle(printed)]
-fn put_selections(out: &mut String, selections: &[Selection]) -> Result<(), Fail> {
-    out.push_str("{")?;
-    for selection in selections {
-        out.push_str(" ")?;
-        put_selection(out, selection)?;
-    }
-    out.push_str(" }")?;
-    Ok(())
-}
-
-fn put_definition(out: &mut String, definition: &Definition) -> Result<(), Fail> {
-    match definition {
-        Definition::Operation(operation) => {
-            out.push_str("query")?;
-            put_span(out, operation.span)?;
-            match &operation.name {
-                Some(name) => put_name(out, name)?,
-                None => {}
-            }
-            put_span(out, operation.set.span)?;
-            put_selections(out, &operation.set.items)
-        }
-        Definition::Fragment(fragment) => {
-            out.push_str("fragment")?;
-            put_span(out, fragment.span)?;
-            put_name(out, &fragment.name)?;
-            out.push_str(" on ")?;
-            put_name(out, &fragment.on)?;
-            put_span(out, fragment.set.span)?;
-            put_selections(out, &fragment.set.items)
-        }
-    }
-}
-
-fn printed(alloc: Global, document: &Document) -> Result<String, Fail> {
-    let mut out = String::new(alloc);
-    for definition in &document.definitions {
-        put_definition(&mut out, definition)?;
-        out.push_str(";")?;
-    }
-    Ok(out)
 }
 
 #[test]
-fn documents_have_trees(rt: HostRuntime) -> Result<(), Fail> {
-    let alloc = rt.alloc();
+fn operations_and_fragments_have_trees(rt: HostRuntime) -> Result<(), Fail> {
     let table = [
         ("", ""),
         ("#c", ""),
         (" \u{feff},\n", ""),
         (
             "query Q{...A} fragment A on Query{x}",
-            "query[0,13]Q@6[7,13]{ ...A@11[8,12] };fragment[14,36]A@23 on Query@28[33,36]{ x@34 };",
+            "query[0,13]Q@6[7,13]{ ...A@11[8,12] };fragment[14,36]A@23 on Query@28[33,36]{ x@34[34,35] };",
         ),
-        ("{x}", "query[0,3][0,3]{ x@1 };"),
-        ("query{x}", "query[0,8][5,8]{ x@6 };"),
+        ("{x}", "query[0,3][0,3]{ x@1[1,2] };"),
+        ("query{x}", "query[0,8][5,8]{ x@6[6,7] };"),
+        ("mutation M{a}", "mutation[0,13]M@9[10,13]{ a@11[11,12] };"),
+        (
+            "subscription{a}",
+            "subscription[0,15][12,15]{ a@13[13,14] };",
+        ),
+        (
+            "subscription S@d{a}",
+            "subscription[0,19]S@13 @d@15[14,16][16,19]{ a@17[17,18] };",
+        ),
+        (
+            "fragment A on T@d{a}",
+            "fragment[0,20]A@9 on T@14 @d@16[15,17][17,20]{ a@18[18,19] };",
+        ),
+    ];
+    assert_trees(rt.alloc(), &rt, &table)
+}
+
+#[test]
+fn selections_have_trees(rt: HostRuntime) -> Result<(), Fail> {
+    let table = [
         (
             "{a b:c{d ... F}e}",
-            "query[0,17][0,17]{ a@1 b@3:c@5[6,15]{ d@7 ...F@13[9,14] } e@15 };",
+            "query[0,17][0,17]{ a@1[1,2] b@3:c@5[3,15][6,15]{ d@7[7,8] ...F@13[9,14] } e@15[15,16] };",
         ),
-        ("{on on:on}", "query[0,10][0,10]{ on@1 on@4:on@7 };"),
+        (
+            "{a@e b:c(x:A)@f(g:B){h}}",
+            "query[0,24][0,24]{ a@1 @e@3[2,4][1,4] b@5:c@7( x@9:enum A@11 ) @f@14( g@16:enum B@18 )[13,20][5,23][20,23]{ h@21[21,22] } };",
+        ),
+        (
+            "{...A@d(x:true)@e}",
+            "query[0,18][0,18]{ ...A@4 @d@6( x@8:true[10,14] )[5,15] @e@16[15,17][1,17] };",
+        ),
+        (
+            "{...on T{a}...{b}...@d{c}}",
+            "query[0,26][0,26]{ ...on T@7[1,11][8,11]{ a@9[9,10] } ...[11,17][14,17]{ b@15[15,16] } ... @d@21[20,22][17,25][22,25]{ c@23[23,24] } };",
+        ),
+        (
+            "{...on T@d{a}}",
+            "query[0,14][0,14]{ ...on T@7 @d@9[8,10][1,13][10,13]{ a@11[11,12] } };",
+        ),
+    ];
+    assert_trees(rt.alloc(), &rt, &table)
+}
+
+#[test]
+fn keywords_are_names(rt: HostRuntime) -> Result<(), Fail> {
+    let table = [
+        (
+            "{on on:on}",
+            "query[0,10][0,10]{ on@1[1,3] on@4:on@7[4,9] };",
+        ),
         (
             "query on{query fragment}",
-            "query[0,24]on@6[8,24]{ query@9 fragment@15 };",
+            "query[0,24]on@6[8,24]{ query@9[9,14] fragment@15[15,23] };",
         ),
         (
             "fragment fragment on on{on}",
-            "fragment[0,27]fragment@9 on on@21[23,27]{ on@24 };",
+            "fragment[0,27]fragment@9 on on@21[23,27]{ on@24[24,26] };",
         ),
         (
             "query query{query}{...fragment}",
-            "query[0,18]query@6[11,18]{ query@12 };query[18,31][18,31]{ ...fragment@22[19,30] };",
+            "query[0,18]query@6[11,18]{ query@12[12,17] };query[18,31][18,31]{ ...fragment@22[19,30] };",
+        ),
+        (
+            "{mutation subscription}",
+            "query[0,23][0,23]{ mutation@1[1,9] subscription@10[10,22] };",
+        ),
+        (
+            "{true null:false}",
+            "query[0,17][0,17]{ true@1[1,5] null@6:false@11[6,16] };",
+        ),
+        (
+            "{...on on{a}}",
+            "query[0,13][0,13]{ ...on on@7[1,12][9,12]{ a@10[10,11] } };",
+        ),
+        (
+            "{a(on:true query:false fragment:null type:T)}",
+            "query[0,45][0,45]{ a@1( on@3:true[6,10] query@11:false[17,22] fragment@23:null[32,36] type@37:enum T@42 )[1,44] };",
+        ),
+        (
+            "{a(true:on null:query)}",
+            "query[0,23][0,23]{ a@1( true@3:enum on@8 null@11:enum query@16 )[1,22] };",
+        ),
+        (
+            "subscription S($on:on=on){on@on}",
+            "subscription[0,32]S@13( $on@16[15,18]:on@19=enum on@22 )[25,32]{ on@26 @on@29[28,31][26,31] };",
         ),
     ];
-    for (text, want) in table {
-        let document = parse(alloc, text)?;
-        assert_eq!(rt; printed(alloc, &document)?.as_str(), want, "{text}");
-    }
-    Ok(())
+    assert_trees(rt.alloc(), &rt, &table)
+}
+
+#[test]
+fn values_have_trees(rt: HostRuntime) -> Result<(), Fail> {
+    let table = [
+        (
+            "{a(v:$b w:$ on)}",
+            "query[0,16][0,16]{ a@1( v@3:$b@6[5,7] w@8:$on@12[10,14] )[1,15] };",
+        ),
+        (
+            "{a(v:1 w:-0 x:1.5e3)}",
+            "query[0,21][0,21]{ a@1( v@3:int 1[5,6] w@7:int -0[9,11] x@12:float 1.5e3[14,19] )[1,20] };",
+        ),
+        (
+            "{a(v:\"\" w:\"x\\n\" x:\"\"\"b\"\"\")}",
+            "query[0,27][0,27]{ a@1( v@3:string \"\"[5,7] w@8:string \"x\\n\"[10,15] x@16:string \"\"\"b\"\"\"[18,25] )[1,26] };",
+        ),
+        (
+            "{a(v:true w:false x:null y:True)}",
+            "query[0,33][0,33]{ a@1( v@3:true[5,9] w@10:false[12,17] x@18:null[20,24] y@25:enum True@27 )[1,32] };",
+        ),
+        (
+            "{a(v:[] w:[1,[A]] x:{})}",
+            "query[0,24][0,24]{ a@1( v@3:[ ][5,7] w@8:[ int 1[11,12] [ enum A@14 ][13,16] ][10,17] x@18:{ }[20,22] )[1,23] };",
+        ),
+        (
+            "{a(v:{b:$c,d:{e:null}})}",
+            "query[0,24][0,24]{ a@1( v@3:{ b@6:$c@9[8,10] d@11:{ e@14:null[16,20] }[13,21] }[5,22] )[1,23] };",
+        ),
+    ];
+    assert_trees(rt.alloc(), &rt, &table)
+}
+
+#[test]
+fn variables_have_trees(rt: HostRuntime) -> Result<(), Fail> {
+    let table = [
+        (
+            "query($a:Int){b}",
+            "query[0,16]( $a@7[6,8]:Int@9 )[13,16]{ b@14[14,15] };",
+        ),
+        (
+            "query($a:[[A]!]$b:B!){c}",
+            "query[0,24]( $a@7[6,8]:[[A@11]!] $b@16[15,17]:B@18! )[21,24]{ c@22[22,23] };",
+        ),
+        (
+            "query Q($a:[T!]!=[1]@d(e:2)$b:query=null)@f{c}",
+            "query[0,46]Q@6( $a@9[8,10]:[T@12!]!=[ int 1[18,19] ][17,20] @d@21( e@23:int 2[25,26] )[20,27] $b@28[27,29]:query@30=null[36,40] ) @f@42[41,43][43,46]{ c@44[44,45] };",
+        ),
+    ];
+    assert_trees(rt.alloc(), &rt, &table)
 }
 
 #[test]
@@ -136,57 +185,117 @@ fn what_is_no_document_has_none(rt: HostRuntime) {
         ("x", 0),
         ("query", 5),
         ("query Q", 7),
+        ("query Q R{a}", 8),
+        ("subscription on", 15),
         ("{a:}", 3),
         ("{a b:c:d}", 6),
-        ("{...on}", 4),
         ("{...}", 4),
+        ("{...on}", 6),
+        ("{...on T}", 8),
+        ("{...A{b}}", 5),
         ("fragment on on T{a}", 9),
         ("fragment A on{a}", 13),
         ("fragment A of T{a}", 11),
         ("fragment A on T", 15),
-        ("{a(", 2),
+        ("fragment A{a}", 10),
         ("{a}}", 3),
         ("{a.b}", 2),
+        ("{a@}", 3),
+        ("{a!}", 2),
     ];
-    for (text, place) in table {
-        match parse(rt.alloc(), text) {
-            Ok(_) => assert!(rt; false, "{text}"),
-            Err(fault) => assert_eq!(rt; fault, Fault::Syntax { place }, "{text}"),
-        }
-    }
+    assert_faults(rt.alloc(), &rt, &table);
 }
 
-// A field under so many others: a text with as many braces open at once.
-fn nested(alloc: Global, depth: usize) -> Result<String, Fail> {
-    let mut text = "{a".repeat(alloc, depth)?;
-    let close = "}".repeat(alloc, depth)?;
-    text.push_str(close.as_str())?;
+#[test]
+fn what_is_no_value_has_none(rt: HostRuntime) {
+    let table = [
+        ("{a(", 3),
+        ("{a()}", 3),
+        ("{a(v)}", 4),
+        ("{a(v:)}", 5),
+        ("{a(:1)}", 3),
+        ("{a(1:1)}", 3),
+        ("{a(v:$)}", 6),
+        ("{a(v:$1)}", 6),
+        ("{a(v:[)}", 6),
+        ("{a(v:[1)}", 7),
+        ("{a(v:{1})}", 6),
+        ("{a(v:{b})}", 7),
+        ("{a(v:{b:1)}", 9),
+        ("{a(v:tru e)}", 10),
+        ("{a@d()}", 5),
+        ("{a(v:1){}}", 8),
+        ("query@d(v:){a}", 10),
+    ];
+    assert_faults(rt.alloc(), &rt, &table);
+}
+
+#[test]
+fn what_defines_no_variable_has_none(rt: HostRuntime) {
+    let table = [
+        ("query(){a}", 6),
+        ("query(a:Int){b}", 6),
+        ("query($:Int){b}", 7),
+        ("query($a){b}", 8),
+        ("query($a:){b}", 9),
+        ("query($a:[Int){b}", 13),
+        ("query($a:[]){b}", 10),
+        ("query($a:Int!!){b}", 13),
+        ("query($a:Int=){b}", 13),
+        ("query($a:$b){b}", 9),
+        ("query($a:Int=$b){c}", 13),
+        ("query($a:Int=[$b]){c}", 14),
+        ("query($a:Int={b:$c}){d}", 16),
+        ("query($a:Int@d(e:$b)){c}", 17),
+        ("query($a:Int", 12),
+        ("{a($b:Int)}", 3),
+    ];
+    assert_faults(rt.alloc(), &rt, &table);
+}
+
+// Parts in the middle, with so many copies of what opens before it and of what closes behind it.
+fn nested(
+    alloc: Global,
+    [front, open, middle, close, back]: [&str; 5],
+    depth: usize,
+) -> Result<String, Fail> {
+    let mut text = String::new(alloc);
+    text.push_str(front)?;
+    text.push_str(open.repeat(alloc, depth)?.as_str())?;
+    text.push_str(middle)?;
+    text.push_str(close.repeat(alloc, depth)?.as_str())?;
+    text.push_str(back)?;
     Ok(text)
 }
 
 #[test]
-fn a_hundred_braces_may_be_open(rt: HostRuntime) -> Result<(), Fail> {
+fn a_hundred_brackets_may_be_open(rt: HostRuntime) -> Result<(), Fail> {
     let alloc = rt.alloc();
-    let most = nested(alloc, 100)?;
-    assert!(rt; parse(alloc, most.as_str()).is_ok());
-    let more = nested(alloc, 101)?;
-    assert!(rt;
-        parse(alloc, more.as_str()).is_err_and(|fault| fault == Fault::Limit { place: 200 })
-    );
+    let table = [
+        (["", "{a", "", "}", ""], 100, 1, 200),
+        (["{a(v:", "[", "", "]", ")}"], 99, 1, 104),
+        (["{a(v:", "{b:", "1", "}", ")}"], 99, 1, 302),
+        (["{a(v:[", "[{b:", "1", "}]", "])}"], 49, 1, 202),
+        (["query($a:", "[", "A", "]", "){b}"], 100, 1, 109),
+    ];
+    for (parts, depth, more, place) in table {
+        let most = nested(alloc, parts, depth)?;
+        assert!(rt; parse(alloc, most.as_str()).is_ok(), "{most}");
+        let deep = nested(alloc, parts, depth + more)?;
+        let limit = Fault::Limit { place };
+        assert!(rt;
+            parse(alloc, deep.as_str()).is_err_and(|fault| fault == limit),
+            "{deep}"
+        );
+    }
     Ok(())
 }
 
 #[test]
-fn names_of_fragments_are_found(rt: HostRuntime) -> Result<(), Fail> {
+fn too_many_tokens_are_told_before_an_earlier_fault(rt: HostRuntime) -> Result<(), Fail> {
     let alloc = rt.alloc();
-    let text = "fragment A on T{a{...B ...A}...B} query B{A}{...C}";
-    let document = parse(alloc, text)?;
-    let names = fragment_names(alloc, &document)?;
-    let want = [("A", 9), ("B", 21), ("A", 26), ("B", 31), ("C", 48)];
-    assert_eq!(rt; names.len(), 5);
-    for (name, (text, start)) in names.iter().zip(want) {
-        assert_eq!(rt; name.text.as_str(), text);
-        assert_eq!(rt; name.span.start, start);
-    }
+    let text = "!".repeat(alloc, (1 << 20) + 1)?;
+    let limit = Fault::Limit { place: 1 << 20 };
+    assert!(rt; parse(alloc, text.as_str()).is_err_and(|fault| fault == limit));
     Ok(())
 }

@@ -1,5 +1,5 @@
 -- Where tokens are a document, the same tokens with a fragment's names changed are the document with those names changed.
-use Rattle.std.proofs.Common.{◌≡◌, ℕ, List, [], ◌∷◌, ◌++◌, Bool, true, false, Option, Some, None, refl, sym, ap, subst, ◌∙◌, append_assoc}
+use Rattle.std.proofs.Common.{◌≡◌, ℕ, List, [], ◌∷◌, ◌++◌, Bool, true, false, Option, Some, None, refl, sym, ap, subst, ◌∙◌, append_assoc, map}
 use Rattle.std.specs.Prelude.{if◌then◌else◌, codes}
 use Rattle.std.specs.List.{filter}
 use Rattle.std.specs.Str.{bytes_eq}
@@ -10,11 +10,13 @@ use Rattle.std.proofs.lemmas.Grind.{flat_map-append}
 use Rattle.gq_text.specs.declared.place.Span.{Span}
 use Rattle.gq_lex.specs.declared.token.Kind.{Kind}
 use Rattle.gq_lex.specs.Tokens.{Lexeme}
-use Rattle.gq_tree.specs.Forest.{none, more}
-use Rattle.gq_tree.specs.Forest.{labels, relabel}
-use Rattle.gq_tree.specs.Plain.{NameOf, Head, Sels, Def, field, spread, operation, fragment, place_name, place_head, place_def, no_place, erase_all, erase_document}
+use Rattle.gq_tree.specs.declared.tree.OperationKind.{OperationKind}
+use Rattle.gq_tree.specs.declared.tree.OperationKind.TheVariants.{Query, Mutation, Subscription}
+use Rattle.gq_lex.specs.declared.token.Kind.TheVariants as kind
+use Rattle.gq_tree.specs.Forest.{none, more, labels, relabel}
+use Rattle.gq_tree.specs.Plain.{NameOf, Says, Part, Val, Vals, variable, int, float, string, boolean, null, enum, list, object, under, unnamed, DirectiveOf, TypeOf, named, list_of, non_null, VariableOf, Head, Sels, Def, field, spread, inline, operation, fragment, place_name, place_says, place_part, place_value, place_directive, place_type, place_variable, place_head, place_def, no_place, erase_all, erase_document}
 use Rattle.gq_tree.specs.Names.{spread_name, spread_names, names_in, fragment_names}
-use Rattle.gq_parse.specs.Grammar.{Tokens, IsName, IsPunctuator, IsKeyword, IsFragmentName, IsTypeCondition, NotNext, over, IsNonEmpty, IsFieldName, no_alias, alias, IsSelection, a_field, a_spread, IsOptionalSet, no_set, a_set, IsSelectionSet, braces, IsSelections, closed, selection, IsOptionalName, no_name, a_name, IsOperationDefinition, bare, query, IsFragmentDefinition, fragment_on, IsDefinition, an_operation, a_fragment, IsDocument, at_end, definition}
+use Rattle.gq_parse.specs.Grammar.{Tokens, IsSpelled, IsName, IsPunctuator, IsKeyword, IsFragmentName, IsTypeCondition, IsOptionalCondition, no_condition, a_condition, NotNext, covered, Closed, closed, another, Enclosed, absent, enclosed, IsValueWord, IsValue, a_variable, an_int, a_float, a_string, a_block_string, is_true, is_false, is_null, an_enum, a_list, an_object, IsValues, list_closed, an_item, IsObjectFields, object_closed, an_object_field, IsArgument, an_argument, IsArguments, IsDirectives, no_directive, a_directive, IsType, nullable, without_null, IsNullableType, named_type, list_type, IsDefaultValue, no_default, a_default, IsVariableDefinition, a_variable_definition, IsVariableDefinitions, IsFieldName, no_alias, alias, IsSelection, a_field, a_spread, an_inline, IsOptionalSet, no_set, a_set, IsSelectionSet, braces, IsSelections, set_closed, selection, IsOptionalName, no_name, a_name, IsOperationType, a_query, a_mutation, a_subscription, IsOperationDefinition, bare, typed, IsFragmentDefinition, fragment_on, IsDefinition, an_operation, a_fragment, IsDocument, at_end, definition}
 use Rattle.gq_rename.specs.Renamed.{rename_head, rename_def, rename_document}
 use Rattle.gq_rename.proofs.Retelling.{Marked, tokens_of, Retold, MarksNames, text_by}
 
@@ -144,11 +146,7 @@ one_retold new m [] h = absurd h
 one_retold new m (u ∷ []) h = record { token = u; only = refl; kind = h.0; text = h.1 }
 one_retold new m (u ∷ v ∷ us) h = absurd h.2
 
--- a mark, somewhere
-abbrev pub SomeMark : Kind → Tokens → Tokens → Type 0
-SomeMark k x y = (p : Span) × IsPunctuator k p x y
-
-pub marked_again : {old new : List ℕ} {k : Kind} {p : Span} {tokens rest : Tokens} → IsPunctuator k p tokens rest → Again old new [] (SomeMark k) tokens rest
+pub marked_again : {old new : List ℕ} {k : Kind} {tokens rest : Tokens} → IsPunctuator k tokens rest → Again old new [] (IsPunctuator k) tokens rest
 marked_again {new = new} {k} h =
     let m : Marked = record { token = h.token; marked = false } in
     record {
@@ -158,15 +156,15 @@ marked_again {new = new} {k} h =
       marks = (λ e. absurd (cc), tt);
       again = λ us after r s.
           let o = one_retold new m us r in
-          (o.token.span, record { token = o.token; first = ap (λ (l : Tokens). l ++ after) o.only; kind = o.kind ∙ h.kind; span = refl });
+          record { token = o.token; first = ap (λ (l : Tokens). l ++ after) o.only; kind = o.kind ∙ h.kind };
     }
 
--- a Name of this text, somewhere
-abbrev pub NameWith : List ℕ → Tokens → Tokens → Type 0
-NameWith text x y = (n : NameOf Span) × IsName n x y × (n.text ≡ text)
+-- a token of this kind and spelling, somewhere
+abbrev pub Spelled : Kind → List ℕ → Tokens → Tokens → Type 0
+Spelled k text x y = (p : Span) × IsSpelled k text p x y
 
-pub kept_again : {old new : List ℕ} {n : NameOf Span} {tokens rest : Tokens} → IsName n tokens rest → Again old new [] (NameWith n.text) tokens rest
-kept_again {new = new} {n} h =
+pub kept_again : {old new : List ℕ} {k : Kind} {text : List ℕ} {p : Span} {tokens rest : Tokens} → IsSpelled k text p tokens rest → Again old new [] (Spelled k text) tokens rest
+kept_again {new = new} {k} h =
     let m : Marked = record { token = h.token; marked = false } in
     record {
       front = m ∷ [];
@@ -175,20 +173,30 @@ kept_again {new = new} {n} h =
       marks = (λ e. absurd (cc), tt);
       again = λ us after r s.
           let o = one_retold new m us r in
-          (name_in o.token, record { token = o.token; first = ap (λ (l : Tokens). l ++ after) o.only; kind = o.kind ∙ h.kind; is = refl }, o.text ∙ ap (λ (n : NameOf Span). n.text) (sym h.is));
+          (o.token.span, record { token = o.token; first = ap (λ (l : Tokens). l ++ after) o.only; kind = o.kind ∙ h.kind; spelling = h.spelling ∙ sym o.text; span = refl });
     }
 
-pub renamed_again : {old new : List ℕ} {n : NameOf Span} {tokens rest : Tokens} → IsName n tokens rest → Again old new (n ∷ []) (NameWith (if bytes_eq n.text old then new else n.text)) tokens rest
+pub renamed_again : {old new : List ℕ} {n : NameOf Span} {tokens rest : Tokens} → IsName n tokens rest → Again old new (n ∷ []) (Spelled kind.Name (if bytes_eq n.text old then new else n.text)) tokens rest
 renamed_again {old} {new} {n} h =
     let m : Marked = record { token = h.token; marked = bytes_eq n.text old } in
+    let is : name_in h.token ≡ n = ap (λ (t : List ℕ). let x : NameOf Span = record { text = t; place = h.token.span } in x) (sym h.spelling) ∙ ap (λ (p : Span). let x : NameOf Span = record { text = n.text; place = p } in x) (sym h.span) in
     record {
       front = m ∷ [];
       split = h.first;
-      named = ap (λ (x : NameOf Span). if bytes_eq n.text old then x ∷ [] else []) (sym h.is);
+      named = ap (λ (x : NameOf Span). if bytes_eq n.text old then x ∷ [] else []) is;
       marks = (λ e. h.kind, tt);
       again = λ us after r s.
           let o = one_retold new m us r in
-          (name_in o.token, record { token = o.token; first = ap (λ (l : Tokens). l ++ after) o.only; kind = o.kind ∙ h.kind; is = refl }, o.text ∙ ap (λ (x : NameOf Span). if bytes_eq n.text old then new else x.text) (sym h.is));
+          (
+            o.token.span,
+            record {
+              token = o.token;
+              first = ap (λ (l : Tokens). l ++ after) o.only;
+              kind = o.kind ∙ h.kind;
+              spelling = ap (λ (t : List ℕ). if bytes_eq n.text old then new else t) h.spelling ∙ sym o.text;
+              span = refl;
+            },
+          );
     }
 
 -- the spreads' names, selection by selection
@@ -202,6 +210,24 @@ with_names {old} {new} {Q = Q} {tokens} {rest} e w = let P : List (NameOf Span) 
 abbrev pub plain_name : NameOf Span → NameOf (Unit {0})
 plain_name n = place_name no_place n
 
+abbrev pub plain_says : Says Span → Says (Unit {0})
+plain_says s = place_says no_place s
+
+abbrev pub plain_values : Vals Span → Vals (Unit {0})
+plain_values vs = relabel (place_part no_place) vs
+
+abbrev pub plain_value : Val Span → Val (Unit {0})
+plain_value v = place_value no_place v
+
+abbrev pub plain_directive : DirectiveOf Span → DirectiveOf (Unit {0})
+plain_directive d = place_directive no_place d
+
+abbrev pub plain_type : TypeOf Span → TypeOf (Unit {0})
+plain_type t = place_type no_place t
+
+abbrev pub plain_variable : VariableOf Span → VariableOf (Unit {0})
+plain_variable v = place_variable no_place v
+
 abbrev pub plain_head : Head Span → Head (Unit {0})
 plain_head h = place_head no_place h
 
@@ -214,27 +240,169 @@ there o = option_map no_place o
 abbrev pub rename_all : List ℕ → List ℕ → Sels (Unit {0}) → Sels (Unit {0})
 rename_all old new ss = relabel (rename_head old new) ss
 
-only_text : (m n : NameOf Span) → m.text ≡ n.text → plain_name m ≡ plain_name n
-only_text m n e = ap (λ (t : List ℕ). let x : NameOf (Unit {0}) = record { text = t; place = tt } in x) e
+-- a phrase whose tree is like this one, as f sees trees
+abbrev pub Like : {A B : Type 0} → (A → Tokens → Tokens → Type 0) → (A → B) → A → Tokens → Tokens → Type 0
+Like {A} X f x u v = (x' : A) × X x' u v × (f x' ≡ f x)
 
--- the names of a field like these, somewhere
+-- each phrase of a kind, with no fragment's name in it, is read again
+abbrev pub AllKept : {A B : Type 0} → List ℕ → List ℕ → (A → Tokens → Tokens → Type 0) → (A → B) → Type 0
+AllKept {A} old new X f = (x : A) (tokens rest : Tokens) → X x tokens rest → Again old new [] (Like X f x) tokens rest
+
+-- a Name
+named_again : {old new : List ℕ} {n : NameOf Span} {tokens rest : Tokens} → IsName n tokens rest → Again old new [] (Like IsName plain_name n) tokens rest
+named_again {n = n} h = changed (λ x y q. (record { text = n.text; place = q.0 }, q.1, refl)) (kept_again h)
+
+-- nothing, where a part is optional
+skipped : {old new : List ℕ} {A B : Type 0} {X : A → Tokens → Tokens → Type 0} {f : A → B} {k : Kind} {tokens : Tokens} (x : A) → ((u : Tokens) → NotNext k u → X x u u) → NotNext k tokens → Again old new [] (Like X f x) tokens tokens
+skipped {X = X} {f} x one free = changed (λ u v q. let P : Tokens → Type 0 = λ l. X x u l in (x, subst P q.0 (one u q.1), refl)) (peeked free)
+
+-- phrases and the punctuator that closes them
+closed_again : {old new : List ℕ} {A B : Type 0} {X : A → Tokens → Tokens → Type 0} {f : A → B} {k : Kind} {xs : List A} {tokens rest : Tokens} → AllKept old new X f → Closed X k xs tokens rest → Again old new [] (Like (Closed X k) (map f) xs) tokens rest
+closed_again each (closed m) = changed (λ u v q. ([], closed q, refl)) (marked_again m)
+closed_again {X = X} {f} {tokens = tokens} each (another {x = x} {xs = xs} a one others) =
+    changed (λ u v q. (q.1.0 ∷ q.2.0, another q.0 q.1.1 q.2.1, let e = q.1.2 in let d = q.2.2 in cc)) (joined (each x tokens a one) (closed_again {f = f} each others))
+
+enclose : {A B : Type 0} {X : A → Tokens → Tokens → Type 0} {f : A → B} {k j : Kind} {u v w : Tokens} (x : A) (xs ys : List A) → IsPunctuator k u v → Closed X j ys v w → map f ys ≡ f x ∷ map f xs → Like (Enclosed X k j) (map f) (x ∷ xs) u w
+enclose x xs [] m c e = absurd (cc)
+enclose {v = v} x xs (y ∷ ys) m c e = (y ∷ ys, enclosed v m c, e)
+
+enclosed_again : {old new : List ℕ} {A B : Type 0} {X : A → Tokens → Tokens → Type 0} {f : A → B} {k j : Kind} {xs : List A} {tokens rest : Tokens} → AllKept old new X f → Enclosed X k j xs tokens rest → Again old new [] (Like (Enclosed X k j) (map f) xs) tokens rest
+enclosed_again {X = X} {f} {k} {j} each (absent free) = skipped {X = Enclosed X k j} {f = map f} [] (λ u h. absent h) free
+enclosed_again {X = X} {f} {k} {j} each (enclosed {x = x} {xs = xs} a m c) =
+    changed (λ u v q. enclose x xs q.2.0 q.1 q.2.1 q.2.2) (joined (marked_again m) (closed_again {f = f} each c))
+
+-- a value, values in brackets, fields in braces
+abbrev pub ValueLike : Bool → Says Span → Vals Span → Tokens → Tokens → Type 0
+ValueLike constant says below x y = (s : Says Span) × (b : Vals Span) × IsValue constant s b x y × (plain_says s ≡ plain_says says) × (plain_values b ≡ plain_values below)
+
+mutual
+  value_again : {old new : List ℕ} {constant : Bool} {says : Says Span} {below : Vals Span} {tokens rest : Tokens} → IsValue constant says below tokens rest → Again old new [] (ValueLike constant says below) tokens rest
+  value_again (a_variable {name = name} a free m n) =
+      changed (λ x y q. (variable (record { text = name.text; place = q.2.0 }) (covered x y), none, a_variable q.0 free q.1 q.2.1, refl, refl)) (joined (marked_again m) (kept_again n))
+  value_again (an_int {text = text} h) = changed (λ x y q. (int text q.0, none, an_int q.1, refl, refl)) (kept_again h)
+  value_again (a_float {text = text} h) = changed (λ x y q. (float text q.0, none, a_float q.1, refl, refl)) (kept_again h)
+  value_again (a_string {text = text} h) = changed (λ x y q. (string text q.0, none, a_string q.1, refl, refl)) (kept_again h)
+  value_again (a_block_string {text = text} h) = changed (λ x y q. (string text q.0, none, a_block_string q.1, refl, refl)) (kept_again h)
+  value_again (is_true h) = changed (λ x y q. (boolean true q.0, none, is_true q.1, refl, refl)) (kept_again h)
+  value_again (is_false h) = changed (λ x y q. (boolean false q.0, none, is_false q.1, refl, refl)) (kept_again h)
+  value_again (is_null h) = changed (λ x y q. (null q.0, none, is_null q.1, refl, refl)) (kept_again h)
+  value_again (an_enum {name = name} h other) = changed (λ x y q. (enum (record { text = name.text; place = q.0 }), none, an_enum q.1 other, refl, refl)) (kept_again h)
+  value_again (a_list a m vs) = changed (λ x y q. (list (covered x y), q.2.0, a_list q.0 q.1 q.2.1, refl, q.2.2)) (joined (marked_again m) (values_again vs))
+  value_again (an_object a m vs) = changed (λ x y q. (object (covered x y), q.2.0, an_object q.0 q.1 q.2.1, refl, q.2.2)) (joined (marked_again m) (fields_again vs))
+
+  values_again : {old new : List ℕ} {constant : Bool} {vs : Vals Span} {tokens rest : Tokens} → IsValues constant vs tokens rest → Again old new [] (Like (IsValues constant) plain_values vs) tokens rest
+  values_again (list_closed m) = changed (λ x y q. (none, list_closed q, refl)) (marked_again m)
+  values_again (an_item {says = says} {below = below} {vs = vs} a v others) =
+      changed (λ x y q. (
+        more (record { key = None; says = q.1.0 }) q.1.1 q.2.0,
+        an_item q.0 q.1.2 q.2.1,
+        let s = q.1.3 in let b = q.1.4 in let r = q.2.2 in cc,
+      ))
+      (joined (value_again v) (values_again others))
+
+  fields_again : {old new : List ℕ} {constant : Bool} {vs : Vals Span} {tokens rest : Tokens} → IsObjectFields constant vs tokens rest → Again old new [] (Like (IsObjectFields constant) plain_values vs) tokens rest
+  fields_again (object_closed m) = changed (λ x y q. (none, object_closed q, refl)) (marked_again m)
+  fields_again (an_object_field {name = name} {says = says} {below = below} {vs = vs} a b c n m v others) =
+      changed (λ x y q.
+      let p = q.2.2 in (
+        more (record { key = Some (record { text = name.text; place = q.1.0 }); says = p.1.0 }) p.1.1 p.2.0,
+        an_object_field q.0 q.2.0 p.0 q.1.1 q.2.1 p.1.2 p.2.1,
+        let s = p.1.3 in let b = p.1.4 in let r = p.2.2 in cc,
+      ))
+      (joined (kept_again n) (joined (marked_again m) (joined (value_again v) (fields_again others))))
+
+-- arguments
+argument_again : {old new : List ℕ} {constant : Bool} {v : Val Span} {tokens rest : Tokens} → IsArgument constant v tokens rest → Again old new [] (Like (IsArgument constant) plain_value v) tokens rest
+argument_again (an_argument {name = name} {says = says} {below = below} a b n m v) =
+    changed (λ x y q.
+    let p = q.2.2 in (
+      under (record { text = name.text; place = q.1.0 }) (unnamed p.0 p.1),
+      an_argument q.0 q.2.0 q.1.1 q.2.1 p.2,
+      let s = p.3 in let b = p.4 in cc,
+    ))
+    (joined (kept_again n) (joined (marked_again m) (value_again v)))
+
+arguments_again : {old new : List ℕ} {constant : Bool} {vs : List (Val Span)} {tokens rest : Tokens} → IsArguments constant vs tokens rest → Again old new [] (Like (IsArguments constant) (map plain_value) vs) tokens rest
+arguments_again h = enclosed_again (λ x t r one. argument_again one) h
+
+-- directives
+directives_again : {old new : List ℕ} {constant : Bool} {ds : List (DirectiveOf Span)} {tokens rest : Tokens} → IsDirectives constant ds tokens rest → Again old new [] (Like (IsDirectives constant) (map plain_directive) ds) tokens rest
+directives_again {constant = constant} (no_directive free) = skipped {X = IsDirectives constant} {f = map plain_directive} [] (λ u h. no_directive h) free
+directives_again (a_directive {name = name} {arguments = vs} {ds = ds} a b c m n args others) =
+    changed (λ x y q.
+    let w = q.2.1 in
+    let p = q.2.2 in (
+      record { name = record { text = name.text; place = w.0 }; arguments = p.1.0; place = covered x p.0 } ∷ p.2.0,
+      a_directive q.0 q.2.0 p.0 q.1 w.1 p.1.1 p.2.1,
+      let e = p.1.2 in let d = p.2.2 in cc,
+    ))
+    (joined (marked_again m) (joined (kept_again n) (joined (arguments_again args) (directives_again others))))
+
+-- types
+mutual
+  type_again : {old new : List ℕ} {t : TypeOf Span} {tokens rest : Tokens} → IsType t tokens rest → Again old new [] (Like IsType plain_type t) tokens rest
+  type_again (nullable t free) =
+      changed (λ x y q.
+      let P : Tokens → Type 0 = λ l. IsNullableType q.1.0 x l in
+      (q.1.0, nullable (subst P q.2.0 q.1.1) (let N : Tokens → Type 0 = λ l. NotNext kind.Bang l in subst N q.2.0 q.2.1), q.1.2))
+      (joined (nullable_again t) (peeked free))
+  type_again (without_null a t m) = changed (λ x y q. (non_null q.1.0, without_null q.0 q.1.1 q.2, let e = q.1.2 in cc)) (joined (nullable_again t) (marked_again m))
+
+  nullable_again : {old new : List ℕ} {t : TypeOf Span} {tokens rest : Tokens} → IsNullableType t tokens rest → Again old new [] (Like IsNullableType plain_type t) tokens rest
+  nullable_again (named_type {name = name} n) = changed (λ x y q. (named (record { text = name.text; place = q.0 }), named_type q.1, refl)) (kept_again n)
+  nullable_again (list_type a b m t l) =
+      changed (λ x y q. (list_of q.2.1.0, list_type q.0 q.2.0 q.1 q.2.1.1 q.2.2, let e = q.2.1.2 in cc)) (joined (marked_again m) (joined (type_again t) (marked_again l)))
+
+-- a default value
+default_again : {old new : List ℕ} {o : Option (Val Span)} {tokens rest : Tokens} → IsDefaultValue o tokens rest → Again old new [] (Like IsDefaultValue (option_map plain_value) o) tokens rest
+default_again (no_default free) = skipped {X = IsDefaultValue} {f = option_map plain_value} None (λ u h. no_default h) free
+default_again (a_default {says = says} {below = below} a m v) =
+    changed (λ x y q. (Some (unnamed q.2.0 q.2.1), a_default q.0 q.1 q.2.2, let s = q.2.3 in let b = q.2.4 in cc)) (joined (marked_again m) (value_again v))
+
+-- the definition of a variable
+variable_again : {old new : List ℕ} {v : VariableOf Span} {tokens rest : Tokens} → IsVariableDefinition v tokens rest → Again old new [] (Like IsVariableDefinition plain_variable v) tokens rest
+variable_again (a_variable_definition {name = name} {t = t} {default = default} {directives = ds} a b c d e m n k type value others) =
+    changed (λ x y q.
+    let q1 = q.2 in
+    let q2 = q1.2 in
+    let q3 = q2.2 in
+    let q4 = q3.2 in (
+      record { name = record { text = name.text; place = q1.1.0 }; place = covered x q1.0; type_ref = q3.1.0; default = q4.1.0; directives = q4.2.0 },
+      a_variable_definition q.0 q1.0 q2.0 q3.0 q4.0 q.1 q1.1.1 q2.1 q3.1.1 q4.1.1 q4.2.1,
+      let e1 = q3.1.2 in let e2 = q4.1.2 in let e3 = q4.2.2 in cc,
+    ))
+    (joined (marked_again m) (joined (kept_again n) (joined (marked_again k) (joined (type_again type) (joined (default_again value) (directives_again others))))))
+
+variables_again : {old new : List ℕ} {vs : List (VariableOf Span)} {tokens rest : Tokens} → IsVariableDefinitions vs tokens rest → Again old new [] (Like IsVariableDefinitions (map plain_variable) vs) tokens rest
+variables_again h = enclosed_again (λ x t r one. variable_again one) h
+
+-- the names of a field
 abbrev pub NamesLike : Option (NameOf Span) → NameOf Span → Tokens → Tokens → Type 0
 NamesLike a n x y = (a' : Option (NameOf Span)) × (n' : NameOf Span) × IsFieldName a' n' x y × (option_map plain_name a' ≡ option_map plain_name a) × (plain_name n' ≡ plain_name n)
 
 names_again : {old new : List ℕ} {a : Option (NameOf Span)} {n : NameOf Span} {tokens rest : Tokens} → IsFieldName a n tokens rest → Again old new [] (NamesLike a n) tokens rest
 names_again (no_alias {name = name} n free) =
     changed (λ x y q.
-    let P : Tokens → Type 0 = λ l. IsFieldName None q.1.0 x l in
-    (None, q.1.0, subst P q.2.0 (no_alias q.1.1 q.2.1), refl, only_text q.1.0 name q.1.2))
+    let m : NameOf Span = record { text = name.text; place = q.1.0 } in
+    let P : Tokens → Type 0 = λ l. IsFieldName None m x l in
+    (None, m, subst P q.2.0 (no_alias q.1.1 q.2.1), refl, refl))
     (joined (kept_again n) (peeked free))
-names_again (alias {first = first} {name = name} a b colon n m k) =
-    changed (λ x y q.
-    (Some q.1.0, q.2.2.0, alias q.0 q.2.0 q.2.1.0 q.1.1 q.2.1.1 q.2.2.1, ap (λ (z : NameOf (Unit {0})). Some z) (only_text q.1.0 first q.1.2), only_text q.2.2.0 name q.2.2.2))
+names_again (alias {first = first} {name = name} a b n m k) =
+    changed (λ x y q. (
+      Some (record { text = first.text; place = q.1.0 }),
+      record { text = name.text; place = q.2.2.0 },
+      alias q.0 q.2.0 q.1.1 q.2.1 q.2.2.1,
+      refl,
+      refl,
+    ))
     (joined (kept_again n) (joined (marked_again m) (kept_again k)))
 
 -- a fragment's name under the new name
+abbrev pub renamed : List ℕ → List ℕ → NameOf Span → List ℕ
+renamed old new name = if bytes_eq name.text old then new else name.text
+
 abbrev pub FragmentNameLike : List ℕ → List ℕ → NameOf Span → Tokens → Tokens → Type 0
-FragmentNameLike old new name x y = (n : NameOf Span) × IsFragmentName n x y × (n.text ≡ (if bytes_eq name.text old then new else name.text))
+FragmentNameLike old new name x y = (p : Span) × IsFragmentName (record { text = renamed old new name; place = p }) x y
 
 chosen_not_on : (b : Bool) (new text : List ℕ) → (new ≡ codes "on" → ⊥) → (text ≡ codes "on" → ⊥) → (if b then new else text) ≡ codes "on" → ⊥
 chosen_not_on true new text h k = h
@@ -242,7 +410,21 @@ chosen_not_on false new text h k = k
 
 fragment_name_again : {old new : List ℕ} {name : NameOf Span} {tokens rest : Tokens} → (new ≡ codes "on" → ⊥) → IsFragmentName name tokens rest → Again old new (name ∷ []) (FragmentNameLike old new name) tokens rest
 fragment_name_again {old} {new} {name} free h =
-    changed (λ x y q. (q.0, record { is_name = q.1; not_on = λ e. chosen_not_on (bytes_eq name.text old) new name.text free h.not_on (sym q.2 ∙ e) }, q.2)) (renamed_again h.is_name)
+    changed (λ x y q. (q.0, record { is_name = q.1; not_on = chosen_not_on (bytes_eq name.text old) new name.text free h.not_on })) (renamed_again h.is_name)
+
+-- a type condition
+condition_again : {old new : List ℕ} {on : NameOf Span} {tokens rest : Tokens} → IsTypeCondition on tokens rest → Again old new [] (Like IsTypeCondition plain_name on) tokens rest
+condition_again {on = on} h =
+    changed (λ x y q. (record { text = on.text; place = q.2.0 }, record { keyword = q.1.0; behind = q.0; begins = q.1.1; names = q.2.1 }, refl))
+    (joined (kept_again h.begins) (kept_again h.names))
+
+optional_condition_again : {old new : List ℕ} {o : Option (NameOf Span)} {tokens rest : Tokens} → IsOptionalCondition o tokens rest → Again old new [] (Like IsOptionalCondition (option_map plain_name) o) tokens rest
+optional_condition_again (no_condition free) = skipped {X = IsOptionalCondition} {f = option_map plain_name} None (λ u h. no_condition h) free
+optional_condition_again (a_condition h) = changed (λ x y q. (Some q.0, a_condition q.1, let e = q.2 in cc)) (condition_again h)
+
+optional_name_again : {old new : List ℕ} {o : Option (NameOf Span)} {tokens rest : Tokens} → IsOptionalName o tokens rest → Again old new [] (Like IsOptionalName (option_map plain_name) o) tokens rest
+optional_name_again (no_name free) = skipped {X = IsOptionalName} {f = option_map plain_name} None (λ u h. no_name h) free
+optional_name_again (a_name {name = name} n) = changed (λ x y q. (Some (record { text = name.text; place = q.0 }), a_name q.1, refl)) (kept_again n)
 
 -- a selection like this one, the spreads of the old name under the new one
 abbrev pub SelectionLike : List ℕ → List ℕ → Head Span → Sels Span → Tokens → Tokens → Type 0
@@ -252,125 +434,109 @@ abbrev pub OptionalLike : List ℕ → List ℕ → Option Span → Sels Span �
 OptionalLike old new o ss x y = (o' : Option Span) × (ss' : Sels Span) × IsOptionalSet o' ss' x y × (there o' ≡ there o) × (erase_all ss' ≡ rename_all old new (erase_all ss))
 
 abbrev pub SetLike : List ℕ → List ℕ → Sels Span → Tokens → Tokens → Type 0
-SetLike old new ss x y = (ss' : Sels Span) × (p : Span) × IsSelectionSet ss' p x y × (erase_all ss' ≡ rename_all old new (erase_all ss))
+SetLike old new ss x y = (ss' : Sels Span) × IsSelectionSet ss' x y × (erase_all ss' ≡ rename_all old new (erase_all ss))
 
 abbrev pub SelectionsLike : List ℕ → List ℕ → Sels Span → Tokens → Tokens → Type 0
-SelectionsLike old new ss x y = (ss' : Sels Span) × (last : Span) × IsSelections ss' last x y × (erase_all ss' ≡ rename_all old new (erase_all ss))
+SelectionsLike old new ss x y = (ss' : Sels Span) × IsSelections ss' x y × (erase_all ss' ≡ rename_all old new (erase_all ss))
 
-some_kept : (old new : List ℕ) (ss ss' : Sels Span) → erase_all ss' ≡ rename_all old new (erase_all ss) → IsNonEmpty ss → IsNonEmpty ss'
-some_kept old new none ss' e h = absurd h
-some_kept old new (more l b r) none e h = absurd (cc)
-some_kept old new (more l b r) (more l' b' r') e h = tt
+brace : {x y z : Tokens} (old new : List ℕ) (h : Head Span) (below ss zs : Sels Span) → IsPunctuator kind.BraceOpen x y → IsSelections zs y z → erase_all zs ≡ rename_all old new (erase_all (more h below ss)) → SetLike old new (more h below ss) x z
+brace old new h below ss none m body e = absurd (cc)
+brace {y = y} old new h below ss (more l b r) m body e = (more l b r, braces y m body, e)
 
 mutual
   selection_again : {old new : List ℕ} {h : Head Span} {ss : Sels Span} {tokens rest : Tokens} → (new ≡ codes "on" → ⊥) → IsSelection h ss tokens rest → Again old new (spread_name h ++ spread_names ss) (SelectionLike old new h ss) tokens rest
-  selection_again {old} {new} free (a_field {alias = al} {name = n} {set = o} {ss = ss} a names set) =
-      changed (λ x y q. (
-        field q.1.0 q.1.1 q.2.0,
-        q.2.1,
-        a_field q.0 q.1.2 q.2.2,
-        ap (λ (z : Option (NameOf (Unit {0}))). let r : Head (Unit {0}) = field z (plain_name q.1.1) (there q.2.0) in r) q.1.3
-            ∙ ap (λ (z : NameOf (Unit {0})). let r : Head (Unit {0}) = field (option_map plain_name al) z (there q.2.0) in r) q.1.4
-            ∙ ap (λ (z : Option (Unit {0})). let r : Head (Unit {0}) = field (option_map plain_name al) (plain_name n) z in r) q.2.3,
-        q.2.4,
+  selection_again {old} {new} free (a_field {alias = al} {name = n} {arguments = vs} {directives = ds} {braces = o} {ss = ss} a b c names args dirs set) =
+      changed (λ x y q.
+      let w = q.2.1 in
+      let d = q.2.2.1 in
+      let s = q.2.2.2 in (
+        field q.1.0 q.1.1 w.0 d.0 s.0 (covered x y),
+        s.1,
+        a_field q.0 q.2.0 q.2.2.0 q.1.2 w.1 d.1 s.2,
+        let e1 = q.1.3 in let e2 = q.1.4 in let e3 = w.2 in let e4 = d.2 in let e5 = s.3 in cc,
+        s.4,
       ))
-      (joined (names_again names) (optional_again free set))
-  selection_again {old} {new} free (a_spread {name = name} a dots m s) =
-      changed (λ x y q. (
-        spread q.2.0 (over q.1.0 q.2.0.place),
+      (joined (names_again names) (joined (arguments_again args) (joined (directives_again dirs) (optional_again free set))))
+  selection_again {old} {new} free (a_spread {name = name} {directives = ds} a b m n dirs) =
+      changed (λ x y q.
+      let n' = q.2.1 in
+      let d = q.2.2 in (
+        spread (record { text = renamed old new name; place = n'.0 }) d.0 (covered x y),
         none,
-        a_spread q.0 q.1.0 q.1.1 q.2.1,
-        ap (λ (t : List ℕ). let r : Head (Unit {0}) = spread (record { text = t; place = tt }) tt in r) q.2.2,
+        a_spread q.0 q.2.0 q.1 n'.1 d.1,
+        let e = d.2 in cc,
         refl,
       ))
-      (joined (marked_again m) (fragment_name_again free s))
+      (joined (marked_again m) (joined (fragment_name_again free n) (directives_again dirs)))
+  selection_again {old} {new} free (an_inline {on = on} {directives = ds} {ss = ss} a b c m cond dirs set) =
+      changed (λ x y q.
+      let o = q.2.1 in
+      let d = q.2.2.1 in
+      let s = q.2.2.2 in (
+        inline o.0 d.0 (covered q.2.2.0 y) (covered x y),
+        s.0,
+        an_inline q.0 q.2.0 q.2.2.0 q.1 o.1 d.1 s.1,
+        let e1 = o.2 in let e2 = d.2 in cc,
+        s.2,
+      ))
+      (joined (marked_again m) (joined (optional_condition_again cond) (joined (directives_again dirs) (set_again free set))))
 
   optional_again : {old new : List ℕ} {o : Option Span} {ss : Sels Span} {tokens rest : Tokens} → (new ≡ codes "on" → ⊥) → IsOptionalSet o ss tokens rest → Again old new (spread_names ss) (OptionalLike old new o ss) tokens rest
   optional_again {old} {new} free (no_set f) = changed (λ x y q. let P : Tokens → Type 0 = λ l. IsOptionalSet None none x l in (None, none, subst P q.0 (no_set q.1), refl, refl)) (peeked f)
-  optional_again {old} {new} free (a_set set) = changed (λ x y q. (Some q.1, q.0, a_set q.2, refl, q.3)) (set_again free set)
+  optional_again {old} {new} free (a_set set) = changed (λ x y q. (Some (covered x y), q.0, a_set q.1, refl, q.2)) (set_again free set)
 
-  set_again : {old new : List ℕ} {p : Span} {ss : Sels Span} {tokens rest : Tokens} → (new ≡ codes "on" → ⊥) → IsSelectionSet ss p tokens rest → Again old new (spread_names ss) (SetLike old new ss) tokens rest
-  set_again {old} {new} free (braces {ss = ss} a first last m body some) =
-      changed (λ x y q. (q.2.0, over q.1.0 q.2.1, braces q.0 q.1.0 q.2.1 q.1.1 q.2.2 (some_kept old new ss q.2.0 q.2.3 some), q.2.3))
-      (joined (marked_again m) (selections_again free body))
+  set_again : {old new : List ℕ} {ss : Sels Span} {tokens rest : Tokens} → (new ≡ codes "on" → ⊥) → IsSelectionSet ss tokens rest → Again old new (spread_names ss) (SetLike old new ss) tokens rest
+  set_again {old} {new} free (braces {h = h} {below = below} {ss = ss} a m body) =
+      changed (λ x y q. brace old new h below ss q.2.0 q.1 q.2.1 q.2.2) (joined (marked_again m) (selections_again free body))
 
-  selections_again : {old new : List ℕ} {ss : Sels Span} {last : Span} {tokens rest : Tokens} → (new ≡ codes "on" → ⊥) → IsSelections ss last tokens rest → Again old new (spread_names ss) (SelectionsLike old new ss) tokens rest
-  selections_again free (closed m) = changed (λ x y q. (none, q.0, closed q.1, refl)) (marked_again m)
+  selections_again : {old new : List ℕ} {ss : Sels Span} {tokens rest : Tokens} → (new ≡ codes "on" → ⊥) → IsSelections ss tokens rest → Again old new (spread_names ss) (SelectionsLike old new ss) tokens rest
+  selections_again free (set_closed m) = changed (λ x y q. (none, set_closed q, refl)) (marked_again m)
   selections_again {old} {new} free (selection {h = h} {below = b} {ss = ss} a sel body) =
       with_names (sym (spread_names_more h b ss))
       (changed (λ x y q. (
         more q.1.0 q.1.1 q.2.0,
-        q.2.1,
-        selection q.0 q.1.2 q.2.2,
-        ap (λ (z : Head (Unit {0})). more z (erase_all q.1.1) (erase_all q.2.0)) q.1.3
-            ∙ ap (λ (z : Sels (Unit {0})). more (rename_head old new (plain_head h)) z (erase_all q.2.0)) q.1.4
-            ∙ ap (λ (z : Sels (Unit {0})). more (rename_head old new (plain_head h)) (rename_all old new (erase_all b)) z) q.2.3,
+        selection q.0 q.1.2 q.2.1,
+        let e1 = q.1.3 in let e2 = q.1.4 in let e3 = q.2.2 in cc,
       ))
       (joined (selection_again free sel) (selections_again free body)))
 
--- a Name or none like this one
-abbrev pub OptionalNameLike : Option (NameOf Span) → Tokens → Tokens → Type 0
-OptionalNameLike o x y = (o' : Option (NameOf Span)) × IsOptionalName o' x y × (option_map plain_name o' ≡ option_map plain_name o)
-
-optional_name_again : {old new : List ℕ} {o : Option (NameOf Span)} {tokens rest : Tokens} → IsOptionalName o tokens rest → Again old new [] (OptionalNameLike o) tokens rest
-optional_name_again (no_name f) = changed (λ x y q. let P : Tokens → Type 0 = λ l. IsOptionalName None x l in (None, subst P q.0 (no_name q.1), refl)) (peeked f)
-optional_name_again (a_name {name = name} n) = changed (λ x y q. (Some q.0, a_name q.1, ap (λ (z : NameOf (Unit {0})). Some z) (only_text q.0 name q.2))) (kept_again n)
-
--- a keyword, somewhere
-abbrev pub SomeKeyword : List ℕ → Tokens → Tokens → Type 0
-SomeKeyword word x y = (p : Span) × IsKeyword word p x y
-
-keyword_is : (word : List ℕ) (n : NameOf Span) (x y : Tokens) → IsName n x y → n.text ≡ word → SomeKeyword word x y
-keyword_is word n x y h e = let P : List ℕ → Type 0 = λ t. IsName (record { text = t; place = n.place }) x y in (n.place, subst P e h)
-
-keyword_again : {old new word : List ℕ} {p : Span} {tokens rest : Tokens} → IsKeyword word p tokens rest → Again old new [] (SomeKeyword word) tokens rest
-keyword_again {word = word} h = changed (λ x y q. keyword_is word q.0 x y q.1 q.2) (kept_again h)
-
--- a type condition like this one
-abbrev pub ConditionLike : NameOf Span → Tokens → Tokens → Type 0
-ConditionLike on x y = (n : NameOf Span) × IsTypeCondition n x y × (plain_name n ≡ plain_name on)
-
-condition_again : {old new : List ℕ} {on : NameOf Span} {tokens rest : Tokens} → IsTypeCondition on tokens rest → Again old new [] (ConditionLike on) tokens rest
-condition_again {on = on} h =
-    changed (λ x y q. (q.2.0, record { keyword = q.1.0; behind = q.0; begins = q.1.1; named = q.2.1 }, only_text q.2.0 on q.2.2))
-    (joined (keyword_again h.begins) (kept_again h.named))
+-- the word of an operation
+operation_type_again : {old new : List ℕ} {k : OperationKind} {tokens rest : Tokens} → IsOperationType k tokens rest → Again old new [] (IsOperationType k) tokens rest
+operation_type_again (a_query h) = changed (λ x y q. a_query q.1) (kept_again h)
+operation_type_again (a_mutation h) = changed (λ x y q. a_mutation q.1) (kept_again h)
+operation_type_again (a_subscription h) = changed (λ x y q. a_subscription q.1) (kept_again h)
 
 -- a definition like this one
 abbrev pub DefLike : List ℕ → List ℕ → Def Span → Tokens → Tokens → Type 0
 DefLike old new d x y = (d' : Def Span) × IsDefinition d' x y × (plain_def d' ≡ rename_def old new (plain_def d))
 
-abbrev plain_operation : Option (NameOf (Unit {0})) → Sels (Unit {0}) → Def (Unit {0})
-plain_operation n ss = operation n ss tt tt
-
-abbrev plain_fragment : List ℕ → NameOf (Unit {0}) → Sels (Unit {0}) → Def (Unit {0})
-plain_fragment t on ss = fragment (record { text = t; place = tt }) on ss tt tt
-
 operation_again : {old new : List ℕ} {d : Def Span} {tokens rest : Tokens} → (new ≡ codes "on" → ⊥) → IsOperationDefinition d tokens rest → Again old new (names_in d) (DefLike old new d) tokens rest
 operation_again free (bare set) =
-    changed (λ x y q. (operation None q.0 q.1 q.1, an_operation (bare q.2), ap (plain_operation None) q.3)) (set_again free set)
-operation_again {old} {new} free (query {name = name} {ss = ss} a b first word n set) =
+    changed (λ x y q. (operation Query None [] [] q.0 (covered x y) (covered x y), an_operation (bare q.1), let e = q.2 in cc)) (set_again free set)
+operation_again {old} {new} free (typed {type = type} {name = name} {variables = vs} {directives = ds} {ss = ss} a b c d word n vars dirs set) =
     changed (λ x y q.
-    let o = q.2.1 in
-    let s = q.2.2 in (
-      operation o.0 s.0 s.1 (over q.1.0 s.1),
-      an_operation (query q.0 q.2.0 q.1.0 q.1.1 o.1 s.2),
-      ap (λ (z : Option (NameOf (Unit {0}))). plain_operation z (erase_all s.0)) o.2 ∙ ap (plain_operation (option_map plain_name name)) s.3,
+    let q1 = q.2 in
+    let q2 = q1.2 in
+    let q3 = q2.2 in
+    let s = q3.2 in (
+      operation type q1.1.0 q2.1.0 q3.1.0 s.0 (covered q3.0 y) (covered x y),
+      an_operation (typed q.0 q1.0 q2.0 q3.0 q.1 q1.1.1 q2.1.1 q3.1.1 s.1),
+      let e1 = q1.1.2 in let e2 = q2.1.2 in let e3 = q3.1.2 in let e4 = s.2 in cc,
     ))
-    (joined (keyword_again word) (joined (optional_name_again n) (set_again free set)))
+    (joined (operation_type_again word) (joined (optional_name_again n) (joined (variables_again vars) (joined (directives_again dirs) (set_again free set)))))
 
 fragment_again : {old new : List ℕ} {d : Def Span} {tokens rest : Tokens} → (new ≡ codes "on" → ⊥) → IsFragmentDefinition d tokens rest → Again old new (names_in d) (DefLike old new d) tokens rest
-fragment_again {old} {new} free (fragment_on {name = name} {on = on} {ss = ss} a b c first word n cond set) =
+fragment_again {old} {new} free (fragment_on {name = name} {on = on} {directives = ds} {ss = ss} a b c d first word n cond dirs set) =
     changed (λ x y q.
-    let named = q.2.1 in
-    let type = q.2.2.1 in
-    let s = q.2.2.2 in (
-      fragment named.0 type.0 s.0 s.1 (over q.1.0 s.1),
-      a_fragment (fragment_on q.0 q.2.0 q.2.2.0 q.1.0 q.1.1 named.1 type.1 s.2),
-      ap (λ (t : List ℕ). plain_fragment t (plain_name type.0) (erase_all s.0)) named.2
-          ∙ ap (λ (z : NameOf (Unit {0})). plain_fragment (if bytes_eq name.text old then new else name.text) z (erase_all s.0)) type.2
-          ∙ ap (plain_fragment (if bytes_eq name.text old then new else name.text) (plain_name on)) s.3,
+    let q1 = q.2 in
+    let q2 = q1.2 in
+    let q3 = q2.2 in
+    let s = q3.2 in (
+      fragment (record { text = renamed old new name; place = q1.1.0 }) q2.1.0 q3.1.0 s.0 (covered q3.0 y) (covered x y),
+      a_fragment (fragment_on q.0 q1.0 q2.0 q3.0 q.1.0 q.1.1 q1.1.1 q2.1.1 q3.1.1 s.1),
+      let e1 = q2.1.2 in let e2 = q3.1.2 in let e3 = s.2 in cc,
     ))
-    (joined (keyword_again word) (joined (fragment_name_again free n) (joined (condition_again cond) (set_again free set))))
+    (joined (kept_again word) (joined (fragment_name_again free n) (joined (condition_again cond) (joined (directives_again dirs) (set_again free set)))))
 
 definition_again : {old new : List ℕ} {d : Def Span} {tokens rest : Tokens} → (new ≡ codes "on" → ⊥) → IsDefinition d tokens rest → Again old new (names_in d) (DefLike old new d) tokens rest
 definition_again free (an_operation h) = operation_again free h
@@ -387,6 +553,6 @@ document_again {old} {new} free (definition {d = d} {ds = ds} a one others) =
     let t = q.2 e in (
       q.1.0 ∷ t.0,
       definition q.0 q.1.1 t.1,
-      ap (λ (z : Def (Unit {0})). z ∷ erase_document t.0) q.1.2 ∙ ap (λ (z : List (Def (Unit {0}))). rename_def old new (plain_def d) ∷ z) t.2,
+      let e1 = q.1.2 in let e2 = t.2 in cc,
     ))
     (joined (definition_again free one) (document_again free others))

@@ -14,7 +14,7 @@ use Rattle.gq_text.specs.Replaced.{replaced}
 use Rattle.gq_lex.specs.declared.token.Kind.{Kind}
 use Rattle.gq_lex.specs.Tokens.{Lexeme, Reads}
 use Rattle.gq_tree.specs.Forest.{none, more, relabel}
-use Rattle.gq_tree.specs.Plain.{NameOf, Head, Sels, Def, field, spread, operation, fragment, place_name, place_head, place_def, no_place, erase_all, erase_document}
+use Rattle.gq_tree.specs.Plain.{NameOf, Head, Sels, Def, field, spread, inline, operation, fragment, place_name, place_head, place_def, no_place, erase_all, erase_document}
 use Rattle.gq_tree.specs.Names.{spread_name, spread_names, names_in, fragment_names}
 use Rattle.gq_parse.specs.Grammar.{Tokens, IsDocument}
 use Rattle.gq_parse.specs.Limits.{opens, closes, opened, closed, IsNestedWithin}
@@ -24,7 +24,7 @@ use Rattle.gq_rename.specs.Kept.{KeepsDocument}
 use Rattle.std.specs.Str.{IsUtf8}
 use Rattle.gq_lex.proofs.Standing.{tokens_cut_no_character}
 use Rattle.gq_lex.proofs.Readings.{one_reading}
-use Rattle.gq_parse.proofs.Documents.{same_document}
+use Rattle.gq_parse.proofs.UniqueDocuments.{same_document}
 use Rattle.gq_edit.specs.Replacements.{AreDisjoint, FitText}
 use Rattle.gq_rename.specs.Rename.{rename_replacements}
 use Rattle.gq_rename.proofs.Retelling.{edits_in_order, edits_fit, Marked, tokens_of, Retold, edits, on_mark, IsNameText, replaced_reads}
@@ -83,8 +83,9 @@ abbrev IsApart : {P : Type 0} → List ℕ → NameOf P → Type 0
 IsApart old n = n.text ≢ old
 
 head_apart : (old new : List ℕ) (h : Head (Unit {0})) → new ≢ old → All (IsApart old) (spread_name (rename_head old new h))
-head_apart old new (field alias name braces) apart = All-nil (IsApart old)
-head_apart old new (spread name place) apart = All-cons (IsApart old) (rename_name old new name) [] (chosen_apart (bytes_eq name.text old) old new name.text refl apart) (All-nil (IsApart old))
+head_apart old new (field alias name arguments directives braces place) apart = All-nil (IsApart old)
+head_apart old new (inline on directives braces place) apart = All-nil (IsApart old)
+head_apart old new (spread name directives place) apart = All-cons (IsApart old) (rename_name old new name) [] (chosen_apart (bytes_eq name.text old) old new name.text refl apart) (All-nil (IsApart old))
 
 spreads_apart : (old new : List ℕ) (ss : Sels (Unit {0})) → new ≢ old → All (IsApart old) (spread_names (relabel (rename_head old new) ss))
 spreads_apart old new none apart = All-nil (IsApart old)
@@ -97,8 +98,8 @@ spreads_apart old new (more h b r) apart =
     (spreads_apart old new r apart))
 
 def_apart : (old new : List ℕ) (d : Def (Unit {0})) → new ≢ old → All (IsApart old) (names_in (rename_def old new d))
-def_apart old new (operation name set braces place) apart = spreads_apart old new set apart
-def_apart old new (fragment name on set braces place) apart = All-cons (IsApart old) (rename_name old new name) (spread_names (relabel (rename_head old new) set)) (chosen_apart (bytes_eq name.text old) old new name.text refl apart) (spreads_apart old new set apart)
+def_apart old new (operation kind name variables directives set braces place) apart = spreads_apart old new set apart
+def_apart old new (fragment name on directives set braces place) apart = All-cons (IsApart old) (rename_name old new name) (spread_names (relabel (rename_head old new) set)) (chosen_apart (bytes_eq name.text old) old new name.text refl apart) (spreads_apart old new set apart)
 
 document_apart : (old new : List ℕ) (ds : List (Def (Unit {0}))) → new ≢ old → All (IsApart old) (fragment_names (rename_document old new ds))
 document_apart old new [] apart = All-nil (IsApart old)
@@ -117,12 +118,13 @@ spreads_plain (more h b r) =
     ∙ ap (map (place_name no_place)) (sym (spread_names_more h b r))
   where
     head_plain : (h : Head Span) → spread_name (place_head no_place h) ≡ map (place_name no_place) (spread_name h)
-    head_plain (field alias name braces) = refl
-    head_plain (spread name place) = refl
+    head_plain (field alias name arguments directives braces place) = refl
+    head_plain (spread name directives place) = refl
+    head_plain (inline on directives braces place) = refl
 
 def_plain : (d : Def Span) → names_in (place_def no_place d) ≡ map (place_name no_place) (names_in d)
-def_plain (operation name set braces place) = spreads_plain set
-def_plain (fragment name on set braces place) = ap (λ (l : List (NameOf (Unit {0}))). place_name no_place name ∷ l) (spreads_plain set)
+def_plain (operation kind name variables directives set braces place) = spreads_plain set
+def_plain (fragment name on directives set braces place) = ap (λ (l : List (NameOf (Unit {0}))). place_name no_place name ∷ l) (spreads_plain set)
 
 document_plain : (ds : List (Def Span)) → fragment_names (erase_document ds) ≡ map (place_name no_place) (fragment_names ds)
 document_plain [] = refl

@@ -24,7 +24,7 @@ fn document(alloc: Global, key: &str, text: &str) -> Result<Doc, NoMemory> {
 fn project(alloc: Global, text: &str) -> Result<Project, NoMemory> {
     let mut project = Project::new(alloc);
     project.put(document(alloc, KEY, text)?)?;
-    project.put(document(alloc, "file:///s.graphql", "type Query{x:Int}")?)?;
+    project.put(document(alloc, "file:///s.graphql", "type Query{")?)?;
     Ok(project)
 }
 
@@ -92,6 +92,16 @@ fn a_fragment_is_renamed_at_its_definition_and_its_spreads(rt: HostRuntime) -> R
     // other fragments and fields of that name stay
     let mixed = "{A ...B ...A} fragment A on A{A}";
     expect_two(&rt, rename(alloc, mixed, 11, "C")?, (11, 12), (23, 24), "C");
+    Ok(())
+}
+
+#[test]
+fn a_rename_reads_variables_values_and_directives(rt: HostRuntime) -> Result<(), Fail> {
+    // the name in the string and that of the type stay
+    let text =
+        "query Q($a:Int=1){f(x:[$a,{k:\"...A\"}])@d{...A@e ...on A{y}}} fragment A on Query@g{x}";
+    let edit = rename(rt.alloc(), text, 44, "B")?;
+    expect_two(&rt, edit, (44, 45), (70, 71), "B");
     Ok(())
 }
 

@@ -1,4 +1,5 @@
 pub mod ForestLemmas
 pub mod Trees
-pub mod Sameness
 pub mod NameLemmas
+pub mod ValueLemmas
+pub mod Sameness

@@ -1,19 +1,14 @@
 -- The tests of sameness decide it.
 use Rattle.std.proofs.Common.{◌≡◌, ◌≢◌, suc, List, [], ◌∷◌, map, refl, ap, ◌∙◌, Option, Some, None, Bool, true, false, length}
 use Rattle.std.specs.Prelude.{◌&&◌}
-use Rattle.std.specs.Bool.{Decides}
+use Rattle.std.specs.Bool.{Decides, beq}
 use Rattle.std.specs.Option.{option_map}
 use Rattle.std.proofs.lemmas.Slice.Eq.{bytes_eq-Decides}
-use Rattle.gq_tree.specs.Forest.{Forest, Tree, none, more, row, agree, relabel}
-use Rattle.gq_tree.specs.Plain.{NameOf, Head, Sels, Def, field, spread, operation, fragment, place_name, place_head, place_def, no_place, erase_all, erase_document}
-use Rattle.gq_tree.specs.Same.{same_names, both, same_heads, same_defs, all_same}
-
-and_true : (a b : Bool) → (a && b) ≡ true → (a ≡ true) × (b ≡ true)
-and_true true b h = (refl, h)
-and_true false b h = absurd (cc)
-
-true_and : (a b : Bool) → a ≡ true → b ≡ true → (a && b) ≡ true
-true_and a b p q = rw (p, q) refl
+use Rattle.gq_tree.specs.declared.tree.OperationKind.{OperationKind}
+use Rattle.gq_tree.specs.declared.tree.OperationKind.TheVariants.{Query, Mutation, Subscription}
+use Rattle.gq_tree.specs.Forest.{Forest, Tree, none, more, row, agree, agree_trees, relabel, relabel_tree}
+use Rattle.gq_tree.specs.Plain.{NameOf, Says, variable, int, float, string, boolean, null, enum, list, object, Part, Val, DirectiveOf, TypeOf, named, list_of, non_null, VariableOf, Head, field, spread, inline, Sels, Def, operation, fragment, place_name, place_says, place_part, place_value, place_directive, place_type, place_variable, place_head, place_def, no_place, erase_all, erase_document}
+use Rattle.gq_tree.specs.Same.{same_names, both, all_same, same_says, same_parts, same_values, same_directives, same_types, same_variables, same_heads, same_kinds, same_defs}
 
 last_false : (b : Bool) → (b && false) ≡ false
 last_false true = refl
@@ -33,83 +28,145 @@ lists_apart f g e [] (t ∷ ts) h = refl
 lists_apart f g e (s ∷ ss) [] h = refl
 lists_apart f g e (s ∷ ss) (t ∷ ts) h = ap (λ b. e (f s) (g t) && b) (lists_apart f g e ss ts (λ k. h (ap suc k))) ∙ last_false (e (f s) (g t))
 
+-- two tests, one after the other
+pub and_decides : (a b : Bool) {P Q : Type 0} → Decides a P → Decides b Q → Decides (a && b) (P × Q)
+and_decides true b p q = (λ h. (p.0 refl, q.0 h), λ h. q.1 h.1)
+and_decides false b p q = (λ h. absurd (cc), λ h. p.1 h.0)
+
 -- a test that decides labels decides trees in a row
 pub forests_decide : {L M N : Type 0} (e : L → M → Bool) (f : L → N) (g : M → N) → ((l : L) (m : M) → Decides (e l m) (f l ≡ g m)) → (s : Forest L) (t : Forest M) → Decides (agree e s t) (relabel f s ≡ relabel g t)
 forests_decide e f g d none none = (λ h. refl, λ h. refl)
 forests_decide e f g d none (more m c t) = (λ h. absurd (cc), λ h. absurd (cc))
 forests_decide e f g d (more l b s) none = (λ h. absurd (cc), λ h. absurd (cc))
 forests_decide e f g d (more l b s) (more m c t) =
-    let x = forests_decide e f g d b c in
-    let y = forests_decide e f g d s t in
-    let z = d l m in (
-      λ h. let p = and_true (e l m && agree e b c) (agree e s t) h in
-          let q = and_true (e l m) (agree e b c) p.0 in
-          let h1 = z.0 q.0 in let h2 = x.0 q.1 in let h3 = y.0 p.1 in cc,
-      λ h. true_and (e l m && agree e b c) (agree e s t) (true_and (e l m) (agree e b c) (z.1 (cc)) (x.1 (cc))) (y.1 (cc)),
-    )
+    let x = and_decides (e l m && agree e b c) (agree e s t) (and_decides (e l m) (agree e b c) (d l m) (forests_decide e f g d b c)) (forests_decide e f g d s t) in
+    (λ h. let p = x.0 h in let h1 = p.0.0 in let h2 = p.0.1 in let h3 = p.1 in cc, λ h. x.1 ((cc, cc), cc))
 
--- and one that decides items, lists
+-- and one tree
+pub trees_decide : {L M N : Type 0} (e : L → M → Bool) (f : L → N) (g : M → N) → ((l : L) (m : M) → Decides (e l m) (f l ≡ g m)) → (s : Tree L) (t : Tree M) → Decides (agree_trees e s t) (relabel_tree f s ≡ relabel_tree g t)
+trees_decide {N = N} e f g d s t =
+    let x = and_decides (e s.label t.label) (agree e s.below t.below) (d s.label t.label) (forests_decide e f g d s.below t.below) in
+    let tree : N → Forest N → Tree N = λ l b. record { label = l; below = b } in
+    (λ h. ap (λ l. tree l (relabel f s.below)) (x.0 h).0 ∙ ap (λ b. tree (g t.label) b) (x.0 h).1, λ h. x.1 (ap (λ y. y.label) h, ap (λ y. y.below) h))
+
+-- one that decides items decides lists
 pub lists_decide : {L M N : Type 0} (e : L → M → Bool) (f : L → N) (g : M → N) → ((l : L) (m : M) → Decides (e l m) (f l ≡ g m)) → (xs : List L) (ys : List M) → Decides (all_same e xs ys) (map f xs ≡ map g ys)
 lists_decide e f g d [] [] = (λ h. refl, λ h. refl)
 lists_decide e f g d [] (y ∷ ys) = (λ h. absurd (cc), λ h. absurd (cc))
 lists_decide e f g d (x ∷ xs) [] = (λ h. absurd (cc), λ h. absurd (cc))
 lists_decide e f g d (x ∷ xs) (y ∷ ys) =
-    let r = lists_decide e f g d xs ys in
-    let z = d x y in (
-      λ h. let p = and_true (e x y) (all_same e xs ys) h in let h1 = z.0 p.0 in let h2 = r.0 p.1 in cc,
-      λ h. true_and (e x y) (all_same e xs ys) (z.1 (cc)) (r.1 (cc)),
-    )
+    let z = and_decides (e x y) (all_same e xs ys) (d x y) (lists_decide e f g d xs ys) in
+    (λ h. let h1 = (z.0 h).0 in let h2 = (z.0 h).1 in cc, λ h. z.1 (cc, cc))
 
-names_decide : {P : Type 0} (m n : NameOf P) → Decides (same_names m n) (place_name no_place m ≡ place_name no_place n)
+-- and what may be left out
+pub options_decide : {L M N : Type 0} (e : L → M → Bool) (f : L → N) (g : M → N) → ((l : L) (m : M) → Decides (e l m) (f l ≡ g m)) → (x : Option L) (y : Option M) → Decides (both e x y) (option_map f x ≡ option_map g y)
+options_decide e f g d None None = (λ h. refl, λ h. refl)
+options_decide e f g d None (Some y) = (λ h. absurd (cc), λ h. absurd (cc))
+options_decide e f g d (Some x) None = (λ h. absurd (cc), λ h. absurd (cc))
+options_decide e f g d (Some x) (Some y) = (λ h. ap Some ((d x y).0 h), λ h. (d x y).1 (cc))
+
+pub names_decide : {P : Type 0} (m n : NameOf P) → Decides (same_names m n) (place_name no_place m ≡ place_name no_place n)
 names_decide m n = (λ h. ap (λ t. let x : NameOf (Unit {0}) = record { text = t; place = tt } in x) ((bytes_eq-Decides m.text n.text).0 h), λ h. (bytes_eq-Decides m.text n.text).1 (ap (λ x. x.text) h))
 
-options_decide : {P : Type 0} (m n : Option (NameOf P)) → Decides (both same_names m n) (option_map (place_name no_place) m ≡ option_map (place_name no_place) n)
-options_decide None None = (λ h. refl, λ h. refl)
-options_decide None (Some n) = (λ h. absurd (cc), λ h. absurd (cc))
-options_decide (Some m) None = (λ h. absurd (cc), λ h. absurd (cc))
-options_decide (Some m) (Some n) = (λ h. ap Some ((names_decide m n).0 h), λ h. (names_decide m n).1 (cc))
+flags_decide : (b c : Bool) → Decides (beq b c) (b ≡ c)
+flags_decide true true = (λ h. refl, λ h. refl)
+flags_decide false false = (λ h. refl, λ h. refl)
+flags_decide true false = (λ h. absurd (cc), λ h. absurd (cc))
+flags_decide false true = (λ h. absurd (cc), λ h. absurd (cc))
+
+says_decide : {P : Type 0} (s t : Says P) → Decides (same_says s t) (place_says no_place s ≡ place_says no_place t)
+says_decide (variable n p) (variable m q) = (λ h. let e = (names_decide n m).0 h in cc, λ h. (names_decide n m).1 (cc))
+says_decide (int s p) (int t q) = (λ h. let e = (bytes_eq-Decides s t).0 h in cc, λ h. (bytes_eq-Decides s t).1 (cc))
+says_decide (float s p) (float t q) = (λ h. let e = (bytes_eq-Decides s t).0 h in cc, λ h. (bytes_eq-Decides s t).1 (cc))
+says_decide (string s p) (string t q) = (λ h. let e = (bytes_eq-Decides s t).0 h in cc, λ h. (bytes_eq-Decides s t).1 (cc))
+says_decide (boolean b p) (boolean c q) = (λ h. let e = (flags_decide b c).0 h in cc, λ h. (flags_decide b c).1 (cc))
+says_decide (null p) (null q) = (λ h. refl, λ h. refl)
+says_decide (enum n) (enum m) = (λ h. let e = (names_decide n m).0 h in cc, λ h. (names_decide n m).1 (cc))
+says_decide (list p) (list q) = (λ h. refl, λ h. refl)
+says_decide (object p) (object q) = (λ h. refl, λ h. refl)
+says_decide _ _ = (λ h. absurd (cc), λ h. absurd (cc))
+
+parts_decide : {P : Type 0} (p q : Part P) → Decides (same_parts p q) (place_part no_place p ≡ place_part no_place q)
+parts_decide p q =
+    let x = and_decides (both same_names p.key q.key) (same_says p.says q.says) (options_decide same_names (place_name no_place) (place_name no_place) names_decide p.key q.key) (says_decide p.says q.says) in
+    (λ h. let h1 = (x.0 h).0 in let h2 = (x.0 h).1 in cc, λ h. x.1 (ap (λ y. y.key) h, ap (λ y. y.says) h))
+
+pub values_decide : {P : Type 0} (v w : Val P) → Decides (same_values v w) (place_value no_place v ≡ place_value no_place w)
+values_decide = trees_decide same_parts (place_part no_place) (place_part no_place) parts_decide
+
+pub directives_decide : {P : Type 0} (d e : DirectiveOf P) → Decides (same_directives d e) (place_directive no_place d ≡ place_directive no_place e)
+directives_decide d e =
+    let x = and_decides (same_names d.name e.name) (all_same same_values d.arguments e.arguments) (names_decide d.name e.name) (lists_decide same_values (place_value no_place) (place_value no_place) values_decide d.arguments e.arguments) in
+    (λ h. let h1 = (x.0 h).0 in let h2 = (x.0 h).1 in cc, λ h. x.1 (ap (λ y. y.name) h, ap (λ y. y.arguments) h))
+
+all_directives_decide : {P : Type 0} (ds es : List (DirectiveOf P)) → Decides (all_same same_directives ds es) (map (place_directive no_place) ds ≡ map (place_directive no_place) es)
+all_directives_decide = lists_decide same_directives (place_directive no_place) (place_directive no_place) directives_decide
+
+pub types_decide : {P : Type 0} (t u : TypeOf P) → Decides (same_types t u) (place_type no_place t ≡ place_type no_place u)
+types_decide (named n) (named m) = (λ h. let e = (names_decide n m).0 h in cc, λ h. (names_decide n m).1 (cc))
+types_decide (list_of t) (list_of u) = (λ h. let e = (types_decide t u).0 h in cc, λ h. (types_decide t u).1 (cc))
+types_decide (non_null t) (non_null u) = (λ h. let e = (types_decide t u).0 h in cc, λ h. (types_decide t u).1 (cc))
+types_decide _ _ = (λ h. absurd (cc), λ h. absurd (cc))
+
+pub variables_decide : {P : Type 0} (v w : VariableOf P) → Decides (same_variables v w) (place_variable no_place v ≡ place_variable no_place w)
+variables_decide v w =
+    let named = and_decides (same_names v.name w.name) (same_types v.type_ref w.type_ref) (names_decide v.name w.name) (types_decide v.type_ref w.type_ref) in
+    let default = options_decide same_values (place_value no_place) (place_value no_place) values_decide v.default w.default in
+    let x = and_decides (same_names v.name w.name && same_types v.type_ref w.type_ref && both same_values v.default w.default) (all_same same_directives v.directives w.directives)
+    (and_decides (same_names v.name w.name && same_types v.type_ref w.type_ref) (both same_values v.default w.default) named default) (all_directives_decide v.directives w.directives) in (
+      λ h. let p = x.0 h in let h1 = p.0.0.0 in let h2 = p.0.0.1 in let h3 = p.0.1 in let h4 = p.1 in cc,
+      λ h. x.1 (((ap (λ y. y.name) h, ap (λ y. y.type_ref) h), ap (λ y. y.default) h), ap (λ y. y.directives) h),
+    )
 
 braces_decide : {P : Type 0} (m n : Option P) → Decides (both (λ x y. true) m n) (option_map (no_place {P = P}) m ≡ option_map (no_place {P = P}) n)
-braces_decide None None = (λ h. refl, λ h. refl)
-braces_decide None (Some n) = (λ h. absurd (cc), λ h. absurd (cc))
-braces_decide (Some m) None = (λ h. absurd (cc), λ h. absurd (cc))
-braces_decide (Some m) (Some n) = (λ h. refl, λ h. refl)
+braces_decide = options_decide (λ x y. true) no_place no_place (λ x y. (λ h. refl, λ h. refl))
+
+optional_names_decide : {P : Type 0} (m n : Option (NameOf P)) → Decides (both same_names m n) (option_map (place_name no_place) m ≡ option_map (place_name no_place) n)
+optional_names_decide = options_decide same_names (place_name no_place) (place_name no_place) names_decide
 
 heads_decide : {P : Type 0} (h k : Head P) → Decides (same_heads h k) (place_head no_place h ≡ place_head no_place k)
-heads_decide (field a n b) (field a' n' b') =
-    let x = options_decide a a' in
-    let y = names_decide n n' in
-    let z = braces_decide b b' in (
-      λ h. let p = and_true (both same_names a a' && same_names n n') (both (λ x y. true) b b') h in
-          let q = and_true (both same_names a a') (same_names n n') p.0 in
-          let h1 = x.0 q.0 in let h2 = y.0 q.1 in let h3 = z.0 p.1 in cc,
-      λ h. true_and (both same_names a a' && same_names n n') (both (λ x y. true) b b') (true_and (both same_names a a') (same_names n n') (x.1 (cc)) (y.1 (cc))) (z.1 (cc)),
+heads_decide (field a n vs ds b p) (field a' n' vs' ds' b' p') =
+    let called = and_decides (both same_names a a') (same_names n n') (optional_names_decide a a') (names_decide n n') in
+    let given = and_decides (both same_names a a' && same_names n n') (all_same same_values vs vs') called (lists_decide same_values (place_value no_place) (place_value no_place) values_decide vs vs') in
+    let directed = and_decides (both same_names a a' && same_names n n' && all_same same_values vs vs') (all_same same_directives ds ds') given (all_directives_decide ds ds') in
+    let x = and_decides (both same_names a a' && same_names n n' && all_same same_values vs vs' && all_same same_directives ds ds') (both (λ x y. true) b b') directed (braces_decide b b') in (
+      λ h. let p = x.0 h in let h1 = p.0.0.0.0 in let h2 = p.0.0.0.1 in let h3 = p.0.0.1 in let h4 = p.0.1 in let h5 = p.1 in cc,
+      λ h. x.1 ((((cc, cc), cc), cc), cc),
     )
-heads_decide (field a n b) (spread n' p') = (λ h. absurd (cc), λ h. absurd (cc))
-heads_decide (spread n p) (field a' n' b') = (λ h. absurd (cc), λ h. absurd (cc))
-heads_decide (spread n p) (spread n' p') = (λ h. let e = (names_decide n n').0 h in cc, λ h. (names_decide n n').1 (cc))
+heads_decide (spread n ds p) (spread n' ds' p') =
+    let x = and_decides (same_names n n') (all_same same_directives ds ds') (names_decide n n') (all_directives_decide ds ds') in
+    (λ h. let h1 = (x.0 h).0 in let h2 = (x.0 h).1 in cc, λ h. x.1 (cc, cc))
+heads_decide (inline o ds b p) (inline o' ds' b' p') =
+    let x = and_decides (both same_names o o') (all_same same_directives ds ds') (optional_names_decide o o') (all_directives_decide ds ds') in
+    (λ h. let h1 = (x.0 h).0 in let h2 = (x.0 h).1 in cc, λ h. x.1 (cc, cc))
+heads_decide _ _ = (λ h. absurd (cc), λ h. absurd (cc))
 
 pub sels_decide : {P : Type 0} (s t : Sels P) → Decides (agree same_heads s t) (erase_all s ≡ erase_all t)
 sels_decide = forests_decide same_heads (place_head no_place) (place_head no_place) heads_decide
 
+kinds_decide : (k l : OperationKind) → Decides (same_kinds k l) (k ≡ l)
+kinds_decide Query Query = (λ h. refl, λ h. refl)
+kinds_decide Mutation Mutation = (λ h. refl, λ h. refl)
+kinds_decide Subscription Subscription = (λ h. refl, λ h. refl)
+kinds_decide _ _ = (λ h. absurd (cc), λ h. absurd (cc))
+
 defs_decide : {P : Type 0} (d z : Def P) → Decides (same_defs d z) (place_def no_place d ≡ place_def no_place z)
-defs_decide (operation n s b p) (operation n' s' b' p') =
-    let x = options_decide n n' in
-    let y = sels_decide s s' in (
-      λ h. let q = and_true (both same_names n n') (agree same_heads s s') h in let h1 = x.0 q.0 in let h2 = y.0 q.1 in cc,
-      λ h. true_and (both same_names n n') (agree same_heads s s') (x.1 (cc)) (y.1 (cc)),
+defs_decide (operation k n vs ds s b p) (operation k' n' vs' ds' s' b' p') =
+    let called = and_decides (same_kinds k k') (both same_names n n') (kinds_decide k k') (optional_names_decide n n') in
+    let given = and_decides (same_kinds k k' && both same_names n n') (all_same same_variables vs vs') called (lists_decide same_variables (place_variable no_place) (place_variable no_place) variables_decide vs vs') in
+    let directed = and_decides (same_kinds k k' && both same_names n n' && all_same same_variables vs vs') (all_same same_directives ds ds') given (all_directives_decide ds ds') in
+    let x = and_decides (same_kinds k k' && both same_names n n' && all_same same_variables vs vs' && all_same same_directives ds ds') (agree same_heads s s') directed (sels_decide s s') in (
+      λ h. let p = x.0 h in let h1 = p.0.0.0.0 in let h2 = p.0.0.0.1 in let h3 = p.0.0.1 in let h4 = p.0.1 in let h5 = p.1 in cc,
+      λ h. x.1 ((((cc, cc), cc), cc), cc),
     )
-defs_decide (operation n s b p) (fragment n' o' s' b' p') = (λ h. absurd (cc), λ h. absurd (cc))
-defs_decide (fragment n o s b p) (operation n' s' b' p') = (λ h. absurd (cc), λ h. absurd (cc))
-defs_decide (fragment n o s b p) (fragment n' o' s' b' p') =
-    let x = names_decide n n' in
-    let y = names_decide o o' in
-    let z = sels_decide s s' in (
-      λ h. let q = and_true (same_names n n' && same_names o o') (agree same_heads s s') h in
-          let r = and_true (same_names n n') (same_names o o') q.0 in
-          let h1 = x.0 r.0 in let h2 = y.0 r.1 in let h3 = z.0 q.1 in cc,
-      λ h. true_and (same_names n n' && same_names o o') (agree same_heads s s') (true_and (same_names n n') (same_names o o') (x.1 (cc)) (y.1 (cc))) (z.1 (cc)),
+defs_decide (fragment n o ds s b p) (fragment n' o' ds' s' b' p') =
+    let called = and_decides (same_names n n') (same_names o o') (names_decide n n') (names_decide o o') in
+    let directed = and_decides (same_names n n' && same_names o o') (all_same same_directives ds ds') called (all_directives_decide ds ds') in
+    let x = and_decides (same_names n n' && same_names o o' && all_same same_directives ds ds') (agree same_heads s s') directed (sels_decide s s') in (
+      λ h. let p = x.0 h in let h1 = p.0.0.0 in let h2 = p.0.0.1 in let h3 = p.0.1 in let h4 = p.1 in cc,
+      λ h. x.1 (((cc, cc), cc), cc),
     )
+defs_decide _ _ = (λ h. absurd (cc), λ h. absurd (cc))
 
 pub documents_decide : {P : Type 0} (ds zs : List (Def P)) → Decides (all_same same_defs ds zs) (erase_document ds ≡ erase_document zs)
 documents_decide = lists_decide same_defs (place_def no_place) (place_def no_place) defs_decide

@@ -5,13 +5,14 @@ use Rattle.std.specs.Borrow.{Bor}
 use Rattle.gq_text.specs.declared.place.Span.{Span}
 use Rattle.gq_tree.specs.declared.tree.Name.{Name}
 use Rattle.gq_tree.specs.Forest.{labels}
-use Rattle.gq_tree.specs.Plain.{NameOf, Head, Sels, Def, field, spread, operation, fragment}
+use Rattle.gq_tree.specs.Plain.{NameOf, Head, Sels, Def, field, spread, inline, operation, fragment}
 use Rattle.gq_tree.specs.Views.{name_of}
 
--- the fragment name in what a selection says: a spread has one
+-- the fragment name in what a selection says: a spread has one, a field and an inline fragment none
 abbrev pub spread_name : {P : Type 0} → Head P → List (NameOf P)
-spread_name (field alias name braces) = []
-spread_name (spread name place) = name ∷ []
+spread_name (field alias name arguments directives braces place) = []
+spread_name (spread name directives place) = name ∷ []
+spread_name (inline on directives braces place) = []
 
 -- those of selections at any depth, in the order of the text
 abbrev pub spread_names : {P : Type 0} → Sels P → List (NameOf P)
@@ -19,8 +20,8 @@ spread_names ss = flat_map spread_name (labels ss)
 
 -- those of a definition: a fragment's own name comes first
 abbrev pub names_in : {P : Type 0} → Def P → List (NameOf P)
-names_in (operation name set braces place) = spread_names set
-names_in (fragment name on set braces place) = name ∷ spread_names set
+names_in (operation kind name variables directives set braces place) = spread_names set
+names_in (fragment name on directives set braces place) = name ∷ spread_names set
 
 -- the names of fragments in a document, at their definitions and their spreads, in the order of the text
 abbrev pub fragment_names : {P : Type 0} → List (Def P) → List (NameOf P)

@@ -1,8 +1,11 @@
--- Tests of sameness, places aside.
+-- Tests of sameness, places aside: what the code of sameness computes. Public contracts speak of `erase` alone.
 use Rattle.std.specs.Prelude.{List, [], ◌∷◌, Option, Some, None, Bool, true, false, ◌&&◌}
+use Rattle.std.specs.Bool.{beq}
 use Rattle.std.specs.Str.{bytes_eq}
-use Rattle.gq_tree.specs.Forest.{agree}
-use Rattle.gq_tree.specs.Plain.{NameOf, Head, Def, field, spread, operation, fragment}
+use Rattle.gq_tree.specs.declared.tree.OperationKind.{OperationKind}
+use Rattle.gq_tree.specs.declared.tree.OperationKind.TheVariants.{Query, Mutation, Subscription}
+use Rattle.gq_tree.specs.Forest.{agree, agree_trees}
+use Rattle.gq_tree.specs.Plain.{NameOf, Says, variable, int, float, string, boolean, null, enum, list, object, Part, Val, DirectiveOf, TypeOf, named, list_of, non_null, VariableOf, Head, field, spread, inline, Def, operation, fragment}
 
 abbrev pub same_names : {P Q : Type 0} → NameOf P → NameOf Q → Bool
 same_names m n = bytes_eq m.text n.text
@@ -14,21 +17,59 @@ both e None (Some y) = false
 both e (Some x) None = false
 both e (Some x) (Some y) = e x y
 
-abbrev pub same_heads : {P Q : Type 0} → Head P → Head Q → Bool
-same_heads (field a n b) (field a' n' b') = both same_names a a' && same_names n n' && both (λ x y. true) b b'
-same_heads (field a n b) (spread n' p') = false
-same_heads (spread n p) (field a' n' b') = false
-same_heads (spread n p) (spread n' p') = same_names n n'
-
-abbrev pub same_defs : {P Q : Type 0} → Def P → Def Q → Bool
-same_defs (operation n s b p) (operation n' s' b' p') = both same_names n n' && agree same_heads s s'
-same_defs (operation n s b p) (fragment n' o' s' b' p') = false
-same_defs (fragment n o s b p) (operation n' s' b' p') = false
-same_defs (fragment n o s b p) (fragment n' o' s' b' p') = same_names n n' && same_names o o' && agree same_heads s s'
-
 -- each the same as the other's at its place
 abbrev pub all_same : {A B : Type 0} → (A → B → Bool) → List A → List B → Bool
 all_same e [] [] = true
 all_same e [] (y ∷ ys) = false
 all_same e (x ∷ xs) [] = false
 all_same e (x ∷ xs) (y ∷ ys) = e x y && all_same e xs ys
+
+abbrev pub same_says : {P Q : Type 0} → Says P → Says Q → Bool
+same_says (variable n p) (variable m q) = same_names n m
+same_says (int s p) (int t q) = bytes_eq s t
+same_says (float s p) (float t q) = bytes_eq s t
+same_says (string s p) (string t q) = bytes_eq s t
+same_says (boolean b p) (boolean c q) = beq b c
+same_says (null p) (null q) = true
+same_says (enum n) (enum m) = same_names n m
+same_says (list p) (list q) = true
+same_says (object p) (object q) = true
+same_says _ _ = false
+
+abbrev pub same_parts : {P Q : Type 0} → Part P → Part Q → Bool
+same_parts p q = both same_names p.key q.key && same_says p.says q.says
+
+abbrev pub same_values : {P Q : Type 0} → Val P → Val Q → Bool
+same_values v w = agree_trees same_parts v w
+
+abbrev pub same_directives : {P Q : Type 0} → DirectiveOf P → DirectiveOf Q → Bool
+same_directives d e = same_names d.name e.name && all_same same_values d.arguments e.arguments
+
+abbrev pub same_types : {P Q : Type 0} → TypeOf P → TypeOf Q → Bool
+same_types (named n) (named m) = same_names n m
+same_types (list_of t) (list_of u) = same_types t u
+same_types (non_null t) (non_null u) = same_types t u
+same_types _ _ = false
+
+abbrev pub same_variables : {P Q : Type 0} → VariableOf P → VariableOf Q → Bool
+same_variables v w = same_names v.name w.name && same_types v.type_ref w.type_ref && both same_values v.default w.default && all_same same_directives v.directives w.directives
+
+abbrev pub same_heads : {P Q : Type 0} → Head P → Head Q → Bool
+same_heads (field a n vs ds b p) (field a' n' vs' ds' b' p') =
+    both same_names a a' && same_names n n' && all_same same_values vs vs' && all_same same_directives ds ds' && both (λ x y. true) b b'
+same_heads (spread n ds p) (spread n' ds' p') = same_names n n' && all_same same_directives ds ds'
+same_heads (inline o ds b p) (inline o' ds' b' p') = both same_names o o' && all_same same_directives ds ds'
+same_heads _ _ = false
+
+abbrev pub same_kinds : OperationKind → OperationKind → Bool
+same_kinds Query Query = true
+same_kinds Mutation Mutation = true
+same_kinds Subscription Subscription = true
+same_kinds _ _ = false
+
+abbrev pub same_defs : {P Q : Type 0} → Def P → Def Q → Bool
+same_defs (operation k n vs ds s b p) (operation k' n' vs' ds' s' b' p') =
+    same_kinds k k' && both same_names n n' && all_same same_variables vs vs' && all_same same_directives ds ds' && agree same_heads s s'
+same_defs (fragment n o ds s b p) (fragment n' o' ds' s' b' p') =
+    same_names n n' && same_names o o' && all_same same_directives ds ds' && agree same_heads s s'
+same_defs _ _ = false

@@ -2,17 +2,24 @@
 #![tactic(auto)]
 
 pub mod copy;
+mod copy_values;
 pub mod laws;
 pub mod names;
 pub mod same;
+mod same_values;
 pub mod tree;
+pub mod types;
+pub mod value;
 
 pub use copy::copied_selections;
 pub use names::fragment_names;
 pub use same::{are_same_documents, are_same_selections};
 pub use tree::{
-    Definition, Document, Field, Fragment, Name, Operation, Selection, SelectionSet, Spread,
+    Definition, Document, Field, Fragment, InlineFragment, Name, Operation, OperationKind,
+    Selection, SelectionSet, Spread, VariableDefinition,
 };
+pub use types::TypeRef;
+pub use value::{Argument, Directive, Literal, ObjectField, Value, Variable};
 
 #[cfg(test)]
 mod tests;

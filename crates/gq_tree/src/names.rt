@@ -46,6 +46,7 @@ fn gather_selection<'a>(selection: &'a Selection, names: &mut Vec<&'a Name>) -> 
             None => Ok(()),
         },
         Selection::Spread(spread) => put(&spread.name, names),
+        Selection::Inline(inline) => gather_selections(&inline.set.items, names),
     }
 }
 

@@ -1,12 +1,20 @@
 //! Sameness of trees, places aside.
 ghost use Rattle.std.specs.Prelude.{◌≡◌, ◌↔◌, IsTrue, map};
-ghost use Rattle.std.specs.Option.{option_map};
 ghost use Rattle.gq_tree.specs.Forest.{agree, agree_trees};
 ghost use Rattle.gq_tree.specs.Plain.{erase_all, erase_document};
-ghost use Rattle.gq_tree.specs.Same.{same_names, both, same_heads, same_defs, all_same};
-ghost use Rattle.gq_tree.specs.Views.{name_of, sel_view, sels_view, def_view, document_view};
+ghost use Rattle.gq_tree.specs.Same.{all_same, same_variables, same_heads, same_kinds, same_defs};
+ghost use Rattle.gq_tree.specs.declared.tree.Definition.TheVariants as definition;
+ghost use Rattle.gq_tree.specs.declared.tree.Selection.TheVariants as selection;
+ghost use Rattle.gq_tree.specs.Views.{variable_view, sel_view, sels_view, def_view, document_view};
 
-use crate::tree::{Definition, Document, Name, Selection};
+use crate::same_values::{
+    have_same_arguments, have_same_default, have_same_directives, have_same_option, have_same_text,
+    same_type,
+};
+use crate::tree::{
+    Definition, Document, Field, Fragment, InlineFragment, Operation, OperationKind, Selection,
+    Spread, VariableDefinition,
+};
 
 /// Whether the two documents are the same, places aside.
 pub fn are_same_documents(a: &Document, b: &Document) -> bool
@@ -41,41 +49,73 @@ fn same_definition(a: &Definition, b: &Definition) -> bool
 {
     match a {
         Definition::Operation(a) => match b {
-            Definition::Operation(b) => {
-                if !have_same_option(&a.name, &b.name) {
-                    return false;
-                }
-                same_rows(&a.set.items, &b.set.items)
-            }
+            Definition::Operation(b) => same_operation(a, b),
             Definition::Fragment(_) => false,
         },
         Definition::Fragment(a) => match b {
             Definition::Operation(_) => false,
-            Definition::Fragment(b) => {
-                if !have_same_text(&a.name, &b.name) || !have_same_text(&a.on, &b.on) {
-                    return false;
-                }
-                same_rows(&a.set.items, &b.set.items)
-            }
+            Definition::Fragment(b) => same_fragment(a, b),
         },
     }
 }
 
-fn have_same_text(a: &Name, b: &Name) -> bool
-    ensures { result ≡ same_names (name_of a.now) (name_of b.now) }
+fn same_operation(a: &Operation, b: &Operation) -> bool
+    ensures { result ≡ same_defs (def_view (definition.Operation a.now)) (def_view (definition.Operation b.now)) }
 {
-    a.text.as_str() == b.text.as_str()
+    if !same_kind(a.kind, b.kind) || !have_same_option(&a.name, &b.name) {
+        return false;
+    }
+    if !have_same_variables(&a.variables, &b.variables) {
+        return false;
+    }
+    if !have_same_directives(&a.directives, &b.directives) {
+        return false;
+    }
+    same_rows(&a.set.items, &b.set.items)
 }
 
-fn have_same_option(a: &Option<Name>, b: &Option<Name>) -> bool
-    ensures { result ≡ both same_names (option_map name_of a.now) (option_map name_of b.now) }
+fn same_fragment(a: &Fragment, b: &Fragment) -> bool
+    ensures { result ≡ same_defs (def_view (definition.Fragment a.now)) (def_view (definition.Fragment b.now)) }
 {
-    match (a, b) {
-        (Some(a), Some(b)) => have_same_text(a, b),
-        (None, None) => true,
-        (Some(_), None) => false,
-        (None, Some(_)) => false,
+    if !have_same_text(&a.name, &b.name) || !have_same_text(&a.on, &b.on) {
+        return false;
     }
+    if !have_same_directives(&a.directives, &b.directives) {
+        return false;
+    }
+    same_rows(&a.set.items, &b.set.items)
+}
+
+fn same_kind(a: OperationKind, b: OperationKind) -> bool
+    ensures { result ≡ same_kinds a b }
+{
+    a == b
+}
+
+fn have_same_variables(a: &[VariableDefinition], b: &[VariableDefinition]) -> bool
+    ensures { result ≡ all_same same_variables (map variable_view a.now) (map variable_view b.now) }
+{
+    if a.len() != b.len() {
+        return false;
+    }
+    for i in 0..a.len() {
+        if !same_variable(&a[i], &b[i]) {
+            return false;
+        }
+    }
+    true
+}
+
+fn same_variable(a: &VariableDefinition, b: &VariableDefinition) -> bool
+    ensures { result ≡ same_variables (variable_view a.now) (variable_view b.now) }
+{
+    if !have_same_text(&a.variable.name, &b.variable.name) {
+        return false;
+    }
+    if !same_type(&a.type_ref, &b.type_ref) || !have_same_default(&a.default, &b.default) {
+        return false;
+    }
+    have_same_directives(&a.directives, &b.directives)
 }
 
 #[cycle(same)]
@@ -85,31 +125,64 @@ fn same_selection(a: &Selection, b: &Selection) -> bool
 {
     match a {
         Selection::Field(a) => match b {
-            Selection::Field(b) => {
-                if !have_same_option(&a.alias, &b.alias) {
-                    return false;
-                }
-                if !have_same_text(&a.name, &b.name) {
-                    return false;
-                }
-                match &a.set {
-                    Some(s) => match &b.set {
-                        Some(t) => same_rows(&s.items, &t.items),
-                        None => false,
-                    },
-                    None => match &b.set {
-                        Some(_) => false,
-                        None => true,
-                    },
-                }
-            }
+            Selection::Field(b) => same_field(a, b),
             Selection::Spread(_) => false,
+            Selection::Inline(_) => false,
         },
         Selection::Spread(a) => match b {
             Selection::Field(_) => false,
-            Selection::Spread(b) => have_same_text(&a.name, &b.name),
+            Selection::Spread(b) => same_spread(a, b),
+            Selection::Inline(_) => false,
+        },
+        Selection::Inline(a) => match b {
+            Selection::Field(_) => false,
+            Selection::Spread(_) => false,
+            Selection::Inline(b) => same_inline(a, b),
         },
     }
+}
+
+#[cycle(same)]
+#[tactic(auto, using(crate::proofs::Trees::views))]
+fn same_field(a: &Field, b: &Field) -> bool
+    ensures { result ≡ agree_trees same_heads (sel_view (selection.Field a.now)) (sel_view (selection.Field b.now)) }
+{
+    if !have_same_option(&a.alias, &b.alias) || !have_same_text(&a.name, &b.name) {
+        return false;
+    }
+    if !have_same_arguments(&a.arguments, &b.arguments) {
+        return false;
+    }
+    if !have_same_directives(&a.directives, &b.directives) {
+        return false;
+    }
+    match (&a.set, &b.set) {
+        (Some(s), Some(t)) => same_rows(&s.items, &t.items),
+        (None, None) => true,
+        (Some(_), None) => false,
+        (None, Some(_)) => false,
+    }
+}
+
+#[tactic(auto, using(crate::proofs::Trees::views))]
+fn same_spread(a: &Spread, b: &Spread) -> bool
+    ensures { result ≡ agree_trees same_heads (sel_view (selection.Spread a.now)) (sel_view (selection.Spread b.now)) }
+{
+    if !have_same_text(&a.name, &b.name) {
+        return false;
+    }
+    have_same_directives(&a.directives, &b.directives)
+}
+
+#[cycle(same)]
+#[tactic(auto, using(crate::proofs::Trees::views))]
+fn same_inline(a: &InlineFragment, b: &InlineFragment) -> bool
+    ensures { result ≡ agree_trees same_heads (sel_view (selection.Inline a.now)) (sel_view (selection.Inline b.now)) }
+{
+    if !have_same_option(&a.on, &b.on) || !have_same_directives(&a.directives, &b.directives) {
+        return false;
+    }
+    same_rows(&a.set.items, &b.set.items)
 }
 
 #[cycle(same)]

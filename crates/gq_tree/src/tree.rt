@@ -1,5 +1,7 @@
 //! The tree of a document (GraphQL, October 2021, section 2). Spans are in bytes of its text.
 
+use crate::types::TypeRef;
+use crate::value::{Argument, Directive, Value, Variable};
 use gq_text::{OwnedText, Span};
 
 /// A name, with the place of its token (section 2.1.9).
@@ -15,21 +17,39 @@ pub struct Name {
 pub enum Selection {
     Field(Field),
     Spread(Spread),
+    Inline(InlineFragment),
 }
 
-/// A field (section 2.5), with its alias (section 2.7) and its selection set where it has them.
+/// A field (section 2.5), with its alias (section 2.7) and its selection set where it has them. Its span goes from its
+/// first token to the end of its last one.
 #[derive(Drop)]
 #[cycle(tree)]
 pub struct Field {
     pub alias: Option<Name>,
     pub name: Name,
+    pub arguments: Vec<Argument>,
+    pub directives: Vec<Directive>,
     pub set: Option<SelectionSet>,
+    pub span: Span,
 }
 
-/// A fragment spread (section 2.8). Its span goes from the first of the three dots to the end of the name.
+/// A fragment spread (section 2.8). Its span goes from the first of the three dots to the end of the name or of the last
+/// directive.
 #[derive(Drop)]
 pub struct Spread {
     pub name: Name,
+    pub directives: Vec<Directive>,
+    pub span: Span,
+}
+
+/// An inline fragment (section 2.8.2), with its type condition where it has one. Its span goes from the first of the
+/// three dots to the end of the closing brace.
+#[derive(Drop)]
+#[cycle(tree)]
+pub struct InlineFragment {
+    pub on: Option<Name>,
+    pub directives: Vec<Directive>,
+    pub set: SelectionSet,
     pub span: Span,
 }
 
@@ -41,11 +61,31 @@ pub struct SelectionSet {
     pub items: Vec<Selection>,
 }
 
-/// An operation definition (section 2.3), of a query. Its span goes from its first token, the keyword or the
-/// opening brace, to the end of its closing brace.
+/// What an operation does (section 2.3).
+#[derive(Clone, Copy, Debug, PartialEq, Eq)]
+pub enum OperationKind {
+    Query,
+    Mutation,
+    Subscription,
+}
+
+/// The definition of a variable (section 2.10).
+#[derive(Drop)]
+pub struct VariableDefinition {
+    pub variable: Variable,
+    pub type_ref: TypeRef,
+    pub default: Option<Value>,
+    pub directives: Vec<Directive>,
+}
+
+/// An operation definition (section 2.3). Its span goes from its first token, the keyword or the opening brace, to the
+/// end of its closing brace.
 #[derive(Drop)]
 pub struct Operation {
+    pub kind: OperationKind,
     pub name: Option<Name>,
+    pub variables: Vec<VariableDefinition>,
+    pub directives: Vec<Directive>,
     pub set: SelectionSet,
     pub span: Span,
 }
@@ -56,6 +96,7 @@ pub struct Operation {
 pub struct Fragment {
     pub name: Name,
     pub on: Name,
+    pub directives: Vec<Directive>,
     pub set: SelectionSet,
     pub span: Span,
 }

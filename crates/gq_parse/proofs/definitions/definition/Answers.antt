@@ -1,4 +1,4 @@
-use Rattle.std.proofs.Common.{◌≢◌, ℕ, refl}
+use Rattle.std.proofs.Common.{◌≢◌, ℕ}
 use Rattle.std.proofs.lemmas.Result.{IfOk-weaker, IfErr-weaker}
 use Rattle.gq_text.specs.declared.place.Span.{Span}
 use Rattle.gq_tree.specs.Plain.{Def}
@@ -8,7 +8,7 @@ use Rattle.gq_parse.specs.Grammar.{Tokens, IsOperationDefinition, IsFragmentDefi
 use Rattle.gq_parse.specs.From.{from}
 use Rattle.gq_parse.specs.declared.phrases.Miss.{Miss}
 use Rattle.gq_parse.specs.declared.phrases.Miss.TheVariants.{NoMemory}
-use Rattle.gq_parse.proofs.Missing.{no_fragment, no_operation}
+use Rattle.gq_parse.proofs.MadeDefinitions.{no_fragment, no_operation}
 use Rattle.gq_parse.proofs.definitions.definition.Goals as goal
 
 -- what stands at a place, and that nothing does
@@ -26,7 +26,7 @@ returns-in-Some-clause-found c =
 pub returns-in-Some-clause-none : goal.returns-in-Some-clause-none
 returns-in-Some-clause-none c =
     let tokens = from c.args.tokens.now c.args.at in
-    IfErr-weaker _ (Misses IsFragmentDefinition tokens) (Misses IsDefinition tokens) (λ miss none e d rest h. no_fragment c.in-Some.ensures.found (none e) refl h) c.fragment.ensures.none
+    IfErr-weaker _ (Misses IsFragmentDefinition tokens) (Misses IsDefinition tokens) (λ miss none e. no_fragment c.in-Some.ensures.found (none e)) c.fragment.ensures.none
 
 pub returns-in-None-clause-found : goal.returns-in-None-clause-found
 returns-in-None-clause-found c =
@@ -36,4 +36,4 @@ returns-in-None-clause-found c =
 pub returns-in-None-clause-none : goal.returns-in-None-clause-none
 returns-in-None-clause-none c =
     let tokens = from c.args.tokens.now c.args.at in
-    IfErr-weaker _ (Misses IsOperationDefinition tokens) (Misses IsDefinition tokens) (λ miss none e d rest h. no_operation c.in-None.ensures.none (none e) h) c.operation.ensures.none
+    IfErr-weaker _ (Misses IsOperationDefinition tokens) (Misses IsDefinition tokens) (λ miss none e. no_operation c.in-None.ensures.none (none e)) c.operation.ensures.none

@@ -1,5 +1,5 @@
 use Rattle.gq_lex.proofs.Readings.{one_reading}
-use Rattle.gq_parse.proofs.Documents.{same_document}
+use Rattle.gq_parse.proofs.UniqueDocuments.{same_document}
 use Rattle.gq_parse.proofs.laws.one_tree.Goals as goal
 
 pub returns : goal.returns

@@ -1,27 +1,34 @@
 use Rattle.std.proofs.Common.{◌+◌, ◌-◌, ◌*◌, ◌≤◌, length, map}
 use Rattle.gq_tree.specs.Views.{sel_view}
 use Rattle.gq_parse.specs.From.{from}
-use Rattle.gq_parse.proofs.Missing.{IsFront}
+use Rattle.gq_parse.specs.Phrases.{IsSel}
+use Rattle.gq_parse.proofs.Fronts.{Front}
 use Rattle.gq_parse.proofs.selections.+set.Given as goal
 
 abbrev pub decreases-selections : goal.decreases-selections
-decreases-selections l = 3 * (length l.tokens.now - l.start) + 2
-
-abbrev pub decreases-optional_set : goal.decreases-optional_set
-decreases-optional_set l = 3 * (length l.tokens.now - l.at) + 1
-
-abbrev pub decreases-selection_set : goal.decreases-selection_set
-decreases-selection_set l = 3 * (length l.tokens.now - l.at)
+decreases-selections l = 4 * (length l.tokens.now - l.start) + 2
 
 abbrev pub decreases-selection : goal.decreases-selection
-decreases-selection l = 3 * (length l.tokens.now - l.at)
+decreases-selection l = 4 * (length l.tokens.now - l.at) + 1
 
-abbrev pub invariant-selections-loop-alloc : goal.invariant-selections-loop-alloc
-invariant-selections-loop-alloc l = record {
+abbrev pub decreases-field : goal.decreases-field
+decreases-field l = 4 * (length l.tokens.now - l.at)
+
+abbrev pub decreases-inline_fragment : goal.decreases-inline_fragment
+decreases-inline_fragment l = 4 * (length l.tokens.now - l.at)
+
+abbrev pub decreases-optional_set : goal.decreases-optional_set
+decreases-optional_set l = 4 * (length l.tokens.now - l.at) + 1
+
+abbrev pub decreases-selection_set : goal.decreases-selection_set
+decreases-selection_set l = 4 * (length l.tokens.now - l.at)
+
+abbrev pub invariant-selections-loop-end : goal.invariant-selections-loop-end
+invariant-selections-loop-end l = record {
   after : l.start ≤ l.at;
   within : l.at ≤ length l.tokens;
-  front : IsFront (map sel_view l.items.items) (from l.tokens l.start) (from l.tokens l.at);
+  front : Front IsSel (map sel_view l.items.items) (from l.tokens l.start) (from l.tokens l.at);
 }
 
-abbrev pub decreases-selections-loop-alloc : goal.decreases-selections-loop-alloc
-decreases-selections-loop-alloc l = length l.tokens - l.at
+abbrev pub decreases-selections-loop-end : goal.decreases-selections-loop-end
+decreases-selections-loop-end l = length l.tokens - l.at
