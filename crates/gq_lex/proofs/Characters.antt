@@ -10,10 +10,7 @@ use Rattle.gq_lex.specs.declared.quoted.Step.TheVariants.{Ends, Goes, Fails}
 use Rattle.gq_lex.specs.Bytes.{look_up, is_comment_byte}
 use Rattle.gq_lex.specs.Scanning.{byte_at, unit_at, second_step, unit_step, escaped_step, escape_step, string_step}
 use Rattle.gq_lex.specs.Strings.{is_quote, is_plain_byte, escapes, code_unit, IsEscapedUnit, escaped_unit, is_high_surrogate, is_low_surrogate, is_surrogate, paired, IsCharacter, plain, escaped, unicode, pair}
-use Rattle.gq_lex.proofs.Runs.{found_holds, not_true}
-
-is_number : (b n : ℕ) → eqb b n ≡ true → b ≡ n
-is_number b n h = grind (arith, nat_tests)
+use Rattle.gq_lex.proofs.Runs.{found_holds, not_true, is_number}
 
 -- the code unit of an escape
 pub unit_is : {part : List ℕ} {unit : ℕ} (rest : List ℕ) → IsEscapedUnit part unit → unit_at (part ++ rest) ≡ Some unit
@@ -29,17 +26,17 @@ unit_front : {part : List ℕ} {unit : ℕ} (rest : List ℕ) → IsEscapedUnit 
 unfolding string_step
 unit_front rest (escaped_unit ha hb hc hd is) = refl
 
-unit_behind : {part : List ℕ} {unit : ℕ} (rest : List ℕ) → IsEscapedUnit part unit → drop 6 (part ++ rest) ≡ rest
+pub unit_behind : {part : List ℕ} {unit : ℕ} (rest : List ℕ) → IsEscapedUnit part unit → drop 6 (part ++ rest) ≡ rest
 unit_behind rest (escaped_unit ha hb hc hd is) = refl
 
-no_surrogate : (unit : ℕ) → is_surrogate unit ≡ false → (is_high_surrogate unit ≡ false) × (is_low_surrogate unit ≡ false)
+pub no_surrogate : (unit : ℕ) → is_surrogate unit ≡ false → (is_high_surrogate unit ≡ false) × (is_low_surrogate unit ≡ false)
 no_surrogate unit h = neither (is_high_surrogate unit) (is_low_surrogate unit) h
   where
     neither : (a b : Bool) → (a || b) ≡ false → (a ≡ false) × (b ≡ false)
     neither true b h = absurd (cc)
     neither false b h = (refl, h)
 
-plain_tests : (b : ℕ) → is_plain_byte b ≡ true → (is_quote b ≡ false) × (eqb b 92 ≡ false) × (is_comment_byte b ≡ true)
+pub plain_tests : (b : ℕ) → is_plain_byte b ≡ true → (is_quote b ≡ false) × (eqb b 92 ≡ false) × (is_comment_byte b ≡ true)
 plain_tests b h = (grind (arith, nat_tests), grind (arith, nat_tests), grind (arith, nat_tests))
 
 plain_if : (b : ℕ) → is_quote b ≡ false → eqb b 92 ≡ false → is_comment_byte b ≡ true → is_plain_byte b ≡ true
@@ -144,7 +141,7 @@ pub record CharacterAt (bs : List ℕ) (n : ℕ) : Type 0 where
   pub within : n ≤ length bs
   pub is : IsCharacter (take n bs) value
 
-goes_inj : {n m : ℕ} → Goes n ≡ Goes m → n ≡ m
+pub goes_inj : {n m : ℕ} → Goes n ≡ Goes m → n ≡ m
 goes_inj h = cc
 
 -- an escaped surrogate is followed by one that makes a pair with it
@@ -205,7 +202,7 @@ unfolding string_step
 character_told [] n h = absurd (cc)
 character_told (b ∷ bs) n h = step_told b bs n (is_quote b) (eqb b 92) refl refl h
 
-ends_inj : {n m : ℕ} → Ends n ≡ Ends m → n ≡ m
+pub ends_inj : {n m : ℕ} → Ends n ≡ Ends m → n ≡ m
 ends_inj h = cc
 
 not_ends : (bs : List ℕ) (n : ℕ) → escape_step (byte_at bs 1) bs ≡ Ends n → ⊥

@@ -15,17 +15,17 @@ pub record Edges (part : List ℕ) : Type 0 where
   pub first : get_or part 0 0 < 128
   pub last : get_or part (length part - 1) 0 < 128
 
-abbrev is_ascii : ℕ → Bool
+abbrev pub is_ascii : ℕ → Bool
 is_ascii b = ltb b 128
 
-below : (b : ℕ) → is_ascii b ≡ true → b < 128
+pub below : (b : ℕ) → is_ascii b ≡ true → b < 128
 below b h = grind (arith, nat_tests)
 
 passes_more : (p q : ℕ → Bool) → ((b : ℕ) → p b ≡ true → q b ≡ true) → (bs : List ℕ) → Passes p bs → Passes q bs
 passes_more p q h [] passes = tt
 passes_more p q h (b ∷ bs) passes = (h b passes.0, passes_more p q h bs passes.1)
 
-passes_append : (p : ℕ → Bool) (cs bs : List ℕ) → Passes p cs → Passes p bs → Passes p (cs ++ bs)
+pub passes_append : (p : ℕ → Bool) (cs bs : List ℕ) → Passes p cs → Passes p bs → Passes p (cs ++ bs)
 passes_append p [] bs h k = k
 passes_append p (c ∷ cs) bs h k = (h.0, passes_append p cs bs h.1 k)
 

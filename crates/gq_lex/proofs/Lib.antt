@@ -1,4 +1,7 @@
+pub mod BlockUtf8
 pub mod Characters
+pub mod Cutting
+pub mod Decodings
 pub mod Edges
 pub mod Faulting
 pub mod Numerals
@@ -7,3 +10,5 @@ pub mod Quotes
 pub mod Readings
 pub mod Runs
 pub mod Standing
+pub mod Utf8
+pub mod Valued

@@ -1,5 +1,5 @@
 -- The number at the front of a text: the computed answer is the relation's, both ways.
-use Rattle.std.proofs.Common.{◌≡◌, ℕ, suc, ◌+◌, ◌<◌, List, [], ◌∷◌, ◌++◌, length, take, drop, get_or, Bool, true, false, cond, eqb, Option, Some, None, Result, Ok, Err, refl, sym, ap, subst, ◌∙◌, arith, one-add, add-zero, length-append, append_assoc}
+use Rattle.std.proofs.Common.{◌≡◌, ℕ, suc, ◌+◌, ◌<◌, List, [], ◌∷◌, ◌++◌, length, take, drop, get_or, Bool, true, false, cond, eqb, Option, Some, None, Ok, Err, refl, sym, ap, subst, ◌∙◌, arith, one-add, add-zero, length-append, append_assoc}
 use Rattle.std.specs.List.{prefix_len}
 use Rattle.std.proofs.lemmas.List.{append-nil, drop_at, drop-drop, get_or-append-add, length-take-le, take-append-drop}
 use Rattle.std.proofs.lemmas.Bool.Decides.{nat_tests}
@@ -12,7 +12,7 @@ use Rattle.gq_lex.specs.Numbers.{is_non_zero_digit, is_exponent_indicator, is_si
 use Rattle.gq_lex.specs.Reading.{Found}
 use Rattle.gq_lex.specs.Scanning.{Piece, byte_at, unsigned_len, behind_sign, integer_len, some_digits, fraction_len, exponent_len, with_exponent, with_fraction, with_integer, number_at}
 use Rattle.gq_lex.specs.Tokens.{IsToken, int, float}
-use Rattle.gq_lex.proofs.Runs.{prefix_len_stops_at, cut_prefix, found_of}
+use Rattle.gq_lex.proofs.Runs.{prefix_len_stops_at, cut_prefix, found_of, is_number, some_inj, ok_inj}
 
 -- the byte at the front of a text tells whether it stops there
 front_stops : (p : ℕ → Bool) (rest : List ℕ) → p 0 ≡ false → Stops p rest → p (byte_at rest 0) ≡ false
@@ -202,9 +202,6 @@ record IsUnsigned (part : List ℕ) : Type 0 where
 non_zero_if : (b : ℕ) → is_digit b ≡ true → eqb b 48 ≡ false → is_non_zero_digit b ≡ true
 non_zero_if b digit other = grind (arith, nat_tests)
 
-is_number : (b n : ℕ) → eqb b n ≡ true → b ≡ n
-is_number b n h = grind (arith, nat_tests)
-
 unsigned_of : {part : List ℕ} → AreDigits part → eqb (byte_at part 0) 48 ≡ false → IsUnsigned part
 unsigned_of (are_digits {b} first others) other = record { alone = digits (non_zero_if b first other) others; negative = negative_digits (non_zero_if b first other) others }
 
@@ -243,9 +240,6 @@ integer_by bs false e some =
 
 integer_told : (bs : List ℕ) → 0 < integer_len bs → Part IsIntegerPart bs (integer_len bs)
 integer_told bs some = integer_by bs (eqb (byte_at bs 0) 45) refl some
-
-some_inj : {A : Type 0} {x y : A} → ◌≡◌ {A = Option A} (Some x) (Some y) → x ≡ y
-some_inj h = cc
 
 digits_of : (before n m : ℕ) → some_digits before n ≡ Some m → (0 < n) × (before + n ≡ m)
 digits_of before n m h = by_test (eqb n 0) refl h
@@ -299,9 +293,6 @@ record Told (bs : List ℕ) (x : Option Kind × ℕ) : Type 0 where
   exponent_is : exponent_len (drop (integer_len bs + fraction) bs) ≡ Some exponent
   stops : is_number_continue (byte_at bs (integer_len bs + (fraction + exponent))) ≡ false
   is : (Some (kind_of (fraction + exponent)), integer_len bs + (fraction + exponent)) ≡ x
-
-ok_inj : {A B : Type 0} {x y : A} → ◌≡◌ {A = Result A B} (Ok x) (Ok y) → x ≡ y
-ok_inj h = cc
 
 told_by : (bs : List ℕ) (x : Option Kind × ℕ) (fraction exponent : ℕ) (t : Bool) → 0 < integer_len bs → fraction_len (drop (integer_len bs) bs) ≡ Some fraction → exponent_len (drop (integer_len bs + fraction) bs) ≡ Some exponent →
     is_number_continue (byte_at bs (integer_len bs + (fraction + exponent))) ≡ t → ◌≡◌ {A = Piece} (cond t (Err Number) (Ok (Some (kind_of (fraction + exponent)), integer_len bs + (fraction + exponent)))) (Ok x) → Told bs x

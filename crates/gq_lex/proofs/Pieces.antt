@@ -1,5 +1,5 @@
 -- What stands at the front of a text: the computed answer is the relation's, both ways.
-use Rattle.std.proofs.Common.{◌≡◌, ℕ, ◌+◌, ◌<◌, List, [], ◌∷◌, ◌++◌, length, take, drop, Bool, true, false, cond, eqb, Option, Some, None, Result, Ok, Err, refl, sym, ap, subst, ◌∙◌, arith, one-add, append_assoc, length-append}
+use Rattle.std.proofs.Common.{◌≡◌, ℕ, ◌+◌, ◌<◌, List, [], ◌∷◌, ◌++◌, length, take, drop, Bool, true, false, cond, eqb, Option, Some, None, Ok, Err, refl, sym, ap, subst, ◌∙◌, arith, one-add, append_assoc, length-append}
 use Rattle.std.specs.Prelude.{◌||◌, nat_eq}
 use Rattle.std.specs.List.{prefix_len, starts_with}
 use Rattle.std.proofs.lemmas.List.{take_at}
@@ -19,7 +19,7 @@ use Rattle.gq_lex.specs.Strings.{is_quote}
 use Rattle.gq_lex.specs.Tokens.{IsIgnored, unicode_bom, white_space, line_terminator, comment, comma, IsToken, sign, spread, name, int, float, empty_string, string, block_string, fault_kind, BeginsIgnored, BeginsToken, IsStuck}
 use Rattle.gq_lex.proofs.Numerals.{int_is, float_is, number_told, number_fault}
 use Rattle.gq_lex.proofs.Quotes.{empty_is, string_is, block_is, quoted_told, quoted_fault}
-use Rattle.gq_lex.proofs.Runs.{prefix_len_stops_at, cut_prefix, holds_along, found_holds, not_true}
+use Rattle.gq_lex.proofs.Runs.{prefix_len_stops_at, cut_prefix, holds_along, found_holds, not_true, is_number}
 
 -- a punctuator is of no other class
 sign_fails : (t : ℕ → Bool) (b : ℕ) (kind : Kind) → punctuator b ≡ Some kind → holds_along (λ n. cond (t n) false true) punctuators ≡ true → t b ≡ false
@@ -83,9 +83,6 @@ ClassHolds Other b = (is_number_start b ≡ false) × (is_quote b ≡ false)
 sign_holds : (b : ℕ) (o : Option Kind) → is_number_start b ≡ false → is_quote b ≡ false → punctuator b ≡ o → ClassHolds (sign_class o) b
 sign_holds b None number quote e = (number, quote)
 sign_holds b (Some kind) number quote e = e
-
-is_number : (b n : ℕ) → eqb b n ≡ true → b ≡ n
-is_number b n h = grind (arith, nat_tests)
 
 holds_if : (b : ℕ) (t1 t2 t3 t4 t5 t6 t7 : Bool) → is_blank b ≡ t1 → is_name_start b ≡ t2 → is_number_start b ≡ t3 → eqb b 239 ≡ t4 → eqb b 35 ≡ t5 → eqb b 46 ≡ t6 → is_quote b ≡ t7 → ClassHolds (class_if t1 t2 t3 t4 t5 t6 t7 (punctuator b)) b
 unfolding class_if
@@ -164,9 +161,6 @@ token_is (float {rest = after} number stops) = float_front after number ∙ floa
 token_is (empty_string {rest = after} stops) = empty_is after stops
 token_is (string {rest = after} body value is some characters) = ap (λ l. piece_at (l ++ after)) is ∙ ap (λ l. quoted_at (l ++ after)) (sym is) ∙ string_is after body value is some characters
 token_is (block_string {rest = after} body) = block_is after body
-
-pub ok_inj : {A B : Type 0} {x y : A} → ◌≡◌ {A = Result A B} (Ok x) (Ok y) → x ≡ y
-ok_inj h = cc
 
 -- what a computed answer says
 abbrev pub Tells : List ℕ → Piece → Type 0

@@ -1,10 +1,10 @@
 -- The string or block string at the front of a text: the computed answer is the relation's, both ways.
-use Rattle.std.proofs.Common.{◌≡◌, ℕ, zero, suc, ◌+◌, ◌-◌, ◌<◌, ◌≤◌, List, [], ◌∷◌, ◌++◌, length, take, drop, Bool, true, false, cond, eqb, Option, Some, None, Result, Ok, Err, refl, sym, ap, subst, ◌∙◌, arith, one-add, zero-add, length-append, length-drop, append_assoc}
+use Rattle.std.proofs.Common.{◌≡◌, ℕ, zero, suc, ◌+◌, ◌-◌, ◌<◌, ◌≤◌, List, [], ◌∷◌, ◌++◌, length, take, drop, Bool, true, false, cond, Option, Some, None, Ok, Err, refl, sym, ap, subst, ◌∙◌, arith, one-add, zero-add, length-append, length-drop, append_assoc}
 use Rattle.std.specs.Prelude.{nat_eq}
 use Rattle.std.specs.Cmp.Lexicographic.{pointwise}
 use Rattle.std.specs.List.{starts_with}
 use Rattle.std.proofs.Math.Seq.{take-add}
-use Rattle.std.proofs.lemmas.Bool.Decides.{nat_tests, Decides-eqb}
+use Rattle.std.proofs.lemmas.Bool.Decides.{Decides-eqb}
 use Rattle.std.proofs.lemmas.List.{take-append-le, take-append-drop, length-take-le, drop-drop, drop_all}
 use Rattle.std.proofs.lemmas.Slice.Eq.{starts_is}
 use Rattle.gq_lex.specs.declared.token.Kind.{Kind}
@@ -21,11 +21,11 @@ use Rattle.gq_lex.specs.Reading.{Found}
 use Rattle.gq_lex.specs.Scanning.{byte_at, string_step, block_step, step_at, grown, scan, closed, quoted_at}
 use Rattle.gq_lex.specs.Strings.{is_quote, AreCharacters, none, more}
 use Rattle.gq_lex.specs.Tokens.{IsToken, empty_string, string, block_string}
-use Rattle.gq_lex.proofs.Characters.{character_is, character_first, Front, character_told, quote_told}
-use Rattle.gq_lex.proofs.Runs.{found_of}
+use Rattle.gq_lex.proofs.Characters.{character_is, character_first, Front, character_told, quote_told, ends_inj, goes_inj}
+use Rattle.gq_lex.proofs.Runs.{found_of, is_number, some_inj, ok_inj}
 
 -- what a text begins with is seen in a part of it that is long enough
-begins_part : (part after want : List ℕ) → length want ≤ length part → starts_with nat_eq (part ++ after) want ≡ starts_with nat_eq part want
+pub begins_part : (part after want : List ℕ) → length want ≤ length part → starts_with nat_eq (part ++ after) want ≡ starts_with nat_eq part want
 begins_part part after want h = ap (pointwise nat_eq want) (take-append-le (length want) part after h)
 
 begins_not : (bs want : List ℕ) → ((rest : List ℕ) → bs ≡ want ++ rest → ⊥) → starts_with nat_eq bs want ≡ false
@@ -35,10 +35,7 @@ begins_not bs want h = by_test (starts_with nat_eq bs want) refl
     by_test true e = absurd (h (drop (length want) bs) ((starts_is Decides-eqb bs want true (sym e)).0 refl))
     by_test false e = refl
 
-is_number : (b n : ℕ) → eqb b n ≡ true → b ≡ n
-is_number b n h = grind (arith, nat_tests)
-
-begins_told : (bs want : List ℕ) → starts_with nat_eq bs want ≡ true → bs ≡ want ++ drop (length want) bs
+pub begins_told : (bs want : List ℕ) → starts_with nat_eq bs want ≡ true → bs ≡ want ++ drop (length want) bs
 begins_told bs want e = (starts_is Decides-eqb bs want true (sym e)).0 refl
 
 grown_zero : (o : Option ℕ) → o ≡ grown 0 o
@@ -73,7 +70,7 @@ scan_over form (x ∷ xs) rest some e =
     ∙ ap (grown 1) (scan_skip form xs rest)
     ∙ grown_more (length xs) (scan form rest 0)
 
-front_some : {part : List ℕ} → Front part → 0 < length part
+pub front_some : {part : List ℕ} → Front part → 0 < length part
 front_some f = omega (arith, ap length f.is)
 
 -- characters and the quotation mark behind them
@@ -118,12 +115,12 @@ string_is {part} after body value is some characters =
     ∙ ap (closed String 1) (characters_are after characters)
     ∙ ap (λ n. Ok (Some String, n)) long
 
-block_long : {text raw : List ℕ} → IsBlockBody text raw → 3 ≤ length text
+pub block_long : {text raw : List ℕ} → IsBlockBody text raw → 3 ≤ length text
 block_long closing = omega arith
 block_long (escape rest) = omega (arith, block_long rest)
 block_long (source is quotes escapes rest) = omega (arith, block_long rest)
 
-block_source : (bs : List ℕ) → begins_quotes bs ≡ false → begins_escape bs ≡ false → is_source_byte (byte_at bs 0) ≡ true → block_step bs ≡ Goes 1
+pub block_source : (bs : List ℕ) → begins_quotes bs ≡ false → begins_escape bs ≡ false → is_source_byte (byte_at bs 0) ≡ true → block_step bs ≡ Goes 1
 unfolding block_step
 block_source bs quotes escapes is =
     ap (λ t. cond t (Ends 3) (cond (begins_escape bs) (Goes 4) (cond (is_source_byte (byte_at bs 0)) (Goes 1) Fails))) quotes
@@ -197,18 +194,12 @@ goes_string bs n h =
     }
 
 -- what a step of a block string tells
-step_ends : {n m : ℕ} → Ends n ≡ Ends m → n ≡ m
-step_ends h = cc
-
-step_goes : {n m : ℕ} → Goes n ≡ Goes m → n ≡ m
-step_goes h = cc
-
 end_block_by : (bs : List ℕ) (n : ℕ) (t u v : Bool) → begins_quotes bs ≡ t → cond t (Ends 3) (cond u (Goes 4) (cond v (Goes 1) Fails)) ≡ Ends n → EndAt Block bs n
 end_block_by bs n true u v e h =
     let is = begins_told bs (34 ∷ 34 ∷ 34 ∷ []) e in
     let front : take 3 bs ≡ 34 ∷ 34 ∷ 34 ∷ [] = ap (take 3) is in
     let three : EndAt Block bs 3 = record { within = omega (arith, ap length is); holds = record { raw = []; body = subst (λ l. IsBlockBody l []) (sym front) closing } } in
-    subst (EndAt Block bs) (step_ends h) three
+    subst (EndAt Block bs) (ends_inj h) three
 end_block_by bs n false true v e h = absurd (cc)
 end_block_by bs n false false true e h = absurd (cc)
 end_block_by bs n false false false e h = absurd (cc)
@@ -247,8 +238,8 @@ escape_goes bs e =
 
 goes_block_by : (bs : List ℕ) (n : ℕ) (t u v : Bool) → begins_quotes bs ≡ t → begins_escape bs ≡ u → is_source_byte (byte_at bs 0) ≡ v → cond t (Ends 3) (cond u (Goes 4) (cond v (Goes 1) Fails)) ≡ Goes n → GoesAt Block bs n
 goes_block_by bs n true u v e1 e2 e3 h = absurd (cc)
-goes_block_by bs n false true v e1 e2 e3 h = subst (GoesAt Block bs) (step_goes h) (escape_goes bs e2)
-goes_block_by bs n false false true e1 e2 e3 h = subst (GoesAt Block bs) (step_goes h) (source_goes bs e1 e2 e3)
+goes_block_by bs n false true v e1 e2 e3 h = subst (GoesAt Block bs) (goes_inj h) (escape_goes bs e2)
+goes_block_by bs n false false true e1 e2 e3 h = subst (GoesAt Block bs) (goes_inj h) (source_goes bs e1 e2 e3)
 goes_block_by bs n false false false e1 e2 e3 h = absurd (cc)
 
 goes_block : (bs : List ℕ) (n : ℕ) → block_step bs ≡ Goes n → GoesAt Block bs n
@@ -285,9 +276,6 @@ record Less (o : Option ℕ) (n : ℕ) : Type 0 where
 grown_told : (o : Option ℕ) (n : ℕ) → grown 1 o ≡ Some n → Less o n
 grown_told None n h = absurd (cc)
 grown_told (Some m) n h = let e : 1 + m ≡ n = cc in record { less = m; was = refl; is = sym e ∙ one-add m }
-
-some_inj : {n m : ℕ} → ◌≡◌ {A = Option ℕ} (Some n) (Some m) → n ≡ m
-some_inj h = cc
 
 scanned_by : (form : Form) (b : ℕ) (bs : List ℕ) (n : ℕ) (s : Step) → ((k m : ℕ) → scan form bs k ≡ Some m → Scanned form bs k m) → step_at form (b ∷ bs) ≡ s → scan_by form bs s ≡ Some n → Scanned form (b ∷ bs) 0 n
 scanned_by form b bs n (Ends m) again e h =
@@ -367,9 +355,6 @@ left_goes form bytes at n within left e =
     }
 
 -- what a found string or block string tells
-ok_inj : {A B : Type 0} {x y : A} → ◌≡◌ {A = Result A B} (Ok x) (Ok y) → x ≡ y
-ok_inj h = cc
-
 record Closed (kind : Kind) (before : ℕ) (o : Option ℕ) (x : Option Kind × ℕ) : Type 0 where
   size : ℕ
   was : o ≡ Some size

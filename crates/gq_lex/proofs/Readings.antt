@@ -7,8 +7,9 @@ use Rattle.gq_lex.specs.declared.token.BadKind.{BadKind}
 use Rattle.gq_lex.specs.Reading.{piece_at, Found, IsPiece}
 use Rattle.gq_lex.specs.Tokens.{IsBadAt, IsLimitAt, IsIgnored, IsToken, Lexeme, lexeme_at, ReadsTo, here, ignored, token, Reads, IsStuck}
 use Rattle.gq_lex.proofs.Edges.{token_edges}
-use Rattle.gq_lex.proofs.Pieces.{ok_inj, ignored_is, token_is}
+use Rattle.gq_lex.proofs.Pieces.{ignored_is, token_is}
 use Rattle.gq_lex.proofs.Standing.{cut_of}
+use Rattle.gq_lex.proofs.Runs.{ok_inj}
 
 pub pair_inj : {A B C : Type 0} {a c : A} {b d : B} → ◌≡◌ {A = Result (A × B) C} (Ok (a, b)) (Ok (c, d)) → (a ≡ c) × (b ≡ d)
 pair_inj {A} {B} {C} {a} {c} {b} {d} h =

@@ -1,11 +1,24 @@
 -- Runs of bytes that pass a test, and what is found in a table.
-use Rattle.std.proofs.Common.{◌≡◌, ◌≢◌, ℕ, suc, ◌+◌, ◌≤◌, List, [], ◌∷◌, ◌++◌, length, take, drop, Bool, true, false, cond, eqb, Option, Some, refl, sym, ap, subst, ◌∙◌, ◌<◌, length-append, ⊎_elim, arith, one-add}
+use Rattle.std.proofs.Common.{◌≡◌, ◌≢◌, ℕ, suc, ◌+◌, ◌≤◌, List, [], ◌∷◌, ◌++◌, length, take, drop, Bool, true, false, cond, eqb, Option, Some, None, Result, Ok, refl, sym, ap, subst, ◌∙◌, ◌<◌, length-append, ⊎_elim, arith, one-add}
 use Rattle.std.specs.List.{prefix_len}
-use Rattle.std.proofs.lemmas.Bool.Decides.{eqb_tells}
+use Rattle.std.proofs.lemmas.Bool.Decides.{eqb_tells, nat_tests}
 use Rattle.std.proofs.lemmas.List.{take_at, drop_at}
 use Rattle.gq_lex.specs.declared.token.Kind.{Kind}
 use Rattle.gq_lex.specs.Bytes.{Passes, Stops, look_up}
 use Rattle.gq_lex.specs.Reading.{IsPiece, Found}
+
+-- what equations of numbers and of answers tell
+pub is_number : (b n : ℕ) → eqb b n ≡ true → b ≡ n
+is_number b n h = grind (arith, nat_tests)
+
+pub some_inj : {A : Type 0} {x y : A} → ◌≡◌ {A = Option A} (Some x) (Some y) → x ≡ y
+some_inj h = cc
+
+pub some_none : {A : Type 0} {x : A} → ◌≡◌ {A = Option A} (Some x) None → ⊥
+some_none h = cc
+
+pub ok_inj : {A B : Type 0} {x y : A} → ◌≡◌ {A = Result A B} (Ok x) (Ok y) → x ≡ y
+ok_inj h = cc
 
 -- what passes is the longest prefix that passes, where what follows stops
 pub prefix_len_stops_at : (p : ℕ → Bool) (xs rest : List ℕ) → Passes p xs → Stops p rest → prefix_len p (xs ++ rest) ≡ length xs

@@ -1,5 +1,6 @@
 pub mod Blocks
 pub mod Bytes
+pub mod Decoding
 pub mod Faults
 pub mod Numbers
 pub mod Places
@@ -7,3 +8,4 @@ pub mod Reading
 pub mod Scanning
 pub mod Strings
 pub mod Tokens
+pub mod Values

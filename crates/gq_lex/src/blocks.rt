@@ -28,7 +28,7 @@ pub(crate) fn begins_quotes(bytes: &[u8]) -> bool
     bytes.starts_with(b"\"\"\"")
 }
 
-fn begins_escape(bytes: &[u8]) -> bool
+pub(crate) fn begins_escape(bytes: &[u8]) -> bool
     ensures { result ≡ begins_escape bytes.now }
 {
     bytes.starts_with(b"\\\"\"\"")

@@ -3,6 +3,7 @@
 ghost use Rattle.std.specs.Prelude.{◌≡◌, ◌≤◌, length, get_or, drop};
 ghost use Rattle.std.specs.List.{prefix_len};
 ghost use Rattle.gq_lex.specs.Bytes.{is_white_space, is_line_terminator, is_name_start, is_name_continue, is_comment_byte, is_digit};
+ghost use Rattle.gq_lex.specs.Decoding.{is_line_byte};
 ghost use Rattle.gq_lex.specs.Reading.{is_blank, is_number_start};
 
 pub(crate) fn is_white_space(b: u8) -> bool
@@ -90,6 +91,38 @@ pub(crate) fn digits_len(bytes: &[u8]) -> usize
         }
     }
     bytes.len()
+}
+
+// How many bytes of WhiteSpace stand at the front.
+pub(crate) fn white_space_len(bytes: &[u8]) -> usize
+    ensures count { result ≡ prefix_len is_white_space bytes.now }
+    ensures within { result ≤ length bytes.now }
+{
+    for (i, b) in bytes.iter().enumerate() {
+        if !is_white_space(*b) {
+            return i;
+        }
+    }
+    bytes.len()
+}
+
+// How many bytes stand before the first LineTerminator.
+pub(crate) fn line_len(bytes: &[u8]) -> usize
+    ensures count { result ≡ prefix_len is_line_byte bytes.now }
+    ensures within { result ≤ length bytes.now }
+{
+    for (i, b) in bytes.iter().enumerate() {
+        if !is_line_byte(*b) {
+            return i;
+        }
+    }
+    bytes.len()
+}
+
+fn is_line_byte(b: u8) -> bool
+    ensures { result ≡ is_line_byte b }
+{
+    !is_line_terminator(b)
 }
 
 // The byte at a place, or 0.

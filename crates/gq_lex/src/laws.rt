@@ -3,9 +3,11 @@
 ghost use Rattle.std.specs.Prelude.{◌≡◌, ℕ, ◌^◌, ◌<◌, List, length, All};
 ghost use Rattle.std.specs.Str.{IsUtf8};
 ghost use Rattle.gq_lex.specs.declared.token.BadKind.{BadKind};
+ghost use Rattle.gq_lex.specs.declared.token.Kind.TheVariants.{String, BlockString};
 ghost use Rattle.gq_lex.specs.declared.token.LexFault.{LexFault};
 ghost use Rattle.gq_lex.specs.Faults.{IsFault};
-ghost use Rattle.gq_lex.specs.Tokens.{Lexeme, Reads, IsBadAt, IsLimitAt};
+ghost use Rattle.gq_lex.specs.Tokens.{IsToken, Lexeme, Reads, IsBadAt, IsLimitAt};
+ghost use Rattle.gq_lex.specs.Values.{IsStringValue, IsBlockStringValue};
 ghost use Rattle.gq_lex.specs.Places.{StandIn, IsCutOf};
 
 /// A text reads as at most one list of tokens.
@@ -36,4 +38,24 @@ pub fn tokens_stand_in_order()
 /// Each token of a text begins and ends between characters.
 pub fn tokens_cut_no_character()
     ensures { (text : List ℕ) (tokens : List Lexeme) → IsUtf8 text → Reads text tokens → All (IsCutOf text) tokens }
+{}
+
+/// Each string of a text has a value.
+pub fn strings_have_values()
+    ensures { (text after : List ℕ) → IsToken String text after → (value : List ℕ) × IsStringValue text value }
+{}
+
+/// A string has at most one value.
+pub fn one_string_value()
+    ensures { (text a b : List ℕ) → IsStringValue text a → IsStringValue text b → a ≡ b }
+{}
+
+/// Each block string of a text has a value.
+pub fn block_strings_have_values()
+    ensures { (text after : List ℕ) → IsToken BlockString text after → (value : List ℕ) × IsBlockStringValue text value }
+{}
+
+/// A block string has at most one value.
+pub fn one_block_string_value()
+    ensures { (text a b : List ℕ) → IsBlockStringValue text a → IsBlockStringValue text b → a ≡ b }
 {}

@@ -64,7 +64,7 @@ fn scan(form: Form, bytes: &[u8]) -> Option<usize>
     None
 }
 
-fn step_at(form: Form, bytes: &[u8]) -> Step
+pub(crate) fn step_at(form: Form, bytes: &[u8]) -> Step
     ensures { result ≡ step_at form bytes.now }
 {
     match form {

@@ -1,4 +1,5 @@
-use crate::{BadKind, Kind, LexFault, Span, lex};
+use crate::{BadKind, Kind, LexFault, Span, block_string_value, lex, string_value};
+use gq_text::OwnedText;
 use std::alloc::Global;
 use std::process::Abort;
 use std::test::Fail;
@@ -346,4 +347,128 @@ fn block_strings_that_do_not_end_or_hold_what_they_may_not(rt: HostRuntime) {
         ("\"\"\"\"\"\"\"", 6),
     ];
     assert_faults(rt.alloc(), &rt, BadKind::Quote, &bad);
+}
+
+fn assert_value(rt: &impl Abort, text: &str, value: Option<OwnedText>, want: &[u8]) {
+    match value {
+        Some(value) => assert_eq!(rt; value.as_str().as_bytes(), want, "{text:?}"),
+        None => panic!(rt; "{text:?}"),
+    }
+}
+
+#[test]
+fn strings_stand_for_their_characters(rt: HostRuntime) -> Result<(), Fail> {
+    let table = [
+        ("\"\"", ""),
+        ("\"ab é\t# ,\"", "ab é\t# ,"),
+        ("\"\\\"\\\\\\/\\b\\f\\n\\r\\t\"", "\"\\/\u{8}\u{c}\n\r\t"),
+        ("\"\\u0041\\u00e9\\u20AC\\uFFFF\"", "Aé€\u{ffff}"),
+        ("\"\\u0000\\u0022\"", "\0\""),
+        ("\"\\uD83D\\uDE00\"", "\u{1f600}"),
+        (
+            "\"-\\uDBFF\\uDFFF\\uD800\\uDC00-\"",
+            "-\u{10ffff}\u{10000}-",
+        ),
+        ("\"\\\\u0041\"", "\\u0041"),
+    ];
+    for (text, want) in table {
+        assert_value(&rt, text, string_value(rt.alloc(), text)?, want.as_bytes());
+    }
+    let smile = "\"\\uD83D\\uDE00\"";
+    assert_value(
+        &rt,
+        smile,
+        string_value(rt.alloc(), smile)?,
+        b"\xf0\x9f\x98\x80",
+    );
+    Ok(())
+}
+
+#[test]
+fn texts_that_are_no_string_have_no_value(rt: HostRuntime) -> Result<(), Fail> {
+    let table = [
+        "",
+        "a",
+        "\"",
+        "\"a",
+        "\"\"\"",
+        "\"\"\"\"",
+        "\"\"\"a\"\"\"",
+        "\"a\"b",
+        "\"a\" ",
+        " \"a\"",
+        "\"a\"\"b\"",
+        "\"a\nb\"",
+        "\"\\x\"",
+        "\"\\u00g0\"",
+        "\"\\uD83D\"",
+        "\"\\uDE00\\uD83D\"",
+    ];
+    for text in table {
+        assert!(rt; string_value(rt.alloc(), text)?.is_none(), "{text:?}");
+    }
+    Ok(())
+}
+
+#[test]
+fn block_strings_stand_for_their_lines(rt: HostRuntime) -> Result<(), Fail> {
+    let table = [
+        ("", ""),
+        ("a", "a"),
+        // The indent that the lines but the first share is dropped.
+        ("\n    a\n      b\n    ", "a\n  b"),
+        ("\n\ta\n \tb\n", "a\n\tb"),
+        // The first line's indent does not count, and stays.
+        ("  a\n    b\n   c", "  a\n b\nc"),
+        (" a\nb", " a\nb"),
+        ("  a", "  a"),
+        ("  a\n    b", "  a\nb"),
+        // Each LineTerminator ends a line, two of them together where a New Line follows a Carriage Return.
+        ("a\r\n  b\r  c\n  d", "a\nb\nc\nd"),
+        ("a\n\rb", "a\n\nb"),
+        ("a\r\r\nb", "a\n\nb"),
+        // Lines of tabs and spaces are dropped at both ends, and do not count for the indent.
+        ("\n \n\t\n  a\n\n  b\n \n\t\n", "a\n\nb"),
+        ("\n    a\n \n      \n    b", "a\n\n  \nb"),
+        (" \n\t", ""),
+        ("\n", ""),
+        ("   ", ""),
+        ("  a \t\n  b  ", "  a \t\nb  "),
+        // Nothing but three quotation marks is escaped.
+        ("\\\"\"\"", "\"\"\""),
+        (
+            "a\\\"\"\"b \\n \\u0041 \"\" \\.",
+            "a\"\"\"b \\n \\u0041 \"\" \\.",
+        ),
+        ("\n  é\n   \u{1f600}\n", "é\n \u{1f600}"),
+    ];
+    for (body, want) in table {
+        let text = format!(in rt.alloc(); "\"\"\"{body}\"\"\"")?;
+        let value = block_string_value(rt.alloc(), &text)?;
+        assert_value(&rt, &text, value, want.as_bytes());
+    }
+    Ok(())
+}
+
+#[test]
+fn texts_that_are_no_block_string_have_no_value(rt: HostRuntime) -> Result<(), Fail> {
+    let table = [
+        "",
+        "a",
+        "\"\"",
+        "\"a\"",
+        "\"\"\"",
+        "\"\"\"\"",
+        "\"\"\"\"\"",
+        "\"\"\"a\"\"",
+        "\"\"\"a\\\"\"\"",
+        "\"\"\"a\"\"\"b",
+        "\"\"\"a\"\"\"\"",
+        " \"\"\"a\"\"\"",
+        "\"\"\"a\u{1}\"\"\"",
+    ];
+    for text in table {
+        assert!(rt; block_string_value(rt.alloc(), text)?.is_none(), "{text:?}");
+    }
+    Ok(())
 }

@@ -6,7 +6,7 @@ use Rattle.gq_lex.specs.Tokens.{Lexeme, Reads, IsBadAt}
 use Rattle.gq_lex.proofs.Readings.{one_reading, bad_has_none, limit_has_more}
 use Rattle.gq_tree.specs.Plain.{Def}
 use Rattle.gq_parse.specs.Limits.{IsNestedWithin, IsTooDeepAt, PassesLimitAt}
-use Rattle.gq_parse.specs.Grammar.{IsDocument}
+use Rattle.gq_parse.specs.Documents.{IsDocument}
 use Rattle.gq_parse.specs.Derives.{Derives}
 use Rattle.gq_parse.proofs.Nesting.{nested_front}
 

@@ -1,24 +1,24 @@
 -- The definitions that the descent makes are those that stand there, and where a part of one is missing none stands.
-use Rattle.std.proofs.Common.{◌≡◌, ◌≢◌, ◌<◌, ◌≤◌, ℕ, List, [], length, drop, length-drop, map, refl, ap, sym, subst, ◌∙◌, Option, None, arith, codes, false}
+use Rattle.std.proofs.Common.{◌≡◌, ◌≢◌, ◌<◌, ◌≤◌, ℕ, List, [], length, drop, length-drop, map, refl, ap, sym, subst, ◌∙◌, Option, None, arith, codes, false, inl, inr}
 use Rattle.std.proofs.lemmas.List.{drop_all, length-map}
 use Rattle.gq_text.specs.declared.place.Span.{Span}
 use Rattle.gq_lex.specs.declared.token.Token.{Token}
 use Rattle.gq_lex.specs.Tokens.{lexeme_of}
+use Rattle.gq_lex.specs.declared.token.Kind.TheVariants as kind
 use Rattle.gq_tree.specs.declared.tree.OperationKind.{OperationKind}
 use Rattle.gq_tree.specs.declared.tree.OperationKind.TheVariants.{Query}
 use Rattle.gq_tree.specs.Plain.{NameOf, VariableOf, DirectiveOf, Sels, Def, operation, fragment}
 use Rattle.gq_parse.specs.From.{from}
-use Rattle.gq_parse.specs.Grammar.{Tokens, covered, IsKeyword, IsFragmentName, IsTypeCondition, IsOptionalName, IsVariableDefinitions, IsDirectives, IsSelectionSet, IsOperationType, a_query, a_mutation, a_subscription, IsOperationDefinition, bare, typed, IsFragmentDefinition, fragment_on, IsDefinition, an_operation, a_fragment, IsDocument, at_end, definition}
+use Rattle.gq_parse.specs.Grammar.{Tokens, covered, IsKeyword, IsFragmentName, IsTypeCondition, IsOptionalName, IsVariableDefinitions, IsDirectives, IsSelectionSet, IsOperationType, IsOperationDefinition, bare, typed, IsFragmentDefinition, fragment_on, IsPunctuator, NotNext, braces}
+use Rattle.gq_parse.specs.TypeSystem.{IsTypeSystemDefinition}
+use Rattle.gq_parse.specs.Documents.{IsDefinition, an_operation, a_fragment, a_type_system_definition, IsDocument, at_end, definition}
+use Rattle.gq_parse.specs.Parts.{IsTypeSystem, of_type_system, IsOperationOrTypeSystem}
 use Rattle.gq_parse.specs.Phrases.{Lacks}
-use Rattle.gq_parse.proofs.Unique.{same_spelled, same_fragment_name, same_type_condition, same_optional_name}
+use Rattle.gq_parse.proofs.Unique.{not_next, punctuator_begins, same_spelled, same_fragment_name, same_type_condition, same_optional_name}
 use Rattle.gq_parse.proofs.UniqueValues.{same_variable_definitions, same_directives}
-use Rattle.gq_parse.proofs.UniqueDocuments.{type_or_set, same_operation_type, fragment_or_operation, same_definition, definition_or_end}
+use Rattle.gq_parse.proofs.UniqueOperations.{type_or_set, same_operation_type, fragment_or_operation}
+use Rattle.gq_parse.proofs.UniqueDocuments.{same_definition, definition_or_end, fragment_or_type_system, brace_or_type_system, type_or_type_system}
 use Rattle.gq_parse.proofs.Fronts.{Front, no_more, one_more}
-
-pub no_operation_type : {tokens : Tokens} → Lacks (IsKeyword (codes "query")) tokens → Lacks (IsKeyword (codes "mutation")) tokens → Lacks (IsKeyword (codes "subscription")) tokens → Lacks IsOperationType tokens
-no_operation_type no_query no_mutation no_subscription kind rest (a_query {place = place} k) = no_query place rest k
-no_operation_type no_query no_mutation no_subscription kind rest (a_mutation {place = place} k) = no_mutation place rest k
-no_operation_type no_query no_mutation no_subscription kind rest (a_subscription {place = place} k) = no_subscription place rest k
 
 -- an operation without its type
 pub bare_of : {variables : List (VariableOf Span)} {directives : List (DirectiveOf Span)} {ss : Sels Span} {place : Span} {tokens rest : Tokens} → variables ≡ [] → directives ≡ [] → IsSelectionSet ss tokens rest → place ≡ covered tokens rest →
@@ -103,10 +103,34 @@ no_fragment_set k n t r lacks x rest (fragment_on {ss = z} a2 b2 c2 d2 first2 k2
 pub no_fragment : {first : Span} {tokens a : Tokens} → IsKeyword (codes "fragment") first tokens a → Lacks IsFragmentDefinition tokens → Lacks IsDefinition tokens
 no_fragment k lacks x rest (an_operation o) = fragment_or_operation k refl o
 no_fragment k lacks x rest (a_fragment f) = lacks _ _ f
+no_fragment k lacks x rest (a_type_system_definition t) = fragment_or_type_system k refl t
 
-pub no_operation : {tokens : Tokens} → Lacks (IsKeyword (codes "fragment")) tokens → Lacks IsOperationDefinition tokens → Lacks IsDefinition tokens
-no_operation no_keyword lacks x rest (an_operation o) = lacks _ _ o
-no_operation no_keyword lacks x rest (a_fragment f) = no_fragment_keyword no_keyword x rest f
+pub not_fragment : {tokens : Tokens} → Lacks (IsKeyword (codes "fragment")) tokens → Lacks IsOperationOrTypeSystem tokens → Lacks IsDefinition tokens
+not_fragment no_keyword lacks x rest (an_operation o) = lacks x rest (inl o)
+not_fragment no_keyword lacks x rest (a_fragment f) = no_fragment_keyword no_keyword x rest f
+not_fragment no_keyword lacks x rest (a_type_system_definition t) = lacks x rest (inr (of_type_system t))
+
+pub other_definition : {d : Def Span} {tokens rest : Tokens} → IsOperationOrTypeSystem d tokens rest → IsDefinition d tokens rest
+other_definition (inl o) = an_operation o
+other_definition (inr (of_type_system t)) = a_type_system_definition t
+
+-- an operation, or a definition of the type system
+pub no_operation : {tokens : Tokens} → Lacks IsTypeSystem tokens → Lacks IsOperationDefinition tokens → Lacks IsOperationOrTypeSystem tokens
+no_operation no_type_system lacks x rest (inl o) = lacks x rest o
+no_operation no_type_system lacks x rest (inr t) = no_type_system x rest t
+
+pub no_type_system : {tokens : Tokens} → Lacks IsTypeSystemDefinition tokens → Lacks IsTypeSystem tokens
+no_type_system lacks _ rest (of_type_system {d = d} t) = lacks d rest t
+
+pub brace_no_type_system : {tokens a : Tokens} → IsPunctuator kind.BraceOpen tokens a → Lacks IsTypeSystem tokens
+brace_no_type_system m _ rest (of_type_system t) = brace_or_type_system t (punctuator_begins m)
+
+pub type_no_type_system : {k : OperationKind} {tokens a : Tokens} → IsOperationType k tokens a → Lacks IsTypeSystem tokens
+type_no_type_system o _ rest (of_type_system t) = type_or_type_system o refl t
+
+pub begins_no_operation : {tokens : Tokens} → NotNext kind.BraceOpen tokens → Lacks IsOperationType tokens → Lacks IsOperationDefinition tokens
+begins_no_operation free no_type x rest (bare (braces a m s)) = not_next _ _ free (punctuator_begins m)
+begins_no_operation free no_type x rest (typed {type = k} a b c d o n v r s) = no_type k a o
 
 -- definitions up to the end
 pub definitions_end : {ds : List (Def Span)} {tokens rest : Tokens} → Front IsDefinition ds tokens rest → rest ≡ [] → IsDocument ds tokens

@@ -206,13 +206,3 @@ pub data IsOperationDefinition : Def Span → Tokens → Tokens → Type 0 where
 -- FragmentDefinition : fragment FragmentName TypeCondition Directives? SelectionSet (section 2.8)
 pub data IsFragmentDefinition : Def Span → Tokens → Tokens → Type 0 where
   fragment_on : {name on : NameOf Span} {directives : List (DirectiveOf Span)} {ss : Sels Span} {tokens rest : Tokens} (a b c d : Tokens) (first : Span) → IsKeyword (codes "fragment") first tokens a → IsFragmentName name a b → IsTypeCondition on b c → IsDirectives false directives c d → IsSelectionSet ss d rest → IsFragmentDefinition (fragment name on directives ss (covered d rest) (covered tokens rest)) tokens rest
-
--- Definition : OperationDefinition | FragmentDefinition (section 2.2)
-pub data IsDefinition : Def Span → Tokens → Tokens → Type 0 where
-  an_operation : {d : Def Span} {tokens rest : Tokens} → IsOperationDefinition d tokens rest → IsDefinition d tokens rest
-  a_fragment : {d : Def Span} {tokens rest : Tokens} → IsFragmentDefinition d tokens rest → IsDefinition d tokens rest
-
--- Document : Definition* (section 2.2)
-pub data IsDocument : List (Def Span) → Tokens → Type 0 where
-  at_end : IsDocument [] []
-  definition : {d : Def Span} {ds : List (Def Span)} {tokens : Tokens} (a : Tokens) → IsDefinition d tokens a → IsDocument ds a → IsDocument (d ∷ ds) tokens

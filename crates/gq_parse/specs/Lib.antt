@@ -1,6 +1,14 @@
 pub mod Grammar
+pub mod TypeSystem
+pub mod Documents
 pub mod Limits
 pub mod Derives
+pub mod Prefix
 pub mod Faults
-pub mod From
+pub mod Telling
 pub mod Phrases
+pub mod Parts
+pub mod Locations
+pub mod From
+pub mod Words
+pub mod Expected

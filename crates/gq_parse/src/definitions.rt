@@ -1,17 +1,23 @@
 //! Definitions, by descent. Each function answers the phrase that stands at an index, and the index behind it.
-ghost use Rattle.std.specs.Prelude.{◌≡◌, ◌≢◌, ◌+◌, ◌<◌, ◌≤◌, ◌++◌, ◌∷◌, [], IfOk, IfErr, OnOk, IfSome, IfNone, length, List, map};
+ghost use Rattle.std.specs.Prelude.{◌≡◌, ◌≢◌, true, false, ◌+◌, ◌<◌, ◌≤◌, ◌++◌, ◌∷◌, [], IfOk, IfErr, OnOk, IfSome, IfNone, length, List, map};
 ghost use Rattle.gq_text.specs.declared.place.Span.{Span};
 ghost use Rattle.gq_tree.specs.Plain.{Def};
 ghost use Rattle.gq_tree.specs.Views.{def_view, document_view};
-ghost use Rattle.gq_parse.specs.Grammar.{IsOperationType, IsOperationDefinition, IsFragmentDefinition, IsDefinition, IsDocument};
+ghost use Rattle.gq_parse.specs.Grammar.{IsOperationType, IsOperationDefinition, IsFragmentDefinition};
+ghost use Rattle.gq_parse.specs.Documents.{IsDefinition, IsDocument};
 ghost use Rattle.gq_parse.specs.From.{from};
 ghost use Rattle.gq_parse.specs.Phrases.{Lacks};
+ghost use Rattle.gq_parse.specs.Parts.{IsTypeSystem, IsOperationOrTypeSystem};
 
 use crate::directives::directives;
-use crate::phrases::{Miss, covered, fragment_name, keyword, optional_name, type_condition};
+use crate::phrases::{
+    Miss, covered, fragment_name, keyword, operation_type, optional_name, punctuator,
+    type_condition,
+};
 use crate::selections::selection_set;
+use crate::type_system::type_system_definition;
 use crate::variables::variable_definitions;
-use gq_lex::Token;
+use gq_lex::{Kind, Token};
 use gq_tree::{Definition, Document, Fragment, Operation, OperationKind};
 use std::alloc::Global;
 
@@ -40,7 +46,7 @@ fn put_definition(definitions: &mut Vec<Definition>, one: Definition) -> Result<
     }
 }
 
-// An operation or a fragment.
+// An operation, a fragment, or a definition or extension of the type system.
 fn definition(alloc: Global, tokens: &[Token<'_>], at: usize) -> Result<(Definition, usize), Miss>
     requires { at ≤ length tokens.now }
     ensures found { IfOk result (λ x. IsDefinition (def_view x.0) (from tokens.now at) (from tokens.now x.1)) }
@@ -49,8 +55,47 @@ fn definition(alloc: Global, tokens: &[Token<'_>], at: usize) -> Result<(Definit
 {
     match keyword("fragment", tokens, at) {
         Some(_) => fragment(alloc, tokens, at),
-        None => operation(alloc, tokens, at),
+        None => operation_or_type_system(alloc, tokens, at),
     }
+}
+
+fn operation_or_type_system(
+    alloc: Global,
+    tokens: &[Token<'_>],
+    at: usize,
+) -> Result<(Definition, usize), Miss>
+    requires { at ≤ length tokens.now }
+    ensures found { IfOk result (λ x. IsOperationOrTypeSystem (def_view x.0) (from tokens.now at) (from tokens.now x.1)) }
+    ensures within { IfOk result (λ x. (at < x.1) × (x.1 ≤ length tokens.now)) }
+    ensures none { IfErr result (λ miss. miss ≢ Miss.NoMemory → Lacks IsOperationOrTypeSystem (from tokens.now at)) }
+{
+    if begins_operation(tokens, at) {
+        operation(alloc, tokens, at)
+    } else {
+        type_system(alloc, tokens, at)
+    }
+}
+
+// Whether what an operation begins with stands here, which nothing of the type system does.
+fn begins_operation(tokens: &[Token<'_>], at: usize) -> bool
+    ensures yes { result ≡ true → Lacks IsTypeSystem (from tokens.now at) }
+    ensures no { result ≡ false → Lacks IsOperationDefinition (from tokens.now at) }
+{
+    match punctuator(Kind::BraceOpen, tokens, at) {
+        Some(_) => true,
+        None => operation_type(tokens, at).is_some(),
+    }
+}
+
+// A definition or extension of the type system.
+fn type_system(alloc: Global, tokens: &[Token<'_>], at: usize) -> Result<(Definition, usize), Miss>
+    requires { at ≤ length tokens.now }
+    ensures found { IfOk result (λ x. IsTypeSystem (def_view x.0) (from tokens.now at) (from tokens.now x.1)) }
+    ensures within { IfOk result (λ x. (at < x.1) × (x.1 ≤ length tokens.now)) }
+    ensures none { IfErr result (λ miss. miss ≢ Miss.NoMemory → Lacks IsTypeSystem (from tokens.now at)) }
+{
+    let (definition, end) = type_system_definition(alloc, tokens, at)?;
+    Ok((Definition::TypeSystem(definition), end))
 }
 
 // An operation.
@@ -64,24 +109,6 @@ fn operation(alloc: Global, tokens: &[Token<'_>], at: usize) -> Result<(Definiti
         Some((kind, behind)) => typed_operation(alloc, tokens, at, kind, behind),
         None => bare_operation(alloc, tokens, at),
     }
-}
-
-// The type of an operation.
-fn operation_type(tokens: &[Token<'_>], at: usize) -> Option<(OperationKind, usize)>
-    ensures found { IfSome result (λ x. IsOperationType x.0 (from tokens.now at) (from tokens.now x.1)) }
-    ensures within { IfSome result (λ x. (at < x.1) × (x.1 ≤ length tokens.now)) }
-    ensures none { IfNone result (Lacks IsOperationType (from tokens.now at)) }
-{
-    if let Some((_, end)) = keyword("query", tokens, at) {
-        return Some((OperationKind::Query, end));
-    }
-    if let Some((_, end)) = keyword("mutation", tokens, at) {
-        return Some((OperationKind::Mutation, end));
-    }
-    if let Some((_, end)) = keyword("subscription", tokens, at) {
-        return Some((OperationKind::Subscription, end));
-    }
-    None
 }
 
 // An operation without its type: a selection set, where no such keyword stands.

@@ -3,23 +3,35 @@
 
 mod definitions;
 pub mod depth;
+mod directive_definitions;
 mod directives;
+mod expected;
 pub mod fault;
+mod fields;
+mod first_fault;
 pub mod laws;
+mod moves;
+mod names;
 pub mod parser;
 mod phrases;
+mod schema_definitions;
 mod selections;
+mod type_definitions;
+mod type_system;
 mod types;
 mod values;
 mod variables;
+mod words;
 
 pub use depth::NESTING_MAX;
 pub use fault::Fault;
 pub use gq_project::Doc;
 pub use gq_tree::{
-    Argument, Definition, Directive, Document, Field, Fragment, InlineFragment, Literal, Name,
-    ObjectField, Operation, OperationKind, Selection, SelectionSet, Spread, TypeRef, Value,
-    Variable, VariableDefinition,
+    Argument, Definition, Directive, DirectiveDefinition, DirectiveLocation, Document,
+    EnumValueDefinition, Field, FieldDefinition, FieldsAndInterfaces, Fragment, InlineFragment,
+    InputValueDefinition, Literal, Name, ObjectField, Operation, OperationKind, RootOperationType,
+    SchemaDefinition, Selection, SelectionSet, Spread, TypeBody, TypeDefinition, TypeRef,
+    TypeSystemDefinition, Value, Variable, VariableDefinition,
 };
 pub use parser::parse;
 
@@ -27,3 +39,5 @@ pub use parser::parse;
 mod printed;
 #[cfg(test)]
 mod tests;
+#[cfg(test)]
+mod tests_first_fault;

@@ -5,13 +5,13 @@ ghost use Rattle.gq_text.specs.declared.place.Span.{Span};
 ghost use Rattle.gq_lex.specs.Tokens.{lexeme_of};
 ghost use Rattle.gq_tree.specs.Plain.{NameOf};
 ghost use Rattle.gq_tree.specs.Views.{name_of};
-ghost use Rattle.gq_parse.specs.Grammar.{Tokens, covered, IsPunctuator, IsSpelled, IsName, IsKeyword, IsFragmentName, IsTypeCondition, IsOptionalCondition, IsOptionalName, NotNext};
+ghost use Rattle.gq_parse.specs.Grammar.{Tokens, covered, IsPunctuator, IsSpelled, IsName, IsKeyword, IsFragmentName, IsTypeCondition, IsOptionalCondition, IsOptionalName, IsOperationType, NotNext};
 ghost use Rattle.gq_parse.specs.From.{from};
 ghost use Rattle.gq_parse.specs.Phrases.{Lacks};
 
 use gq_lex::{Kind, Token};
 use gq_text::{OwnedText, Span};
-use gq_tree::{Literal, Name};
+use gq_tree::{Literal, Name, OperationKind};
 use std::alloc::Global;
 
 /// Why a phrase is not given.
@@ -179,6 +179,24 @@ pub(crate) fn optional_condition(
         }
         None => Ok((None, at)),
     }
+}
+
+/// The type of an operation, and the index behind it.
+pub(crate) fn operation_type(tokens: &[Token<'_>], at: usize) -> Option<(OperationKind, usize)>
+    ensures found { IfSome result (λ x. IsOperationType x.0 (from tokens.now at) (from tokens.now x.1)) }
+    ensures within { IfSome result (λ x. (at < x.1) × (x.1 ≤ length tokens.now)) }
+    ensures none { IfNone result (Lacks IsOperationType (from tokens.now at)) }
+{
+    if let Some((_, end)) = keyword("query", tokens, at) {
+        return Some((OperationKind::Query, end));
+    }
+    if let Some((_, end)) = keyword("mutation", tokens, at) {
+        return Some((OperationKind::Mutation, end));
+    }
+    if let Some((_, end)) = keyword("subscription", tokens, at) {
+        return Some((OperationKind::Subscription, end));
+    }
+    None
 }
 
 /// From the start of the token at one index to the end of the last one before the other.

@@ -1,8 +1,9 @@
 //! A document in one line, for tests: each name with where its token begins, and the span of each part that has one.
 
 use crate::{
-    Argument, Definition, Directive, Document, Field, InlineFragment, Literal, Name, OperationKind,
-    Selection, SelectionSet, TypeRef, Value, VariableDefinition,
+    Argument, Definition, Directive, Document, Field, FieldDefinition, InlineFragment,
+    InputValueDefinition, Literal, Name, OperationKind, Selection, SelectionSet, TypeBody, TypeRef,
+    TypeSystemDefinition, Value, VariableDefinition,
 };
 use gq_text::Span;
 use std::alloc::Global;
@@ -223,5 +224,122 @@ fn put_definition(out: &mut String, definition: &Definition) -> Result<(), Fail>
             put_directives(out, &fragment.directives)?;
             put_set(out, &fragment.set)
         }
+        Definition::TypeSystem(definition) => put_type_system(out, definition),
     }
+}
+
+fn put_description(out: &mut String, description: &Option<Literal>) -> Result<(), Fail> {
+    match description {
+        Some(literal) => put_literal(out, " string", literal),
+        None => Ok(()),
+    }
+}
+
+fn put_type_system(out: &mut String, definition: &TypeSystemDefinition) -> Result<(), Fail> {
+    match definition {
+        TypeSystemDefinition::Schema(schema) => {
+            out.push_str(if schema.extends { "extend " } else { "" })?;
+            put_word(out, "schema", schema.span)?;
+            put_description(out, &schema.description)?;
+            put_directives(out, &schema.directives)?;
+            for root in &schema.roots {
+                write!(out, " {}:", kind_word(root.kind))?;
+                put_name(out, &root.name)?;
+            }
+            Ok(())
+        }
+        TypeSystemDefinition::Type(one) => {
+            out.push_str(if one.extends { "extend " } else { "" })?;
+            put_word(out, body_word(&one.body), one.span)?;
+            put_description(out, &one.description)?;
+            put_name(out, &one.name)?;
+            put_directives(out, &one.directives)?;
+            put_body(out, &one.body)
+        }
+        TypeSystemDefinition::Directive(directive) => {
+            put_word(out, "directive", directive.span)?;
+            put_description(out, &directive.description)?;
+            put_name(out, &directive.name)?;
+            put_inputs(out, &directive.arguments)?;
+            out.push_str(if directive.repeatable { " again" } else { "" })?;
+            for location in &directive.locations {
+                write!(out, " | {:?}", *location)?;
+            }
+            Ok(())
+        }
+    }
+}
+
+fn body_word(body: &TypeBody) -> &'static str {
+    match body {
+        TypeBody::Scalar => "scalar",
+        TypeBody::Object(_) => "type",
+        TypeBody::Interface(_) => "interface",
+        TypeBody::Union(_) => "union",
+        TypeBody::Enum(_) => "enum",
+        TypeBody::InputObject(_) => "input",
+    }
+}
+
+fn put_body(out: &mut String, body: &TypeBody) -> Result<(), Fail> {
+    match body {
+        TypeBody::Scalar => Ok(()),
+        TypeBody::Object(parts) | TypeBody::Interface(parts) => {
+            put_names(out, " & ", &parts.interfaces)?;
+            put_fields(out, &parts.fields)
+        }
+        TypeBody::Union(members) => put_names(out, " | ", members),
+        TypeBody::Enum(values) => {
+            for value in values {
+                out.push_str(" ")?;
+                put_name(out, &value.name)?;
+                put_description(out, &value.description)?;
+                put_directives(out, &value.directives)?;
+            }
+            Ok(())
+        }
+        TypeBody::InputObject(fields) => put_inputs(out, fields),
+    }
+}
+
+fn put_names(out: &mut String, between: &str, names: &[Name]) -> Result<(), Fail> {
+    for name in names {
+        out.push_str(between)?;
+        put_name(out, name)?;
+    }
+    Ok(())
+}
+
+fn put_fields(out: &mut String, fields: &[FieldDefinition]) -> Result<(), Fail> {
+    for field in fields {
+        out.push_str(" ")?;
+        put_name(out, &field.name)?;
+        put_description(out, &field.description)?;
+        put_inputs(out, &field.arguments)?;
+        out.push_str(":")?;
+        put_type(out, &field.type_ref)?;
+        put_directives(out, &field.directives)?;
+    }
+    Ok(())
+}
+
+fn put_inputs(out: &mut String, inputs: &[InputValueDefinition]) -> Result<(), Fail> {
+    if inputs.is_empty() {
+        return Ok(());
+    }
+    out.push_str("(")?;
+    for input in inputs {
+        out.push_str(" ")?;
+        put_name(out, &input.name)?;
+        put_description(out, &input.description)?;
+        out.push_str(":")?;
+        put_type(out, &input.type_ref)?;
+        if let Some(default) = &input.default {
+            out.push_str("=")?;
+            put_value(out, default)?;
+        }
+        put_directives(out, &input.directives)?;
+    }
+    out.push_str(" )")?;
+    Ok(())
 }

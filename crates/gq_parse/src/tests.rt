@@ -175,6 +175,36 @@ fn variables_have_trees(rt: HostRuntime) -> Result<(), Fail> {
 }
 
 #[test]
+fn of_a_wrong_token_and_a_level_too_deep_the_first_is_told(rt: HostRuntime) -> Result<(), Fail> {
+    let alloc = rt.alloc();
+    let mut text = String::new(alloc);
+    for _ in 0..100 {
+        text.push_str("{a")?;
+    }
+    // 100 levels, and a wrong token before level 101 opens
+    text.push_str(":]{b")?;
+    let wrong = parse(alloc, text.as_str()).err();
+    assert_eq!(rt; wrong, Some(Fault::Syntax { place: 201 }));
+    // level 101 opens, and a wrong token follows
+    let mut text = String::new(alloc);
+    for _ in 0..101 {
+        text.push_str("{a")?;
+    }
+    text.push_str(":]")?;
+    let deep = parse(alloc, text.as_str()).err();
+    assert_eq!(rt; deep, Some(Fault::Limit { place: 200 }));
+    // the token that opens level 101 is the wrong one
+    let mut text = String::new(alloc);
+    for _ in 0..100 {
+        text.push_str("{a")?;
+    }
+    text.push_str(":{")?;
+    let both = parse(alloc, text.as_str()).err();
+    assert_eq!(rt; both, Some(Fault::Syntax { place: 201 }));
+    Ok(())
+}
+
+#[test]
 fn what_is_no_document_has_none(rt: HostRuntime) {
     let table = [
         ("{", 1),
@@ -298,4 +328,90 @@ fn too_many_tokens_are_told_before_an_earlier_fault(rt: HostRuntime) -> Result<(
     let limit = Fault::Limit { place: 1 << 20 };
     assert!(rt; parse(alloc, text.as_str()).is_err_and(|fault| fault == limit));
     Ok(())
+}
+
+#[test]
+fn the_type_system_has_trees(rt: HostRuntime) -> Result<(), Fail> {
+    let table = [
+        ("schema{query:Q}", "schema[0,15] query:Q@13;"),
+        ("extend schema@d", "extend schema[0,15] @d@14[13,15];"),
+        ("scalar S", "scalar[0,8]S@7;"),
+        ("extend scalar S@d", "extend scalar[0,17]S@14 @d@16[15,17];"),
+        ("type T", "type[0,6]T@5;"),
+        (
+            "type T implements&A&B{a(b:C=D@e):[F]!@g}",
+            "type[0,40]T@5 & A@18 & B@20 a@22( b@24:C@26=enum D@28 @e@30[29,31] ):[F@34]! @g@38[37,39];",
+        ),
+        ("interface I@d", "interface[0,13]I@10 @d@12[11,13];"),
+        ("union U=|A|B", "union[0,12]U@6 | A@9 | B@11;"),
+        ("extend union U=A", "extend union[0,16]U@13 | A@15;"),
+        ("enum E{A on@d}", "enum[0,14]E@5 A@7 on@9 @d@12[11,13];"),
+        ("input I{a:B=c}", "input[0,14]I@6( a@8:B@10=enum c@12 );"),
+        (
+            "directive@a repeatable on|FIELD|ENUM_VALUE",
+            "directive[0,42]a@10 again | Field | EnumValue;",
+        ),
+        (
+            "directive@a(b:C)on QUERY",
+            "directive[0,24]a@10( b@12:C@14 ) | Query;",
+        ),
+        (
+            "scalar S{a}",
+            "scalar[0,8]S@7;query[8,11][8,11]{ a@9[9,10] };",
+        ),
+        ("union U{a}", "union[0,7]U@6;query[7,10][7,10]{ a@8[8,9] };"),
+    ];
+    assert_trees(rt.alloc(), &rt, &table)
+}
+
+#[test]
+fn descriptions_are_in_trees(rt: HostRuntime) -> Result<(), Fail> {
+    let table = [
+        ("\"d\" scalar S", "scalar[0,12] string \"d\"[0,3]S@11;"),
+        (
+            "\"\"\"d\"\"\"type T{\"e\"a:B}",
+            "type[0,21] string \"\"\"d\"\"\"[0,7]T@12 a@17 string \"e\"[14,17]:B@19;",
+        ),
+    ];
+    assert_trees(rt.alloc(), &rt, &table)
+}
+
+#[test]
+fn what_defines_nothing_of_the_type_system_has_none(rt: HostRuntime) {
+    let table = [
+        ("extend schema @d{x}", 17),
+        ("extend", 6),
+        ("extend query{a}", 7),
+        ("extend schema", 13),
+        ("extend scalar S", 15),
+        ("extend type T", 13),
+        ("schema", 6),
+        ("schema@d", 8),
+        ("schema{}", 7),
+        ("schema{query}", 12),
+        ("type T{}", 7),
+        ("type T implements{a:B}", 17),
+        ("type T{a(){}", 9),
+        ("union U=", 8),
+        ("union U=|", 9),
+        ("enum E{true}", 7),
+        ("input I{a}", 9),
+        ("directive@a", 11),
+        ("directive@a on", 14),
+        ("directive@a on FOO", 15),
+        ("directive a on FIELD", 10),
+        ("interface", 9),
+    ];
+    assert_faults(rt.alloc(), &rt, &table);
+}
+
+#[test]
+fn what_is_described_is_of_the_type_system(rt: HostRuntime) {
+    let table = [
+        ("\"d\"{x}", 3),
+        ("\"d\" query{x}", 4),
+        ("\"d\" extend type T@d", 4),
+        ("\"d\"", 3),
+    ];
+    assert_faults(rt.alloc(), &rt, &table);
 }

@@ -101,8 +101,8 @@ fn variable_definition(
     Ok((one, end))
 }
 
-// A default value, which holds no variable, or none where no equals sign stands.
-fn default_value(
+/// A default value, which holds no variable, or none where no equals sign stands.
+pub(crate) fn default_value(
     alloc: Global,
     tokens: &[Token<'_>],
     at: usize,

@@ -1,5 +1,7 @@
 pub mod Retelling
 pub mod Regrammar
+pub mod TypeSystemAgain
+pub mod DocumentAgain
 pub mod Renaming
 pub mod Spellings
 pub mod Answering

@@ -16,7 +16,7 @@ use Rattle.gq_lex.specs.declared.token.Kind.TheVariants as kind
 use Rattle.gq_tree.specs.Forest.{none, more, labels, relabel}
 use Rattle.gq_tree.specs.Plain.{NameOf, Says, Part, Val, Vals, variable, int, float, string, boolean, null, enum, list, object, under, unnamed, DirectiveOf, TypeOf, named, list_of, non_null, VariableOf, Head, Sels, Def, field, spread, inline, operation, fragment, place_name, place_says, place_part, place_value, place_directive, place_type, place_variable, place_head, place_def, no_place, erase_all, erase_document}
 use Rattle.gq_tree.specs.Names.{spread_name, spread_names, names_in, fragment_names}
-use Rattle.gq_parse.specs.Grammar.{Tokens, IsSpelled, IsName, IsPunctuator, IsKeyword, IsFragmentName, IsTypeCondition, IsOptionalCondition, no_condition, a_condition, NotNext, covered, Closed, closed, another, Enclosed, absent, enclosed, IsValueWord, IsValue, a_variable, an_int, a_float, a_string, a_block_string, is_true, is_false, is_null, an_enum, a_list, an_object, IsValues, list_closed, an_item, IsObjectFields, object_closed, an_object_field, IsArgument, an_argument, IsArguments, IsDirectives, no_directive, a_directive, IsType, nullable, without_null, IsNullableType, named_type, list_type, IsDefaultValue, no_default, a_default, IsVariableDefinition, a_variable_definition, IsVariableDefinitions, IsFieldName, no_alias, alias, IsSelection, a_field, a_spread, an_inline, IsOptionalSet, no_set, a_set, IsSelectionSet, braces, IsSelections, set_closed, selection, IsOptionalName, no_name, a_name, IsOperationType, a_query, a_mutation, a_subscription, IsOperationDefinition, bare, typed, IsFragmentDefinition, fragment_on, IsDefinition, an_operation, a_fragment, IsDocument, at_end, definition}
+use Rattle.gq_parse.specs.Grammar.{Tokens, IsSpelled, IsName, IsPunctuator, IsKeyword, IsFragmentName, IsTypeCondition, IsOptionalCondition, no_condition, a_condition, NotNext, covered, Closed, closed, another, Enclosed, absent, enclosed, IsValueWord, IsValue, a_variable, an_int, a_float, a_string, a_block_string, is_true, is_false, is_null, an_enum, a_list, an_object, IsValues, list_closed, an_item, IsObjectFields, object_closed, an_object_field, IsArgument, an_argument, IsArguments, IsDirectives, no_directive, a_directive, IsType, nullable, without_null, IsNullableType, named_type, list_type, IsDefaultValue, no_default, a_default, IsVariableDefinition, a_variable_definition, IsVariableDefinitions, IsFieldName, no_alias, alias, IsSelection, a_field, a_spread, an_inline, IsOptionalSet, no_set, a_set, IsSelectionSet, braces, IsSelections, set_closed, selection, IsOptionalName, no_name, a_name, IsOperationType, a_query, a_mutation, a_subscription, IsOperationDefinition, bare, typed, IsFragmentDefinition, fragment_on}
 use Rattle.gq_rename.specs.Renamed.{rename_head, rename_def, rename_document}
 use Rattle.gq_rename.proofs.Retelling.{Marked, tokens_of, Retold, MarksNames, text_by}
 
@@ -56,20 +56,20 @@ pub record CutRetold (new : List ℕ) (f g : List Marked) (us : Tokens) : Type 0
   pub retold : Retold new f first
   pub rest : Retold new g second
 
-cut_retold : (new : List ℕ) (f g : List Marked) (us : Tokens) → Retold new (f ++ g) us → CutRetold new f g us
+pub cut_retold : (new : List ℕ) (f g : List Marked) (us : Tokens) → Retold new (f ++ g) us → CutRetold new f g us
 cut_retold new [] g us h = record { first = []; second = us; whole = refl; retold = tt; rest = h }
 cut_retold new (m ∷ f) g [] h = absurd h
 cut_retold new (m ∷ f) g (u ∷ us) h =
     let c = cut_retold new f g us h.2 in
     record { first = u ∷ c.first; second = c.second; whole = ap (λ (l : Tokens). u ∷ l) c.whole; retold = (h.0, h.1, c.retold); rest = c.rest }
 
-next_kept : (new : List ℕ) (f : List Marked) (us rest after : Tokens) → Retold new f us → SameNext rest after → SameNext (tokens_of f ++ rest) (us ++ after)
+pub next_kept : (new : List ℕ) (f : List Marked) (us rest after : Tokens) → Retold new f us → SameNext rest after → SameNext (tokens_of f ++ rest) (us ++ after)
 next_kept new [] [] rest after h s = s
 next_kept new [] (u ∷ us) rest after h s = absurd h
 next_kept new (m ∷ f) [] rest after h s = absurd h
 next_kept new (m ∷ f) (u ∷ us) rest after h s = h.0
 
-marked_append : (f g : List Marked) → marked_names (f ++ g) ≡ marked_names f ++ marked_names g
+pub marked_append : (f g : List Marked) → marked_names (f ++ g) ≡ marked_names f ++ marked_names g
 marked_append [] g = refl
 marked_append (m ∷ f) g = by_mark m.marked (name_in m.token) (marked_names f) (marked_names g) (marked_names (f ++ g)) (marked_append f g)
   where
@@ -77,7 +77,7 @@ marked_append (m ∷ f) g = by_mark m.marked (name_in m.token) (marked_names f) 
     by_mark true n x y z e = ap (λ (l : List (NameOf Span)). n ∷ l) e
     by_mark false n x y z e = e
 
-marks_append : (f g : List Marked) → MarksNames f → MarksNames g → MarksNames (f ++ g)
+pub marks_append : (f g : List Marked) → MarksNames f → MarksNames g → MarksNames (f ++ g)
 marks_append [] g h k = k
 marks_append (m ∷ f) g h k = (h.0, marks_append f g h.1 k)
 
@@ -115,7 +115,7 @@ peek_kept k [] (u ∷ us) s h = absurd s
 peek_kept k (t ∷ ts) [] s h = absurd s
 peek_kept k (t ∷ ts) (u ∷ us) s h = λ e. h (sym s ∙ e)
 
-none_retold : (new : List ℕ) (us after : Tokens) → Retold new [] us → us ++ after ≡ after
+pub none_retold : (new : List ℕ) (us after : Tokens) → Retold new [] us → us ++ after ≡ after
 none_retold new [] after h = refl
 none_retold new (u ∷ us) after h = absurd h
 
@@ -186,8 +186,7 @@ renamed_again {old} {new} {n} h =
       named = ap (λ (x : NameOf Span). if bytes_eq n.text old then x ∷ [] else []) is;
       marks = (λ e. h.kind, tt);
       again = λ us after r s.
-          let o = one_retold new m us r in
-          (
+          let o = one_retold new m us r in (
             o.token.span,
             record {
               token = o.token;
@@ -249,11 +248,11 @@ abbrev pub AllKept : {A B : Type 0} → List ℕ → List ℕ → (A → Tokens 
 AllKept {A} old new X f = (x : A) (tokens rest : Tokens) → X x tokens rest → Again old new [] (Like X f x) tokens rest
 
 -- a Name
-named_again : {old new : List ℕ} {n : NameOf Span} {tokens rest : Tokens} → IsName n tokens rest → Again old new [] (Like IsName plain_name n) tokens rest
+pub named_again : {old new : List ℕ} {n : NameOf Span} {tokens rest : Tokens} → IsName n tokens rest → Again old new [] (Like IsName plain_name n) tokens rest
 named_again {n = n} h = changed (λ x y q. (record { text = n.text; place = q.0 }, q.1, refl)) (kept_again h)
 
 -- nothing, where a part is optional
-skipped : {old new : List ℕ} {A B : Type 0} {X : A → Tokens → Tokens → Type 0} {f : A → B} {k : Kind} {tokens : Tokens} (x : A) → ((u : Tokens) → NotNext k u → X x u u) → NotNext k tokens → Again old new [] (Like X f x) tokens tokens
+pub skipped : {old new : List ℕ} {A B : Type 0} {X : A → Tokens → Tokens → Type 0} {f : A → B} {k : Kind} {tokens : Tokens} (x : A) → ((u : Tokens) → NotNext k u → X x u u) → NotNext k tokens → Again old new [] (Like X f x) tokens tokens
 skipped {X = X} {f} x one free = changed (λ u v q. let P : Tokens → Type 0 = λ l. X x u l in (x, subst P q.0 (one u q.1), refl)) (peeked free)
 
 -- phrases and the punctuator that closes them
@@ -266,7 +265,7 @@ enclose : {A B : Type 0} {X : A → Tokens → Tokens → Type 0} {f : A → B} 
 enclose x xs [] m c e = absurd (cc)
 enclose {v = v} x xs (y ∷ ys) m c e = (y ∷ ys, enclosed v m c, e)
 
-enclosed_again : {old new : List ℕ} {A B : Type 0} {X : A → Tokens → Tokens → Type 0} {f : A → B} {k j : Kind} {xs : List A} {tokens rest : Tokens} → AllKept old new X f → Enclosed X k j xs tokens rest → Again old new [] (Like (Enclosed X k j) (map f) xs) tokens rest
+pub enclosed_again : {old new : List ℕ} {A B : Type 0} {X : A → Tokens → Tokens → Type 0} {f : A → B} {k j : Kind} {xs : List A} {tokens rest : Tokens} → AllKept old new X f → Enclosed X k j xs tokens rest → Again old new [] (Like (Enclosed X k j) (map f) xs) tokens rest
 enclosed_again {X = X} {f} {k} {j} each (absent free) = skipped {X = Enclosed X k j} {f = map f} [] (λ u h. absent h) free
 enclosed_again {X = X} {f} {k} {j} each (enclosed {x = x} {xs = xs} a m c) =
     changed (λ u v q. enclose x xs q.2.0 q.1 q.2.1 q.2.2) (joined (marked_again m) (closed_again {f = f} each c))
@@ -326,7 +325,7 @@ arguments_again : {old new : List ℕ} {constant : Bool} {vs : List (Val Span)} 
 arguments_again h = enclosed_again (λ x t r one. argument_again one) h
 
 -- directives
-directives_again : {old new : List ℕ} {constant : Bool} {ds : List (DirectiveOf Span)} {tokens rest : Tokens} → IsDirectives constant ds tokens rest → Again old new [] (Like (IsDirectives constant) (map plain_directive) ds) tokens rest
+pub directives_again : {old new : List ℕ} {constant : Bool} {ds : List (DirectiveOf Span)} {tokens rest : Tokens} → IsDirectives constant ds tokens rest → Again old new [] (Like (IsDirectives constant) (map plain_directive) ds) tokens rest
 directives_again {constant = constant} (no_directive free) = skipped {X = IsDirectives constant} {f = map plain_directive} [] (λ u h. no_directive h) free
 directives_again (a_directive {name = name} {arguments = vs} {ds = ds} a b c m n args others) =
     changed (λ x y q.
@@ -340,7 +339,7 @@ directives_again (a_directive {name = name} {arguments = vs} {ds = ds} a b c m n
 
 -- types
 mutual
-  type_again : {old new : List ℕ} {t : TypeOf Span} {tokens rest : Tokens} → IsType t tokens rest → Again old new [] (Like IsType plain_type t) tokens rest
+  pub type_again : {old new : List ℕ} {t : TypeOf Span} {tokens rest : Tokens} → IsType t tokens rest → Again old new [] (Like IsType plain_type t) tokens rest
   type_again (nullable t free) =
       changed (λ x y q.
       let P : Tokens → Type 0 = λ l. IsNullableType q.1.0 x l in
@@ -354,7 +353,7 @@ mutual
       changed (λ x y q. (list_of q.2.1.0, list_type q.0 q.2.0 q.1 q.2.1.1 q.2.2, let e = q.2.1.2 in cc)) (joined (marked_again m) (joined (type_again t) (marked_again l)))
 
 -- a default value
-default_again : {old new : List ℕ} {o : Option (Val Span)} {tokens rest : Tokens} → IsDefaultValue o tokens rest → Again old new [] (Like IsDefaultValue (option_map plain_value) o) tokens rest
+pub default_again : {old new : List ℕ} {o : Option (Val Span)} {tokens rest : Tokens} → IsDefaultValue o tokens rest → Again old new [] (Like IsDefaultValue (option_map plain_value) o) tokens rest
 default_again (no_default free) = skipped {X = IsDefaultValue} {f = option_map plain_value} None (λ u h. no_default h) free
 default_again (a_default {says = says} {below = below} a m v) =
     changed (λ x y q. (Some (unnamed q.2.0 q.2.1), a_default q.0 q.1 q.2.2, let s = q.2.3 in let b = q.2.4 in cc)) (joined (marked_again m) (value_again v))
@@ -373,7 +372,7 @@ variable_again (a_variable_definition {name = name} {t = t} {default = default} 
     ))
     (joined (marked_again m) (joined (kept_again n) (joined (marked_again k) (joined (type_again type) (joined (default_again value) (directives_again others))))))
 
-variables_again : {old new : List ℕ} {vs : List (VariableOf Span)} {tokens rest : Tokens} → IsVariableDefinitions vs tokens rest → Again old new [] (Like IsVariableDefinitions (map plain_variable) vs) tokens rest
+pub variables_again : {old new : List ℕ} {vs : List (VariableOf Span)} {tokens rest : Tokens} → IsVariableDefinitions vs tokens rest → Again old new [] (Like IsVariableDefinitions (map plain_variable) vs) tokens rest
 variables_again h = enclosed_again (λ x t r one. variable_again one) h
 
 -- the names of a field
@@ -408,12 +407,12 @@ chosen_not_on : (b : Bool) (new text : List ℕ) → (new ≡ codes "on" → ⊥
 chosen_not_on true new text h k = h
 chosen_not_on false new text h k = k
 
-fragment_name_again : {old new : List ℕ} {name : NameOf Span} {tokens rest : Tokens} → (new ≡ codes "on" → ⊥) → IsFragmentName name tokens rest → Again old new (name ∷ []) (FragmentNameLike old new name) tokens rest
+pub fragment_name_again : {old new : List ℕ} {name : NameOf Span} {tokens rest : Tokens} → (new ≡ codes "on" → ⊥) → IsFragmentName name tokens rest → Again old new (name ∷ []) (FragmentNameLike old new name) tokens rest
 fragment_name_again {old} {new} {name} free h =
     changed (λ x y q. (q.0, record { is_name = q.1; not_on = chosen_not_on (bytes_eq name.text old) new name.text free h.not_on })) (renamed_again h.is_name)
 
 -- a type condition
-condition_again : {old new : List ℕ} {on : NameOf Span} {tokens rest : Tokens} → IsTypeCondition on tokens rest → Again old new [] (Like IsTypeCondition plain_name on) tokens rest
+pub condition_again : {old new : List ℕ} {on : NameOf Span} {tokens rest : Tokens} → IsTypeCondition on tokens rest → Again old new [] (Like IsTypeCondition plain_name on) tokens rest
 condition_again {on = on} h =
     changed (λ x y q. (record { text = on.text; place = q.2.0 }, record { keyword = q.1.0; behind = q.0; begins = q.1.1; names = q.2.1 }, refl))
     (joined (kept_again h.begins) (kept_again h.names))
@@ -422,7 +421,7 @@ optional_condition_again : {old new : List ℕ} {o : Option (NameOf Span)} {toke
 optional_condition_again (no_condition free) = skipped {X = IsOptionalCondition} {f = option_map plain_name} None (λ u h. no_condition h) free
 optional_condition_again (a_condition h) = changed (λ x y q. (Some q.0, a_condition q.1, let e = q.2 in cc)) (condition_again h)
 
-optional_name_again : {old new : List ℕ} {o : Option (NameOf Span)} {tokens rest : Tokens} → IsOptionalName o tokens rest → Again old new [] (Like IsOptionalName (option_map plain_name) o) tokens rest
+pub optional_name_again : {old new : List ℕ} {o : Option (NameOf Span)} {tokens rest : Tokens} → IsOptionalName o tokens rest → Again old new [] (Like IsOptionalName (option_map plain_name) o) tokens rest
 optional_name_again (no_name free) = skipped {X = IsOptionalName} {f = option_map plain_name} None (λ u h. no_name h) free
 optional_name_again (a_name {name = name} n) = changed (λ x y q. (Some (record { text = name.text; place = q.0 }), a_name q.1, refl)) (kept_again n)
 
@@ -485,7 +484,7 @@ mutual
   optional_again {old} {new} free (no_set f) = changed (λ x y q. let P : Tokens → Type 0 = λ l. IsOptionalSet None none x l in (None, none, subst P q.0 (no_set q.1), refl, refl)) (peeked f)
   optional_again {old} {new} free (a_set set) = changed (λ x y q. (Some (covered x y), q.0, a_set q.1, refl, q.2)) (set_again free set)
 
-  set_again : {old new : List ℕ} {ss : Sels Span} {tokens rest : Tokens} → (new ≡ codes "on" → ⊥) → IsSelectionSet ss tokens rest → Again old new (spread_names ss) (SetLike old new ss) tokens rest
+  pub set_again : {old new : List ℕ} {ss : Sels Span} {tokens rest : Tokens} → (new ≡ codes "on" → ⊥) → IsSelectionSet ss tokens rest → Again old new (spread_names ss) (SetLike old new ss) tokens rest
   set_again {old} {new} free (braces {h = h} {below = below} {ss = ss} a m body) =
       changed (λ x y q. brace old new h below ss q.2.0 q.1 q.2.1 q.2.2) (joined (marked_again m) (selections_again free body))
 
@@ -501,58 +500,38 @@ mutual
       (joined (selection_again free sel) (selections_again free body)))
 
 -- the word of an operation
-operation_type_again : {old new : List ℕ} {k : OperationKind} {tokens rest : Tokens} → IsOperationType k tokens rest → Again old new [] (IsOperationType k) tokens rest
+pub operation_type_again : {old new : List ℕ} {k : OperationKind} {tokens rest : Tokens} → IsOperationType k tokens rest → Again old new [] (IsOperationType k) tokens rest
 operation_type_again (a_query h) = changed (λ x y q. a_query q.1) (kept_again h)
 operation_type_again (a_mutation h) = changed (λ x y q. a_mutation q.1) (kept_again h)
 operation_type_again (a_subscription h) = changed (λ x y q. a_subscription q.1) (kept_again h)
 
--- a definition like this one
-abbrev pub DefLike : List ℕ → List ℕ → Def Span → Tokens → Tokens → Type 0
-DefLike old new d x y = (d' : Def Span) × IsDefinition d' x y × (plain_def d' ≡ rename_def old new (plain_def d))
+-- the first token is there, and not marked
+abbrev pub BeginsUnmarked : List Marked → Type 0
+BeginsUnmarked [] = ⊥
+BeginsUnmarked (m ∷ ms) = m.marked ≡ false
 
-operation_again : {old new : List ℕ} {d : Def Span} {tokens rest : Tokens} → (new ≡ codes "on" → ⊥) → IsOperationDefinition d tokens rest → Again old new (names_in d) (DefLike old new d) tokens rest
-operation_again free (bare set) =
-    changed (λ x y q. (operation Query None [] [] q.0 (covered x y) (covered x y), an_operation (bare q.1), let e = q.2 in cc)) (set_again free set)
-operation_again {old} {new} free (typed {type = type} {name = name} {variables = vs} {directives = ds} {ss = ss} a b c d word n vars dirs set) =
-    changed (λ x y q.
-    let q1 = q.2 in
-    let q2 = q1.2 in
-    let q3 = q2.2 in
-    let s = q3.2 in (
-      operation type q1.1.0 q2.1.0 q3.1.0 s.0 (covered q3.0 y) (covered x y),
-      an_operation (typed q.0 q1.0 q2.0 q3.0 q.1 q1.1.1 q2.1.1 q3.1.1 s.1),
-      let e1 = q1.1.2 in let e2 = q2.1.2 in let e3 = q3.1.2 in let e4 = s.2 in cc,
-    ))
-    (joined (operation_type_again word) (joined (optional_name_again n) (joined (variables_again vars) (joined (directives_again dirs) (set_again free set)))))
+pub changed_begins : {old new : List ℕ} {n : List (NameOf Span)} {Q R : Tokens → Tokens → Type 0} {tokens rest : Tokens} (f : (x y : Tokens) → Q x y → R x y) (w : Again old new n Q tokens rest) → BeginsUnmarked w.front → BeginsUnmarked (changed {R = R} f w).front
+unfolding changed
+changed_begins f w h = h
 
-fragment_again : {old new : List ℕ} {d : Def Span} {tokens rest : Tokens} → (new ≡ codes "on" → ⊥) → IsFragmentDefinition d tokens rest → Again old new (names_in d) (DefLike old new d) tokens rest
-fragment_again {old} {new} free (fragment_on {name = name} {on = on} {directives = ds} {ss = ss} a b c d first word n cond dirs set) =
-    changed (λ x y q.
-    let q1 = q.2 in
-    let q2 = q1.2 in
-    let q3 = q2.2 in
-    let s = q3.2 in (
-      fragment (record { text = renamed old new name; place = q1.1.0 }) q2.1.0 q3.1.0 s.0 (covered q3.0 y) (covered x y),
-      a_fragment (fragment_on q.0 q1.0 q2.0 q3.0 q.1.0 q.1.1 q1.1.1 q2.1.1 q3.1.1 s.1),
-      let e1 = q2.1.2 in let e2 = q3.1.2 in let e3 = s.2 in cc,
-    ))
-    (joined (kept_again word) (joined (fragment_name_again free n) (joined (condition_again cond) (joined (directives_again dirs) (set_again free set)))))
+pub joined_begins : {old new : List ℕ} {m n : List (NameOf Span)} {Q R : Tokens → Tokens → Type 0} {tokens a rest : Tokens} (v : Again old new m Q tokens a) (w : Again old new n R a rest) → BeginsUnmarked v.front → BeginsUnmarked (joined v w).front
+unfolding joined
+joined_begins v w h = first v.front w.front h
+  where
+    first : (f g : List Marked) → BeginsUnmarked f → BeginsUnmarked (f ++ g)
+    first [] g h = absurd h
+    first (m ∷ f) g h = h
 
-definition_again : {old new : List ℕ} {d : Def Span} {tokens rest : Tokens} → (new ≡ codes "on" → ⊥) → IsDefinition d tokens rest → Again old new (names_in d) (DefLike old new d) tokens rest
-definition_again free (an_operation h) = operation_again free h
-definition_again free (a_fragment h) = fragment_again free h
+pub kept_begins : {k : Kind} {text : List ℕ} {p : Span} {tokens rest : Tokens} (old new : List ℕ) (h : IsSpelled k text p tokens rest) → BeginsUnmarked (kept_again {old = old} {new = new} h).front
+unfolding kept_again
+kept_begins old new h = refl
 
--- a document like this one
-abbrev pub DocumentLike : List ℕ → List ℕ → List (Def Span) → Tokens → Tokens → Type 0
-DocumentLike old new ds x y = y ≡ [] → (ds' : List (Def Span)) × IsDocument ds' x × (erase_document ds' ≡ rename_document old new (erase_document ds))
+pub operation_type_begins : {k : OperationKind} {tokens rest : Tokens} (old new : List ℕ) (h : IsOperationType k tokens rest) → BeginsUnmarked (operation_type_again {old = old} {new = new} h).front
+unfolding operation_type_again changed kept_again
+operation_type_begins old new (a_query h) = refl
+operation_type_begins old new (a_mutation h) = refl
+operation_type_begins old new (a_subscription h) = refl
 
-pub document_again : {old new : List ℕ} {ds : List (Def Span)} {tokens : Tokens} → (new ≡ codes "on" → ⊥) → IsDocument ds tokens → Again old new (fragment_names ds) (DocumentLike old new ds) tokens []
-document_again free at_end = changed (λ x y q e. let P : Tokens → Type 0 = λ l. IsDocument [] l in ([], subst P (sym (q ∙ e)) at_end, refl)) nothing
-document_again {old} {new} free (definition {d = d} {ds = ds} a one others) =
-    changed (λ x y q e.
-    let t = q.2 e in (
-      q.1.0 ∷ t.0,
-      definition q.0 q.1.1 t.1,
-      let e1 = q.1.2 in let e2 = t.2 in cc,
-    ))
-    (joined (definition_again free one) (document_again free others))
+pub set_begins : {ss : Sels Span} {tokens rest : Tokens} (old new : List ℕ) (free : new ≡ codes "on" → ⊥) (h : IsSelectionSet ss tokens rest) → BeginsUnmarked (set_again {old = old} {new = new} free h).front
+unfolding set_again changed joined marked_again
+set_begins old new free (braces a m body) = refl

@@ -14,9 +14,10 @@ use Rattle.gq_text.specs.Replaced.{replaced}
 use Rattle.gq_lex.specs.declared.token.Kind.{Kind}
 use Rattle.gq_lex.specs.Tokens.{Lexeme, Reads}
 use Rattle.gq_tree.specs.Forest.{none, more, relabel}
-use Rattle.gq_tree.specs.Plain.{NameOf, Head, Sels, Def, field, spread, inline, operation, fragment, place_name, place_head, place_def, no_place, erase_all, erase_document}
+use Rattle.gq_tree.specs.Plain.{NameOf, Head, Sels, Def, field, spread, inline, operation, fragment, type_system, place_name, place_head, place_def, no_place, erase_all, erase_document}
 use Rattle.gq_tree.specs.Names.{spread_name, spread_names, names_in, fragment_names}
-use Rattle.gq_parse.specs.Grammar.{Tokens, IsDocument}
+use Rattle.gq_parse.specs.Grammar.{Tokens}
+use Rattle.gq_parse.specs.Documents.{IsDocument}
 use Rattle.gq_parse.specs.Limits.{opens, closes, opened, closed, IsNestedWithin}
 use Rattle.gq_parse.specs.Derives.{Derives}
 use Rattle.gq_rename.specs.Renamed.{rename_name, rename_head, rename_def, rename_document}
@@ -28,7 +29,8 @@ use Rattle.gq_parse.proofs.UniqueDocuments.{same_document}
 use Rattle.gq_edit.specs.Replacements.{AreDisjoint, FitText}
 use Rattle.gq_rename.specs.Rename.{rename_replacements}
 use Rattle.gq_rename.proofs.Retelling.{edits_in_order, edits_fit, Marked, tokens_of, Retold, edits, on_mark, IsNameText, replaced_reads}
-use Rattle.gq_rename.proofs.Regrammar.{spread_names_more, marked_names, name_in, is_old, document_again}
+use Rattle.gq_rename.proofs.Regrammar.{spread_names_more, marked_names, name_in, is_old}
+use Rattle.gq_rename.proofs.DocumentAgain.{document_again}
 
 kind_of : Lexeme → Kind
 kind_of t = t.kind
@@ -100,6 +102,7 @@ spreads_apart old new (more h b r) apart =
 def_apart : (old new : List ℕ) (d : Def (Unit {0})) → new ≢ old → All (IsApart old) (names_in (rename_def old new d))
 def_apart old new (operation kind name variables directives set braces place) apart = spreads_apart old new set apart
 def_apart old new (fragment name on directives set braces place) apart = All-cons (IsApart old) (rename_name old new name) (spread_names (relabel (rename_head old new) set)) (chosen_apart (bytes_eq name.text old) old new name.text refl apart) (spreads_apart old new set apart)
+def_apart old new (type_system definition) apart = All-nil (IsApart old)
 
 document_apart : (old new : List ℕ) (ds : List (Def (Unit {0}))) → new ≢ old → All (IsApart old) (fragment_names (rename_document old new ds))
 document_apart old new [] apart = All-nil (IsApart old)
@@ -125,6 +128,7 @@ spreads_plain (more h b r) =
 def_plain : (d : Def Span) → names_in (place_def no_place d) ≡ map (place_name no_place) (names_in d)
 def_plain (operation kind name variables directives set braces place) = spreads_plain set
 def_plain (fragment name on directives set braces place) = ap (λ (l : List (NameOf (Unit {0}))). place_name no_place name ∷ l) (spreads_plain set)
+def_plain (type_system definition) = refl
 
 document_plain : (ds : List (Def Span)) → fragment_names (erase_document ds) ≡ map (place_name no_place) (fragment_names ds)
 document_plain [] = refl

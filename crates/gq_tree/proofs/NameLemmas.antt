@@ -3,7 +3,7 @@ use Rattle.std.proofs.Common.{◌≡◌, List, [], ◌∷◌, ◌++◌, map, ref
 use Rattle.std.specs.List.{flat_map}
 use Rattle.std.proofs.lemmas.List.{map-append}
 use Rattle.gq_tree.specs.Forest.{labels, relabel}
-use Rattle.gq_tree.specs.Plain.{Head, Sels, Def, field, spread, inline, operation, fragment, place_name, place_head, place_def}
+use Rattle.gq_tree.specs.Plain.{Head, Sels, Def, field, spread, inline, operation, fragment, type_system, place_name, place_head, place_def}
 use Rattle.gq_tree.specs.Names.{spread_name, spread_names, names_in, fragment_names}
 use Rattle.gq_tree.proofs.ForestLemmas.{relabel_labels}
 
@@ -23,6 +23,7 @@ spread_names_placed f ss = ap (flat_map spread_name) (relabel_labels (place_head
 names_in_placed : {P Q : Type 0} (f : P → Q) (d : Def P) → names_in (place_def f d) ≡ map (place_name f) (names_in d)
 names_in_placed f (operation kind name variables directives set braces place) = spread_names_placed f set
 names_in_placed f (fragment name on directives set braces place) = ap (λ r. place_name f name ∷ r) (spread_names_placed f set)
+names_in_placed f (type_system definition) = refl
 
 pub names_placed : {P Q : Type 0} (f : P → Q) (ds : List (Def P)) → fragment_names (map (place_def f) ds) ≡ map (place_name f) (fragment_names ds)
 names_placed f ds = gathered (place_def f) (place_name f) names_in names_in (names_in_placed f) ds

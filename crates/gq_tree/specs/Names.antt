@@ -5,7 +5,7 @@ use Rattle.std.specs.Borrow.{Bor}
 use Rattle.gq_text.specs.declared.place.Span.{Span}
 use Rattle.gq_tree.specs.declared.tree.Name.{Name}
 use Rattle.gq_tree.specs.Forest.{labels}
-use Rattle.gq_tree.specs.Plain.{NameOf, Head, Sels, Def, field, spread, inline, operation, fragment}
+use Rattle.gq_tree.specs.Plain.{NameOf, Head, Sels, Def, field, spread, inline, operation, fragment, type_system}
 use Rattle.gq_tree.specs.Views.{name_of}
 
 -- the fragment name in what a selection says: a spread has one, a field and an inline fragment none
@@ -22,6 +22,7 @@ spread_names ss = flat_map spread_name (labels ss)
 abbrev pub names_in : {P : Type 0} → Def P → List (NameOf P)
 names_in (operation kind name variables directives set braces place) = spread_names set
 names_in (fragment name on directives set braces place) = name ∷ spread_names set
+names_in (type_system definition) = []
 
 -- the names of fragments in a document, at their definitions and their spreads, in the order of the text
 abbrev pub fragment_names : {P : Type 0} → List (Def P) → List (NameOf P)

@@ -2,6 +2,7 @@
 use Rattle.std.specs.Prelude.{List, ℕ, Bool, Option, Some, None, map}
 use Rattle.std.specs.Option.{option_map}
 use Rattle.gq_tree.specs.declared.tree.OperationKind.{OperationKind}
+use Rattle.gq_tree.specs.declared.type_system.DirectiveLocation.{DirectiveLocation}
 use Rattle.gq_tree.specs.Forest.{Forest, Tree, relabel, relabel_tree}
 
 -- Name (section 2.1.9)
@@ -76,10 +77,53 @@ Sel P = Tree (Head P)
 abbrev pub Sels : Type 0 → Type 0
 Sels P = Forest (Head P)
 
+-- InputValueDefinition (sections 3.6.1 and 3.10). A description is given by its spelling.
+pub record InputOf (P : Type 0) : Type 0 where
+  pub description : Option (NameOf P)
+  pub name : NameOf P
+  pub type_ref : TypeOf P
+  pub default : Option (Val P)
+  pub directives : List (DirectiveOf P)
+
+-- FieldDefinition (section 3.6)
+pub record FieldDefinitionOf (P : Type 0) : Type 0 where
+  pub description : Option (NameOf P)
+  pub name : NameOf P
+  pub arguments : List (InputOf P)
+  pub type_ref : TypeOf P
+  pub directives : List (DirectiveOf P)
+
+-- EnumValueDefinition (section 3.9)
+pub record EnumValueOf (P : Type 0) : Type 0 where
+  pub description : Option (NameOf P)
+  pub name : NameOf P
+  pub directives : List (DirectiveOf P)
+
+-- RootOperationTypeDefinition (section 3.3)
+pub record RootOf (P : Type 0) : Type 0 where
+  pub kind : OperationKind
+  pub name : NameOf P
+
+-- what a type is, and its parts (sections 3.5 to 3.10)
+pub data BodyOf (P : Type 0) : Type 0 where
+  scalar_type : BodyOf P
+  object_type : (interfaces : List (NameOf P)) → (fields : List (FieldDefinitionOf P)) → BodyOf P
+  interface_type : (interfaces : List (NameOf P)) → (fields : List (FieldDefinitionOf P)) → BodyOf P
+  union_type : (members : List (NameOf P)) → BodyOf P
+  enum_type : (values : List (EnumValueOf P)) → BodyOf P
+  input_type : (fields : List (InputOf P)) → BodyOf P
+
+-- TypeSystemDefinition or TypeSystemExtension (section 3); an extension extends
+pub data TypeSystemOf (P : Type 0) : Type 0 where
+  schema : (extends : Bool) → (description : Option (NameOf P)) → (directives : List (DirectiveOf P)) → (roots : List (RootOf P)) → (place : P) → TypeSystemOf P
+  type_definition : (extends : Bool) → (description : Option (NameOf P)) → (name : NameOf P) → (directives : List (DirectiveOf P)) → (body : BodyOf P) → (place : P) → TypeSystemOf P
+  directive_definition : (description : Option (NameOf P)) → (name : NameOf P) → (arguments : List (InputOf P)) → (repeatable : Bool) → (locations : List DirectiveLocation) → (place : P) → TypeSystemOf P
+
 -- a Definition (section 2.2), with the selections in its braces, the place of the braces, and the place of all its tokens
 pub data Def (P : Type 0) : Type 0 where
   operation : (kind : OperationKind) → (name : Option (NameOf P)) → (variables : List (VariableOf P)) → (directives : List (DirectiveOf P)) → (set : Sels P) → (braces place : P) → Def P
   fragment : (name on : NameOf P) → (directives : List (DirectiveOf P)) → (set : Sels P) → (braces place : P) → Def P
+  type_system : (definition : TypeSystemOf P) → Def P
 
 -- every place changed
 abbrev pub place_name : {P Q : Type 0} → (P → Q) → NameOf P → NameOf Q
@@ -125,11 +169,56 @@ place_head f (field alias name arguments directives braces place) =
 place_head f (spread name directives place) = spread (place_name f name) (map (place_directive f) directives) (f place)
 place_head f (inline on directives braces place) = inline (option_map (place_name f) on) (map (place_directive f) directives) (f braces) (f place)
 
+abbrev pub place_input : {P Q : Type 0} → (P → Q) → InputOf P → InputOf Q
+place_input f i = record {
+  description = option_map (place_name f) i.description;
+  name = place_name f i.name;
+  type_ref = place_type f i.type_ref;
+  default = option_map (place_value f) i.default;
+  directives = map (place_directive f) i.directives;
+}
+
+abbrev pub place_field : {P Q : Type 0} → (P → Q) → FieldDefinitionOf P → FieldDefinitionOf Q
+place_field f d = record {
+  description = option_map (place_name f) d.description;
+  name = place_name f d.name;
+  arguments = map (place_input f) d.arguments;
+  type_ref = place_type f d.type_ref;
+  directives = map (place_directive f) d.directives;
+}
+
+abbrev pub place_enum_value : {P Q : Type 0} → (P → Q) → EnumValueOf P → EnumValueOf Q
+place_enum_value f v = record {
+  description = option_map (place_name f) v.description;
+  name = place_name f v.name;
+  directives = map (place_directive f) v.directives;
+}
+
+abbrev pub place_root : {P Q : Type 0} → (P → Q) → RootOf P → RootOf Q
+place_root f r = record { kind = r.kind; name = place_name f r.name }
+
+abbrev pub place_body : {P Q : Type 0} → (P → Q) → BodyOf P → BodyOf Q
+place_body f scalar_type = scalar_type
+place_body f (object_type interfaces fields) = object_type (map (place_name f) interfaces) (map (place_field f) fields)
+place_body f (interface_type interfaces fields) = interface_type (map (place_name f) interfaces) (map (place_field f) fields)
+place_body f (union_type members) = union_type (map (place_name f) members)
+place_body f (enum_type values) = enum_type (map (place_enum_value f) values)
+place_body f (input_type fields) = input_type (map (place_input f) fields)
+
+abbrev pub place_type_system : {P Q : Type 0} → (P → Q) → TypeSystemOf P → TypeSystemOf Q
+place_type_system f (schema extends description directives roots place) =
+    schema extends (option_map (place_name f) description) (map (place_directive f) directives) (map (place_root f) roots) (f place)
+place_type_system f (type_definition extends description name directives body place) =
+    type_definition extends (option_map (place_name f) description) (place_name f name) (map (place_directive f) directives) (place_body f body) (f place)
+place_type_system f (directive_definition description name arguments repeatable locations place) =
+    directive_definition (option_map (place_name f) description) (place_name f name) (map (place_input f) arguments) repeatable locations (f place)
+
 abbrev pub place_def : {P Q : Type 0} → (P → Q) → Def P → Def Q
 place_def f (operation kind name variables directives set braces place) =
     operation kind (option_map (place_name f) name) (map (place_variable f) variables) (map (place_directive f) directives) (relabel (place_head f) set) (f braces) (f place)
 place_def f (fragment name on directives set braces place) =
     fragment (place_name f name) (place_name f on) (map (place_directive f) directives) (relabel (place_head f) set) (f braces) (f place)
+place_def f (type_system definition) = type_system (place_type_system f definition)
 
 -- places forgotten
 abbrev pub no_place : {P : Type 0} → P → Unit {0}

@@ -7,7 +7,7 @@ use Rattle.gq_tree.specs.declared.tree.Selection.{Selection}
 use Rattle.gq_tree.specs.declared.tree.SelectionSet.{SelectionSet}
 use Rattle.gq_tree.specs.declared.tree.VariableDefinition.{VariableDefinition}
 use Rattle.gq_tree.specs.declared.tree.Definition.{Definition}
-use Rattle.gq_tree.specs.declared.tree.Definition.TheVariants.{Operation, Fragment}
+use Rattle.gq_tree.specs.declared.tree.Definition.TheVariants.{Operation, Fragment, TypeSystem}
 use Rattle.gq_tree.specs.declared.tree.Document.{Document}
 use Rattle.gq_tree.specs.declared.tree.Selection.TheFolds.{fold-Selection}
 use Rattle.gq_tree.specs.declared.tree.Selection.TheOpen.{Selection-F, Field-F, InlineFragment-F, SelectionSet-F}
@@ -21,8 +21,17 @@ use Rattle.gq_tree.specs.declared.value.Value.TheOpen.{Value-F, ObjectField-F}
 use Rattle.gq_tree.specs.declared.types.TypeRef.{TypeRef}
 use Rattle.gq_tree.specs.declared.types.TypeRef.TheOpen.{TypeRef-F}
 use Rattle.gq_tree.specs.declared.types.TypeRef.TheFolds.{fold-TypeRef}
+use Rattle.gq_tree.specs.declared.value.Literal.{Literal}
+use Rattle.gq_tree.specs.declared.type_system.InputValueDefinition.{InputValueDefinition}
+use Rattle.gq_tree.specs.declared.type_system.FieldDefinition.{FieldDefinition}
+use Rattle.gq_tree.specs.declared.type_system.EnumValueDefinition.{EnumValueDefinition}
+use Rattle.gq_tree.specs.declared.type_system.RootOperationType.{RootOperationType}
+use Rattle.gq_tree.specs.declared.type_system.TypeBody.{TypeBody}
+use Rattle.gq_tree.specs.declared.type_system.TypeBody.TheVariants as body
+use Rattle.gq_tree.specs.declared.type_system.TypeSystemDefinition.{TypeSystemDefinition}
+use Rattle.gq_tree.specs.declared.type_system.TypeSystemDefinition.TheVariants as definition
 use Rattle.gq_tree.specs.Forest.{none, row}
-use Rattle.gq_tree.specs.Plain.{NameOf, Val, Vals, variable, int, float, string, boolean, null, enum, list, object, unnamed, under, DirectiveOf, TypeOf, named, list_of, non_null, VariableOf, Sel, Sels, Def, field, spread, inline, operation, fragment}
+use Rattle.gq_tree.specs.Plain.{NameOf, Val, Vals, variable, int, float, string, boolean, null, enum, list, object, unnamed, under, DirectiveOf, TypeOf, named, list_of, non_null, VariableOf, Sel, Sels, Def, field, spread, inline, operation, fragment, type_system, InputOf, FieldDefinitionOf, EnumValueOf, RootOf, BodyOf, scalar_type, object_type, interface_type, union_type, enum_type, input_type, TypeSystemOf, schema, type_definition, directive_definition}
 
 -- a name
 abbrev pub name_of : Name → NameOf Span
@@ -132,12 +141,57 @@ abbrev pub braces_of : Option SelectionSet → Option Span
 braces_of None = None
 braces_of (Some s) = Some s.span
 
+-- a description, by its spelling
+abbrev pub literal_view : Literal → NameOf Span
+literal_view l = record { text = l.text; place = l.span }
+
+-- type system definitions and their parts
+abbrev pub input_view : InputValueDefinition → InputOf Span
+input_view i = record {
+  description = option_map literal_view i.description;
+  name = name_of i.name;
+  type_ref = type_view i.type_ref;
+  default = option_map value_view i.default;
+  directives = map directive_view i.directives.items;
+}
+
+abbrev pub field_definition_view : FieldDefinition → FieldDefinitionOf Span
+field_definition_view d = record {
+  description = option_map literal_view d.description;
+  name = name_of d.name;
+  arguments = map input_view d.arguments.items;
+  type_ref = type_view d.type_ref;
+  directives = map directive_view d.directives.items;
+}
+
+abbrev pub enum_value_view : EnumValueDefinition → EnumValueOf Span
+enum_value_view v = record { description = option_map literal_view v.description; name = name_of v.name; directives = map directive_view v.directives.items }
+
+abbrev pub root_view : RootOperationType → RootOf Span
+root_view r = record { kind = r.kind; name = name_of r.name }
+
+abbrev pub body_view : TypeBody → BodyOf Span
+body_view body.Scalar = scalar_type
+body_view (body.Object o) = object_type (map name_of o.interfaces.items) (map field_definition_view o.fields.items)
+body_view (body.Interface o) = interface_type (map name_of o.interfaces.items) (map field_definition_view o.fields.items)
+body_view (body.Union members) = union_type (map name_of members.items)
+body_view (body.Enum values) = enum_type (map enum_value_view values.items)
+body_view (body.InputObject fields) = input_type (map input_view fields.items)
+
+abbrev pub type_system_view : TypeSystemDefinition → TypeSystemOf Span
+type_system_view (definition.Schema s) = schema s.extends (option_map literal_view s.description) (map directive_view s.directives.items) (map root_view s.roots.items) s.span
+type_system_view (definition.Type t) =
+    type_definition t.extends (option_map literal_view t.description) (name_of t.name) (map directive_view t.directives.items) (body_view t.body) t.span
+type_system_view (definition.Directive d) =
+    directive_definition (option_map literal_view d.description) (name_of d.name) (map input_view d.arguments.items) d.repeatable d.locations.items d.span
+
 -- a definition
 abbrev pub def_view : Definition → Def Span
 def_view (Operation o) =
     operation o.kind (option_map name_of o.name) (map variable_view o.variables.items) (map directive_view o.directives.items) (sels_view o.set.items.items) o.set.span o.span
 def_view (Fragment f) =
     fragment (name_of f.name) (name_of f.on) (map directive_view f.directives.items) (sels_view f.set.items.items) f.set.span f.span
+def_view (TypeSystem d) = type_system (type_system_view d)
 
 -- a document
 abbrev pub document_view : Document → List (Def Span)

@@ -40,6 +40,10 @@ fn copied_definition(alloc: Global, definition: &Definition) -> Result<Definitio
             let copy = copied_fragment(alloc, fragment)?;
             Ok(Definition::Fragment(copy))
         }
+        Definition::TypeSystem(definition) => {
+            let copy = definition.copied(alloc)?;
+            Ok(Definition::TypeSystem(copy))
+        }
     }
 }
 
@@ -108,7 +112,10 @@ fn copied_variable_definition(
     })
 }
 
-fn copied_default(alloc: Global, default: &Option<Value>) -> Result<Option<Value>, NoMemory>
+pub(crate) fn copied_default(
+    alloc: Global,
+    default: &Option<Value>,
+) -> Result<Option<Value>, NoMemory>
     ensures { IfOk result (λ copy. option_map value_view copy ≡ option_map value_view default.now) }
 {
     match default {

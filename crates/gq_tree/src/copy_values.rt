@@ -122,7 +122,7 @@ pub(crate) fn copied_variable(alloc: Global, variable: &Variable) -> Result<Vari
     })
 }
 
-fn copied_literal(alloc: Global, literal: &Literal) -> Result<Literal, NoMemory>
+pub(crate) fn copied_literal(alloc: Global, literal: &Literal) -> Result<Literal, NoMemory>
     ensures { IfOk result (λ copy. copy ≡ literal.now) }
 {
     Ok(Literal {

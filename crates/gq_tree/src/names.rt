@@ -32,6 +32,7 @@ fn gather_definition<'a>(
             put(&fragment.name, names)?;
             gather_selections(&fragment.set.items, names)
         }
+        Definition::TypeSystem(_) => Ok(()),
     }
 }
 

@@ -7,6 +7,7 @@ ghost use Rattle.gq_tree.specs.declared.tree.Definition.TheVariants as definitio
 ghost use Rattle.gq_tree.specs.declared.tree.Selection.TheVariants as selection;
 ghost use Rattle.gq_tree.specs.Views.{variable_view, sel_view, sels_view, def_view, document_view};
 
+use crate::same_type_system::same_type_system;
 use crate::same_values::{
     have_same_arguments, have_same_default, have_same_directives, have_same_option, have_same_text,
     same_type,
@@ -51,10 +52,17 @@ fn same_definition(a: &Definition, b: &Definition) -> bool
         Definition::Operation(a) => match b {
             Definition::Operation(b) => same_operation(a, b),
             Definition::Fragment(_) => false,
+            Definition::TypeSystem(_) => false,
         },
         Definition::Fragment(a) => match b {
             Definition::Operation(_) => false,
             Definition::Fragment(b) => same_fragment(a, b),
+            Definition::TypeSystem(_) => false,
+        },
+        Definition::TypeSystem(a) => match b {
+            Definition::Operation(_) => false,
+            Definition::Fragment(_) => false,
+            Definition::TypeSystem(b) => same_type_system(a, b),
         },
     }
 }
@@ -86,7 +94,7 @@ fn same_fragment(a: &Fragment, b: &Fragment) -> bool
     same_rows(&a.set.items, &b.set.items)
 }
 
-fn same_kind(a: OperationKind, b: OperationKind) -> bool
+pub(crate) fn same_kind(a: OperationKind, b: OperationKind) -> bool
     ensures { result ≡ same_kinds a b }
 {
     a == b

@@ -27,7 +27,7 @@ pub(crate) fn have_same_option(a: &Option<Name>, b: &Option<Name>) -> bool
     }
 }
 
-fn have_same_spelling(a: &Literal, b: &Literal) -> bool
+pub(crate) fn have_same_spelling(a: &Literal, b: &Literal) -> bool
     ensures { result ≡ bytes_eq a.now.text b.now.text }
 {
     a.text.as_str() == b.text.as_str()

@@ -1,8 +1,9 @@
 use crate::{
-    Argument, Definition, Directive, Document, Field, Fragment, InlineFragment, Literal, Name,
-    ObjectField, Operation, OperationKind, Selection, SelectionSet, Spread, TypeRef, Value,
-    Variable, VariableDefinition, are_same_documents, are_same_selections, copied_selections,
-    fragment_names,
+    Argument, Definition, Directive, DirectiveDefinition, DirectiveLocation, Document,
+    EnumValueDefinition, Field, Fragment, InlineFragment, Literal, Name, ObjectField, Operation,
+    OperationKind, Selection, SelectionSet, Spread, TypeBody, TypeDefinition, TypeRef,
+    TypeSystemDefinition, Value, Variable, VariableDefinition, are_same_documents,
+    are_same_selections, copied_selections, fragment_names,
 };
 use gq_text::{OwnedText, Span};
 use std::alloc::Global;
@@ -324,6 +325,7 @@ fn selections_are_copied_in_order(rt: HostRuntime) -> Result<(), Fail> {
         let items = match definition {
             Definition::Operation(operation) => &operation.set.items,
             Definition::Fragment(fragment) => &fragment.set.items,
+            Definition::TypeSystem(_) => continue,
         };
         let copies = copied_selections(alloc, items)?;
         assert!(rt; are_same_selections(items, &copies));
@@ -367,6 +369,58 @@ fn a_type_is_copied_with_its_places(rt: HostRuntime) -> Result<(), Fail> {
             _ => panic!(rt; "no type without null"),
         },
         _ => panic!(rt; "no list"),
+    }
+    Ok(())
+}
+
+// `"d" enum E{A}` or its extension, and `directive @d on FIELD` or another place
+fn type_system(
+    alloc: Global,
+    extends: bool,
+    value: &str,
+    location: DirectiveLocation,
+) -> Result<Document, Fail> {
+    let value = EnumValueDefinition {
+        description: Some(literal(alloc, "\"d\"", span(11, 14))?),
+        name: name(alloc, value, span(14, 15))?,
+        directives: Vec::new(alloc),
+    };
+    let one = TypeDefinition {
+        extends,
+        description: None,
+        name: name(alloc, "E", span(5, 6))?,
+        directives: Vec::new(alloc),
+        body: TypeBody::Enum(vec![in alloc; value]?),
+        span: span(0, 16),
+    };
+    let directive = DirectiveDefinition {
+        description: None,
+        name: name(alloc, "d", span(28, 29))?,
+        arguments: Vec::new(alloc),
+        repeatable: false,
+        locations: vec![in alloc; location]?,
+        span: span(17, 38),
+    };
+    let definitions = vec![in alloc;
+        Definition::TypeSystem(TypeSystemDefinition::Type(one)),
+        Definition::TypeSystem(TypeSystemDefinition::Directive(directive)),
+    ]?;
+    Ok(Document { definitions })
+}
+
+#[test]
+fn type_systems_are_copied_and_compared(rt: HostRuntime) -> Result<(), Fail> {
+    let alloc = rt.alloc();
+    let original = type_system(alloc, false, "A", DirectiveLocation::Field)?;
+    let copy = original.copied(alloc)?;
+    assert!(rt; are_same_documents(&original, &copy));
+    assert_eq!(rt; fragment_names(alloc, &copy)?.len(), 0);
+    for other in [
+        type_system(alloc, true, "A", DirectiveLocation::Field)?,
+        type_system(alloc, false, "B", DirectiveLocation::Field)?,
+        type_system(alloc, false, "A", DirectiveLocation::Query)?,
+    ] {
+        assert!(rt; !are_same_documents(&original, &other));
     }
     Ok(())
 }

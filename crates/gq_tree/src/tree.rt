@@ -1,5 +1,6 @@
 //! The tree of a document (GraphQL, October 2021, section 2). Spans are in bytes of its text.
 
+use crate::type_system::TypeSystemDefinition;
 use crate::types::TypeRef;
 use crate::value::{Argument, Directive, Value, Variable};
 use gq_text::{OwnedText, Span};
@@ -106,6 +107,7 @@ pub struct Fragment {
 pub enum Definition {
     Operation(Operation),
     Fragment(Fragment),
+    TypeSystem(TypeSystemDefinition),
 }
 
 /// A document (section 2.2), its definitions in the order of the text.

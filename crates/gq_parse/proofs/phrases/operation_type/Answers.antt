@@ -1,6 +1,6 @@
 use Rattle.gq_parse.specs.Grammar.{a_query, a_mutation, a_subscription}
-use Rattle.gq_parse.proofs.MadeDefinitions.{no_operation_type}
-use Rattle.gq_parse.proofs.definitions.operation_type.Goals as goal
+use Rattle.gq_parse.proofs.MadeSchemas.{no_operation_type}
+use Rattle.gq_parse.proofs.phrases.operation_type.Goals as goal
 
 pub returns-in-Some-clause-found : goal.returns-in-Some-clause-found
 returns-in-Some-clause-found c = a_query c.in-Some.ensures.found

@@ -1,0 +1,7 @@
+use Rattle.std.proofs.Common.{◌≡◌, ◌+◌, drop}
+use Rattle.std.specs.List.{prefix_len}
+use Rattle.gq_lex.specs.Decoding.{is_line_byte}
+use Rattle.gq_lex.proofs.bytes.line_len.Given as goal
+
+abbrev pub invariant-loop-i : goal.invariant-loop-i
+invariant-loop-i l = prefix_len is_line_byte l.bytes ≡ l.i + prefix_len is_line_byte (drop l.i l.bytes)

@@ -1,0 +1,16 @@
+use Rattle.std.proofs.Common.{◌-◌, ◌≤◌, length, map}
+use Rattle.gq_tree.specs.Views.{root_view}
+use Rattle.gq_parse.specs.TypeSystem.{IsRoot}
+use Rattle.gq_parse.specs.From.{from}
+use Rattle.gq_parse.proofs.Fronts.{Front}
+use Rattle.gq_parse.proofs.schema_definitions.closed_roots.Given as goal
+
+abbrev pub invariant-loop-end : goal.invariant-loop-end
+invariant-loop-end l = record {
+  after : l.start ≤ l.at;
+  within : l.at ≤ length l.tokens;
+  front : Front IsRoot (map root_view l.roots.items) (from l.tokens l.start) (from l.tokens l.at);
+}
+
+abbrev pub decreases-loop-end : goal.decreases-loop-end
+decreases-loop-end l = length l.tokens - l.at

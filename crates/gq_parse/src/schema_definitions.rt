@@ -1,0 +1,106 @@
+//! Schemas, from their keyword on. Each function answers the phrase that stands at an index, and the index behind it.
+ghost use Rattle.std.specs.Prelude.{◌≡◌, ◌≢◌, List, ◌+◌, ◌<◌, ◌≤◌, ◌++◌, ◌∷◌, [], length, map, IfOk, IfErr, OnOk};
+ghost use Rattle.gq_lex.specs.declared.token.Kind.TheVariants as kind;
+ghost use Rattle.gq_tree.specs.Views.{directive_view, root_view};
+ghost use Rattle.gq_parse.specs.Grammar.{Closed, Enclosed};
+ghost use Rattle.gq_parse.specs.TypeSystem.{IsRoot, IsSchema};
+ghost use Rattle.gq_parse.specs.From.{from};
+ghost use Rattle.gq_parse.specs.Phrases.{Lacks};
+ghost use Rattle.gq_parse.specs.Parts.{LacksSchema};
+
+use crate::directives::directives;
+use crate::phrases::{Miss, keyword, name, operation_type, punctuator};
+use gq_lex::{Kind, Token};
+use gq_tree::{Directive, RootOperationType};
+use std::alloc::Global;
+
+/// A schema from its keyword on: its directives and its root operation types, of which there may be none.
+pub(crate) fn schema(
+    alloc: Global,
+    tokens: &[Token<'_>],
+    at: usize,
+) -> Result<(Vec<Directive>, Vec<RootOperationType>, usize), Miss>
+    requires { at ≤ length tokens.now }
+    ensures found { IfOk result (λ x. IsSchema (map directive_view x.0.items) (map root_view x.1.items) (from tokens.now at) (from tokens.now x.2)) }
+    ensures within { IfOk result (λ x. (at < x.2) × (x.2 ≤ length tokens.now)) }
+    ensures none { IfErr result (λ miss. miss ≢ Miss.NoMemory → LacksSchema (from tokens.now at)) }
+{
+    let Some((_, behind)) = keyword("schema", tokens, at) else {
+        return Err(Miss::NoPhrase { at });
+    };
+    let (directives, behind) = directives(alloc, true, tokens, behind)?;
+    let (roots, end) = roots(alloc, tokens, behind)?;
+    Ok((directives, roots, end))
+}
+
+// Root operation types in braces, or none where no brace opens.
+fn roots(
+    alloc: Global,
+    tokens: &[Token<'_>],
+    at: usize,
+) -> Result<(Vec<RootOperationType>, usize), Miss>
+    requires { at ≤ length tokens.now }
+    ensures found { IfOk result (λ x. Enclosed IsRoot kind.BraceOpen kind.BraceClose (map root_view x.0.items) (from tokens.now at) (from tokens.now x.1)) }
+    ensures within { IfOk result (λ x. (at ≤ x.1) × (x.1 ≤ length tokens.now)) }
+    ensures none { IfErr result (λ miss. miss ≢ Miss.NoMemory → Lacks (Enclosed IsRoot kind.BraceOpen kind.BraceClose) (from tokens.now at)) }
+{
+    match punctuator(Kind::BraceOpen, tokens, at) {
+        Some(behind) => {
+            let (roots, end) = closed_roots(alloc, tokens, behind)?;
+            if roots.is_empty() {
+                return Err(Miss::NoPhrase { at: behind });
+            }
+            Ok((roots, end))
+        }
+        None => Ok((Vec::new(alloc), at)),
+    }
+}
+
+fn closed_roots(
+    alloc: Global,
+    tokens: &[Token<'_>],
+    start: usize,
+) -> Result<(Vec<RootOperationType>, usize), Miss>
+    requires { start ≤ length tokens.now }
+    ensures found { IfOk result (λ x. Closed IsRoot kind.BraceClose (map root_view x.0.items) (from tokens.now start) (from tokens.now x.1)) }
+    ensures within { IfOk result (λ x. (start < x.1) × (x.1 ≤ length tokens.now)) }
+    ensures none { IfErr result (λ miss. miss ≢ Miss.NoMemory → Lacks (Closed IsRoot kind.BraceClose) (from tokens.now start)) }
+{
+    let mut roots = Vec::new(alloc);
+    let mut at = start;
+    loop {
+        if let Some(end) = punctuator(Kind::BraceClose, tokens, at) {
+            return Ok((roots, end));
+        }
+        let (one, behind) = root(alloc, tokens, at)?;
+        put_root(&mut roots, one)?;
+        at = behind;
+    }
+}
+
+fn put_root(roots: &mut Vec<RootOperationType>, one: RootOperationType) -> Result<(), Miss>
+    ensures ok { OnOk result (map root_view roots.new.items ≡ map root_view roots.old.items ++ root_view one ∷ []) }
+    ensures err { IfErr result (λ e. e ≡ Miss.NoMemory) }
+{
+    match roots.push(one) {
+        Ok(()) => Ok(()),
+        Err(_) => Err(Miss::NoMemory),
+    }
+}
+
+// The type of a root operation.
+fn root(alloc: Global, tokens: &[Token<'_>], at: usize) -> Result<(RootOperationType, usize), Miss>
+    requires { at ≤ length tokens.now }
+    ensures found { IfOk result (λ x. IsRoot (root_view x.0) (from tokens.now at) (from tokens.now x.1)) }
+    ensures within { IfOk result (λ x. (at < x.1) × (x.1 ≤ length tokens.now)) }
+    ensures none { IfErr result (λ miss. miss ≢ Miss.NoMemory → Lacks IsRoot (from tokens.now at)) }
+{
+    let Some((kind, end)) = operation_type(tokens, at) else {
+        return Err(Miss::NoPhrase { at });
+    };
+    let Some(behind) = punctuator(Kind::Colon, tokens, end) else {
+        return Err(Miss::NoPhrase { at: end });
+    };
+    let (name, end) = name(alloc, tokens, behind)?;
+    Ok((RootOperationType { kind, name }, end))
+}
