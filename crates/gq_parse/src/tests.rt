@@ -412,6 +412,32 @@ fn what_is_described_is_of_the_type_system(rt: HostRuntime) {
         ("\"d\" query{x}", 4),
         ("\"d\" extend type T@d", 4),
         ("\"d\"", 3),
+        ("\"d\" fragment A on T{a}", 4),
+        ("\"d\" \"d\" scalar S", 4),
+        ("{a(\"d\" b:1)}", 3),
+        ("{\"d\" a}", 1),
+        ("query(\"d\" $a:Int){b}", 6),
+        ("schema{\"d\" query:Q}", 7),
+        ("union U=\"d\" A", 8),
+        ("type T implements \"d\" A", 18),
     ];
     assert_faults(rt.alloc(), &rt, &table);
+}
+
+#[test]
+fn descriptions_stand_before_what_is_defined(rt: HostRuntime) -> Result<(), Fail> {
+    for text in [
+        "\"d\" schema{query:Q}",
+        "\"d\" scalar S",
+        "\"d\" type T{\"e\" a(\"f\" b:Int \"\"\"g\"\"\" c:Int):Int}",
+        "\"d\" interface I{\"e\" a:Int}",
+        "\"\"\"d\"\"\" union U=A",
+        "\"d\" enum E{\"e\" A \"\"\"f\"\"\" B}",
+        "\"d\" input I{\"e\" a:Int}",
+        "\"d\" directive @d(\"e\" a:Int) on FIELD",
+        "extend type T{\"d\" a:Int}",
+    ] {
+        assert_eq!(rt; parse(rt.alloc(), text)?.definitions.len(), 1, "{text}");
+    }
+    Ok(())
 }
