@@ -232,3 +232,6 @@ erase_all ss = relabel (place_head no_place) ss
 
 abbrev pub erase_document : {P : Type 0} → List (Def P) → List (Def (Unit {0}))
 erase_document ds = map (place_def no_place) ds
+
+abbrev pub erase_values : {P : Type 0} → List (Val P) → List (Val (Unit {0}))
+erase_values vs = map (place_value no_place) vs

@@ -16,7 +16,7 @@ pub mod value;
 
 pub use copy::copied_selections;
 pub use names::fragment_names;
-pub use same::{are_same_documents, are_same_selections};
+pub use same::{are_same_arguments, are_same_documents, are_same_selections};
 pub use tree::{
     Definition, Document, Field, Fragment, InlineFragment, Name, Operation, OperationKind,
     Selection, SelectionSet, Spread, VariableDefinition,

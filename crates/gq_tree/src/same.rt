@@ -1,11 +1,11 @@
 //! Sameness of trees, places aside.
 ghost use Rattle.std.specs.Prelude.{◌≡◌, ◌↔◌, IsTrue, map};
 ghost use Rattle.gq_tree.specs.Forest.{agree, agree_trees};
-ghost use Rattle.gq_tree.specs.Plain.{erase_all, erase_document};
+ghost use Rattle.gq_tree.specs.Plain.{erase_all, erase_document, erase_values};
 ghost use Rattle.gq_tree.specs.Same.{all_same, same_variables, same_heads, same_kinds, same_defs};
 ghost use Rattle.gq_tree.specs.declared.tree.Definition.TheVariants as definition;
 ghost use Rattle.gq_tree.specs.declared.tree.Selection.TheVariants as selection;
-ghost use Rattle.gq_tree.specs.Views.{variable_view, sel_view, sels_view, def_view, document_view};
+ghost use Rattle.gq_tree.specs.Views.{argument_view, variable_view, sel_view, sels_view, def_view, document_view};
 
 use crate::same_type_system::same_type_system;
 use crate::same_values::{
@@ -16,6 +16,7 @@ use crate::tree::{
     Definition, Document, Field, Fragment, InlineFragment, Operation, OperationKind, Selection,
     Spread, VariableDefinition,
 };
+use crate::value::Argument;
 
 /// Whether the two documents are the same, places aside.
 pub fn are_same_documents(a: &Document, b: &Document) -> bool
@@ -29,6 +30,13 @@ pub fn are_same_selections(a: &[Selection], b: &[Selection]) -> bool
     ensures { IsTrue result ↔ (erase_all (sels_view a.now) ≡ erase_all (sels_view b.now)) }
 {
     same_rows(a, b)
+}
+
+/// Whether the two lists have the same arguments in one order, places aside.
+pub fn are_same_arguments(a: &[Argument], b: &[Argument]) -> bool
+    ensures { IsTrue result ↔ (erase_values (map argument_view a.now) ≡ erase_values (map argument_view b.now)) }
+{
+    have_same_arguments(a, b)
 }
 
 fn have_same_definitions(a: &[Definition], b: &[Definition]) -> bool

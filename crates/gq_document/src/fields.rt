@@ -1,0 +1,91 @@
+//! The fields that selections name (GraphQL, October 2021, section 5.3).
+ghost use Rattle.std.specs.Prelude.{◌≡◌, map};
+ghost use Rattle.std.specs.Option.{option_map};
+ghost use Rattle.gq_tree.specs.Views.{type_view, input_view};
+ghost use Rattle.gq_types.specs.Look.{types_view, text_of};
+ghost use Rattle.gq_document.specs.Selections.{is_composite_named, field_on, selected_field, base_name};
+ghost use Rattle.gq_document.specs.Views.{field_view, selected_field_view};
+
+use gq_tree::{FieldDefinition, InputValueDefinition, TypeRef};
+use gq_types::Types;
+
+/// The field that a selection names: one of a type's definition, or `__typename`, which every composite type has.
+#[derive(Clone, Copy)]
+pub enum SelectedField<'a> {
+    Typename,
+    Defined(&'a FieldDefinition),
+}
+
+impl<'a> SelectedField<'a> {
+    /// The arguments that its definition has.
+    pub fn arguments(self) -> &'a [InputValueDefinition]
+        ensures { map input_view result.now ≡ (field_view self.entry).arguments }
+    {
+        match self {
+            SelectedField::Typename => &[],
+            SelectedField::Defined(field) => &field.arguments,
+        }
+    }
+
+    /// The name of its type inside lists and types without null.
+    pub fn base_name(self) -> &'a str
+        ensures { result.now ≡ base_name (field_view self.entry).type_ref }
+    {
+        match self {
+            SelectedField::Typename => "String",
+            SelectedField::Defined(field) => base_name(&field.type_ref),
+        }
+    }
+}
+
+/// The name inside lists and types without null (section 3.4.1).
+#[tactic(auto, using(gq_tree::proofs::Trees::types))]
+pub fn base_name(type_ref: &TypeRef) -> &str
+    ensures { result.now ≡ base_name (type_view type_ref.now) }
+{
+    match type_ref {
+        TypeRef::Named(name) => name.text.as_str(),
+        TypeRef::List(item) => base_name(item),
+        TypeRef::NonNull(inner) => base_name(inner),
+    }
+}
+
+/// Whether it is the name of a type with selections below it (section 5.3.3).
+pub fn is_composite_named(types: &Types, type_name: &str) -> bool
+    ensures { result ≡ is_composite_named (types_view types.now) type_name.now }
+{
+    match types.kind(type_name) {
+        Some(kind) => kind.is_composite(),
+        None => false,
+    }
+}
+
+/// The field of that name of the type of that name.
+pub fn field_on<'a>(types: &'a Types, type_name: &str, name: &str) -> Option<SelectedField<'a>>
+    ensures { selected_field_view result ≡ field_on (types_view types.now) type_name.now name.now }
+{
+    if name == "__typename" {
+        if is_composite_named(types, type_name) {
+            return Some(SelectedField::Typename);
+        }
+        return None;
+    }
+    match types.field(type_name, name) {
+        Some(field) => Some(SelectedField::Defined(field)),
+        None => None,
+    }
+}
+
+/// The field that a selection names, where the type of its parent is known.
+pub fn selected_field<'a>(
+    types: &'a Types,
+    parent: Option<&str>,
+    name: &str,
+) -> Option<SelectedField<'a>>
+    ensures { selected_field_view result ≡ selected_field (types_view types.now) (text_of parent.entry) name.now }
+{
+    match parent {
+        Some(type_name) => field_on(types, type_name, name),
+        None => None,
+    }
+}

@@ -1,0 +1,16 @@
+//! The definitions of a project's documents, and the selections of its operations and fragments.
+#![tactic(auto)]
+
+pub mod definitions;
+pub mod executable;
+pub mod fields;
+pub mod laws;
+pub mod selections;
+
+pub use definitions::{Definitions, FragmentEntry, OperationEntry};
+pub use executable::Executable;
+pub use fields::{SelectedField, base_name, field_on, is_composite_named, selected_field};
+pub use selections::{Selected, fragment_selections, operation_selections};
+
+#[cfg(test)]
+mod tests;

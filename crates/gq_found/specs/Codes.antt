@@ -1,0 +1,139 @@
+-- The codes of the rules: their order, and what is printed of them.
+use Rattle.std.specs.Prelude.{ℕ, List, codes}
+use Rattle.gq_found.specs.declared.code.Code.{Code}
+use Rattle.gq_found.specs.declared.code.Code.TheVariants.{Syntax, OverLimit, SubscriptionOperation, NoRootType, DefinedTwice, BadExtension, ReservedName, UnknownType, WrongKindOfType, EmptyOrRepeated, BadImplementation, EndlessInput, NoQueryRoot, BadDirectiveOrDefault, MixedFile, OperationNameNotUnique, AnonymousOperationNotAlone, UnknownField, FieldsDoNotMerge, WrongSelections, UnknownArgument, ArgumentNotUnique, ArgumentMissing, FragmentNameNotUnique, UnknownTypeCondition, ConditionNotComposite, FragmentNotUsed, UnknownFragment, FragmentCycle, SpreadNotPossible, WrongValue, UnknownInputField, InputFieldNotUnique, InputFieldMissing, UnknownDirective, DirectiveInWrongPlace, DirectiveRepeated, VariableNotUnique, VariableNotOfInputType, VariableNotDefined, VariableNotUsed, VariableNotAllowedHere}
+
+-- the place of a code among all codes, from 1: syntax and limits, the project, the type system, the operations
+abbrev pub number_of : Code → ℕ
+number_of Syntax = 1
+number_of OverLimit = 2
+number_of SubscriptionOperation = 3
+number_of NoRootType = 4
+number_of DefinedTwice = 5
+number_of BadExtension = 6
+number_of ReservedName = 7
+number_of UnknownType = 8
+number_of WrongKindOfType = 9
+number_of EmptyOrRepeated = 10
+number_of BadImplementation = 11
+number_of EndlessInput = 12
+number_of NoQueryRoot = 13
+number_of BadDirectiveOrDefault = 14
+number_of MixedFile = 15
+number_of OperationNameNotUnique = 16
+number_of AnonymousOperationNotAlone = 17
+number_of UnknownField = 18
+number_of FieldsDoNotMerge = 19
+number_of WrongSelections = 20
+number_of UnknownArgument = 21
+number_of ArgumentNotUnique = 22
+number_of ArgumentMissing = 23
+number_of FragmentNameNotUnique = 24
+number_of UnknownTypeCondition = 25
+number_of ConditionNotComposite = 26
+number_of FragmentNotUsed = 27
+number_of UnknownFragment = 28
+number_of FragmentCycle = 29
+number_of SpreadNotPossible = 30
+number_of WrongValue = 31
+number_of UnknownInputField = 32
+number_of InputFieldNotUnique = 33
+number_of InputFieldMissing = 34
+number_of UnknownDirective = 35
+number_of DirectiveInWrongPlace = 36
+number_of DirectiveRepeated = 37
+number_of VariableNotUnique = 38
+number_of VariableNotOfInputType = 39
+number_of VariableNotDefined = 40
+number_of VariableNotUsed = 41
+number_of VariableNotAllowedHere = 42
+
+-- the code as it is printed
+abbrev pub text_of : Code → List ℕ
+text_of Syntax = codes "T1"
+text_of OverLimit = codes "T2"
+text_of SubscriptionOperation = codes "P1"
+text_of NoRootType = codes "P2"
+text_of DefinedTwice = codes "S1"
+text_of BadExtension = codes "S2"
+text_of ReservedName = codes "S3"
+text_of UnknownType = codes "S4"
+text_of WrongKindOfType = codes "S5"
+text_of EmptyOrRepeated = codes "S6"
+text_of BadImplementation = codes "S7"
+text_of EndlessInput = codes "S8"
+text_of NoQueryRoot = codes "S9"
+text_of BadDirectiveOrDefault = codes "S10"
+text_of MixedFile = codes "V1"
+text_of OperationNameNotUnique = codes "V2"
+text_of AnonymousOperationNotAlone = codes "V3"
+text_of UnknownField = codes "V4"
+text_of FieldsDoNotMerge = codes "V5"
+text_of WrongSelections = codes "V6"
+text_of UnknownArgument = codes "V7"
+text_of ArgumentNotUnique = codes "V8"
+text_of ArgumentMissing = codes "V9"
+text_of FragmentNameNotUnique = codes "V10"
+text_of UnknownTypeCondition = codes "V11"
+text_of ConditionNotComposite = codes "V12"
+text_of FragmentNotUsed = codes "V13"
+text_of UnknownFragment = codes "V14"
+text_of FragmentCycle = codes "V15"
+text_of SpreadNotPossible = codes "V16"
+text_of WrongValue = codes "V17"
+text_of UnknownInputField = codes "V18"
+text_of InputFieldNotUnique = codes "V19"
+text_of InputFieldMissing = codes "V20"
+text_of UnknownDirective = codes "V21"
+text_of DirectiveInWrongPlace = codes "V22"
+text_of DirectiveRepeated = codes "V23"
+text_of VariableNotUnique = codes "V24"
+text_of VariableNotOfInputType = codes "V25"
+text_of VariableNotDefined = codes "V26"
+text_of VariableNotUsed = codes "V27"
+text_of VariableNotAllowedHere = codes "V28"
+
+-- what is wrong, in a few words
+abbrev pub words_of : Code → List ℕ
+words_of Syntax = codes "syntax"
+words_of OverLimit = codes "over limit"
+words_of SubscriptionOperation = codes "subscription operation"
+words_of NoRootType = codes "no root type"
+words_of DefinedTwice = codes "defined twice"
+words_of BadExtension = codes "bad extension"
+words_of ReservedName = codes "reserved name"
+words_of UnknownType = codes "unknown type"
+words_of WrongKindOfType = codes "wrong kind of type"
+words_of EmptyOrRepeated = codes "empty or repeated"
+words_of BadImplementation = codes "bad implementation"
+words_of EndlessInput = codes "endless input"
+words_of NoQueryRoot = codes "no query root"
+words_of BadDirectiveOrDefault = codes "bad directive or default"
+words_of MixedFile = codes "mixed file"
+words_of OperationNameNotUnique = codes "operation name not unique"
+words_of AnonymousOperationNotAlone = codes "anonymous operation not alone"
+words_of UnknownField = codes "unknown field"
+words_of FieldsDoNotMerge = codes "fields do not merge"
+words_of WrongSelections = codes "wrong selections"
+words_of UnknownArgument = codes "unknown argument"
+words_of ArgumentNotUnique = codes "argument not unique"
+words_of ArgumentMissing = codes "argument missing"
+words_of FragmentNameNotUnique = codes "fragment name not unique"
+words_of UnknownTypeCondition = codes "unknown type condition"
+words_of ConditionNotComposite = codes "condition not composite"
+words_of FragmentNotUsed = codes "fragment not used"
+words_of UnknownFragment = codes "unknown fragment"
+words_of FragmentCycle = codes "fragment cycle"
+words_of SpreadNotPossible = codes "spread not possible"
+words_of WrongValue = codes "wrong value"
+words_of UnknownInputField = codes "unknown input field"
+words_of InputFieldNotUnique = codes "input field not unique"
+words_of InputFieldMissing = codes "input field missing"
+words_of UnknownDirective = codes "unknown directive"
+words_of DirectiveInWrongPlace = codes "directive in wrong place"
+words_of DirectiveRepeated = codes "directive repeated"
+words_of VariableNotUnique = codes "variable not unique"
+words_of VariableNotOfInputType = codes "variable not of input type"
+words_of VariableNotDefined = codes "variable not defined"
+words_of VariableNotUsed = codes "variable not used"
+words_of VariableNotAllowedHere = codes "variable not allowed here"

@@ -1,0 +1,3 @@
+pub mod Enumerated
+pub mod PlaceLemmas
+pub mod RepeatLemmas

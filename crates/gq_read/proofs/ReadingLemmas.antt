@@ -1,0 +1,18 @@
+-- One more document, and its reading.
+use Rattle.std.proofs.Common.{◌≡◌, ◌+◌, ℕ, List, [], ◌∷◌, ◌++◌, take, subst, sym}
+use Rattle.gq_project.specs.declared.document.Doc.{Doc}
+use Rattle.gq_read.specs.declared.reader.Reading.{Reading}
+use Rattle.gq_read.specs.Readings.{IsReading, AreReadings, none, more}
+
+pub put_behind : (documents : List Doc) (readings : List Reading) (document : Doc) (one : Reading) →
+    AreReadings documents readings → IsReading document.text one → AreReadings (documents ++ document ∷ []) (readings ++ one ∷ [])
+put_behind [] [] document one none is = more is none
+put_behind [] (r ∷ rs) document one before is = elim before [ ]
+put_behind (d ∷ ds) [] document one before is = elim before [ ]
+put_behind (d ∷ ds) (r ∷ rs) document one (more here rest) is = more here (put_behind ds rs document one rest is)
+
+pub one_more : (documents : List Doc) (readings : List Reading) (i : ℕ) (document : Doc) (one : Reading) →
+    take (i + 1) documents ≡ take i documents ++ document ∷ [] →
+    AreReadings (take i documents) readings → IsReading document.text one → AreReadings (take (i + 1) documents) (readings ++ one ∷ [])
+one_more documents readings i document one longer before is =
+    subst (λ ds. AreReadings ds (readings ++ one ∷ [])) (sym longer) (put_behind (take i documents) readings document one before is)

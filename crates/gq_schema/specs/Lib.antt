@@ -1,0 +1,2 @@
+pub mod SchemaOf
+pub mod SchemaResults

@@ -1,0 +1,262 @@
+-- The types that are marked are those one of whose input fields leads back to itself by default values.
+use Rattle.std.proofs.Common.{◌≡◌, ℕ, zero, suc, ◌<◌, Bool, true, false, cond, ◌||◌, List, [], ◌∷◌, length, get_or, map, refl, ap, sym, ◌∙◌, subst, arith, Contains, ◌↔◌, Vec, Global, Option, Some, None, is_some}
+use Rattle.std.specs.Prelude.{slice_get, slice_index_or, find, option_and_then}
+use Rattle.std.specs.List.{list_any}
+use Rattle.std.specs.Option.{option_map, option_map_or}
+use Rattle.std.specs.Str.{bytes_eq}
+use Rattle.std.specs.Cmp.Lexicographic.{bytes_decides}
+use Rattle.std.proofs.lemmas.List.{length-map}
+use Rattle.std.proofs.lemmas.List.Quantifiers.{position-Some}
+use Rattle.gq_text.specs.declared.place.Span.{Span}
+use Rattle.gq_reach.specs.Reach.{row, InRange, LeadsBack}
+use Rattle.gq_tree.specs.Plain.{InputOf, TypeSystemOf, schema, type_definition, directive_definition}
+use Rattle.gq_types.specs.Entries.{Text, EntryOf}
+use Rattle.gq_types.specs.Joined.{type_number, is_type_named, In, inputs_of}
+use Rattle.gq_types.specs.Look.{joined_numbers}
+use Rattle.gq_types.specs.Names.{input_named}
+use Rattle.gq_type_system.specs.EndlessInputs.{InputField, Way, LeadsByDefault}
+use Rattle.gq_type_system.specs.EndlessInputsPlaces.{row_items, inputs_at, MarksByDefault}
+use Rattle.gq_type_system.specs.DefaultValuesPlaces.{has_default, numbers_of, field_leads, any_marked, named_field, named_fields_at, fields_at, all_fields, field_rows, field_numbers, type_name_in, type_name_at}
+use Rattle.gq_type_system.proofs.Gathered.{in_none, in_first, in_later, from_flat, to_flat, from_map, to_map}
+use Rattle.gq_type_system.proofs.Ways.{Next, ways_lead_back, first_step, carried, carried_back}
+use Rattle.gq_type_system.proofs.EntryRows.{row_is, in_range, rows_are}
+use Rattle.gq_type_system.proofs.RequiredLemmas.{number_below, from_inputs}
+use Rattle.gq_type_system.proofs.Numbering.{numbered_item, item_numbered}
+use Rattle.gq_type_system.proofs.DefaultLemmas.{Leads, from_leads, to_leads}
+
+module _ {A : Type 0} where
+  get_inside : (xs : List A) (i : ℕ) (x : A) → slice_get xs i ≡ Some x → i < length xs
+  get_inside [] i x is = absurd (cc)
+  get_inside (w ∷ xs) zero x is = omega arith
+  get_inside (w ∷ xs) (suc i) x is = let rest = get_inside xs i x is in omega arith
+
+  inside_get : (xs : List A) (i : ℕ) → i < length xs → (x : A) × (slice_get xs i ≡ Some x)
+  inside_get [] i below = absurd (omega arith)
+  inside_get (w ∷ xs) zero below = (w, refl)
+  inside_get (w ∷ xs) (suc i) below = inside_get xs i (omega arith)
+
+  get_is : (xs : List A) (i : ℕ) (d : A) → i < length xs → slice_get xs i ≡ Some (get_or xs i d)
+  get_is [] i d below = absurd (omega arith)
+  get_is (w ∷ xs) zero d below = refl
+  get_is (w ∷ xs) (suc i) d below = get_is xs i d (omega arith)
+
+  get_mapped : {B : Type 0} (g : A → B) (xs : List A) (i : ℕ) (x : A) (d : B) → slice_get xs i ≡ Some x → get_or (map g xs) i d ≡ g x
+  get_mapped g [] i x d is = absurd (cc)
+  get_mapped g (w ∷ xs) zero x d is = let same : w ≡ x = cc in ap g same
+  get_mapped g (w ∷ xs) (suc i) x d is = get_mapped g xs i x d is
+
+  default_mapped : {B : Type 0} (g : A → B) (xs : List A) (n : ℕ) (d : A) → get_or (map g xs) n (g d) ≡ g (get_or xs n d)
+  default_mapped g [] n d = refl
+  default_mapped g (x ∷ xs) zero d = refl
+  default_mapped g (x ∷ xs) (suc n) d = default_mapped g xs n d
+
+  module _ (p : A → Bool) where
+    any_cases : (w : A) (xs : List A) (b : Bool) → p w ≡ b → (b || list_any p xs) ≡ true → (list_any p xs ≡ true → (x : A) × Contains xs x × (p x ≡ true)) → (x : A) × Contains (w ∷ xs) x × (p x ≡ true)
+    any_cases w xs true passes is later = (w, in_first w w xs refl, passes)
+    any_cases w xs false passes is later = let rest = later is in (rest.0, in_later w rest.0 xs rest.1, rest.2)
+
+    from_any : (xs : List A) → list_any p xs ≡ true → (x : A) × Contains xs x × (p x ≡ true)
+    from_any [] is = absurd (cc)
+    from_any (w ∷ xs) is = any_cases w xs (p w) refl is (λ later. from_any xs later)
+
+    any_at : (xs : List A) (k : ℕ) (x : A) → k < length xs → get_or xs k x ≡ x → p x ≡ true → list_any p xs ≡ true
+    any_at [] k x below is passes = absurd (omega arith)
+    any_at (w ∷ xs) zero x below is passes = ap (λ b. b || list_any p xs) (ap p is ∙ passes)
+    any_at (w ∷ xs) (suc k) x below is passes = or_right (p w) (list_any p xs) (any_at xs k x (omega arith) is passes)
+      where
+        or_right : (a b : Bool) → b ≡ true → (a || b) ≡ true
+        or_right true b is = refl
+        or_right false b is = is
+
+    found_cases : (x w : A) (xs : List A) (b : Bool) → p w ≡ b → cond b (Some w) (find p xs) ≡ Some x → (find p xs ≡ Some x → Contains xs x × (p x ≡ true)) → Contains (w ∷ xs) x × (p x ≡ true)
+    found_cases x w xs true passes is later = let same : w ≡ x = cc in (in_first w x xs same, subst (λ v. p v ≡ true) same passes)
+    found_cases x w xs false passes is later = let rest = later is in (in_later w x xs rest.0, rest.1)
+
+    found_passes : (x : A) (xs : List A) → find p xs ≡ Some x → Contains xs x × (p x ≡ true)
+    found_passes x [] is = absurd (cc)
+    found_passes x (w ∷ xs) is = found_cases x w xs (p w) refl is (λ later. found_passes x xs later)
+
+named_so : (d : TypeSystemOf Span) (text : Text) → is_type_named text d ≡ true → type_name_in d ≡ text
+named_so (schema extends description directives roots place) text is = absurd (cc)
+named_so (type_definition true description name directives body place) text is = absurd (cc)
+named_so (type_definition false description name directives body place) text is = sym ((bytes_decides text name.text).0 is)
+named_so (directive_definition description name arguments repeatable locations place) text is = absurd (cc)
+
+-- the entry of a name's number has the name
+type_name_is : (es : List EntryOf) (text : Text) (number : ℕ) → type_number es text ≡ Some number → type_name_at es number ≡ text
+type_name_is [] text number is = absurd (cc)
+type_name_is (e ∷ es) text number is =
+    let at = position-Some (λ e. is_type_named text e.definition) (e ∷ es) number e is in
+    ap (λ o. option_map_or (λ e. type_name_in e.definition) o []) (get_is (e ∷ es) number e at.0) ∙ named_so (get_or (e ∷ es) number e).definition text at.1
+
+-- a field that a name means is one of its type
+field_of_name : (es : List EntryOf) (field : InputField) (input : InputOf Span) → input_named es field.type_name field.name ≡ Some input
+    → (number : ℕ) × (type_number es field.type_name ≡ Some number) × Contains (fields_at es number) field
+field_of_name es field input is = by (type_number es field.type_name) refl is
+  where
+    by_found : (number : ℕ) → type_number es field.type_name ≡ Some number → (o : Option (In (InputOf Span))) → find (λ (i : In (InputOf Span)). bytes_eq field.name i.it.name.text) (inputs_of es number) ≡ o
+        → option_map (λ (i : In (InputOf Span)). i.it) o ≡ Some input → Contains (fields_at es number) field
+    by_found number meant None is none = absurd (cc)
+    by_found number meant (Some i) is some =
+        let found = found_passes (λ (i : In (InputOf Span)). bytes_eq field.name i.it.name.text) i (inputs_of es number) is in
+        let entry = from_inputs es number i found.0 in
+        let put = to_flat (named_fields_at es (type_name_at es number)) (joined_numbers es number) entry.0 (named_field (type_name_at es number) i.it) entry.1
+        (to_map (named_field (type_name_at es number)) (inputs_at es entry.0) i.it entry.2) in
+        let same : named_field (type_name_at es number) i.it ≡ field =
+        (λ j. record { type_name = type_name_is es field.type_name number meant j; name = sym ((bytes_decides field.name i.it.name.text).0 found.1) j }) in
+        subst (λ f. Contains (fields_at es number) f) same put
+
+    by : (o : Option ℕ) → type_number es field.type_name ≡ o
+        → option_and_then (λ number. option_map (λ (i : In (InputOf Span)). i.it) (find (λ (i : In (InputOf Span)). bytes_eq field.name i.it.name.text) (inputs_of es number))) o ≡ Some input
+        → (number : ℕ) × (type_number es field.type_name ≡ Some number) × Contains (fields_at es number) field
+    by None meant is = absurd (cc)
+    by (Some number) meant is = (number, meant, by_found number meant (find (λ (i : In (InputOf Span)). bytes_eq field.name i.it.name.text) (inputs_of es number)) refl is)
+
+-- a field of a type has the type's name
+type_of_field : (es : List EntryOf) (number : ℕ) (field : InputField) → Contains (fields_at es number) field → field.type_name ≡ type_name_at es number
+type_of_field es number field found =
+    let entry = from_flat (named_fields_at es (type_name_at es number)) (joined_numbers es number) field found in
+    let input = from_map (named_field (type_name_at es number)) (inputs_at es entry.0) field entry.2 in
+    ap (λ (f : InputField). f.type_name) (sym input.2)
+
+module _ (es : List EntryOf) where
+  fields_are : (number : ℕ) → number < length es → get_or (field_rows es) number [] ≡ fields_at es number
+  fields_are number below = rows_are (fields_at es) es number [] below
+
+  -- a number in the row of a type is that of one of its fields
+  field_in_row : (text : Text) (number i : ℕ) → type_number es text ≡ Some number → Contains (get_or (field_numbers es) number []) i
+      → (field : InputField) × (slice_get (all_fields es) i ≡ Some field) × (field.type_name ≡ text)
+  field_in_row text number i meant found =
+      let item = numbered_item (field_rows es) number i found in
+      let of_type = subst (λ fs. Contains fs item.0) (fields_are number (number_below es text number meant)) item.2 in
+      (item.0, item.1, type_of_field es number item.0 of_type ∙ type_name_is es text number meant)
+
+  -- the number is one of the field
+  record Named (i : ℕ) (field : InputField) : Type 0 where
+    number : ℕ
+    meant : type_number es field.type_name ≡ Some number
+    at : slice_get (all_fields es) i ≡ Some field
+    in_row : Contains (get_or (field_numbers es) number []) i
+
+  one_field : (i : ℕ) (f g : InputField) → Named i f → Named i g → f ≡ g
+  one_field i f g a b = let is : Some f ≡ Some g = sym a.at ∙ b.at in cc
+
+  has_number : (f g : InputField) → LeadsByDefault es f g → (i : ℕ) × Named i f
+  has_number f g leads =
+      let found = field_of_name es f leads.field leads.is_field in
+      let numbered = item_numbered (field_rows es) found.0 f (subst (λ fs. Contains fs f) (sym (fields_are found.0 (number_below es f.type_name found.0 found.1))) found.2) in
+      (numbered.0, record { number = found.0; meant = found.1; at = numbered.1; in_row = numbered.2 })
+
+  from_has_default : (f : InputField) → has_default es f ≡ true → (input : InputOf Span) × (input_named es f.type_name f.name ≡ Some input) × (is_some input.default ≡ true)
+  from_has_default f has = by (input_named es f.type_name f.name) refl has
+    where
+      by : (o : Option (InputOf Span)) → input_named es f.type_name f.name ≡ o → option_map_or (λ (i : InputOf Span). is_some i.default) o false ≡ true
+          → (input : InputOf Span) × (input_named es f.type_name f.name ≡ Some input) × (is_some input.default ≡ true)
+      by None is has = absurd (cc)
+      by (Some input) is has = (input, is, has)
+
+  in_numbers : (text : Text) (i : ℕ) → Contains (numbers_of es (field_numbers es) text) i → (number : ℕ) × (type_number es text ≡ Some number) × Contains (get_or (field_numbers es) number []) i
+  in_numbers text i found = by (type_number es text) refl found
+    where
+      by : (o : Option ℕ) → type_number es text ≡ o → Contains (option_map_or (λ number. slice_index_or (field_numbers es) number []) o []) i
+          → (number : ℕ) × (type_number es text ≡ Some number) × Contains (get_or (field_numbers es) number []) i
+      by None is found = absurd (in_none i found)
+      by (Some number) is found = (number, is, found)
+
+  to_named : (f : InputField) (j : ℕ) → Leads es (all_fields es) (field_numbers es) f j → (g : InputField) × Named j g × LeadsByDefault es f g
+  to_named f j leads =
+      let a = leads.absent in
+      let row_in = in_numbers a.type_name j a.in_row in
+      let item = field_in_row a.type_name row_in.0 j row_in.1 row_in.2 in
+      let some : Some item.0 ≡ Some a.field = sym item.1 ∙ a.is_field in
+      let same : item.0 ≡ a.field = cc in
+      let type_is : a.type_name ≡ a.field.type_name = sym item.2 ∙ ap (λ (f : InputField). f.type_name) same in
+      let other = from_has_default a.field a.has_default_value in (
+        a.field,
+        record { number = row_in.0; meant = ap (type_number es) (sym type_is) ∙ row_in.1; at = a.is_field; in_row = row_in.2 },
+        record {
+          field = leads.field;
+          default = leads.default;
+          is_field = leads.is_field;
+          has_default = leads.has_default_value;
+          literal = leads.literal;
+          literal_type = leads.literal_type;
+          holds = leads.holds;
+          is_object = a.is_object;
+          is_at = a.is_at ∙ ap Some type_is;
+          is_absent = a.is_absent;
+          other = other.0;
+          is_other = other.1;
+          other_has_default = other.2;
+        },
+      )
+
+  from_named : (f g : InputField) (j : ℕ) → Named j g → LeadsByDefault es f g → Leads es (all_fields es) (field_numbers es) f j
+  from_named f g j named leads = record {
+    field = leads.field;
+    default = leads.default;
+    is_field = leads.is_field;
+    has_default_value = leads.has_default;
+    literal = leads.literal;
+    literal_type = leads.literal_type;
+    holds = leads.holds;
+    absent = record {
+      is_object = leads.is_object;
+      type_name = g.type_name;
+      is_at = leads.is_at;
+      field = g;
+      in_row = subst (λ o. Contains (option_map_or (λ number. slice_index_or (field_numbers es) number []) o []) j) (sym named.meant) named.in_row;
+      is_field = named.at;
+      is_absent = leads.is_absent;
+      has_default_value = ap (λ o. option_map_or (λ (i : InputOf Span). is_some i.default) o false) leads.is_other ∙ leads.other_has_default;
+    };
+  }
+
+  module _ (rows : List (Vec ℕ Global)) (is : row_items rows ≡ map (field_leads es (all_fields es) (field_numbers es)) (all_fields es)) where
+    rows_length : length rows ≡ length (all_fields es)
+    rows_length = sym (length-map rows (λ v. v.items)) ∙ ap length is ∙ length-map (all_fields es) (field_leads es (all_fields es) (field_numbers es))
+
+    row_of : (i : ℕ) (f : InputField) → slice_get (all_fields es) i ≡ Some f → row rows i ≡ field_leads es (all_fields es) (field_numbers es) f
+    row_of i f at = row_is rows i ∙ ap (λ xss. get_or xss i []) is ∙ get_mapped (field_leads es (all_fields es) (field_numbers es)) (all_fields es) i f [] at
+
+    pub defaults_in_range : InRange rows
+    defaults_in_range = in_range rows (λ m n below found.
+        let f = inside_get (all_fields es) m (omega (arith, rows_length)) in
+        let leads = from_leads es (all_fields es) (field_numbers es) f.0 n (subst (λ ns. Contains ns n) (row_of m f.0 f.1) found) in
+        let inside = get_inside (all_fields es) n leads.absent.field leads.absent.is_field in
+        omega (arith, rows_length))
+
+    leads_by_name : (i j : ℕ) (f : InputField) → Named i f → Next (row rows) i j → (g : InputField) × Named j g × LeadsByDefault es f g
+    leads_by_name i j f named found = to_named f j (from_leads es (all_fields es) (field_numbers es) f j (subst (λ ns. Contains ns j) (row_of i f named.at) found))
+
+    leads_by_number : (i j : ℕ) (f g : InputField) → Named i f → Named j g → LeadsByDefault es f g → Next (row rows) i j
+    leads_by_number i j f g named other leads =
+        subst (λ ns. Contains ns j) (sym (row_of i f named.at)) (to_leads es (all_fields es) (field_numbers es) f j (from_named f g j other leads))
+
+    pub marks_by_default : (marks : List Bool) → ((n : ℕ) → n < length rows → (slice_index_or marks n false ≡ true) ↔ LeadsBack (row rows) n) → MarksByDefault es (map (any_marked marks) (field_numbers es))
+    marks_by_default marks exact text number meant = (from, to)
+      where
+        mark_is : slice_index_or (map (any_marked marks) (field_numbers es)) number false ≡ any_marked marks (get_or (field_numbers es) number [])
+        mark_is = default_mapped (any_marked marks) (field_numbers es) number []
+
+        from : slice_index_or (map (any_marked marks) (field_numbers es)) number false ≡ true → (field : InputField) × (field.type_name ≡ text) × Way (LeadsByDefault es) field field
+        from marked =
+            let any = from_any (λ n. slice_index_or marks n false) (get_or (field_numbers es) number []) (sym mark_is ∙ marked) in
+            let item = field_in_row text number any.0 meant any.1 in
+            let named : Named any.0 item.0 = record { number = number; meant = ap (type_number es) item.2 ∙ meant; at = item.1; in_row = any.1 } in
+            let inside = get_inside (all_fields es) any.0 item.0 item.1 in
+            let back = (exact any.0 (omega (arith, rows_length))).0 any.2 in
+            (item.0, item.2, carried (Next (row rows)) (LeadsByDefault es) Named (λ i j f. leads_by_name i j f) (λ i f g. one_field i f g) any.0 any.0 item.0 item.0 ((ways_lead_back (row rows) any.0).0 back) named named)
+
+        to : (field : InputField) × (field.type_name ≡ text) × Way (LeadsByDefault es) field field → slice_index_or (map (any_marked marks) (field_numbers es)) number false ≡ true
+        to (field, of_type, way) =
+            let first = first_step (LeadsByDefault es) way in
+            let numbered = has_number field first.0 first.1 in
+            let named = numbered.1 in
+            let some : Some named.number ≡ Some number = sym named.meant ∙ ap (type_number es) of_type ∙ meant in
+            let same : named.number ≡ number = cc in
+            let inside = get_inside (all_fields es) numbered.0 field named.at in
+            let back = carried_back (Next (row rows)) (LeadsByDefault es) Named (λ i j f g. leads_by_number i j f g) (λ f g leads. has_number f g leads) numbered.0 numbered.0 field field way named named in
+            let marked = (exact numbered.0 (omega (arith, rows_length))).1 ((ways_lead_back (row rows) numbered.0).1 back) in
+            let in_row : Contains (get_or (field_numbers es) number []) numbered.0 = subst (λ n. Contains (get_or (field_numbers es) n []) numbered.0) same named.in_row in
+            mark_is ∙ any_at (λ n. slice_index_or marks n false) (get_or (field_numbers es) number []) in_row.0 numbered.0 in_row.1 in_row.2 marked

@@ -1,0 +1,28 @@
+-- One more literal of a row is gathered from.
+use Rattle.std.proofs.Common.{◌≡◌, ℕ, ◌+◌, ◌<◌, List, ◌++◌, length, get_or, drop, ap, sym, ◌∙◌}
+use Rattle.std.proofs.lemmas.List.{at_drop_more}
+use Rattle.gq_text.specs.declared.place.Span.{Span}
+use Rattle.gq_tree.specs.Plain.{Says, Vals, TypeOf}
+use Rattle.gq_tree.specs.Views.{name_of, value_view, values_view, entries_view}
+use Rattle.gq_tree.specs.declared.value.Value.{Value}
+use Rattle.gq_tree.specs.declared.value.ObjectField.{ObjectField}
+use Rattle.gq_tree.proofs.ValueLemmas.{value_key}
+use Rattle.gq_types.specs.Entries.{EntryOf}
+use Rattle.gq_values.specs.Literals.{items_of_type, field_of_type}
+use Rattle.gq_type_system.specs.DefaultValuesPlaces.{type_in, below_of, gathered, gathered_of}
+
+module _ (es : List EntryOf) (at : TypeOf Span → Says Span → Vals Span → List ℕ) (t : TypeOf Span) where
+  -- an item of a list literal
+  pub items_more : (items : List Value) (i : ℕ) (x : Value) → i < length items → x ≡ get_or items i x
+      → gathered es at (below_of es t) (values_view (drop i items)) ≡ gathered_of es at (type_in (items_of_type es t)) (value_view x) ++ gathered es at (below_of es t) (values_view (drop (i + 1) items))
+  items_more items i x below is =
+      at_drop_more (λ rest. gathered es at (below_of es t) (values_view rest)) items i x below
+      ∙ ap (λ y. gathered_of es at (type_in (below_of es t (value_view y).label.key)) (value_view y) ++ gathered es at (below_of es t) (values_view (drop (i + 1) items))) (sym is)
+      ∙ ap (λ k. gathered_of es at (type_in (below_of es t k)) (value_view x) ++ gathered es at (below_of es t) (values_view (drop (i + 1) items))) (value_key x)
+
+  -- a field of an object literal
+  pub fields_more : (given : List ObjectField) (i : ℕ) (x : ObjectField) → i < length given → x ≡ get_or given i x
+      → gathered es at (below_of es t) (entries_view (drop i given)) ≡ gathered_of es at (type_in (field_of_type es t (name_of x.name).text)) (value_view x.value) ++ gathered es at (below_of es t) (entries_view (drop (i + 1) given))
+  fields_more given i x below is =
+      at_drop_more (λ rest. gathered es at (below_of es t) (entries_view rest)) given i x below
+      ∙ ap (λ (y : ObjectField). gathered_of es at (type_in (field_of_type es t (name_of y.name).text)) (value_view y.value) ++ gathered es at (below_of es t) (entries_view (drop (i + 1) given))) (sym is)

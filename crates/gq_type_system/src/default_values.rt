@@ -1,0 +1,281 @@
+//! The types one of whose input fields leads back to itself by default values (section 3.10).
+ghost use Rattle.std.specs.Prelude.{◌≡◌, ◌++◌, map, flat_map, IfOk, OnOk};
+ghost use Rattle.gq_tree.specs.Views.{type_view, value_view, values_view, entries_view};
+ghost use Rattle.gq_values.specs.Literals.{items_of_type, input_object_at};
+ghost use Rattle.gq_type_system.specs.DefaultValuesPlaces.{field_view, fields_view, type_in, type_at, field_type, keys_in, has_default, numbers_of, absent_number, absent_numbers, absent_in, below_of, gathered, gathered_of, field_leads, any_marked};
+ghost use Rattle.gq_type_system.specs.EndlessInputsPlaces.{MarksByDefault, row_items};
+ghost use Rattle.gq_types.specs.Look.{types_view, text_of};
+
+use crate::input_fields::{Field, InputFields, input_fields};
+use crate::marks::is_marked;
+use gq_names::NameList;
+use gq_reach::on_cycles;
+use gq_text::NoMemory;
+use gq_tree::{ObjectField, TypeRef, Value};
+use gq_types::{TypeKind, Types};
+use std::alloc::Global;
+
+/// The input object at whose fields an object literal at that type is read.
+#[tactic(auto, using(gq_tree::proofs::Trees::types))]
+fn input_object_at<'a>(types: &Types, type_ref: &'a TypeRef) -> Option<&'a str>
+    ensures { text_of result ≡ input_object_at (types_view types.now) (type_view type_ref.now) }
+{
+    match type_ref {
+        TypeRef::Named(name) => match types.kind(name.text.as_str()) {
+            Some(TypeKind::InputObject) => Some(name.text.as_str()),
+            _ => None,
+        },
+        TypeRef::List(item) => input_object_at(types, item),
+        TypeRef::NonNull(inner) => input_object_at(types, inner),
+    }
+}
+
+/// The type of the items of a list literal at that type.
+#[tactic(auto, using(gq_tree::proofs::Trees::types, crate::proofs::ReadingLemmas::nothing_below_names))]
+fn item_type<'a>(types: &Types, type_ref: &'a TypeRef) -> Option<&'a TypeRef>
+    ensures { type_at result ≡ type_in (items_of_type (types_view types.now) (type_view type_ref.now)) }
+{
+    match type_ref {
+        TypeRef::Named(_) => None,
+        TypeRef::List(item) => Some(item),
+        TypeRef::NonNull(inner) => item_type(types, inner),
+    }
+}
+
+/// The type of the field of that name of an input object.
+fn field_type<'a>(types: &'a Types, type_name: Option<&str>, name: &str) -> Option<&'a TypeRef>
+    ensures { type_at result ≡ field_type (types_view types.now) (text_of type_name.entry) name.now }
+{
+    match type_name {
+        Some(type_name) => match types.input_field(type_name, name) {
+            Some(input) => Some(&input.type_ref),
+            None => None,
+        },
+        None => None,
+    }
+}
+
+fn has_default(types: &Types, field: &Field<'_>) -> bool
+    ensures { result ≡ has_default (types_view types.now) (field_view field.now) }
+{
+    match types.input_field(field.type_name, field.name) {
+        Some(input) => input.default.is_some(),
+        None => false,
+    }
+}
+
+/// The names in the braces of an object literal.
+fn names_in(alloc: Global, given: &[ObjectField]) -> Result<NameList, NoMemory>
+    ensures { IfOk result (λ names. names ≡ keys_in (entries_view given.now)) }
+{
+    let mut names = NameList::new(alloc);
+    for field in given {
+        names.push(field.name.text.as_str())?;
+    }
+    Ok(names)
+}
+
+/// The numbers of the input fields of the type of that name.
+fn numbers_of<'a>(types: &Types, all: &'a InputFields<'_>, type_name: &str) -> &'a [usize]
+    ensures { result.now ≡ numbers_of (types_view types.now) (row_items all.now.numbers.items) type_name.now }
+{
+    match types.type_number(type_name) {
+        Some(number) => match all.numbers.get(number) {
+            Some(numbers) => numbers.as_slice(),
+            None => &[],
+        },
+        None => &[],
+    }
+}
+
+/// Puts the number of a field, if its name is not among the names, and it has a default value.
+fn put_if_absent(
+    types: &Types,
+    fields: &[Field<'_>],
+    names: &NameList,
+    number: usize,
+    row: &mut Vec<usize>,
+) -> Result<(), NoMemory>
+    ensures { OnOk result (row.new.items ≡ row.old.items ++ absent_number (types_view types.now) (fields_view fields.now) names.now number) }
+{
+    let Some(field) = fields.get(number) else {
+        return Ok(());
+    };
+    if !names.contains(field.name) {
+        if has_default(types, field) {
+            row.push(number)?;
+        }
+    }
+    Ok(())
+}
+
+/// Puts those of the numbers whose fields are not among the names, and have default values.
+#[tactic(auto, using(gq_tree::proofs::Trees::gathers))]
+fn put_all_absent(
+    types: &Types,
+    fields: &[Field<'_>],
+    names: &NameList,
+    numbers: &[usize],
+    row: &mut Vec<usize>,
+) -> Result<(), NoMemory>
+    ensures { OnOk result (row.new.items ≡ row.old.items ++ flat_map (absent_number (types_view types.now) (fields_view fields.now) names.now) numbers.now) }
+{
+    for number in numbers {
+        put_if_absent(types, fields, names, *number, row)?;
+    }
+    Ok(())
+}
+
+/// Puts the numbers of the fields of an input object that are absent in an object literal and have default values.
+fn put_absent(
+    alloc: Global,
+    types: &Types,
+    all: &InputFields<'_>,
+    type_name: &str,
+    given: &[ObjectField],
+    row: &mut Vec<usize>,
+) -> Result<(), NoMemory>
+    ensures { OnOk result (row.new.items ≡ row.old.items ++ absent_numbers (types_view types.now) (fields_view all.now.fields.items) (row_items all.now.numbers.items) type_name.now (keys_in (entries_view given.now))) }
+{
+    let names = names_in(alloc, given)?;
+    let numbers = numbers_of(types, all, type_name);
+    put_all_absent(types, &all.fields, &names, numbers, row)
+}
+
+/// Puts what is absent in the object literals of a value that is read at that type, if it is read at one.
+#[cycle(defaults)]
+#[tactic(auto, using(gq_tree::proofs::Trees::gathers))]
+fn put_value(
+    alloc: Global,
+    types: &Types,
+    all: &InputFields<'_>,
+    value: &Value,
+    expected: Option<&TypeRef>,
+    row: &mut Vec<usize>,
+) -> Result<(), NoMemory>
+    ensures { OnOk result (row.new.items ≡ row.old.items ++ gathered_of (types_view types.now) (absent_in (types_view types.now) all.now) (type_at expected.entry) (value_view value.now)) }
+{
+    let Some(expected) = expected else {
+        return Ok(());
+    };
+    match value {
+        Value::List { items, .. } => put_items(alloc, types, all, items, expected, row),
+        Value::Object { fields, .. } => {
+            if let Some(type_name) = input_object_at(types, expected) {
+                put_absent(alloc, types, all, type_name, fields, row)?;
+            }
+            put_fields(alloc, types, all, fields, expected, row)
+        }
+        Value::Variable(_) => Ok(()),
+        Value::Int(_) | Value::Float(_) | Value::String(_) => Ok(()),
+        Value::Boolean { .. } | Value::Null { .. } | Value::Enum(_) => Ok(()),
+    }
+}
+
+/// Puts what is absent in the items of a list literal that is read at that type.
+#[cycle(defaults)]
+#[tactic(auto, using(gq_tree::proofs::Trees::gathers))]
+fn put_items(
+    alloc: Global,
+    types: &Types,
+    all: &InputFields<'_>,
+    items: &[Value],
+    expected: &TypeRef,
+    row: &mut Vec<usize>,
+) -> Result<(), NoMemory>
+    ensures { OnOk result (row.new.items ≡ row.old.items ++ gathered (types_view types.now) (absent_in (types_view types.now) all.now) (below_of (types_view types.now) (type_view expected.now)) (values_view items.now)) }
+{
+    let item = item_type(types, expected);
+    for value in items {
+        put_value(alloc, types, all, value, item, row)?;
+    }
+    Ok(())
+}
+
+/// Puts what is absent in the fields of an object literal that is read at that type.
+#[cycle(defaults)]
+#[tactic(auto, using(gq_tree::proofs::Trees::gathers))]
+fn put_fields(
+    alloc: Global,
+    types: &Types,
+    all: &InputFields<'_>,
+    given: &[ObjectField],
+    expected: &TypeRef,
+    row: &mut Vec<usize>,
+) -> Result<(), NoMemory>
+    ensures { OnOk result (row.new.items ≡ row.old.items ++ gathered (types_view types.now) (absent_in (types_view types.now) all.now) (below_of (types_view types.now) (type_view expected.now)) (entries_view given.now)) }
+{
+    let type_name = input_object_at(types, expected);
+    for field in given {
+        let expected = field_type(types, type_name, field.name.text.as_str());
+        put_value(alloc, types, all, &field.value, expected, row)?;
+    }
+    Ok(())
+}
+
+/// The numbers of the fields that a field leads to.
+fn field_leads(
+    alloc: Global,
+    types: &Types,
+    all: &InputFields<'_>,
+    field: &Field<'_>,
+) -> Result<Vec<usize>, NoMemory>
+    ensures { IfOk result (λ row. row.items ≡ field_leads (types_view types.now) (fields_view all.now.fields.items) (row_items all.now.numbers.items) (field_view field.now)) }
+{
+    let mut row = Vec::new(alloc);
+    if let Some(input) = types.input_field(field.type_name, field.name) {
+        if let Some(default) = &input.default {
+            put_value(alloc, types, all, default, Some(&input.type_ref), &mut row)?;
+        }
+    }
+    Ok(row)
+}
+
+/// For each input field the numbers of the fields that it leads to.
+#[tactic(auto, using(gq_tree::proofs::Trees::gathers))]
+fn field_rows(
+    alloc: Global,
+    types: &Types,
+    all: &InputFields<'_>,
+) -> Result<Vec<Vec<usize>>, NoMemory>
+    ensures { IfOk result (λ rows. row_items rows.items ≡ map (field_leads (types_view types.now) (fields_view all.now.fields.items) (row_items all.now.numbers.items)) (fields_view all.now.fields.items)) }
+{
+    let mut rows = Vec::new(alloc);
+    for field in &all.fields {
+        rows.push(field_leads(alloc, types, all, field)?)?;
+    }
+    Ok(rows)
+}
+
+fn any_marked(marks: &[bool], numbers: &[usize]) -> bool
+    ensures { result ≡ any_marked marks.now numbers.now }
+{
+    for number in numbers {
+        if is_marked(marks, *number) {
+            return true;
+        }
+    }
+    false
+}
+
+/// Marks each row that has a marked number.
+#[tactic(auto, using(gq_tree::proofs::Trees::gathers))]
+fn marked_rows(alloc: Global, marks: &[bool], rows: &[Vec<usize>]) -> Result<Vec<bool>, NoMemory>
+    ensures { IfOk result (λ marked. marked.items ≡ map (any_marked marks.now) (row_items rows.now)) }
+{
+    let mut marked = Vec::new(alloc);
+    for row in rows {
+        marked.push(any_marked(marks, row))?;
+    }
+    Ok(marked)
+}
+
+/// Marks each type one of whose input fields leads back to itself by default values. There is a mark for each entry.
+pub fn marked_by_default(alloc: Global, types: &Types) -> Result<Vec<bool>, NoMemory>
+    ensures { IfOk result (λ marks. MarksByDefault (types_view types.now) marks.items) }
+{
+    let all = input_fields(alloc, types)?;
+    let rows = field_rows(alloc, types, &all)?;
+    let marks = on_cycles(alloc, &rows)?;
+    marked_rows(alloc, &marks, &all.numbers)
+}

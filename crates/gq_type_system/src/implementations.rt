@@ -1,0 +1,314 @@
+//! How a type implements the interfaces that it declares (GraphQL, October 2021, sections 3.6.1 and 3.7).
+ghost use Rattle.std.specs.Prelude.{◌≡◌, ◌++◌, IfOk, OnOk, map};
+ghost use Rattle.std.specs.List.{list_any};
+ghost use Rattle.gq_tree.specs.Same.{same_types};
+ghost use Rattle.gq_tree.specs.Views.{name_of, type_view, input_view, field_definition_view, type_system_view};
+ghost use Rattle.gq_type_system.specs.ImplementationsPlaces.{is_required, breaks_argument_named, breaks_arguments, requires_further, breaks_own_field, breaks_field_named, breaks_fields, lacks_further, lacks_interfaces, breaks_interface, breaks_implementation, told_of, bad_implementation, bad_implementations};
+ghost use Rattle.gq_types.specs.Look.{types_view};
+ghost use Rattle.gq_types.specs.SubtypesTests.{covers, may_be_subtype_name};
+
+use gq_found::{Code, Item};
+use gq_text::NoMemory;
+use gq_tree::{
+    FieldDefinition, InputValueDefinition, Name, TypeBody, TypeRef, TypeSystemDefinition,
+};
+use gq_types::{Arguments, Entry, TypeKind, Types};
+use std::alloc::Global;
+
+/// Each object type and interface that does not implement an interface as it must. The work for a type is the sum over
+/// its interfaces of their fields and interfaces.
+pub fn put_bad_implementations(
+    alloc: Global,
+    types: &Types,
+    items: &mut Vec<Item>,
+) -> Result<(), NoMemory>
+    ensures { OnOk result (items.new.items ≡ items.old.items ++ bad_implementations (types_view types.now)) }
+{
+    let entries = types.entries();
+    for number in 0..entries.len() {
+        put_bad_implementation(alloc, types, number, &entries[number], items)?;
+    }
+    Ok(())
+}
+
+fn put_bad_implementation(
+    alloc: Global,
+    types: &Types,
+    number: usize,
+    entry: &Entry,
+    items: &mut Vec<Item>,
+) -> Result<(), NoMemory>
+    ensures { OnOk result (items.new.items ≡ items.old.items ++ bad_implementation (types_view types.now) number entry.now.file (type_system_view entry.now.definition)) }
+{
+    let TypeSystemDefinition::Type(one) = &entry.definition else {
+        return Ok(());
+    };
+    if one.extends {
+        return Ok(());
+    }
+    match one.body {
+        TypeBody::Object(_) | TypeBody::Interface(_) => {
+            put_if_broken(alloc, types, number, entry.file, &one.name, items)
+        }
+        TypeBody::Scalar | TypeBody::Union(_) | TypeBody::Enum(_) | TypeBody::InputObject(_) => {
+            Ok(())
+        }
+    }
+}
+
+fn put_if_broken(
+    alloc: Global,
+    types: &Types,
+    number: usize,
+    file: usize,
+    name: &Name,
+    items: &mut Vec<Item>,
+) -> Result<(), NoMemory>
+    ensures { OnOk result (items.new.items ≡ items.old.items ++ told_of (types_view types.now) number file (name_of name.now)) }
+{
+    if breaks_implementation(alloc, types, number, name.text.as_str())? {
+        items.push(Item {
+            file,
+            start: name.span.start,
+            code: Code::BadImplementation,
+            end: name.span.end,
+        })?;
+    }
+    Ok(())
+}
+
+fn breaks_implementation(
+    alloc: Global,
+    types: &Types,
+    number: usize,
+    name: &str,
+) -> Result<bool, NoMemory>
+    ensures { IfOk result (λ b. b ≡ breaks_implementation (types_view types.now) number name.now) }
+{
+    let parts = types.joined(number);
+    for part in parts {
+        if breaks_some_interface(alloc, types, number, name, types.interfaces_at(*part))? {
+            return Ok(true);
+        }
+    }
+    Ok(false)
+}
+
+fn breaks_some_interface(
+    alloc: Global,
+    types: &Types,
+    number: usize,
+    name: &str,
+    interfaces: &[Name],
+) -> Result<bool, NoMemory>
+    ensures { IfOk result (λ b. b ≡ list_any (λ i. breaks_interface (types_view types.now) number name.now i.text) (map name_of interfaces.now)) }
+{
+    for interface in interfaces {
+        if breaks_interface(alloc, types, number, name, interface.text.as_str())? {
+            return Ok(true);
+        }
+    }
+    Ok(false)
+}
+
+fn breaks_interface(
+    alloc: Global,
+    types: &Types,
+    number: usize,
+    name: &str,
+    interface: &str,
+) -> Result<bool, NoMemory>
+    ensures { IfOk result (λ b. b ≡ breaks_interface (types_view types.now) number name.now interface.now) }
+{
+    if interface == name {
+        return Ok(true);
+    }
+    if !types.has_kind(interface, TypeKind::Interface) {
+        return Ok(false);
+    }
+    match types.type_number(interface) {
+        Some(other) => {
+            if lacks_interfaces(types, number, other) {
+                return Ok(true);
+            }
+            breaks_fields(alloc, types, number, interface, other)
+        }
+        None => Ok(false),
+    }
+}
+
+fn lacks_interfaces(types: &Types, number: usize, other: usize) -> bool
+    ensures { result ≡ lacks_interfaces (types_view types.now) number other }
+{
+    let parts = types.joined(other);
+    for part in parts {
+        if lacks_some(types, number, types.interfaces_at(*part)) {
+            return true;
+        }
+    }
+    false
+}
+
+fn lacks_some(types: &Types, number: usize, interfaces: &[Name]) -> bool
+    ensures { result ≡ list_any (λ i. lacks_further (types_view types.now) number i.text) (map name_of interfaces.now) }
+{
+    for further in interfaces {
+        if lacks_further(types, number, further.text.as_str()) {
+            return true;
+        }
+    }
+    false
+}
+
+fn lacks_further(types: &Types, number: usize, further: &str) -> bool
+    ensures { result ≡ lacks_further (types_view types.now) number further.now }
+{
+    types.has_kind(further, TypeKind::Interface) && !types.declares_in(number, further)
+}
+
+fn breaks_fields(
+    alloc: Global,
+    types: &Types,
+    number: usize,
+    interface: &str,
+    other: usize,
+) -> Result<bool, NoMemory>
+    ensures { IfOk result (λ b. b ≡ breaks_fields (types_view types.now) number interface.now other) }
+{
+    let parts = types.joined(other);
+    for part in parts {
+        if breaks_some_field(alloc, types, number, interface, types.fields_at(*part))? {
+            return Ok(true);
+        }
+    }
+    Ok(false)
+}
+
+fn breaks_some_field(
+    alloc: Global,
+    types: &Types,
+    number: usize,
+    interface: &str,
+    fields: &[FieldDefinition],
+) -> Result<bool, NoMemory>
+    ensures { IfOk result (λ b. b ≡ list_any (λ f. breaks_field_named (types_view types.now) number interface.now f.name.text) (map field_definition_view fields.now)) }
+{
+    for field in fields {
+        if breaks_field_named(alloc, types, number, interface, field.name.text.as_str())? {
+            return Ok(true);
+        }
+    }
+    Ok(false)
+}
+
+fn breaks_field_named(
+    alloc: Global,
+    types: &Types,
+    number: usize,
+    interface: &str,
+    name: &str,
+) -> Result<bool, NoMemory>
+    ensures { IfOk result (λ b. b ≡ breaks_field_named (types_view types.now) number interface.now name.now) }
+{
+    match types.field(interface, name) {
+        Some(wanted) => match types.field_in(number, name) {
+            Some(own) => breaks_own_field(alloc, types, wanted, own),
+            None => Ok(true),
+        },
+        None => Ok(false),
+    }
+}
+
+fn breaks_own_field(
+    alloc: Global,
+    types: &Types,
+    wanted: &FieldDefinition,
+    own: &FieldDefinition,
+) -> Result<bool, NoMemory>
+    ensures { IfOk result (λ b. b ≡ breaks_own_field (types_view types.now) (field_definition_view wanted.now) (field_definition_view own.now)) }
+{
+    if !is_covered(types, &own.type_ref, &wanted.type_ref) {
+        return Ok(true);
+    }
+    let wanted_arguments = Arguments::of(alloc, &wanted.arguments)?;
+    let own_arguments = Arguments::of(alloc, &own.arguments)?;
+    if breaks_arguments(&wanted_arguments, &own_arguments) {
+        return Ok(true);
+    }
+    Ok(requires_further(&wanted_arguments, &own_arguments))
+}
+
+fn is_covered(types: &Types, sub: &TypeRef, super_type: &TypeRef) -> bool
+    ensures { result ≡ covers (may_be_subtype_name (types_view types.now)) (type_view sub.now) (type_view super_type.now) }
+{
+    types.may_be_subtype(sub, super_type)
+}
+
+fn breaks_arguments(wanted: &Arguments<'_>, own: &Arguments<'_>) -> bool
+    ensures { result ≡ breaks_arguments (map input_view wanted.now.all.now) (map input_view own.now.all.now) (map input_view wanted.now.all.now) }
+{
+    let all = wanted.all();
+    for argument in all {
+        if breaks_argument_named(wanted, own, argument.name.text.as_str()) {
+            return true;
+        }
+    }
+    false
+}
+
+fn breaks_argument_named(wanted: &Arguments<'_>, own: &Arguments<'_>, name: &str) -> bool
+    ensures { result ≡ breaks_argument_named (map input_view wanted.now.all.now) (map input_view own.now.all.now) name.now }
+{
+    match wanted.named(name) {
+        Some(wanted_argument) => match own.named(name) {
+            Some(own_argument) => !is_same_type(&wanted_argument.type_ref, &own_argument.type_ref),
+            None => true,
+        },
+        None => false,
+    }
+}
+
+fn requires_further(wanted: &Arguments<'_>, own: &Arguments<'_>) -> bool
+    ensures { result ≡ requires_further (map input_view wanted.now.all.now) (map input_view own.now.all.now) }
+{
+    let all = own.all();
+    for further in all {
+        if is_required(further) && wanted.named(further.name.text.as_str()).is_none() {
+            return true;
+        }
+    }
+    false
+}
+
+#[tactic(auto, using(gq_tree::proofs::Trees::types))]
+fn is_required(argument: &InputValueDefinition) -> bool
+    ensures { result ≡ is_required (input_view argument.now) }
+{
+    match argument.type_ref {
+        TypeRef::NonNull(_) => argument.default.is_none(),
+        TypeRef::Named(_) | TypeRef::List(_) => false,
+    }
+}
+
+#[tactic(auto, using(gq_tree::proofs::Trees::types))]
+fn is_same_type(a: &TypeRef, b: &TypeRef) -> bool
+    ensures { result ≡ same_types (type_view a.now) (type_view b.now) }
+{
+    match a {
+        TypeRef::Named(a) => match b {
+            TypeRef::Named(b) => a.text.as_str() == b.text.as_str(),
+            TypeRef::List(_) => false,
+            TypeRef::NonNull(_) => false,
+        },
+        TypeRef::List(a) => match b {
+            TypeRef::Named(_) => false,
+            TypeRef::List(b) => is_same_type(a, b),
+            TypeRef::NonNull(_) => false,
+        },
+        TypeRef::NonNull(a) => match b {
+            TypeRef::Named(_) => false,
+            TypeRef::List(_) => false,
+            TypeRef::NonNull(b) => is_same_type(a, b),
+        },
+    }
+}

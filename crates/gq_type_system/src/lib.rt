@@ -1,0 +1,38 @@
+//! What a schema must be (GraphQL, October 2021, section 3), a rule a module.
+#![tactic(auto)]
+
+mod bad_extension;
+mod default_values;
+pub mod defined_twice;
+mod directive_sites;
+mod directives_and_defaults;
+mod empty_or_repeated;
+mod endless_inputs;
+pub mod faults;
+mod implementations;
+mod input_fields;
+mod judged;
+mod marks;
+mod parts;
+mod query_root;
+mod required_inputs;
+mod reserved_name;
+mod root_entries;
+mod root_types;
+mod unknown_type;
+mod uses;
+mod wrong_kind;
+
+pub use defined_twice::definition_place;
+pub use faults::schema_faults;
+
+#[cfg(test)]
+mod tests_directives_and_defaults;
+#[cfg(test)]
+mod tests_endless_inputs;
+#[cfg(test)]
+mod tests_faults;
+#[cfg(test)]
+mod tests_implementations;
+#[cfg(test)]
+mod tests_plain_rules;

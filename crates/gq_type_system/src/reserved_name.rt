@@ -1,0 +1,83 @@
+//! Names that are reserved for introspection.
+ghost use Rattle.std.specs.Prelude.{◌≡◌, ◌++◌, OnOk, nat_eq, codes};
+ghost use Rattle.std.specs.List.{starts_with};
+ghost use Rattle.gq_tree.specs.Views.{name_of, type_system_view};
+ghost use Rattle.gq_types.specs.Entries.{entry_view};
+ghost use Rattle.gq_types.specs.Look.{types_view};
+ghost use Rattle.gq_type_system.specs.ReservedNamePlaces.{reserved_name, reserved_names_in, reserved_names};
+ghost use Rattle.gq_type_system.specs.Uses.{defined_names};
+ghost use Rattle.gq_type_system.specs.UsesViews.{names_view};
+
+use crate::judged::is_judged;
+use crate::uses::put_defined_names;
+use gq_found::{Code, Item};
+use gq_text::NoMemory;
+use gq_tree::Name;
+use gq_types::{Entry, Types};
+use std::alloc::Global;
+
+/// Whether the text begins with two underscores.
+fn is_reserved(text: &str) -> bool
+    ensures { result ≡ starts_with nat_eq text.now (codes "__") }
+{
+    text.starts_with("__")
+}
+
+/// The item of a name that is defined in that document, if it is reserved.
+fn put_reserved_name(file: usize, name: &Name, items: &mut Vec<Item>) -> Result<(), NoMemory>
+    ensures { OnOk result (items.new.items ≡ items.old.items ++ reserved_name file (name_of name.now)) }
+{
+    if is_reserved(name.text.as_str()) {
+        items.push(Item {
+            file,
+            start: name.span.start,
+            code: Code::ReservedName,
+            end: name.span.end,
+        })?;
+    }
+    Ok(())
+}
+
+/// The items of those names that are reserved.
+fn put_reserved_names_in(
+    file: usize,
+    names: &[&Name],
+    items: &mut Vec<Item>,
+) -> Result<(), NoMemory>
+    ensures { OnOk result (items.new.items ≡ items.old.items ++ reserved_names_in file (names_view names.now)) }
+{
+    for name in names {
+        put_reserved_name(file, name, items)?;
+    }
+    Ok(())
+}
+
+/// The items of the names that an entry defines and that are reserved.
+fn put_reserved_names_of(
+    alloc: Global,
+    entry: &Entry,
+    items: &mut Vec<Item>,
+) -> Result<(), NoMemory>
+    ensures { OnOk result (items.new.items ≡ items.old.items ++ reserved_names_in entry.now.file (defined_names (type_system_view entry.now.definition))) }
+{
+    let mut names = Vec::new(alloc);
+    put_defined_names(&entry.definition, &mut names)?;
+    put_reserved_names_in(entry.file, &names, items)
+}
+
+/// Each name that is defined and begins with two underscores (section 3.3, "Reserved names").
+pub fn put_reserved_names(
+    alloc: Global,
+    types: &Types,
+    items: &mut Vec<Item>,
+) -> Result<(), NoMemory>
+    ensures { OnOk result (items.new.items ≡ items.old.items ++ reserved_names (types_view types.now)) }
+{
+    let entries = types.entries();
+    for number in 0..entries.len() {
+        if is_judged(&entries[number].definition) {
+            put_reserved_names_of(alloc, &entries[number], items)?;
+        }
+    }
+    Ok(())
+}

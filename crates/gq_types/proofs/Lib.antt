@@ -1,0 +1,15 @@
+pub mod Searches
+pub mod TableLemmas
+pub mod JoinedLemmas
+pub mod PartsLemmas
+pub mod PartLookups
+pub mod PastLast
+pub mod DeclarerLemmas
+pub mod ImplementerLemmas
+pub mod NameLaws
+pub mod Gathered
+pub mod PartLemmas
+pub mod KindLemmas
+pub mod SubtypeLemmas
+pub mod PossibleLemmas
+pub mod ArgumentLemmas

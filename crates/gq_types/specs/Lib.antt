@@ -1,0 +1,17 @@
+pub mod Entries
+pub mod Kinds
+pub mod BuiltIn
+pub mod Joined
+pub mod Names
+pub mod Possible
+pub mod Roots
+pub mod Look
+pub mod UnderName
+pub mod Tables
+pub mod Declarers
+pub mod Laws
+pub mod LookUps
+pub mod Subtypes
+pub mod SubtypesTests
+pub mod PossiblePlaces
+pub mod Arguments

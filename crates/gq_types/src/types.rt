@@ -1,0 +1,264 @@
+//! The type system of a project.
+ghost use Rattle.std.specs.Prelude.{◌≡◌, ◌++◌, ◌<◌, IfOk, length, slice_get};
+ghost use Rattle.std.specs.Option.{option_map};
+ghost use Rattle.gq_types.specs.Entries.{entries_view};
+ghost use Rattle.gq_types.specs.BuiltIn.{built_in};
+ghost use Rattle.gq_types.specs.Joined.{type_number, kind_named, directive_number, schema_number};
+ghost use Rattle.gq_types.specs.Look.{types_view, owner_at, text_of, field_of, input_of, joined_numbers, directive_of};
+ghost use Rattle.gq_types.specs.LookUps.{field_in, declares_in};
+ghost use Rattle.gq_types.specs.Names.{field_named, input_named, has_value, has_member, declares, directive_named};
+ghost use Rattle.gq_types.specs.Roots.{root_of, default_root, entry_for, is_object};
+ghost use Rattle.gq_types.specs.Declarers.{declarers};
+ghost use Rattle.gq_types.specs.Tables.{lists_in, parts_at};
+
+use crate::built_in::built_in;
+use crate::declarers::Declarers;
+use crate::definitions::Definitions;
+use crate::entry::{Entry, TypeKind};
+use crate::joined::joined_numbers;
+use crate::parts::{Parts, all_parts, numbers_at};
+use crate::places::{field_at, input_at};
+use crate::roots::{default_name, first_root_at};
+use gq_text::NoMemory;
+use gq_tree::{DirectiveDefinition, FieldDefinition, InputValueDefinition, OperationKind};
+use std::alloc::Global;
+use std::marker::Model;
+
+/// The definitions and extensions of a type system, those that are built in first. Each name means what is first
+/// defined under it.
+///
+/// Contracts see it as the list of its definitions and extensions (`types_view`). A look-up searches no list of types or of fields,
+/// and takes no memory.
+#[derive(Drop)]
+pub struct Types {
+    definitions: Definitions,
+    joined: Vec<Vec<usize>>,
+    parts: Vec<Parts>,
+    declarers: Declarers,
+}
+
+impl Model for Types {
+    ghost use Rattle.std.specs.Prelude.{List};
+    ghost use Rattle.std.specs.Coded.{codes};
+    ghost use Rattle.gq_types.specs.contracts.entry.Entry as entry;
+    ghost use Rattle.gq_types.specs.declared.entry.Entry.{Entry};
+    ghost use Rattle.gq_types.specs.Entries.{entries_view};
+    ghost use Rattle.gq_types.specs.Tables.{IsIndex};
+
+    ghost Value = { List Entry };
+
+    ghost coded = { Prim.hlevel (codes, entry.the_row.coded) };
+
+    ghost view = { λ t. t.definitions };
+
+    ghost invariant = { λ t. IsIndex (entries_view t.definitions) t.joined.items t.parts.items t.declarers };
+}
+
+impl Types {
+    /// The type system of these definitions and extensions, which stand in the order of their documents and places.
+    pub fn of(alloc: Global, mut entries: Vec<Entry>) -> Result<Types, NoMemory>
+        ensures { IfOk result (λ types. types_view types ≡ built_in ++ entries_view entries.items) }
+    {
+        let mut all = built_in(alloc)?;
+        all.append(&mut entries)?;
+        let definitions = Definitions::of(alloc, all)?;
+        let joined = joined_numbers(alloc, &definitions)?;
+        let parts = all_parts(alloc, definitions.entries(), &joined)?;
+        let declarers = Declarers::of(alloc, &parts)?;
+        Ok(Types {
+            definitions,
+            joined,
+            parts,
+            declarers,
+        })
+    }
+
+    /// The definitions and extensions, those that are built in first.
+    pub fn entries(&self) -> &[Entry]
+        ensures { entries_view result.now ≡ types_view self.now }
+    {
+        self.definitions.entries()
+    }
+
+    /// The number of the first definition of a type of that name.
+    pub fn type_number(&self, name: &str) -> Option<usize>
+        ensures { result ≡ type_number (types_view self.now) name.now }
+    {
+        self.definitions.type_number(name)
+    }
+
+    /// The kind of the type of that name.
+    pub fn kind(&self, name: &str) -> Option<TypeKind>
+        ensures { result ≡ kind_named (types_view self.now) name.now }
+    {
+        self.definitions.kind(name)
+    }
+
+    /// The number of the schema definition or, without one, the number of entries (section 3.3).
+    pub fn schema_number(&self) -> usize
+        ensures { result ≡ schema_number (types_view self.now) }
+    {
+        self.definitions.schema_number()
+    }
+
+    /// The number of what the entry with that number belongs to: an extension to what it extends, which is the first
+    /// definition of its name if that is of its kind, and every other entry to itself.
+    pub fn owner(&self, number: usize) -> usize
+        requires { number < length (types_view self.now) }
+        ensures { result ≡ owner_at (types_view self.now) number }
+    {
+        self.definitions.owner(number)
+    }
+
+    /// The numbers of the entries that belong to that number, in order.
+    pub fn joined(&self, number: usize) -> &[usize]
+        ensures { result.now ≡ joined_numbers (types_view self.now) number }
+    {
+        numbers_at(&self.joined, number)
+    }
+
+    /// The field of that name of an object type or interface (section 3.6).
+    pub fn field(&self, type_name: &str, name: &str) -> Option<&FieldDefinition>
+        ensures { field_of result ≡ field_named (types_view self.now) type_name.now name.now }
+    {
+        let number = self.type_number(type_name)?;
+        self.field_in(number, name)
+    }
+
+    /// The field of that name of the object type or interface with that number, whose extensions are joined (section 3.6).
+    pub fn field_in(&self, number: usize, name: &str) -> Option<&FieldDefinition>
+        ensures { field_of result ≡ field_in (types_view self.now) number name.now }
+    {
+        let place = self.parts_numbered(number)?.fields.get(name)?;
+        field_at(self.entries(), place)
+    }
+
+    /// The input field of that name of an input object (section 3.10).
+    pub fn input_field(&self, type_name: &str, name: &str) -> Option<&InputValueDefinition>
+        ensures { input_of result ≡ input_named (types_view self.now) type_name.now name.now }
+    {
+        let place = self.parts_named(type_name)?.inputs.get(name)?;
+        input_at(self.entries(), place)
+    }
+
+    /// Whether the enum of that name has the value (section 3.9).
+    pub fn has_value(&self, type_name: &str, name: &str) -> bool
+        ensures { result ≡ has_value (types_view self.now) type_name.now name.now }
+    {
+        match self.parts_named(type_name) {
+            Some(parts) => parts.values.contains(name),
+            None => false,
+        }
+    }
+
+    /// Whether the union of that name has the member (section 3.8).
+    pub fn has_member(&self, type_name: &str, name: &str) -> bool
+        ensures { result ≡ has_member (types_view self.now) type_name.now name.now }
+    {
+        match self.parts_named(type_name) {
+            Some(parts) => parts.members.contains(name),
+            None => false,
+        }
+    }
+
+    /// Whether the type of that name declares that it implements the interface (sections 3.6 and 3.7).
+    pub fn declares(&self, type_name: &str, interface: &str) -> bool
+        ensures { result ≡ declares (types_view self.now) type_name.now interface.now }
+    {
+        match self.type_number(type_name) {
+            Some(number) => self.declares_in(number, interface),
+            None => false,
+        }
+    }
+
+    /// Whether the object type or interface with that number declares that it implements the interface (sections 3.6
+    /// and 3.7).
+    pub fn declares_in(&self, number: usize, interface: &str) -> bool
+        ensures { result ≡ declares_in (types_view self.now) number interface.now }
+    {
+        match self.parts_numbered(number) {
+            Some(parts) => parts.interfaces.contains(interface),
+            None => false,
+        }
+    }
+
+    /// The number of the first definition of a directive of that name.
+    pub fn directive_number(&self, name: &str) -> Option<usize>
+        ensures { result ≡ directive_number (types_view self.now) name.now }
+    {
+        self.definitions.directive_number(name)
+    }
+
+    /// The directive of that name (section 3.13).
+    pub fn directive(&self, name: &str) -> Option<&DirectiveDefinition>
+        ensures { directive_of result ≡ directive_named (types_view self.now) name.now }
+    {
+        self.definitions.directive(name)
+    }
+
+    /// The root operation type of that kind (section 3.3.1), which is an object type.
+    pub fn root(&self, kind: OperationKind) -> Option<&str>
+        ensures { text_of result ≡ root_of (types_view self.now) kind }
+    {
+        let name = match self.default_root(kind) {
+            Some(name) => name,
+            None => self.entry_for(kind)?,
+        };
+        if self.is_object(name) {
+            Some(name)
+        } else {
+            None
+        }
+    }
+
+    /// The root operation type that stands without a schema definition, by its name (section 3.3.1).
+    pub fn default_root(&self, kind: OperationKind) -> Option<&'static str>
+        ensures { text_of result ≡ default_root (types_view self.now) kind }
+    {
+        let name = default_name(kind);
+        if self.schema_number() == self.entries().len() && self.is_object(name) {
+            Some(name)
+        } else {
+            None
+        }
+    }
+
+    /// What the first entry of that kind of operation names, in the schema definition and its extensions.
+    fn entry_for(&self, kind: OperationKind) -> Option<&str>
+        ensures { text_of result ≡ entry_for (types_view self.now) kind }
+    {
+        first_root_at(self.entries(), self.joined(self.schema_number()), kind)
+    }
+
+    /// Whether the name is that of an object type.
+    fn is_object(&self, name: &str) -> bool
+        ensures { result ≡ is_object (types_view self.now) name.now }
+    {
+        match self.kind(name) {
+            Some(kind) => TypeKind::Object.is(kind),
+            None => false,
+        }
+    }
+
+    /// The numbers of the entries of the types that declare the interface, in order.
+    pub(crate) fn declarers(&self, interface: &str) -> &[usize]
+        ensures { result.now ≡ declarers (types_view self.now) interface.now }
+    {
+        self.declarers.named(interface)
+    }
+
+    /// The parts of the type of that name.
+    fn parts_named(&self, type_name: &str) -> Option<&Parts>
+        ensures { option_map (λ p. lists_in p.now) result ≡ option_map (λ number. parts_at (types_view self.now) (joined_numbers (types_view self.now) number)) (type_number (types_view self.now) type_name.now) }
+    {
+        let number = self.type_number(type_name)?;
+        self.parts.get(number)
+    }
+
+    /// The parts of the type with that number.
+    fn parts_numbered(&self, number: usize) -> Option<&Parts>
+        ensures { option_map (λ p. lists_in p.now) result ≡ option_map (λ e. parts_at (types_view self.now) (joined_numbers (types_view self.now) number)) (slice_get (types_view self.now) number) }
+    {
+        self.parts.get(number)
+    }
+}

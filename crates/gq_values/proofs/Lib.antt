@@ -1,0 +1,8 @@
+pub mod DigitLemmas
+pub mod Steps
+pub mod FoundLemmas
+pub mod LiteralLemmas
+pub mod LiteralRules
+pub mod ArgumentLemmas
+pub mod ArgumentRules
+pub mod DirectiveRules

@@ -1,0 +1,287 @@
+-- The items of a literal are the faults of section 5.6 in it.
+use Rattle.std.proofs.Common.{◌≡◌, ℕ, suc, ◌+◌, Bool, true, false, if◌then◌else◌, List, [], ◌∷◌, ◌++◌, inl, inr, ◌↔◌, Contains, refl, sym, ap, subst, ◌∙◌, Option, Some, None, arith}
+use Rattle.std.specs.Prelude.{not, ◌&&◌, option_and_then}
+use Rattle.std.specs.Option.{option_map, option_map_or}
+use Rattle.std.specs.List.{find, list_any, slice_get}
+use Rattle.std.specs.Str.{bytes_eq}
+use Rattle.std.specs.Cmp.Lexicographic.{bytes_decides, nat_list_eq_equiv}
+use Rattle.std.proofs.lemmas.List.Elements.{Contains-append_left, Contains-append_right, Contains-append_cases}
+use Rattle.std.proofs.lemmas.Map.Views.{Contains-from_any, list_any-from_Contains}
+use Rattle.std.proofs.lemmas.Option.{none-some}
+use Rattle.gq_text.specs.declared.place.Span.{Span}
+use Rattle.gq_tree.specs.Forest.{none, more}
+use Rattle.gq_tree.specs.Plain.{NameOf, Says, Val, Vals, TypeOf, named, list_of, non_null, InputOf, variable, int, float, string, boolean, null, enum, list, object}
+use Rattle.gq_names.specs.Repeats.{repeated}
+use Rattle.gq_names.proofs.RepeatLemmas.{contains_none, contains_first, contains_cases, repeated_is}
+use Rattle.gq_found.specs.declared.code.Code.TheVariants.{WrongValue, UnknownInputField, InputFieldNotUnique, InputFieldMissing}
+use Rattle.gq_found.specs.declared.item.Item.{Item}
+use Rattle.gq_types.specs.declared.entry.TypeKind.{TypeKind}
+use Rattle.gq_types.specs.declared.entry.TypeKind.TheVariants as kind
+use Rattle.gq_types.specs.Entries.{Text, EntryOf, Numbered, numbered_from, numbered}
+use Rattle.gq_types.specs.Joined.{In, put_in, type_number, kind_named, inputs_in_body, body_in, inputs_of, joined}
+use Rattle.gq_types.specs.Look.{joined_numbers}
+use Rattle.gq_types.specs.Names.{input_named}
+use Rattle.gq_values.specs.Literals.{fits, fits_kind, Reading, at_type, at_any, not_read, part_at, StandsIn, here, within, after, is_input_object, input_object_at}
+use Rattle.gq_values.specs.Items.{item_at, item_over}
+use Rattle.gq_values.specs.LiteralFaults.{entry_names, HasNone, literal_place, first_byte, is_required, is_read, IsFaultOf, wrong_value, unknown_field, field_not_unique, field_missing, IsLiteralFault}
+use Rattle.gq_values.specs.LiteralPlaces.{texts, repeated_fields, unknown_field_at, unknown_fields, is_missing, missing_field_at, missing_among, inputs_at, missing_in, missing_fields, field_faults, object_faults, entry_faults, own_faults, faults_in, literal_faults}
+use Rattle.gq_values.proofs.FoundLemmas.{only, from_if, to_if, from_find, from_filter, from_flat, to_flat, from_map, to_map}
+
+-- a name that is not among the texts of names
+pub none_given : (names : List (NameOf Span)) (text : Text) → list_any (bytes_eq text) (texts names) ≡ false → HasNone names text
+none_given names text absent name stands same =
+    let given = list_any-from_Contains nat_list_eq_equiv text (texts names) (to_map (λ (n : NameOf Span). n.text) names name text stands (sym same)) in
+    cc
+
+pub not_given : (names : List (NameOf Span)) (text : Text) → HasNone names text → list_any (bytes_eq text) (texts names) ≡ false
+not_given names text absent = by_test (list_any (bytes_eq text) (texts names)) refl
+  where
+    by_test : (b : Bool) → list_any (bytes_eq text) (texts names) ≡ b → list_any (bytes_eq text) (texts names) ≡ false
+    by_test false is = is
+    by_test true is =
+        let given = from_map (λ (n : NameOf Span). n.text) names text (Contains-from_any (λ s t same. (bytes_decides s t).0 same) text (texts names) is) in
+        absurd (absent given.0 given.1 (sym given.2))
+
+-- an entry is found at its number
+numbered_at : (es : List EntryOf) (first : ℕ) (n : Numbered) → Contains (numbered_from first es) n → (k : ℕ) × (n.number ≡ first + k) × (slice_get es k ≡ Some n.entry)
+numbered_at [] first n found = absurd (contains_none n found)
+numbered_at (e ∷ es) first n found = elim (contains_cases (record { number = first; entry = e }) (numbered_from (first + 1) es) n found) [
+  | inl is ↦ (let number = ap (λ (m : Numbered). m.number) is in (0, omega (arith, number), ap (λ (m : Numbered). Some m.entry) is))
+  | inr later ↦ (let rest = numbered_at es (first + 1) n later in (suc rest.0, omega (arith, rest.1), rest.2))
+]
+
+entry_at : (es : List EntryOf) (n : Numbered) → Contains (numbered es) n → slice_get es n.number ≡ Some n.entry
+entry_at es n found = let at = numbered_at es 0 n found in let number : n.number ≡ at.0 = omega (arith, at.1) in ap (slice_get es) number ∙ at.2
+
+-- the input field of a name stands in an entry that belongs to the input object
+input_stands : (es : List EntryOf) (number : ℕ) (y : In (InputOf Span)) → Contains (inputs_of es number) y → (k : ℕ) × Contains (joined_numbers es number) k × Contains (inputs_at es k) y.it
+input_stands es number y found =
+    let part = from_flat (λ (n : Numbered). put_in n.entry.file (inputs_in_body (body_in n.entry.definition))) (joined es number) y found in
+    let input = from_map (λ (x : InputOf Span). record { file = part.0.entry.file; it = x }) (inputs_in_body (body_in part.0.entry.definition)) y part.2 in
+    let entry = entry_at es part.0 (from_filter _ (numbered es) part.0 part.1) in
+    let stands = ap (λ (e : Option EntryOf). option_map_or (λ (d : EntryOf). inputs_in_body (body_in d.definition)) e []) entry in
+    let it = ap (λ (i : In (InputOf Span)). i.it) input.2 in (
+      part.0.number,
+      to_map (λ (n : Numbered). n.number) (joined es number) part.0 part.0.number part.1 refl,
+      subst (λ (xs : List (InputOf Span)). Contains xs y.it) (sym stands) (subst (λ x. Contains (inputs_in_body (body_in part.0.entry.definition)) x) (sym it) input.1),
+    )
+
+-- an object literal fits where its fields are those of an input object
+object_fits_kind : (es : List EntryOf) (text type_name : Text) (place : Span) (k : Option TypeKind) → (if is_input_object k then Some text else None) ≡ Some type_name → fits_kind es text k (object place) ≡ true
+object_fits_kind es text type_name place (Some kind.InputObject) e = refl
+object_fits_kind es text type_name place (Some kind.Scalar) e = absurd (none-some type_name e)
+object_fits_kind es text type_name place (Some kind.Object) e = absurd (none-some type_name e)
+object_fits_kind es text type_name place (Some kind.Interface) e = absurd (none-some type_name e)
+object_fits_kind es text type_name place (Some kind.Union) e = absurd (none-some type_name e)
+object_fits_kind es text type_name place (Some kind.Enum) e = absurd (none-some type_name e)
+object_fits_kind es text type_name place None e = absurd (none-some type_name e)
+
+object_fits : (es : List EntryOf) (type_name : Text) (place : Span) (t : TypeOf Span) → input_object_at es t ≡ Some type_name → fits es t (object place) ≡ true
+object_fits es type_name place (named name) e = object_fits_kind es name.text type_name place (kind_named es name.text) e
+object_fits es type_name place (list_of item) e = object_fits es type_name place item e
+object_fits es type_name place (non_null inner) e = object_fits es type_name place inner e
+
+-- a required field that is not given
+from_missing : (es : List EntryOf) (type_name text : Text) (names : List (NameOf Span)) → is_missing es type_name (texts names) text ≡ true →
+    (i : InputOf Span) × (input_named es type_name text ≡ Some i) × (is_required i ≡ true) × HasNone names text
+from_missing es type_name text names = by_input (input_named es type_name text) refl
+  where
+    by_given : (i : InputOf Span) → input_named es type_name text ≡ Some i → (r b : Bool) → is_required i ≡ r → list_any (bytes_eq text) (texts names) ≡ b → (r && not b) ≡ true →
+        (i : InputOf Span) × (input_named es type_name text ≡ Some i) × (is_required i ≡ true) × HasNone names text
+    by_given i is true false required absent holds = (i, is, required, none_given names text absent)
+    by_given i is true true required absent holds = absurd (cc)
+    by_given i is false b required absent holds = absurd (cc)
+
+    by_input : (o : Option (InputOf Span)) → input_named es type_name text ≡ o → (option_map_or is_required o false && not (list_any (bytes_eq text) (texts names))) ≡ true →
+        (i : InputOf Span) × (input_named es type_name text ≡ Some i) × (is_required i ≡ true) × HasNone names text
+    by_input None is holds = absurd (cc)
+    by_input (Some i) is holds = by_given i is (is_required i) (list_any (bytes_eq text) (texts names)) refl refl holds
+
+to_missing : (es : List EntryOf) (type_name text : Text) (names : List (NameOf Span)) (i : InputOf Span) → input_named es type_name text ≡ Some i → is_required i ≡ true → HasNone names text →
+    is_missing es type_name (texts names) text ≡ true
+to_missing es type_name text names i is required absent =
+    ap (λ (o : Option (InputOf Span)). option_map_or is_required o false && not (list_any (bytes_eq text) (texts names))) is
+    ∙ ap (λ (b : Bool). b && not (list_any (bytes_eq text) (texts names))) required
+    ∙ ap (λ (b : Bool). not b) (not_given names text absent)
+
+-- the missing fields of an object literal
+missing_found : (es : List EntryOf) (file : ℕ) (type_name : Text) (names : List (NameOf Span)) (place : Span) (item : Item) → Contains (missing_fields es file type_name (texts names) place) item →
+    (text : Text) × (is_missing es type_name (texts names) text ≡ true) × (item ≡ item_over file InputFieldMissing (first_byte place))
+missing_found es file type_name names place item = by_number (type_number es type_name)
+  where
+    by_number : (o : Option ℕ) → Contains (option_map_or (λ number. missing_in es file type_name (texts names) place (joined_numbers es number)) o []) item →
+        (text : Text) × (is_missing es type_name (texts names) text ≡ true) × (item ≡ item_over file InputFieldMissing (first_byte place))
+    by_number None found = absurd (contains_none item found)
+    by_number (Some number) found =
+        let entry = from_flat (λ k. missing_among es file type_name (texts names) place (inputs_at es k)) (joined_numbers es number) item found in
+        let input = from_flat (missing_field_at es file type_name (texts names) place) (inputs_at es entry.0) item entry.2 in
+        let one = from_if (is_missing es type_name (texts names) input.0.name.text) (item_over file InputFieldMissing (first_byte place)) item input.2 in
+        (input.0.name.text, one.0, one.1)
+
+-- where an input field of a name is found
+input_from : (es : List EntryOf) (type_name text : Text) (i : InputOf Span) → input_named es type_name text ≡ Some i →
+    (number : ℕ) × (type_number es type_name ≡ Some number) × (k : ℕ) × Contains (joined_numbers es number) k × (x : InputOf Span) × Contains (inputs_at es k) x × (text ≡ x.name.text)
+input_from es type_name text i = by_number (type_number es type_name) refl
+  where
+    by_field : (number : ℕ) → type_number es type_name ≡ Some number → (o : Option (In (InputOf Span))) → find (λ (j : In (InputOf Span)). bytes_eq text j.it.name.text) (inputs_of es number) ≡ o → option_map (λ (j : In (InputOf Span)). j.it) o ≡ Some i →
+        (number : ℕ) × (type_number es type_name ≡ Some number) × (k : ℕ) × Contains (joined_numbers es number) k × (x : InputOf Span) × Contains (inputs_at es k) x × (text ≡ x.name.text)
+    by_field number at None is same = absurd (none-some i same)
+    by_field number at (Some y) is same =
+        let found = from_find (λ (j : In (InputOf Span)). bytes_eq text j.it.name.text) (inputs_of es number) y is in
+        let stands = input_stands es number y found.0 in
+        (number, at, stands.0, stands.1, y.it, stands.2, (bytes_decides text y.it.name.text).0 found.1)
+
+    by_number : (o : Option ℕ) → type_number es type_name ≡ o →
+        option_and_then (λ number. option_map (λ (j : In (InputOf Span)). j.it) (find (λ (j : In (InputOf Span)). bytes_eq text j.it.name.text) (inputs_of es number))) o ≡ Some i →
+        (number : ℕ) × (type_number es type_name ≡ Some number) × (k : ℕ) × Contains (joined_numbers es number) k × (x : InputOf Span) × Contains (inputs_at es k) x × (text ≡ x.name.text)
+    by_number None at is = absurd (none-some i is)
+    by_number (Some number) at is = by_field number at (find (λ (j : In (InputOf Span)). bytes_eq text j.it.name.text) (inputs_of es number)) refl is
+
+missing_put : (es : List EntryOf) (file : ℕ) (type_name text : Text) (names : List (NameOf Span)) (place : Span) (item : Item) (i : InputOf Span) →
+    input_named es type_name text ≡ Some i → is_required i ≡ true → HasNone names text → item ≡ item_over file InputFieldMissing (first_byte place) →
+    Contains (missing_fields es file type_name (texts names) place) item
+missing_put es file type_name text names place item i is required absent told =
+    let at = input_from es type_name text i is in
+    let missing = to_missing es type_name text names i is required absent in
+    let here = to_if (is_missing es type_name (texts names) at.4.name.text) (item_over file InputFieldMissing (first_byte place)) item (ap (is_missing es type_name (texts names)) (sym at.6) ∙ missing) told in
+    let among = to_flat (missing_field_at es file type_name (texts names) place) (inputs_at es at.2) at.4 item at.5 here in
+    let inside = to_flat (λ k. missing_among es file type_name (texts names) place (inputs_at es k)) (joined_numbers es at.0) at.2 item at.3 among in
+    subst (λ (o : Option ℕ). Contains (option_map_or (λ number. missing_in es file type_name (texts names) place (joined_numbers es number)) o []) item) (sym at.1) inside
+
+module _ (es : List EntryOf) (file : ℕ) (item : Item) where
+  -- the input object at which the entries of a literal are read, where there is one
+  abbrev AreFieldsOf : Reading → Option Text → Type 0
+  AreFieldsOf reading on = (type_name : Text) → on ≡ Some type_name → (t : TypeOf Span) × (reading ≡ at_type t) × (input_object_at es t ≡ Some type_name)
+
+  unknown_is : (reading : Reading) (w : Val Span) (type_name : Text) (place : Span) (t : TypeOf Span) → reading ≡ at_type t → input_object_at es t ≡ Some type_name → w.label.says ≡ object place →
+      Contains (unknown_fields es file type_name (entry_names w.below)) item → IsFaultOf es file reading w item
+  unknown_is reading w type_name place t read on says found =
+      let one = from_flat (unknown_field_at es file type_name) (entry_names w.below) item found in
+      by_input one.0 one.1 (input_named es type_name one.0.text) refl one.2
+    where
+      by_input : (name : NameOf Span) → Contains (entry_names w.below) name → (o : Option (InputOf Span)) → input_named es type_name name.text ≡ o →
+          Contains (option_map_or (λ i. []) o (item_at file UnknownInputField name ∷ [])) item → IsFaultOf es file reading w item
+      by_input name stands None is told = unknown_field read on says stands is (only (item_at file UnknownInputField name) item told)
+      by_input name stands (Some i) is told = absurd (contains_none item told)
+
+  field_is : (reading : Reading) (w : Val Span) (type_name : Text) (place : Span) (t : TypeOf Span) → reading ≡ at_type t → input_object_at es t ≡ Some type_name → w.label.says ≡ object place →
+      Contains (field_faults es file (Some type_name) place (entry_names w.below)) item → IsFaultOf es file reading w item
+  field_is reading w type_name place t read on says found =
+      elim (Contains-append_cases (unknown_fields es file type_name (entry_names w.below)) (missing_fields es file type_name (texts (entry_names w.below)) place) item found) [
+        | inl unknown ↦ unknown_is reading w type_name place t read on says unknown
+        | inr missing ↦ (let one = missing_found es file type_name (entry_names w.below) place item missing in
+            let input = from_missing es type_name one.0 (entry_names w.below) one.1 in
+            field_missing read on says input.1 input.2 input.3 one.2)
+      ]
+
+  object_is : (reading : Reading) (w : Val Span) (place : Span) → is_read es reading w.label.says ≡ true → w.label.says ≡ object place → (on : Option Text) → AreFieldsOf reading on →
+      Contains (object_faults es file on place (entry_names w.below)) item → IsFaultOf es file reading w item
+  object_is reading w place read says on fields found =
+      elim (Contains-append_cases (repeated_fields file [] (entry_names w.below)) (field_faults es file on place (entry_names w.below)) item found) [
+        | inl again ↦ (let one = from_map (item_at file InputFieldNotUnique) (repeated (λ n. n.text) (entry_names w.below)) item again in
+            field_not_unique read says ((repeated_is (λ n. n.text) (entry_names w.below) one.0).0 one.1) one.2)
+        | inr rest ↦ by_object on fields rest
+      ]
+    where
+      by_object : (o : Option Text) → AreFieldsOf reading o → Contains (field_faults es file o place (entry_names w.below)) item → IsFaultOf es file reading w item
+      by_object None fields rest = absurd (contains_none item rest)
+      by_object (Some type_name) fields rest = let at = fields type_name refl in field_is reading w type_name place at.0 at.1 at.2 says rest
+
+  entry_is : (reading : Reading) (w : Val Span) → is_read es reading w.label.says ≡ true → (on : Option Text) → AreFieldsOf reading on → (says : Says Span) → w.label.says ≡ says →
+      Contains (entry_faults es file on says w.below) item → IsFaultOf es file reading w item
+  entry_is reading w read on fields (object place) is found = object_is reading w place read is on fields found
+  entry_is reading w read on fields (variable name place) is found = absurd (contains_none item found)
+  entry_is reading w read on fields (int text place) is found = absurd (contains_none item found)
+  entry_is reading w read on fields (float text place) is found = absurd (contains_none item found)
+  entry_is reading w read on fields (string text place) is found = absurd (contains_none item found)
+  entry_is reading w read on fields (boolean value place) is found = absurd (contains_none item found)
+  entry_is reading w read on fields (null place) is found = absurd (contains_none item found)
+  entry_is reading w read on fields (enum name) is found = absurd (contains_none item found)
+  entry_is reading w read on fields (list place) is found = absurd (contains_none item found)
+
+  own_is : (reading : Reading) (w : Val Span) → Contains (own_faults es file reading w.label.says w.below) item → IsFaultOf es file reading w item
+  own_is not_read w found = absurd (contains_none item found)
+  own_is at_any w found = entry_is at_any w refl None (λ type_name is. absurd (none-some type_name is)) w.label.says refl found
+  own_is (at_type t) w found = by_fit (fits es t w.label.says) refl found
+    where
+      by_fit : (b : Bool) → fits es t w.label.says ≡ b →
+          Contains (if b then entry_faults es file (input_object_at es t) w.label.says w.below else item_over file WrongValue (literal_place w.label.says) ∷ []) item → IsFaultOf es file (at_type t) w item
+      by_fit true fit told = entry_is (at_type t) w fit (input_object_at es t) (λ type_name on. (t, refl, on)) w.label.says refl told
+      by_fit false fit told = wrong_value refl fit (only (item_over file WrongValue (literal_place w.label.says)) item told)
+
+  -- the items of an object literal that is read are among its own
+  of_object : (reading : Reading) (w : Val Span) (place : Span) → is_read es reading w.label.says ≡ true → w.label.says ≡ object place →
+      ((on : Option Text) → AreFieldsOf reading on → Contains (object_faults es file on place (entry_names w.below)) item) → Contains (own_faults es file reading w.label.says w.below) item
+  of_object not_read w place read says found = absurd (cc)
+  of_object at_any w place read says found =
+      subst (λ s. Contains (entry_faults es file None s w.below) item) (sym says) (found None (λ type_name is. absurd (none-some type_name is)))
+  of_object (at_type t) w place read says found =
+      subst (λ b. Contains (if b then entry_faults es file (input_object_at es t) w.label.says w.below else item_over file WrongValue (literal_place w.label.says) ∷ []) item) (sym read)
+      (subst (λ s. Contains (entry_faults es file (input_object_at es t) s w.below) item) (sym says) (found (input_object_at es t) (λ type_name on. (t, refl, on))))
+
+  -- the items of the fields of an input object are among a literal's own
+  of_fields : (reading : Reading) (w : Val Span) (place : Span) (t : TypeOf Span) (type_name : Text) → reading ≡ at_type t → input_object_at es t ≡ Some type_name → w.label.says ≡ object place →
+      Contains (field_faults es file (Some type_name) place (entry_names w.below)) item → Contains (own_faults es file reading w.label.says w.below) item
+  of_fields reading w place t type_name read on says found =
+      let fit : fits es t w.label.says ≡ true = ap (fits es t) says ∙ object_fits es type_name place t on in
+      let told = Contains-append_right (repeated_fields file [] (entry_names w.below)) (field_faults es file (Some type_name) place (entry_names w.below)) item found in
+      let entry = subst (λ o. Contains (object_faults es file o place (entry_names w.below)) item) (sym on) told in
+      subst (λ r. Contains (own_faults es file r w.label.says w.below) item) (sym read)
+      (subst (λ b. Contains (if b then entry_faults es file (input_object_at es t) w.label.says w.below else item_over file WrongValue (literal_place w.label.says) ∷ []) item) (sym fit)
+      (subst (λ s. Contains (entry_faults es file (input_object_at es t) s w.below) item) (sym says) entry))
+
+  is_own : {reading : Reading} {w : Val Span} → IsFaultOf es file reading w item → Contains (own_faults es file reading w.label.says w.below) item
+  is_own {reading} {w} (wrong_value {t} read fit told) =
+      subst (λ r. Contains (own_faults es file r w.label.says w.below) item) (sym read)
+      (subst (λ b. Contains (if b then entry_faults es file (input_object_at es t) w.label.says w.below else item_over file WrongValue (literal_place w.label.says) ∷ []) item) (sym fit)
+      (contains_first (item_over file WrongValue (literal_place w.label.says)) [] item (sym told)))
+  is_own {reading} {w} (unknown_field {t} {type_name} {place} {name} read on says stands unknown told) =
+      let one = subst (λ o. Contains (option_map_or (λ (i : InputOf Span). []) o (item_at file UnknownInputField name ∷ [])) item) (sym unknown) (contains_first (item_at file UnknownInputField name) [] item (sym told)) in
+      let all = to_flat (unknown_field_at es file type_name) (entry_names w.below) name item stands one in
+      of_fields reading w place t type_name read on says
+      (Contains-append_left (unknown_fields es file type_name (entry_names w.below)) (missing_fields es file type_name (texts (entry_names w.below)) place) item all)
+  is_own {reading} {w} (field_not_unique {place} {name} read says again told) =
+      let found = to_map (item_at file InputFieldNotUnique) (repeated (λ n. n.text) (entry_names w.below)) name item ((repeated_is (λ n. n.text) (entry_names w.below) name).1 again) told in
+      of_object reading w place read says
+      (λ on fields. Contains-append_left (repeated_fields file [] (entry_names w.below)) (field_faults es file on place (entry_names w.below)) item found)
+  is_own {reading} {w} (field_missing {t} {type_name} {text} {place} {i} read on says is required absent told) =
+      of_fields reading w place t type_name read on says
+      (Contains-append_right (unknown_fields es file type_name (entry_names w.below)) (missing_fields es file type_name (texts (entry_names w.below)) place) item
+      (missing_put es file type_name text (entry_names w.below) place item i is required absent told))
+
+  -- literals in a row
+  abbrev Found : (Option (NameOf Span) → Reading) → Vals Span → Type 0
+  Found read vals = (reading : Reading) × (w : Val Span) × StandsIn es read vals reading w × Contains (own_faults es file reading w.label.says w.below) item
+
+  from_row : (read : Option (NameOf Span) → Reading) (vals : Vals Span) → Contains (faults_in es file read vals) item → Found read vals
+  from_row read none found = absurd (contains_none item found)
+  from_row read (more part below rest) found =
+      elim (Contains-append_cases (own_faults es file (read part.key) part.says below ++ faults_in es file (part_at es (read part.key) part.says) below) (faults_in es file read rest) item found) [
+        | inl first ↦ elim (Contains-append_cases (own_faults es file (read part.key) part.says below) (faults_in es file (part_at es (read part.key) part.says) below) item first) [
+          | inl own ↦ (read part.key, record { label = part; below = below }, here, own)
+          | inr inner ↦ (let one = from_row (part_at es (read part.key) part.says) below inner in (one.0, one.1, within one.2, one.3))
+        ]
+        | inr later ↦ (let one = from_row read rest later in (one.0, one.1, after one.2, one.3))
+      ]
+
+  to_row : {read : Option (NameOf Span) → Reading} {vals : Vals Span} {reading : Reading} {w : Val Span} → StandsIn es read vals reading w → Contains (own_faults es file reading w.label.says w.below) item →
+      Contains (faults_in es file read vals) item
+  to_row (here {read} {part} {below} {rest}) own =
+      Contains-append_left (own_faults es file (read part.key) part.says below ++ faults_in es file (part_at es (read part.key) part.says) below) (faults_in es file read rest) item
+      (Contains-append_left (own_faults es file (read part.key) part.says below) (faults_in es file (part_at es (read part.key) part.says) below) item own)
+  to_row (within {read} {part} {below} {rest} inner) own =
+      Contains-append_left (own_faults es file (read part.key) part.says below ++ faults_in es file (part_at es (read part.key) part.says) below) (faults_in es file read rest) item
+      (Contains-append_right (own_faults es file (read part.key) part.says below) (faults_in es file (part_at es (read part.key) part.says) below) item (to_row inner own))
+  to_row (after {read} {part} {below} {rest} later) own =
+      Contains-append_right (own_faults es file (read part.key) part.says below ++ faults_in es file (part_at es (read part.key) part.says) below) (faults_in es file read rest) item (to_row later own)
+
+  -- what is told of a literal is what is wrong with it or with one that stands in it
+  pub literal_faults_are : (reading : Reading) (value : Val Span) → Contains (literal_faults es file reading value) item ↔ IsLiteralFault es file reading value item
+  literal_faults_are reading value = (
+    λ found. (let one = from_row (λ key. reading) (more value.label value.below none) (Contains-append_left (literal_faults es file reading value) [] item found) in
+        record { inner = one.0; part = one.1; stands = one.2; fault = own_is one.0 one.1 one.3 }),
+    λ fault. elim (Contains-append_cases (literal_faults es file reading value) [] item (to_row fault.stands (is_own fault.fault))) [
+      | inl found ↦ found
+      | inr nothing ↦ absurd (contains_none item nothing)
+    ],
+  )

@@ -1,0 +1,63 @@
+-- The items of arguments, computed. Nothing here must be believed.
+use Rattle.std.specs.Prelude.{ℕ, Bool, false, List, [], ◌∷◌, ◌++◌, Option, Some, None, map, flat_map, if◌then◌else◌, not, ◌&&◌}
+use Rattle.std.specs.Option.{option_map, option_map_or}
+use Rattle.std.specs.Borrow.{Bor}
+use Rattle.std.specs.List.{list_any}
+use Rattle.std.specs.Str.{bytes_eq}
+use Rattle.gq_text.specs.declared.place.Span.{Span}
+use Rattle.gq_tree.specs.Plain.{NameOf, Val, InputOf}
+use Rattle.gq_tree.specs.Views.{input_view}
+use Rattle.gq_tree.specs.declared.type_system.InputValueDefinition.{InputValueDefinition}
+use Rattle.gq_names.specs.Repeats.{repeated_after}
+use Rattle.gq_found.specs.declared.code.Code.TheVariants.{UnknownArgument, ArgumentNotUnique, ArgumentMissing}
+use Rattle.gq_found.specs.declared.item.Item.{Item}
+use Rattle.gq_types.specs.Entries.{Text, EntryOf}
+use Rattle.gq_types.specs.Names.{argument_named}
+use Rattle.gq_values.specs.Items.{item_at}
+use Rattle.gq_values.specs.LiteralFaults.{is_required}
+use Rattle.gq_values.specs.LiteralPlaces.{texts, literal_faults}
+use Rattle.gq_values.specs.ArgumentFaults.{argument_names, argument_at}
+
+-- what the code's definitions of arguments stand for
+abbrev pub definitions_view : Option (Bor (List InputValueDefinition)) → Option (List (InputOf Span))
+definitions_view o = option_map (λ r. map input_view r.now) o
+
+abbrev pub definition_names : List InputValueDefinition → List Text
+definition_names definitions = map (λ d. d.name.text) definitions
+
+abbrev pub repeated_arguments : ℕ → List Text → List (NameOf Span) → List Item
+repeated_arguments file before names = map (item_at file ArgumentNotUnique) (repeated_after (λ n. n.text) before names)
+
+abbrev pub unknown_argument_at : ℕ → List (InputOf Span) → NameOf Span → List Item
+unknown_argument_at file known name = option_map_or (λ i. []) (argument_named known name.text) (item_at file UnknownArgument name ∷ [])
+
+abbrev pub unknown_arguments : ℕ → List (InputOf Span) → List (NameOf Span) → List Item
+unknown_arguments file known names = flat_map (unknown_argument_at file known) names
+
+abbrev pub is_missing_argument : List (InputOf Span) → List Text → Text → Bool
+is_missing_argument known given text = option_map_or is_required (argument_named known text) false && not (list_any (bytes_eq text) given)
+
+abbrev pub missing_argument_at : ℕ → List (InputOf Span) → List Text → NameOf Span → InputOf Span → List Item
+missing_argument_at file known given name i = if is_missing_argument known given i.name.text then item_at file ArgumentMissing name ∷ [] else []
+
+abbrev pub missing_among : ℕ → List (InputOf Span) → List Text → NameOf Span → List (InputOf Span) → List Item
+missing_among file known given name definitions = flat_map (missing_argument_at file known given name) definitions
+
+abbrev pub known_faults : ℕ → Option (List (InputOf Span)) → NameOf Span → List (NameOf Span) → List Item
+known_faults file None name names = []
+known_faults file (Some known) name names = unknown_arguments file known names ++ missing_among file known (texts names) name known
+
+abbrev pub value_faults_under : List EntryOf → ℕ → Option (List (InputOf Span)) → Val Span → Option (NameOf Span) → List Item
+value_faults_under es file definitions argument None = []
+value_faults_under es file definitions argument (Some key) = literal_faults es file (argument_at definitions key.text) argument
+
+abbrev pub value_faults_of : List EntryOf → ℕ → Option (List (InputOf Span)) → Val Span → List Item
+value_faults_of es file definitions argument = value_faults_under es file definitions argument argument.label.key
+
+abbrev pub argument_value_faults : List EntryOf → ℕ → Option (List (InputOf Span)) → List (Val Span) → List Item
+argument_value_faults es file definitions arguments = flat_map (value_faults_of es file definitions) arguments
+
+-- what is told of arguments
+abbrev pub argument_faults : List EntryOf → ℕ → Option (List (InputOf Span)) → NameOf Span → List (Val Span) → List Item
+argument_faults es file definitions name arguments =
+    repeated_arguments file [] (argument_names arguments) ++ (known_faults file definitions name (argument_names arguments) ++ argument_value_faults es file definitions arguments)

@@ -1,0 +1,44 @@
+-- The items of directives, computed. Nothing here must be believed.
+use Rattle.std.specs.Prelude.{ℕ, Bool, true, List, [], ◌∷◌, ◌++◌, Option, Some, None, map, flat_map, if◌then◌else◌}
+use Rattle.std.specs.Option.{option_map_or}
+use Rattle.std.specs.List.{list_any}
+use Rattle.gq_text.specs.declared.place.Span.{Span}
+use Rattle.gq_tree.specs.declared.type_system.DirectiveLocation.{DirectiveLocation}
+use Rattle.gq_tree.specs.Plain.{NameOf, DirectiveOf, TypeSystemOf}
+use Rattle.gq_tree.specs.Same.{same_locations}
+use Rattle.gq_names.specs.Repeats.{repeated_after}
+use Rattle.gq_found.specs.declared.code.Code.TheVariants.{UnknownDirective, DirectiveInWrongPlace, DirectiveRepeated}
+use Rattle.gq_found.specs.declared.item.Item.{Item}
+use Rattle.gq_types.specs.Entries.{Text, EntryOf}
+use Rattle.gq_types.specs.Names.{directive_named}
+use Rattle.gq_values.specs.Items.{item_at}
+use Rattle.gq_values.specs.ArgumentPlaces.{argument_faults}
+use Rattle.gq_values.specs.DirectiveFaults.{directive_arguments, locations_in, is_repeatable}
+
+abbrev pub directive_texts : List (DirectiveOf Span) → List Text
+directive_texts directives = map (λ d. d.name.text) directives
+
+abbrev pub place_faults : ℕ → DirectiveLocation → NameOf Span → Option (TypeSystemOf Span) → List Item
+place_faults file location name None = item_at file UnknownDirective name ∷ []
+place_faults file location name (Some definition) = if list_any (same_locations location) (locations_in definition) then [] else item_at file DirectiveInWrongPlace name ∷ []
+
+abbrev pub faults_of_directive : List EntryOf → ℕ → DirectiveLocation → DirectiveOf Span → List Item
+faults_of_directive es file location d =
+    place_faults file location d.name (directive_named es d.name.text) ++ argument_faults es file (directive_arguments es d.name.text) d.name d.arguments
+
+abbrev pub faults_of_directives : List EntryOf → ℕ → DirectiveLocation → List (DirectiveOf Span) → List Item
+faults_of_directives es file location directives = flat_map (faults_of_directive es file location) directives
+
+-- whether it may stand twice; what is not known may
+abbrev pub may_repeat : List EntryOf → Text → Bool
+may_repeat es text = option_map_or is_repeatable (directive_named es text) true
+
+abbrev pub repetition_at : List EntryOf → ℕ → DirectiveOf Span → List Item
+repetition_at es file d = if may_repeat es d.name.text then [] else item_at file DirectiveRepeated d.name ∷ []
+
+abbrev pub repetitions : List EntryOf → ℕ → List Text → List (DirectiveOf Span) → List Item
+repetitions es file before directives = flat_map (repetition_at es file) (repeated_after (λ d. d.name.text) before directives)
+
+-- what is told of directives
+abbrev pub directive_faults : List EntryOf → ℕ → DirectiveLocation → List Text → List (DirectiveOf Span) → List Item
+directive_faults es file location before directives = faults_of_directives es file location directives ++ repetitions es file before directives

@@ -1,0 +1,9 @@
+pub mod Literals
+pub mod Items
+pub mod Readings
+pub mod LiteralFaults
+pub mod LiteralPlaces
+pub mod ArgumentFaults
+pub mod ArgumentPlaces
+pub mod DirectiveFaults
+pub mod DirectivePlaces

@@ -1,0 +1,105 @@
+-- The items of literals, computed. Nothing here must be believed.
+use Rattle.std.specs.Prelude.{ℕ, Bool, false, List, [], ◌∷◌, ◌++◌, Option, Some, None, map, flat_map, if◌then◌else◌, not, ◌&&◌, ◌||◌, slice_get}
+use Rattle.std.specs.Option.{option_map_or}
+use Rattle.std.specs.List.{list_any}
+use Rattle.std.specs.Str.{bytes_eq}
+use Rattle.gq_text.specs.declared.place.Span.{Span}
+use Rattle.gq_tree.specs.Forest.{none, more}
+use Rattle.gq_tree.specs.Plain.{NameOf, Says, Val, Vals, InputOf, variable, int, float, string, boolean, null, enum, list, object}
+use Rattle.gq_tree.specs.Views.{value_view}
+use Rattle.gq_tree.specs.declared.value.Value.{Value}
+use Rattle.gq_tree.specs.declared.value.ObjectField.{ObjectField}
+use Rattle.gq_names.specs.Repeats.{repeated_after}
+use Rattle.gq_found.specs.declared.code.Code.TheVariants.{WrongValue, UnknownInputField, InputFieldNotUnique, InputFieldMissing}
+use Rattle.gq_found.specs.declared.item.Item.{Item}
+use Rattle.gq_types.specs.Entries.{Text, EntryOf}
+use Rattle.gq_types.specs.Joined.{type_number, inputs_in_body, body_in}
+use Rattle.gq_types.specs.Look.{joined_numbers}
+use Rattle.gq_types.specs.Names.{input_named}
+use Rattle.gq_values.specs.Literals.{is_variable, is_null, is_object_literal, fits, Reading, at_type, at_any, not_read, part_at, field_at, input_object_at}
+use Rattle.gq_values.specs.Items.{item_at, item_over}
+use Rattle.gq_values.specs.LiteralFaults.{entry_names, literal_place, first_byte, is_required}
+
+abbrev pub texts : List (NameOf Span) → List Text
+texts names = map (λ n. n.text) names
+
+-- the entries whose key is one of `before` or stands earlier
+abbrev pub repeated_fields : ℕ → List Text → List (NameOf Span) → List Item
+repeated_fields file before names = map (item_at file InputFieldNotUnique) (repeated_after (λ n. n.text) before names)
+
+abbrev pub unknown_field_at : List EntryOf → ℕ → Text → NameOf Span → List Item
+unknown_field_at es file type_name name = option_map_or (λ i. []) (input_named es type_name name.text) (item_at file UnknownInputField name ∷ [])
+
+abbrev pub unknown_fields : List EntryOf → ℕ → Text → List (NameOf Span) → List Item
+unknown_fields es file type_name names = flat_map (unknown_field_at es file type_name) names
+
+-- whether it is required, and not among the given names
+abbrev pub is_missing : List EntryOf → Text → List Text → Text → Bool
+is_missing es type_name given text = option_map_or is_required (input_named es type_name text) false && not (list_any (bytes_eq text) given)
+
+abbrev pub missing_field_at : List EntryOf → ℕ → Text → List Text → Span → InputOf Span → List Item
+missing_field_at es file type_name given place i = if is_missing es type_name given i.name.text then item_over file InputFieldMissing (first_byte place) ∷ [] else []
+
+abbrev pub missing_among : List EntryOf → ℕ → Text → List Text → Span → List (InputOf Span) → List Item
+missing_among es file type_name given place inputs = flat_map (missing_field_at es file type_name given place) inputs
+
+-- the input fields of the entry with that number
+abbrev pub inputs_at : List EntryOf → ℕ → List (InputOf Span)
+inputs_at es number = option_map_or (λ e. inputs_in_body (body_in e.definition)) (slice_get es number) []
+
+abbrev pub missing_in : List EntryOf → ℕ → Text → List Text → Span → List ℕ → List Item
+missing_in es file type_name given place numbers = flat_map (λ number. missing_among es file type_name given place (inputs_at es number)) numbers
+
+abbrev pub missing_fields : List EntryOf → ℕ → Text → List Text → Span → List Item
+missing_fields es file type_name given place =
+    option_map_or (λ number. missing_in es file type_name given place (joined_numbers es number)) (type_number es type_name) []
+
+-- what is told of the names of an object literal at an input object
+abbrev pub field_faults : List EntryOf → ℕ → Option Text → Span → List (NameOf Span) → List Item
+field_faults es file None place names = []
+field_faults es file (Some type_name) place names = unknown_fields es file type_name names ++ missing_fields es file type_name (texts names) place
+
+abbrev pub object_faults : List EntryOf → ℕ → Option Text → Span → List (NameOf Span) → List Item
+object_faults es file on place names = repeated_fields file [] names ++ field_faults es file on place names
+
+abbrev pub entry_faults : List EntryOf → ℕ → Option Text → Says Span → Vals Span → List Item
+entry_faults es file on (object place) below = object_faults es file on place (entry_names below)
+entry_faults es file on (variable name place) below = []
+entry_faults es file on (int text place) below = []
+entry_faults es file on (float text place) below = []
+entry_faults es file on (string text place) below = []
+entry_faults es file on (boolean value place) below = []
+entry_faults es file on (null place) below = []
+entry_faults es file on (enum name) below = []
+entry_faults es file on (list place) below = []
+
+-- what is told of a literal itself
+abbrev pub own_faults : List EntryOf → ℕ → Reading → Says Span → Vals Span → List Item
+own_faults es file (at_type t) says below =
+    if fits es t says then entry_faults es file (input_object_at es t) says below else item_over file WrongValue (literal_place says) ∷ []
+own_faults es file at_any says below = entry_faults es file None says below
+own_faults es file not_read says below = []
+
+-- what is told of literals in a row, and of all that stand in them
+abbrev pub faults_in : List EntryOf → ℕ → (Option (NameOf Span) → Reading) → Vals Span → List Item
+faults_in es file read none = []
+faults_in es file read (more part below rest) =
+    (own_faults es file (read part.key) part.says below ++ faults_in es file (part_at es (read part.key) part.says) below) ++ faults_in es file read rest
+
+-- what is told of a literal, and of all that stand in it
+abbrev pub literal_faults : List EntryOf → ℕ → Reading → Val Span → List Item
+literal_faults es file reading value =
+    own_faults es file reading value.label.says value.below ++ faults_in es file (part_at es reading value.label.says) value.below
+
+abbrev pub fits_input_object : Says Span → Bool
+fits_input_object says = is_object_literal says || is_variable says || is_null says
+
+-- those of the items of a list literal, and of the values in an object literal, as the code has them
+abbrev pub item_faults : List EntryOf → ℕ → Reading → List Value → List Item
+item_faults es file reading values = flat_map (λ v. literal_faults es file reading (value_view v)) values
+
+abbrev pub faults_of_field : List EntryOf → ℕ → Reading → ObjectField → List Item
+faults_of_field es file reading field = literal_faults es file (field_at es reading field.name.text) (value_view field.value)
+
+abbrev pub value_faults : List EntryOf → ℕ → Reading → List ObjectField → List Item
+value_faults es file reading fields = flat_map (faults_of_field es file reading) fields

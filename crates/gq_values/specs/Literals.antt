@@ -1,0 +1,154 @@
+-- Literals read at types: values of correct type (section 5.6.1), with the coercion of literals of sections 3.5, 3.9 to 3.12.
+use Rattle.std.specs.Prelude.{◌≡◌, ◌≢◌, ℕ, ◌+◌, ◌*◌, ◌-◌, ◌^◌, Bool, true, false, List, [], ◌∷◌, Option, Some, None, codes, Contains, nat_eq, nat_le, nat_lt, bytes_eq, if◌then◌else◌, is_some, is_none, ◌||◌, ◌&&◌}
+use Rattle.std.specs.List.{list_any}
+use Rattle.gq_text.specs.declared.place.Span.{Span}
+use Rattle.gq_tree.specs.Forest.{Forest, Tree, none, more}
+use Rattle.gq_tree.specs.Plain.{NameOf, Says, Part, Val, Vals, TypeOf, named, list_of, non_null, InputOf, variable, int, float, string, boolean, null, enum, list, object}
+use Rattle.gq_types.specs.declared.entry.TypeKind.{TypeKind}
+use Rattle.gq_types.specs.declared.entry.TypeKind.TheVariants as kind
+use Rattle.gq_types.specs.Entries.{Text, EntryOf}
+use Rattle.gq_types.specs.BuiltIn.{built_in_scalars}
+use Rattle.gq_types.specs.Joined.{kind_named}
+use Rattle.gq_types.specs.Names.{input_named, has_value}
+
+-- the number that decimal digits spell
+abbrev pub digits_from : ℕ → List ℕ → ℕ
+digits_from n [] = n
+digits_from n (d ∷ ds) = digits_from (n * 10 + (d - 48)) ds
+
+-- an Int in 32 bits (section 3.5.1): from -2147483648 to 2147483647
+abbrev pub is_int_32 : Text → Bool
+is_int_32 [] = false
+is_int_32 (c ∷ cs) = if nat_eq c 45 then nat_le (digits_from 0 cs) (2 ^ 31) else nat_lt (digits_from 0 (c ∷ cs)) (2 ^ 31)
+
+abbrev pub is_variable : {P : Type 0} → Says P → Bool
+is_variable (variable name place) = true
+is_variable _ = false
+
+abbrev pub is_null : {P : Type 0} → Says P → Bool
+is_null (null place) = true
+is_null _ = false
+
+abbrev pub is_list : {P : Type 0} → Says P → Bool
+is_list (list place) = true
+is_list _ = false
+
+abbrev pub is_object_literal : {P : Type 0} → Says P → Bool
+is_object_literal (object place) = true
+is_object_literal _ = false
+
+-- what the built-in scalars accept (section 3.5)
+abbrev pub fits_built_in : {P : Type 0} → Text → Says P → Bool
+fits_built_in text (variable name place) = true
+fits_built_in text (int spelling place) = (bytes_eq text (codes "Int") && is_int_32 spelling) || bytes_eq text (codes "Float") || bytes_eq text (codes "ID")
+fits_built_in text (float spelling place) = bytes_eq text (codes "Float")
+fits_built_in text (string spelling place) = bytes_eq text (codes "String") || bytes_eq text (codes "ID")
+fits_built_in text (boolean value place) = bytes_eq text (codes "Boolean")
+fits_built_in text (null place) = true
+fits_built_in text (enum name) = false
+fits_built_in text (list place) = false
+fits_built_in text (object place) = false
+
+-- an enum accepts its values (section 3.9)
+abbrev pub fits_enum : {P : Type 0} → List EntryOf → Text → Says P → Bool
+fits_enum es text (enum name) = has_value es text name.text
+fits_enum es text (variable name place) = true
+fits_enum es text (null place) = true
+fits_enum es text (int spelling place) = false
+fits_enum es text (float spelling place) = false
+fits_enum es text (string spelling place) = false
+fits_enum es text (boolean value place) = false
+fits_enum es text (list place) = false
+fits_enum es text (object place) = false
+
+abbrev pub is_built_in_scalar : Text → Bool
+is_built_in_scalar text = list_any (bytes_eq text) built_in_scalars
+
+-- A custom scalar accepts every literal, an input object an object literal. What no type is, or no input type, is not tested.
+abbrev pub fits_kind : {P : Type 0} → List EntryOf → Text → Option TypeKind → Says P → Bool
+fits_kind es text (Some kind.Scalar) says = if is_built_in_scalar text then fits_built_in text says else true
+fits_kind es text (Some kind.Enum) says = fits_enum es text says
+fits_kind es text (Some kind.InputObject) says = is_object_literal says || is_variable says || is_null says
+fits_kind es text (Some kind.Object) says = true
+fits_kind es text (Some kind.Interface) says = true
+fits_kind es text (Some kind.Union) says = true
+fits_kind es text None says = true
+
+-- Whether a literal fits a type by its outermost form. Null fits where the type is nullable, a literal that is no list
+-- fits a list type as its only item (section 3.11), and variables are judged elsewhere.
+abbrev pub fits : {P Q : Type 0} → List EntryOf → TypeOf P → Says Q → Bool
+fits es (named name) says = fits_kind es name.text (kind_named es name.text) says
+fits es (list_of item) says = is_list says || is_null says || fits es item says
+fits es (non_null inner) says = if is_null says then false else fits es inner says
+
+-- What a literal is read at. Inside the literal of a custom scalar, of an unknown type, field, argument or directive it
+-- is read at any type; inside a literal that does not fit nothing is read.
+pub data Reading : Type 0 where
+  at_type : TypeOf Span → Reading
+  at_any : Reading
+  not_read : Reading
+
+-- a list or an object at the type of that name, which is no list type
+abbrev pub below_kind : Text → Option TypeKind → (object_fields : Reading) → Reading
+below_kind text (Some kind.Scalar) object_fields = if is_built_in_scalar text then not_read else at_any
+below_kind text (Some kind.Enum) object_fields = not_read
+below_kind text (Some kind.InputObject) object_fields = object_fields
+below_kind text (Some kind.Object) object_fields = at_any
+below_kind text (Some kind.Interface) object_fields = at_any
+below_kind text (Some kind.Union) object_fields = at_any
+below_kind text None object_fields = at_any
+
+-- the items of a list literal
+abbrev pub items_of_type : List EntryOf → TypeOf Span → Reading
+items_of_type es (named name) = below_kind name.text (kind_named es name.text) not_read
+items_of_type es (list_of item) = at_type item
+items_of_type es (non_null inner) = items_of_type es inner
+
+abbrev pub items_at : List EntryOf → Reading → Reading
+items_at es (at_type t) = items_of_type es t
+items_at es at_any = at_any
+items_at es not_read = not_read
+
+-- the type of an input field; what is in an unknown one is read at any type
+abbrev pub at_input : Option (InputOf Span) → Reading
+at_input (Some i) = at_type i.type_ref
+at_input None = at_any
+
+-- the value of the field of that name in an object literal
+abbrev pub field_of_type : List EntryOf → TypeOf Span → Text → Reading
+field_of_type es (named name) text = below_kind name.text (kind_named es name.text) (at_input (input_named es name.text text))
+field_of_type es (list_of item) text = field_of_type es item text
+field_of_type es (non_null inner) text = field_of_type es inner text
+
+abbrev pub field_at : List EntryOf → Reading → Text → Reading
+field_at es (at_type t) text = field_of_type es t text
+field_at es at_any text = at_any
+field_at es not_read text = not_read
+
+-- what stands at a place in the braces or brackets of a literal that says so
+abbrev pub part_at : {P : Type 0} → List EntryOf → Reading → Says P → Option (NameOf P) → Reading
+part_at es reading says None = items_at es reading
+part_at es reading says (Some key) = field_at es reading key.text
+
+-- A literal that stands in literals in a row, at any depth, and what it is read at, where those in the row are read as given.
+pub data StandsIn (es : List EntryOf) : (Option (NameOf Span) → Reading) → Vals Span → Reading → Val Span → Type 0 where
+  here : {read : Option (NameOf Span) → Reading} {part : Part Span} {below rest : Vals Span} →
+      StandsIn es read (more part below rest) (read part.key) (record { label = part; below = below })
+  within : {read : Option (NameOf Span) → Reading} {part : Part Span} {below rest : Vals Span} {reading : Reading} {value : Val Span} →
+      StandsIn es (part_at es (read part.key) part.says) below reading value → StandsIn es read (more part below rest) reading value
+  after : {read : Option (NameOf Span) → Reading} {part : Part Span} {below rest : Vals Span} {reading : Reading} {value : Val Span} →
+      StandsIn es read rest reading value → StandsIn es read (more part below rest) reading value
+
+-- a literal, or one that stands in it, and what it is read at
+abbrev pub Holds : List EntryOf → Reading → Val Span → Reading → Val Span → Type 0
+Holds es reading value inner part = StandsIn es (λ key. reading) (more value.label value.below none) inner part
+
+abbrev pub is_input_object : Option TypeKind → Bool
+is_input_object (Some kind.InputObject) = true
+is_input_object _ = false
+
+-- the input object at whose fields an object literal at this type is read
+abbrev pub input_object_at : List EntryOf → TypeOf Span → Option Text
+input_object_at es (named name) = if is_input_object (kind_named es name.text) then Some name.text else None
+input_object_at es (list_of item) = input_object_at es item
+input_object_at es (non_null inner) = input_object_at es inner

@@ -1,0 +1,163 @@
+//! Faults of directives (GraphQL, October 2021, section 5.7).
+ghost use Rattle.std.specs.Prelude.{◌≡◌, ◌++◌, OnOk, map};
+ghost use Rattle.std.specs.List.{list_any};
+ghost use Rattle.gq_tree.specs.Same.{location_number, same_locations};
+ghost use Rattle.gq_tree.specs.Views.{directive_view};
+ghost use Rattle.gq_types.specs.Look.{types_view};
+ghost use Rattle.gq_values.specs.DirectivePlaces.{directive_texts, faults_of_directive, faults_of_directives, may_repeat, repetition_at, repetitions, directive_faults};
+
+use crate::argument_faults::put_argument_faults;
+use crate::items::{item_at, put};
+use gq_found::{Code, Item};
+use gq_names::NameList;
+use gq_text::NoMemory;
+use gq_tree::{Directive, DirectiveLocation};
+use gq_types::Types;
+use std::alloc::Global;
+
+fn number(location: DirectiveLocation) -> u8
+    ensures { result ≡ location_number location }
+{
+    match location {
+        DirectiveLocation::Query => 0,
+        DirectiveLocation::Mutation => 1,
+        DirectiveLocation::Subscription => 2,
+        DirectiveLocation::Field => 3,
+        DirectiveLocation::FragmentDefinition => 4,
+        DirectiveLocation::FragmentSpread => 5,
+        DirectiveLocation::InlineFragment => 6,
+        DirectiveLocation::VariableDefinition => 7,
+        DirectiveLocation::Schema => 8,
+        DirectiveLocation::Scalar => 9,
+        DirectiveLocation::Object => 10,
+        DirectiveLocation::FieldDefinition => 11,
+        DirectiveLocation::ArgumentDefinition => 12,
+        DirectiveLocation::Interface => 13,
+        DirectiveLocation::Union => 14,
+        DirectiveLocation::Enum => 15,
+        DirectiveLocation::EnumValue => 16,
+        DirectiveLocation::InputObject => 17,
+        DirectiveLocation::InputFieldDefinition => 18,
+    }
+}
+
+fn has_location(locations: &[DirectiveLocation], location: DirectiveLocation) -> bool
+    ensures { result ≡ list_any (same_locations location) locations.now }
+{
+    for one in locations {
+        if number(location) == number(*one) {
+            return true;
+        }
+    }
+    false
+}
+
+#[tactic(auto, using(gq_tree::proofs::Trees::gathers))]
+fn put_faults_of_directive(
+    alloc: Global,
+    types: &Types,
+    file: usize,
+    location: DirectiveLocation,
+    directive: &Directive,
+    items: &mut Vec<Item>,
+) -> Result<(), NoMemory>
+    ensures { OnOk result (items.new.items ≡ items.old.items ++ faults_of_directive (types_view types.now) file location (directive_view directive.now)) }
+{
+    let (name, arguments) = (&directive.name, directive.arguments.as_slice());
+    match types.directive(name.text.as_str()) {
+        Some(definition) => {
+            if !has_location(&definition.locations, location) {
+                put(item_at(file, Code::DirectiveInWrongPlace, name), items)?;
+            }
+            let definitions = Some(definition.arguments.as_slice());
+            put_argument_faults(alloc, types, file, definitions, name, arguments, items)
+        }
+        None => {
+            put(item_at(file, Code::UnknownDirective, name), items)?;
+            put_argument_faults(alloc, types, file, None, name, arguments, items)
+        }
+    }
+}
+
+#[tactic(auto, using(gq_tree::proofs::Trees::gathers))]
+fn put_faults_of_directives(
+    alloc: Global,
+    types: &Types,
+    file: usize,
+    location: DirectiveLocation,
+    directives: &[Directive],
+    items: &mut Vec<Item>,
+) -> Result<(), NoMemory>
+    ensures { OnOk result (items.new.items ≡ items.old.items ++ faults_of_directives (types_view types.now) file location (map directive_view directives.now)) }
+{
+    for directive in directives {
+        put_faults_of_directive(alloc, types, file, location, directive, items)?;
+    }
+    Ok(())
+}
+
+/// Whether it may stand twice; a directive that is not known may.
+fn may_repeat(types: &Types, name: &str) -> bool
+    ensures { result ≡ may_repeat (types_view types.now) name.now }
+{
+    match types.directive(name) {
+        Some(definition) => definition.repeatable,
+        None => true,
+    }
+}
+
+fn put_repetition(
+    types: &Types,
+    file: usize,
+    directive: &Directive,
+    items: &mut Vec<Item>,
+) -> Result<(), NoMemory>
+    ensures { OnOk result (items.new.items ≡ items.old.items ++ repetition_at (types_view types.now) file (directive_view directive.now)) }
+{
+    if !may_repeat(types, directive.name.text.as_str()) {
+        put(
+            item_at(file, Code::DirectiveRepeated, &directive.name),
+            items,
+        )?;
+    }
+    Ok(())
+}
+
+#[tactic(auto, using(gq_tree::proofs::Trees::gathers))]
+fn put_repetitions(
+    types: &Types,
+    file: usize,
+    before: &mut NameList,
+    directives: &[Directive],
+    items: &mut Vec<Item>,
+) -> Result<(), NoMemory>
+    ensures found { OnOk result (items.new.items ≡ items.old.items ++ repetitions (types_view types.now) file before.old (map directive_view directives.now)) }
+    ensures names { OnOk result (before.new ≡ before.old ++ directive_texts (map directive_view directives.now)) }
+{
+    for directive in directives {
+        if !before.push(directive.name.text.as_str())? {
+            put_repetition(types, file, directive, items)?;
+        }
+    }
+    Ok(())
+}
+
+/// Puts an item for each fault of the directives at a place: a directive that is unknown, or may not stand at that
+/// location, or stands twice and is not repeatable, and the faults of its arguments. Directives named in `before` stand
+/// before them: those of the definition where the place is an extension. Afterwards it has these names too. `file` is the
+/// number of the document that they stand in.
+pub fn put_directive_faults(
+    alloc: Global,
+    types: &Types,
+    file: usize,
+    location: DirectiveLocation,
+    before: &mut NameList,
+    directives: &[Directive],
+    items: &mut Vec<Item>,
+) -> Result<(), NoMemory>
+    ensures found { OnOk result (items.new.items ≡ items.old.items ++ directive_faults (types_view types.now) file location before.old (map directive_view directives.now)) }
+    ensures names { OnOk result (before.new ≡ before.old ++ directive_texts (map directive_view directives.now)) }
+{
+    put_faults_of_directives(alloc, types, file, location, directives, items)?;
+    put_repetitions(types, file, before, directives, items)
+}

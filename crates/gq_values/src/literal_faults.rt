@@ -1,0 +1,343 @@
+//! Faults of literals (GraphQL, October 2021, section 5.6).
+ghost use Rattle.std.specs.Prelude.{◌≡◌, ◌++◌, OnOk, map};
+ghost use Rattle.gq_tree.specs.Views.{value_view, entries_view, input_view};
+ghost use Rattle.gq_types.specs.Look.{types_view, text_of};
+ghost use Rattle.gq_values.specs.LiteralFaults.{entry_names, literal_place, first_byte};
+ghost use Rattle.gq_values.specs.LiteralPlaces.{texts, repeated_fields, unknown_fields, is_missing, missing_field_at, missing_among, missing_in, inputs_at, missing_fields, object_faults, entry_faults, own_faults, literal_faults, item_faults, faults_of_field, value_faults};
+ghost use Rattle.gq_values.specs.Readings.{reading_view};
+
+use crate::fitting::fits;
+use crate::inputs::{inputs_in, is_required};
+use crate::items::{item_at, item_over, put};
+use crate::reading::{Read, field_at, input_object_at, items_at};
+use gq_found::{Code, Item};
+use gq_names::NameList;
+use gq_text::{NoMemory, Span};
+use gq_tree::{InputValueDefinition, ObjectField, Value};
+use gq_types::Types;
+use std::alloc::Global;
+
+#[tactic(auto, using(gq_tree::proofs::Trees::values))]
+fn literal_place(value: &Value) -> Span
+    ensures { result ≡ literal_place (value_view value.now).label.says }
+{
+    match value {
+        Value::Variable(variable) => variable.span,
+        Value::Int(literal) => literal.span,
+        Value::Float(literal) => literal.span,
+        Value::String(literal) => literal.span,
+        Value::Boolean { span, .. } => *span,
+        Value::Null { span } => *span,
+        Value::Enum(name) => name.span,
+        Value::List { span, .. } => *span,
+        Value::Object { span, .. } => *span,
+    }
+}
+
+fn first_byte(place: Span) -> Span
+    ensures { result ≡ first_byte place }
+{
+    let end = if place.start < place.end {
+        place.start + 1
+    } else {
+        place.end
+    };
+    Span {
+        start: place.start,
+        end,
+    }
+}
+
+#[tactic(auto, using(gq_tree::proofs::Trees::gathers))]
+fn put_repeated_fields(
+    file: usize,
+    fields: &[ObjectField],
+    names: &mut NameList,
+    items: &mut Vec<Item>,
+) -> Result<(), NoMemory>
+    ensures found { OnOk result (items.new.items ≡ items.old.items ++ repeated_fields file names.old (entry_names (entries_view fields.now))) }
+    ensures names { OnOk result (names.new ≡ names.old ++ texts (entry_names (entries_view fields.now))) }
+{
+    for field in fields {
+        if !names.push(field.name.text.as_str())? {
+            put(item_at(file, Code::InputFieldNotUnique, &field.name), items)?;
+        }
+    }
+    Ok(())
+}
+
+#[tactic(auto, using(gq_tree::proofs::Trees::gathers))]
+fn put_unknown_fields(
+    types: &Types,
+    file: usize,
+    type_name: &str,
+    fields: &[ObjectField],
+    items: &mut Vec<Item>,
+) -> Result<(), NoMemory>
+    ensures { OnOk result (items.new.items ≡ items.old.items ++ unknown_fields (types_view types.now) file type_name.now (entry_names (entries_view fields.now))) }
+{
+    for field in fields {
+        if types
+            .input_field(type_name, field.name.text.as_str())
+            .is_none()
+        {
+            put(item_at(file, Code::UnknownInputField, &field.name), items)?;
+        }
+    }
+    Ok(())
+}
+
+fn is_missing(types: &Types, type_name: &str, given: &NameList, name: &str) -> bool
+    ensures { result ≡ is_missing (types_view types.now) type_name.now given.now name.now }
+{
+    match types.input_field(type_name, name) {
+        Some(input) => is_required(input) && !given.contains(name),
+        None => false,
+    }
+}
+
+fn put_if_missing(
+    types: &Types,
+    file: usize,
+    type_name: &str,
+    given: &NameList,
+    place: Span,
+    input: &InputValueDefinition,
+    items: &mut Vec<Item>,
+) -> Result<(), NoMemory>
+    ensures { OnOk result (items.new.items ≡ items.old.items ++ missing_field_at (types_view types.now) file type_name.now given.now place (input_view input.now)) }
+{
+    if is_missing(types, type_name, given, input.name.text.as_str()) {
+        put(
+            item_over(file, Code::InputFieldMissing, first_byte(place)),
+            items,
+        )?;
+    }
+    Ok(())
+}
+
+#[tactic(auto, using(gq_tree::proofs::Trees::gathers))]
+fn put_missing_among(
+    types: &Types,
+    file: usize,
+    type_name: &str,
+    given: &NameList,
+    place: Span,
+    inputs: &[InputValueDefinition],
+    items: &mut Vec<Item>,
+) -> Result<(), NoMemory>
+    ensures { OnOk result (items.new.items ≡ items.old.items ++ missing_among (types_view types.now) file type_name.now given.now place (map input_view inputs.now)) }
+{
+    for input in inputs {
+        put_if_missing(types, file, type_name, given, place, input, items)?;
+    }
+    Ok(())
+}
+
+/// The input fields that the entry with that number defines.
+fn inputs_at(types: &Types, number: usize) -> &[InputValueDefinition]
+    ensures { map input_view result.now ≡ inputs_at (types_view types.now) number }
+{
+    match types.entries().get(number) {
+        Some(entry) => inputs_in(&entry.definition),
+        None => &[],
+    }
+}
+
+#[tactic(auto, using(gq_tree::proofs::Trees::gathers))]
+fn put_missing_in(
+    types: &Types,
+    file: usize,
+    type_name: &str,
+    given: &NameList,
+    place: Span,
+    numbers: &[usize],
+    items: &mut Vec<Item>,
+) -> Result<(), NoMemory>
+    ensures { OnOk result (items.new.items ≡ items.old.items ++ missing_in (types_view types.now) file type_name.now given.now place numbers.now) }
+{
+    for number in numbers {
+        let inputs = inputs_at(types, *number);
+        put_missing_among(types, file, type_name, given, place, inputs, items)?;
+    }
+    Ok(())
+}
+
+fn put_missing_fields(
+    types: &Types,
+    file: usize,
+    type_name: &str,
+    given: &NameList,
+    place: Span,
+    items: &mut Vec<Item>,
+) -> Result<(), NoMemory>
+    ensures { OnOk result (items.new.items ≡ items.old.items ++ missing_fields (types_view types.now) file type_name.now given.now place) }
+{
+    match types.type_number(type_name) {
+        Some(number) => {
+            let numbers = types.joined(number);
+            put_missing_in(types, file, type_name, given, place, numbers, items)
+        }
+        None => Ok(()),
+    }
+}
+
+#[tactic(auto, using(gq_tree::proofs::Trees::gathers))]
+fn put_object_faults(
+    alloc: Global,
+    types: &Types,
+    file: usize,
+    type_name: Option<&str>,
+    place: Span,
+    fields: &[ObjectField],
+    items: &mut Vec<Item>,
+) -> Result<(), NoMemory>
+    ensures { OnOk result (items.new.items ≡ items.old.items ++ object_faults (types_view types.now) file (text_of type_name.entry) place (entry_names (entries_view fields.now))) }
+{
+    let mut names = NameList::new(alloc);
+    put_repeated_fields(file, fields, &mut names, items)?;
+    match type_name {
+        Some(type_name) => {
+            put_unknown_fields(types, file, type_name, fields, items)?;
+            put_missing_fields(types, file, type_name, &names, place, items)
+        }
+        None => Ok(()),
+    }
+}
+
+#[tactic(auto, using(gq_tree::proofs::Trees::gathers))]
+fn put_entry_faults(
+    alloc: Global,
+    types: &Types,
+    file: usize,
+    type_name: Option<&str>,
+    value: &Value,
+    items: &mut Vec<Item>,
+) -> Result<(), NoMemory>
+    ensures { OnOk result (items.new.items ≡ items.old.items ++ entry_faults (types_view types.now) file (text_of type_name.entry) (value_view value.now).label.says (value_view value.now).below) }
+{
+    match value {
+        Value::Object { fields, span } => {
+            put_object_faults(alloc, types, file, type_name, *span, fields, items)
+        }
+        Value::Variable(_) => Ok(()),
+        Value::Int(_) => Ok(()),
+        Value::Float(_) => Ok(()),
+        Value::String(_) => Ok(()),
+        Value::Boolean { .. } => Ok(()),
+        Value::Null { .. } => Ok(()),
+        Value::Enum(_) => Ok(()),
+        Value::List { .. } => Ok(()),
+    }
+}
+
+#[tactic(auto, using(gq_tree::proofs::Trees::gathers))]
+fn put_own_faults(
+    alloc: Global,
+    types: &Types,
+    file: usize,
+    reading: Read<'_>,
+    value: &Value,
+    items: &mut Vec<Item>,
+) -> Result<(), NoMemory>
+    ensures { OnOk result (items.new.items ≡ items.old.items ++ own_faults (types_view types.now) file (reading_view reading.entry) (value_view value.now).label.says (value_view value.now).below) }
+{
+    match reading {
+        Read::AtType(type_ref) => {
+            if !fits(types, type_ref, value) {
+                return put(
+                    item_over(file, Code::WrongValue, literal_place(value)),
+                    items,
+                );
+            }
+            let type_name = input_object_at(types, type_ref);
+            put_entry_faults(alloc, types, file, type_name, value, items)
+        }
+        Read::AtAny => put_entry_faults(alloc, types, file, None, value, items),
+        Read::NotRead => Ok(()),
+    }
+}
+
+/// Puts an item for each fault of the literal and of the literals in it, where it is read so: a literal that does not fit
+/// its type, an input field that is unknown or given twice or missing. `file` is the number of the document that it
+/// stands in.
+#[cycle(literals)]
+#[tactic(auto, using(gq_tree::proofs::Trees::gathers))]
+pub fn put_literal_faults(
+    alloc: Global,
+    types: &Types,
+    file: usize,
+    reading: Read<'_>,
+    value: &Value,
+    items: &mut Vec<Item>,
+) -> Result<(), NoMemory>
+    ensures { OnOk result (items.new.items ≡ items.old.items ++ literal_faults (types_view types.now) file (reading_view reading.entry) (value_view value.now)) }
+{
+    put_own_faults(alloc, types, file, reading, value, items)?;
+    match value {
+        Value::List { items: values, .. } => {
+            put_item_faults(alloc, types, file, items_at(types, reading), values, items)
+        }
+        Value::Object { fields, .. } => {
+            put_value_faults(alloc, types, file, reading, fields, items)
+        }
+        Value::Variable(_) => Ok(()),
+        Value::Int(_) => Ok(()),
+        Value::Float(_) => Ok(()),
+        Value::String(_) => Ok(()),
+        Value::Boolean { .. } => Ok(()),
+        Value::Null { .. } => Ok(()),
+        Value::Enum(_) => Ok(()),
+    }
+}
+
+#[cycle(literals)]
+#[tactic(auto, using(gq_tree::proofs::Trees::gathers))]
+fn put_item_faults(
+    alloc: Global,
+    types: &Types,
+    file: usize,
+    reading: Read<'_>,
+    values: &[Value],
+    items: &mut Vec<Item>,
+) -> Result<(), NoMemory>
+    ensures { OnOk result (items.new.items ≡ items.old.items ++ item_faults (types_view types.now) file (reading_view reading.entry) values.now) }
+{
+    for value in values {
+        put_literal_faults(alloc, types, file, reading, value, items)?;
+    }
+    Ok(())
+}
+
+#[cycle(literals)]
+#[tactic(auto, using(gq_tree::proofs::Trees::gathers))]
+fn put_value_faults(
+    alloc: Global,
+    types: &Types,
+    file: usize,
+    reading: Read<'_>,
+    fields: &[ObjectField],
+    items: &mut Vec<Item>,
+) -> Result<(), NoMemory>
+    ensures { OnOk result (items.new.items ≡ items.old.items ++ value_faults (types_view types.now) file (reading_view reading.entry) fields.now) }
+{
+    for field in fields {
+        put_faults_of_field(alloc, types, file, reading, field, items)?;
+    }
+    Ok(())
+}
+
+#[cycle(literals)]
+fn put_faults_of_field(
+    alloc: Global,
+    types: &Types,
+    file: usize,
+    reading: Read<'_>,
+    field: &ObjectField,
+    items: &mut Vec<Item>,
+) -> Result<(), NoMemory>
+    ensures { OnOk result (items.new.items ≡ items.old.items ++ faults_of_field (types_view types.now) file (reading_view reading.entry) field.now) }
+{
+    let within = field_at(types, reading, field.name.text.as_str());
+    put_literal_faults(alloc, types, file, within, &field.value, items)
+}
