@@ -1,0 +1,187 @@
+-- What the rules put is what is wrong.
+use Rattle.std.proofs.Common.{◌≡◌, Bool, true, false, if◌then◌else◌, List, [], ◌++◌, inl, inr, ◌↔◌, Contains, Option, Some, None, refl, sym, ap, subst, ◌∙◌}
+use Rattle.std.specs.Option.{option_map_or}
+use Rattle.std.proofs.lemmas.List.Elements.{Contains-append_left, Contains-append_right, Contains-append_cases}
+use Rattle.gq_text.specs.declared.place.Span.{Span}
+use Rattle.gq_found.specs.declared.item.Item.{Item}
+use Rattle.gq_found.specs.Puts.{Puts}
+use Rattle.gq_tree.specs.Plain.{VariableOf, Val}
+use Rattle.gq_names.proofs.RepeatLemmas.{contains_none}
+use Rattle.gq_types.specs.declared.entry.TypeKind.{TypeKind}
+use Rattle.gq_types.specs.Entries.{EntryOf}
+use Rattle.gq_types.specs.Kinds.{is_input}
+use Rattle.gq_types.specs.Joined.{kind_named}
+use Rattle.gq_values.specs.Literals.{at_type}
+use Rattle.gq_values.specs.LiteralPlaces.{literal_faults}
+use Rattle.gq_values.proofs.FoundLemmas.{from_flat, to_flat}
+use Rattle.gq_values.proofs.LiteralRules.{literal_faults_are}
+use Rattle.gq_values.proofs.DirectiveRules.{directive_faults_are}
+use Rattle.gq_document.specs.Definitions.{OperationOf, FragmentOf}
+use Rattle.gq_document.specs.Selections.{SelectedOf, base_name, operation_selections, fragment_selections, of_operation, of_fragment}
+use Rattle.gq_document.specs.Executable.{ExecutableOf, Selects}
+use Rattle.gq_document.proofs.SelectionLemmas.{operation_holds, fragment_holds}
+use Rattle.gq_fields.specs.FieldSelectionsPlaces.{unknown_field_at}
+use Rattle.gq_fields.specs.LeafFieldSelectionsPlaces.{wrong_selections_at}
+use Rattle.gq_fields.specs.ArgumentsPlaces.{wrong_arguments_at}
+use Rattle.gq_fields.specs.Directives.{Site, IsSite, HasWrongDirective, operation_site, variable_site, fragment_site, selection_site}
+use Rattle.gq_fields.specs.Directives as site
+use Rattle.gq_fields.specs.DirectivesPlaces.{wrong_directives_at}
+use Rattle.gq_fields.specs.Values.{HasWrongDefault}
+use Rattle.gq_fields.specs.ValuesPlaces.{is_of_input_type, wrong_value_of, wrong_default_of}
+use Rattle.gq_fields.specs.FieldFaults.{IsFieldFault, unknown_field, wrong_selections, wrong_argument, wrong_directive, wrong_default}
+use Rattle.gq_fields.specs.FieldFaultsPlaces.{selection_faults, selections_faults, variable_faults, variables_faults, operation_faults, fragment_faults, operations_faults, fragments_faults, field_faults}
+use Rattle.gq_fields.proofs.SelectionRules.{from_unknown_field, to_unknown_field, from_wrong_selections, to_wrong_selections, from_wrong_arguments, to_wrong_arguments}
+
+-- a type that is known and an input type
+from_input : (k : Option TypeKind) → option_map_or is_input k false ≡ true → (kind : TypeKind) × (k ≡ Some kind) × (is_input kind ≡ true)
+from_input None holds = absurd (cc)
+from_input (Some kind) holds = (kind, refl, holds)
+
+module _ (x : ExecutableOf) (item : Item) where
+  abbrev es : List EntryOf
+  es = x.entries
+
+  -- the directives at a place
+  from_site : (one : Site) → IsSite x one → Contains (wrong_directives_at es one) item → IsFieldFault x item
+  from_site one stands found = wrong_directive (record { site = one; stands = stands; fault = (directive_faults_are es one.file one.location [] one.directives item).0 found })
+
+  -- the default value of a variable
+  from_value : (o : OperationOf) → Contains x.operations o → (v : VariableOf Span) → Contains o.variables v → (default : Option (Val Span)) → v.default ≡ default → Contains (wrong_value_of es o.file v.type_ref default) item → IsFieldFault x item
+  from_value o stands v defined None has found = absurd (contains_none item found)
+  from_value o stands v defined (Some default) has found = by_test (is_of_input_type es v.type_ref) refl found
+    where
+      by_test : (b : Bool) → is_of_input_type es v.type_ref ≡ b → Contains (if b then literal_faults es o.file (at_type v.type_ref) default else []) item → IsFieldFault x item
+      by_test true is told =
+          let input = from_input (kind_named es (base_name v.type_ref)) is in
+          wrong_default (record {
+            operation = o;
+            stands = stands;
+            variable = v;
+            is_defined = defined;
+            kind = input.0;
+            is_known = input.1;
+            is_of_input_type = input.2;
+            default = default;
+            has_default = has;
+            fault = (literal_faults_are es o.file item (at_type v.type_ref) default).0 told;
+          })
+      by_test false is told = absurd (contains_none item told)
+
+  to_value : (w : HasWrongDefault x item) → Contains (wrong_default_of es w.operation.file w.variable) item
+  to_value w =
+      let holds : is_of_input_type es w.variable.type_ref ≡ true = ap (λ k. option_map_or is_input k false) w.is_known ∙ w.is_of_input_type in
+      subst (λ o. Contains (wrong_value_of es w.operation.file w.variable.type_ref o) item) (sym w.has_default)
+      (subst (λ b. Contains (if b then literal_faults es w.operation.file (at_type w.variable.type_ref) w.default else []) item) (sym holds)
+      ((literal_faults_are es w.operation.file item (at_type w.variable.type_ref) w.default).1 w.fault))
+
+  -- one selection
+  from_selection : (s : SelectedOf) → Selects x s → Contains (selection_faults es s) item → IsFieldFault x item
+  from_selection s stands found =
+      elim (Contains-append_cases (unknown_field_at es s) (wrong_selections_at es s ++ (wrong_arguments_at es s ++ wrong_directives_at es (selection_site s))) item found) [
+        | inl a ↦ unknown_field (from_unknown_field x item s stands a)
+        | inr b ↦ elim (Contains-append_cases (wrong_selections_at es s) (wrong_arguments_at es s ++ wrong_directives_at es (selection_site s)) item b) [
+          | inl c ↦ wrong_selections (from_wrong_selections x item s stands c)
+          | inr d ↦ elim (Contains-append_cases (wrong_arguments_at es s) (wrong_directives_at es (selection_site s)) item d) [
+            | inl e ↦ wrong_argument (from_wrong_arguments x item s stands e)
+            | inr f ↦ from_site (selection_site s) (site.of_selection stands) f
+          ]
+        ]
+      ]
+
+  in_selection_unknown : (s : SelectedOf) → Contains (unknown_field_at es s) item → Contains (selection_faults es s) item
+  in_selection_unknown s found = Contains-append_left (unknown_field_at es s) (wrong_selections_at es s ++ (wrong_arguments_at es s ++ wrong_directives_at es (selection_site s))) item found
+
+  in_selection_wrong : (s : SelectedOf) → Contains (wrong_selections_at es s) item → Contains (selection_faults es s) item
+  in_selection_wrong s found =
+      Contains-append_right (unknown_field_at es s) (wrong_selections_at es s ++ (wrong_arguments_at es s ++ wrong_directives_at es (selection_site s))) item
+      (Contains-append_left (wrong_selections_at es s) (wrong_arguments_at es s ++ wrong_directives_at es (selection_site s)) item found)
+
+  in_selection_later : (s : SelectedOf) → Contains (wrong_arguments_at es s ++ wrong_directives_at es (selection_site s)) item → Contains (selection_faults es s) item
+  in_selection_later s found =
+      Contains-append_right (unknown_field_at es s) (wrong_selections_at es s ++ (wrong_arguments_at es s ++ wrong_directives_at es (selection_site s))) item
+      (Contains-append_right (wrong_selections_at es s) (wrong_arguments_at es s ++ wrong_directives_at es (selection_site s)) item found)
+
+  -- an operation, and a fragment
+  from_variable : (o : OperationOf) → Contains x.operations o → (v : VariableOf Span) → Contains o.variables v → Contains (variable_faults es o.file v) item → IsFieldFault x item
+  from_variable o stands v defined found = elim (Contains-append_cases (wrong_directives_at es (variable_site o.file v)) (wrong_default_of es o.file v) item found) [
+    | inl a ↦ from_site (variable_site o.file v) (site.of_variable stands defined) a
+    | inr b ↦ from_value o stands v defined v.default refl b
+  ]
+
+  from_operation : (o : OperationOf) → Contains x.operations o → Contains (operation_faults es o) item → IsFieldFault x item
+  from_operation o stands found =
+      elim (Contains-append_cases (wrong_directives_at es (operation_site o)) (variables_faults es o.file o.variables ++ selections_faults es (operation_selections es o)) item found) [
+        | inl a ↦ from_site (operation_site o) (site.of_operation stands) a
+        | inr b ↦ elim (Contains-append_cases (variables_faults es o.file o.variables) (selections_faults es (operation_selections es o)) item b) [
+          | inl c ↦ let v = from_flat (variable_faults es o.file) o.variables item c in from_variable o stands v.0 v.1 v.2
+          | inr d ↦
+              let s = from_flat (selection_faults es) (operation_selections es o) item d in
+              from_selection s.0 (of_operation stands ((operation_holds es o s.0).0 s.1)) s.2
+        ]
+      ]
+
+  from_fragment : (f : FragmentOf) → Contains x.fragments f → Contains (fragment_faults es f) item → IsFieldFault x item
+  from_fragment f stands found = elim (Contains-append_cases (wrong_directives_at es (fragment_site f)) (selections_faults es (fragment_selections es f)) item found) [
+    | inl a ↦ from_site (fragment_site f) (site.of_fragment stands) a
+    | inr b ↦
+        let s = from_flat (selection_faults es) (fragment_selections es f) item b in
+        from_selection s.0 (of_fragment stands ((fragment_holds es f s.0).0 s.1)) s.2
+  ]
+
+  from_faults : Contains (field_faults x) item → IsFieldFault x item
+  from_faults found = elim (Contains-append_cases (operations_faults es x.operations) (fragments_faults es x.fragments) item found) [
+    | inl a ↦ let o = from_flat (operation_faults es) x.operations item a in from_operation o.0 o.1 o.2
+    | inr b ↦ let f = from_flat (fragment_faults es) x.fragments item b in from_fragment f.0 f.1 f.2
+  ]
+
+  to_operation : (o : OperationOf) → Contains x.operations o → Contains (operation_faults es o) item → Contains (field_faults x) item
+  to_operation o stands found = Contains-append_left (operations_faults es x.operations) (fragments_faults es x.fragments) item (to_flat (operation_faults es) x.operations o item stands found)
+
+  to_fragment : (f : FragmentOf) → Contains x.fragments f → Contains (fragment_faults es f) item → Contains (field_faults x) item
+  to_fragment f stands found = Contains-append_right (operations_faults es x.operations) (fragments_faults es x.fragments) item (to_flat (fragment_faults es) x.fragments f item stands found)
+
+  to_variable : (o : OperationOf) → Contains x.operations o → (v : VariableOf Span) → Contains o.variables v → Contains (variable_faults es o.file v) item → Contains (field_faults x) item
+  to_variable o stands v defined found =
+      to_operation o stands
+      (Contains-append_right (wrong_directives_at es (operation_site o)) (variables_faults es o.file o.variables ++ selections_faults es (operation_selections es o)) item
+      (Contains-append_left (variables_faults es o.file o.variables) (selections_faults es (operation_selections es o)) item
+      (to_flat (variable_faults es o.file) o.variables v item defined found)))
+
+  to_selection : {s : SelectedOf} → Selects x s → Contains (selection_faults es s) item → Contains (field_faults x) item
+  to_selection {s} (of_operation {o} stands is) found =
+      to_operation o stands
+      (Contains-append_right (wrong_directives_at es (operation_site o)) (variables_faults es o.file o.variables ++ selections_faults es (operation_selections es o)) item
+      (Contains-append_right (variables_faults es o.file o.variables) (selections_faults es (operation_selections es o)) item
+      (to_flat (selection_faults es) (operation_selections es o) s item ((operation_holds es o s).1 is) found)))
+  to_selection {s} (of_fragment {f} stands is) found =
+      to_fragment f stands
+      (Contains-append_right (wrong_directives_at es (fragment_site f)) (selections_faults es (fragment_selections es f)) item
+      (to_flat (selection_faults es) (fragment_selections es f) s item ((fragment_holds es f s).1 is) found))
+
+  to_site : {one : Site} → IsSite x one → Contains (wrong_directives_at es one) item → Contains (field_faults x) item
+  to_site (site.of_operation {o} stands) found =
+      to_operation o stands (Contains-append_left (wrong_directives_at es (operation_site o)) (variables_faults es o.file o.variables ++ selections_faults es (operation_selections es o)) item found)
+  to_site (site.of_variable {o} {v} stands defined) found =
+      to_variable o stands v defined (Contains-append_left (wrong_directives_at es (variable_site o.file v)) (wrong_default_of es o.file v) item found)
+  to_site (site.of_fragment {f} stands) found =
+      to_fragment f stands (Contains-append_left (wrong_directives_at es (fragment_site f)) (selections_faults es (fragment_selections es f)) item found)
+  to_site (site.of_selection {s} stands) found =
+      to_selection stands (in_selection_later s (Contains-append_right (wrong_arguments_at es s) (wrong_directives_at es (selection_site s)) item found))
+
+  to_faults : IsFieldFault x item → Contains (field_faults x) item
+  to_faults (unknown_field w) = to_selection w.one.stands (in_selection_unknown w.one.selected (to_unknown_field x item w))
+  to_faults (wrong_selections w) = to_selection w.one.stands (in_selection_wrong w.one.selected (to_wrong_selections x item w))
+  to_faults (wrong_argument w) =
+      let s = w.one.selected in
+      to_selection w.one.stands (in_selection_later s (Contains-append_left (wrong_arguments_at es s) (wrong_directives_at es (selection_site s)) item (to_wrong_arguments x item w)))
+  to_faults (wrong_directive w) = to_site w.stands ((directive_faults_are es w.site.file w.site.location [] w.site.directives item).1 w.fault)
+  to_faults (wrong_default w) =
+      to_variable w.operation w.stands w.variable w.is_defined
+      (Contains-append_right (wrong_directives_at es (variable_site w.operation.file w.variable)) (wrong_default_of es w.operation.file w.variable) item (to_value w))
+
+  pub field_faults_are : Contains (field_faults x) item ↔ IsFieldFault x item
+  field_faults_are = (from_faults, to_faults)
+
+-- the list behind others is what is put there
+pub puts_faults : (x : ExecutableOf) (old new : List Item) → new ≡ old ++ field_faults x → Puts (IsFieldFault x) old new
+puts_faults x old new is = record { added = field_faults x; is = is; exactly = λ item. field_faults_are x item }

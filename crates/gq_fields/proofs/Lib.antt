@@ -1,0 +1,2 @@
+pub mod SelectionRules
+pub mod FieldFaultLemmas

@@ -1,0 +1,47 @@
+-- What the rules put, in the order of operations and fragments. Computed; nothing here must be believed.
+use Rattle.std.specs.Prelude.{ℕ, List, ◌++◌, flat_map}
+use Rattle.gq_text.specs.declared.place.Span.{Span}
+use Rattle.gq_found.specs.declared.item.Item.{Item}
+use Rattle.gq_tree.specs.Plain.{VariableOf}
+use Rattle.gq_types.specs.Entries.{EntryOf}
+use Rattle.gq_document.specs.Definitions.{OperationOf, FragmentOf}
+use Rattle.gq_document.specs.Selections.{SelectedOf, operation_selections, fragment_selections}
+use Rattle.gq_document.specs.Executable.{ExecutableOf}
+use Rattle.gq_fields.specs.Directives.{operation_site, variable_site, fragment_site, selection_site}
+use Rattle.gq_fields.specs.FieldSelectionsPlaces.{unknown_field_at}
+use Rattle.gq_fields.specs.LeafFieldSelectionsPlaces.{wrong_selections_at}
+use Rattle.gq_fields.specs.ArgumentsPlaces.{wrong_arguments_at}
+use Rattle.gq_fields.specs.DirectivesPlaces.{wrong_directives_at}
+use Rattle.gq_fields.specs.ValuesPlaces.{wrong_default_of}
+
+-- at one selection
+abbrev pub selection_faults : List EntryOf → SelectedOf → List Item
+selection_faults es s = unknown_field_at es s ++ (wrong_selections_at es s ++ (wrong_arguments_at es s ++ wrong_directives_at es (selection_site s)))
+
+abbrev pub selections_faults : List EntryOf → List SelectedOf → List Item
+selections_faults es ss = flat_map (selection_faults es) ss
+
+-- at the definition of a variable
+abbrev pub variable_faults : List EntryOf → ℕ → VariableOf Span → List Item
+variable_faults es file v = wrong_directives_at es (variable_site file v) ++ wrong_default_of es file v
+
+abbrev pub variables_faults : List EntryOf → ℕ → List (VariableOf Span) → List Item
+variables_faults es file vs = flat_map (variable_faults es file) vs
+
+-- in an operation, and in a fragment
+abbrev pub operation_faults : List EntryOf → OperationOf → List Item
+operation_faults es o =
+    wrong_directives_at es (operation_site o) ++ (variables_faults es o.file o.variables ++ selections_faults es (operation_selections es o))
+
+abbrev pub fragment_faults : List EntryOf → FragmentOf → List Item
+fragment_faults es f = wrong_directives_at es (fragment_site f) ++ selections_faults es (fragment_selections es f)
+
+abbrev pub operations_faults : List EntryOf → List OperationOf → List Item
+operations_faults es os = flat_map (operation_faults es) os
+
+abbrev pub fragments_faults : List EntryOf → List FragmentOf → List Item
+fragments_faults es fs = flat_map (fragment_faults es) fs
+
+-- in all of them
+abbrev pub field_faults : ExecutableOf → List Item
+field_faults x = operations_faults x.entries x.operations ++ fragments_faults x.entries x.fragments

@@ -1,0 +1,70 @@
+//! Directives in operations and fragments (GraphQL, October 2021, section 5.7).
+ghost use Rattle.std.specs.Prelude.{◌≡◌, ◌++◌, [], OnOk, map};
+ghost use Rattle.gq_tree.specs.Views.{directive_view};
+ghost use Rattle.gq_types.specs.Look.{types_view};
+ghost use Rattle.gq_values.specs.DirectivePlaces.{directive_faults};
+ghost use Rattle.gq_document.specs.Views.{selected_view};
+ghost use Rattle.gq_fields.specs.Directives.{operation_location, selection_site};
+ghost use Rattle.gq_fields.specs.DirectivesPlaces.{wrong_directives_at};
+
+use gq_document::Selected;
+use gq_found::Item;
+use gq_names::NameList;
+use gq_text::NoMemory;
+use gq_tree::{Directive, DirectiveLocation, OperationKind, Selection};
+use gq_types::Types;
+use gq_values::put_directive_faults;
+use std::alloc::Global;
+
+/// Where the directives on an operation of that kind stand.
+pub(crate) fn operation_location(kind: OperationKind) -> DirectiveLocation
+    ensures { result ≡ operation_location kind }
+{
+    match kind {
+        OperationKind::Query => DirectiveLocation::Query,
+        OperationKind::Mutation => DirectiveLocation::Mutation,
+        OperationKind::Subscription => DirectiveLocation::Subscription,
+    }
+}
+
+/// Puts an item for each fault of the directives at one place.
+pub(crate) fn put_wrong_directives(
+    alloc: Global,
+    types: &Types,
+    file: usize,
+    location: DirectiveLocation,
+    directives: &[Directive],
+    items: &mut Vec<Item>,
+) -> Result<(), NoMemory>
+    ensures { OnOk result (items.new.items ≡ items.old.items ++ directive_faults (types_view types.now) file location [] (map directive_view directives.now)) }
+{
+    let mut before = NameList::new(alloc);
+    put_directive_faults(alloc, types, file, location, &mut before, directives, items)
+}
+
+/// Puts an item for each fault of the directives on a selection.
+#[tactic(auto, using(gq_tree::proofs::Trees::gathers))]
+pub(crate) fn put_wrong_directives_of_selection(
+    alloc: Global,
+    types: &Types,
+    selected: &Selected<'_>,
+    items: &mut Vec<Item>,
+) -> Result<(), NoMemory>
+    ensures { OnOk result (items.new.items ≡ items.old.items ++ wrong_directives_at (types_view types.now) (selection_site (selected_view selected.now))) }
+{
+    let file = selected.file;
+    match selected.selection {
+        Selection::Field(field) => {
+            let location = DirectiveLocation::Field;
+            put_wrong_directives(alloc, types, file, location, &field.directives, items)
+        }
+        Selection::Spread(spread) => {
+            let location = DirectiveLocation::FragmentSpread;
+            put_wrong_directives(alloc, types, file, location, &spread.directives, items)
+        }
+        Selection::Inline(inline) => {
+            let location = DirectiveLocation::InlineFragment;
+            put_wrong_directives(alloc, types, file, location, &inline.directives, items)
+        }
+    }
+}

@@ -1,0 +1,70 @@
+//! Selections below leaves, and composite fields without selections (GraphQL, October 2021, section 5.3.3).
+ghost use Rattle.std.specs.Prelude.{◌≡◌, ◌++◌, OnOk, Some, is_some};
+ghost use Rattle.gq_tree.specs.Views.{name_of, braces_of};
+ghost use Rattle.gq_types.specs.Look.{types_view};
+ghost use Rattle.gq_document.specs.Views.{field_view, selected_view};
+ghost use Rattle.gq_fields.specs.LeafFieldSelectionsPlaces.{differ, wrong_at_kind, wrong_of_field, wrong_selections_at};
+
+use crate::items::put_item_at;
+use gq_document::{Selected, SelectedField, selected_field};
+use gq_found::{Code, Item};
+use gq_text::NoMemory;
+use gq_tree::{Name, Selection, SelectionSet};
+use gq_types::Types;
+
+fn has_set(set: &Option<SelectionSet>) -> bool
+    ensures { result ≡ is_some (braces_of set.now) }
+{
+    match set {
+        Some(_) => true,
+        None => false,
+    }
+}
+
+/// Puts an item at the name of a field of that definition, if it has a set where its type is a leaf, or none where its type
+/// is composite.
+fn put_wrong_selections_of(
+    types: &Types,
+    file: usize,
+    name: &Name,
+    has_set: bool,
+    definition: SelectedField<'_>,
+    items: &mut Vec<Item>,
+) -> Result<(), NoMemory>
+    ensures { OnOk result (items.new.items ≡ items.old.items ++ wrong_of_field (types_view types.now) file (name_of name.now) has_set (Some (field_view definition.entry))) }
+{
+    match types.kind(definition.base_name()) {
+        Some(kind) => {
+            if has_set != kind.is_composite() {
+                put_item_at(file, Code::WrongSelections, name, items)?;
+            }
+            Ok(())
+        }
+        None => Ok(()),
+    }
+}
+
+/// Puts an item at the name of a field that has selections below it where its type is a leaf, or none where its type is
+/// composite.
+#[tactic(auto, using(gq_tree::proofs::Trees::gathers))]
+pub(crate) fn put_wrong_selections(
+    types: &Types,
+    selected: &Selected<'_>,
+    items: &mut Vec<Item>,
+) -> Result<(), NoMemory>
+    ensures { OnOk result (items.new.items ≡ items.old.items ++ wrong_selections_at (types_view types.now) (selected_view selected.now)) }
+{
+    match selected.selection {
+        Selection::Field(field) => {
+            let (name, has_set) = (&field.name, has_set(&field.set));
+            match selected_field(types, selected.parent, name.text.as_str()) {
+                Some(definition) => {
+                    put_wrong_selections_of(types, selected.file, name, has_set, definition, items)
+                }
+                None => Ok(()),
+            }
+        }
+        Selection::Spread(_) => Ok(()),
+        Selection::Inline(_) => Ok(()),
+    }
+}

@@ -1,0 +1,205 @@
+-- What is told of fragments is what the rules demand.
+use Rattle.std.proofs.Common.{◌≡◌, ◌↔◌, ℕ, Bool, true, false, if◌then◌else◌, is_some, not, ◌&&◌, List, [], ◌∷◌, ◌++◌, Option, Some, None, Contains, refl, sym, ap, subst, inl, inr}
+use Rattle.std.specs.Option.{option_map_or}
+use Rattle.std.proofs.lemmas.List.Elements.{Contains-append_left, Contains-append_right, Contains-append_cases}
+use Rattle.gq_text.specs.declared.place.Span.{Span}
+use Rattle.gq_tree.specs.Plain.{NameOf, Head, field, spread, inline}
+use Rattle.gq_names.specs.Repeats.{repeated}
+use Rattle.gq_names.proofs.RepeatLemmas.{contains_none, contains_first, repeated_is}
+use Rattle.gq_found.specs.declared.code.Code.TheVariants.{FragmentNameNotUnique, UnknownTypeCondition, ConditionNotComposite, SpreadNotPossible}
+use Rattle.gq_found.specs.declared.item.Item.{Item}
+use Rattle.gq_types.specs.declared.entry.TypeKind.{TypeKind}
+use Rattle.gq_types.specs.Entries.{Text, EntryOf}
+use Rattle.gq_types.specs.Kinds.{is_composite}
+use Rattle.gq_types.specs.Joined.{kind_named}
+use Rattle.gq_types.proofs.Gathered.{from_flat, to_flat, and_parts, and_both, not_true}
+use Rattle.gq_document.specs.Definitions.{FragmentOf}
+use Rattle.gq_document.specs.Selections.{SelectedOf}
+use Rattle.gq_document.specs.Executable.{ExecutableOf, Selects}
+use Rattle.gq_spreads.specs.Spreads.{places_from}
+use Rattle.gq_fragments.specs.Items.{item_over, item_at, first_bytes}
+use Rattle.gq_fragments.specs.TypeConditions.{IsTypeCondition}
+use Rattle.gq_fragments.specs.TypeConditions as condition
+use Rattle.gq_fragments.specs.FragmentNameUniqueness.{IsRepeatedFragmentName}
+use Rattle.gq_fragments.specs.FragmentSpreadTypeExistence.{IsUnknownCondition}
+use Rattle.gq_fragments.specs.FragmentsOnCompositeTypes.{IsConditionNotComposite}
+use Rattle.gq_fragments.specs.FragmentSpreadIsPossible.{HaveNoObject, IsSpread, IsSpreadNotPossible}
+use Rattle.gq_fragments.specs.FragmentSpreadIsPossible as spreads
+use Rattle.gq_fragments.specs.FragmentFaults.{IsFragmentFault}
+use Rattle.gq_fragments.specs.FragmentFaults as fault
+use Rattle.gq_fragments.specs.FragmentPlaces.{name_texts, repeated_names, condition_of_kind, condition_faults, conditions_in, condition_of_selected, conditions_of_selections, condition_of_fragment, conditions_of_fragments, share_object, is_impossible, impossible_under, impossible_in, impossible_numbered, impossible_by, impossible_at, impossible_spreads, selections, faults_of_selections, fragment_faults}
+use Rattle.gq_fragments.proofs.FoundLemmas.{only, from_if, to_if, from_map, to_map, found_some, number_of, contained}
+use Rattle.gq_fragments.proofs.SharedLemmas.{share_decides}
+use Rattle.gq_fragments.proofs.SpreadLemmas.{from_places, to_places, from_selections, to_selections}
+
+-- two types without an object type in common
+have_no_object : (es : List EntryOf) (parent condition : Text) → is_impossible es parent condition ≡ true → HaveNoObject es parent condition
+have_no_object es parent condition h =
+    let first = and_parts (is_some (kind_named es parent)) (is_some (kind_named es condition) && not (share_object es parent condition)) h in
+    let second = and_parts (is_some (kind_named es condition)) (not (share_object es parent condition)) first.1 in
+    let one = found_some (kind_named es parent) first.0 in
+    let other = found_some (kind_named es condition) second.0 in
+    let not_shared = not_true (share_object es parent condition) second.1 in
+    record {
+      parent_kind = one.0;
+      parent_is_known = one.1;
+      condition_kind = other.0;
+      condition_is_known = other.1;
+      none_is_possible = λ object a b. let shared = (share_decides es parent condition).1 (object, a, b) in absurd (cc);
+    }
+
+to_impossible : (es : List EntryOf) (parent condition : Text) → HaveNoObject es parent condition → is_impossible es parent condition ≡ true
+to_impossible es parent condition w =
+    and_both (is_some (kind_named es parent)) (is_some (kind_named es condition) && not (share_object es parent condition)) (ap is_some w.parent_is_known)
+    (and_both (is_some (kind_named es condition)) (not (share_object es parent condition)) (ap is_some w.condition_is_known) (by_shared (share_object es parent condition) refl))
+  where
+    by_shared : (b : Bool) → share_object es parent condition ≡ b → not b ≡ true
+    by_shared true is = let s = (share_decides es parent condition).0 is in absurd (w.none_is_possible s.0 s.1 s.2)
+    by_shared false is = refl
+
+module _ (x : ExecutableOf) (item : Item) where
+  -- names of fragments
+  repeated_is_fault : Contains (repeated_names [] x.fragments) item → IsFragmentFault x item
+  repeated_is_fault found =
+      let one = from_map (λ f. item_at f.file FragmentNameNotUnique f.name) (repeated (λ f. f.name.text) x.fragments) item found in
+      fault.repeated_fragment_name (record { later = one.0; is_repeated = (repeated_is (λ (f : FragmentOf). f.name.text) x.fragments one.0).0 one.1; is = one.2 })
+
+  to_repeated : IsRepeatedFragmentName x item → Contains (repeated_names [] x.fragments) item
+  to_repeated w =
+      to_map (λ f. item_at f.file FragmentNameNotUnique f.name) (repeated (λ f. f.name.text) x.fragments) w.later item
+      ((repeated_is (λ (f : FragmentOf). f.name.text) x.fragments w.later).1 w.is_repeated) w.is
+
+  -- type conditions
+  condition_is_fault : (file : ℕ) (name : NameOf Span) → IsTypeCondition x file name → (o : Option TypeKind) → kind_named x.entries name.text ≡ o →
+      Contains (condition_of_kind file name o) item → IsFragmentFault x item
+  condition_is_fault file name is None unknown found =
+      fault.unknown_condition (record { file = file; name = name; is_condition = is; is_unknown = unknown; is = only (item_at file UnknownTypeCondition name) item found })
+  condition_is_fault file name is (Some kind) known found = by_composite (is_composite kind) refl found
+    where
+      by_composite : (b : Bool) → is_composite kind ≡ b → Contains (if b then [] else item_at file ConditionNotComposite name ∷ []) item → IsFragmentFault x item
+      by_composite true composite told = absurd (contains_none item told)
+      by_composite false composite told = fault.condition_not_composite
+          (record { file = file; name = name; is_condition = is; kind = kind; is_known = known; is_not_composite = composite; is = only (item_at file ConditionNotComposite name) item told })
+
+  fragment_condition_is_fault : Contains (conditions_of_fragments x.entries x.fragments) item → IsFragmentFault x item
+  fragment_condition_is_fault found =
+      let one = from_flat (condition_of_fragment x.entries) x.fragments item found in
+      condition_is_fault one.0.file one.0.on (condition.of_fragment one.1) (kind_named x.entries one.0.on.text) refl one.2
+
+  selected_condition_is_fault : (s : SelectedOf) → Selects x s → (h : Head Span) → s.selection.label ≡ h → Contains (conditions_in x.entries s.file h) item → IsFragmentFault x item
+  selected_condition_is_fault s selects (field alias name arguments directives braces place) is found = absurd (contains_none item found)
+  selected_condition_is_fault s selects (spread name directives place) is found = absurd (contains_none item found)
+  selected_condition_is_fault s selects (inline None directives braces place) is found = absurd (contains_none item found)
+  selected_condition_is_fault s selects (inline (Some name) directives braces place) is found =
+      condition_is_fault s.file name (condition.of_inline_fragment selects is) (kind_named x.entries name.text) refl found
+
+  inline_condition_is_fault : Contains (conditions_of_selections x.entries (selections x)) item → IsFragmentFault x item
+  inline_condition_is_fault found =
+      let one = from_flat (condition_of_selected x.entries) (selections x) item found in
+      selected_condition_is_fault one.0 (from_selections x one.0 one.1) one.0.selection.label refl one.2
+
+  -- where an item stands among all
+  in_conditions_of_fragments : Contains (conditions_of_fragments x.entries x.fragments) item → Contains (fragment_faults x) item
+  in_conditions_of_fragments c =
+      Contains-append_right (repeated_names [] x.fragments) (conditions_of_fragments x.entries x.fragments ++ faults_of_selections x (selections x)) item
+      (Contains-append_left (conditions_of_fragments x.entries x.fragments) (faults_of_selections x (selections x)) item c)
+
+  in_selections : Contains (faults_of_selections x (selections x)) item → Contains (fragment_faults x) item
+  in_selections c =
+      Contains-append_right (repeated_names [] x.fragments) (conditions_of_fragments x.entries x.fragments ++ faults_of_selections x (selections x)) item
+      (Contains-append_right (conditions_of_fragments x.entries x.fragments) (faults_of_selections x (selections x)) item c)
+
+  in_conditions_of_selections : Contains (conditions_of_selections x.entries (selections x)) item → Contains (fragment_faults x) item
+  in_conditions_of_selections c = in_selections (Contains-append_left (conditions_of_selections x.entries (selections x)) (impossible_spreads x.entries x.fragments (selections x)) item c)
+
+  in_impossible_spreads : Contains (impossible_spreads x.entries x.fragments (selections x)) item → Contains (fragment_faults x) item
+  in_impossible_spreads c = in_selections (Contains-append_right (conditions_of_selections x.entries (selections x)) (impossible_spreads x.entries x.fragments (selections x)) item c)
+
+  to_condition : {file : ℕ} {name : NameOf Span} → IsTypeCondition x file name → Contains (condition_faults x.entries file name) item → Contains (fragment_faults x) item
+  to_condition (condition.of_fragment {f} stands) c = in_conditions_of_fragments (to_flat (condition_of_fragment x.entries) x.fragments f item stands c)
+  to_condition (condition.of_inline_fragment {s} {name} {directives} {braces} {place} selects is) c =
+      in_conditions_of_selections (to_flat (condition_of_selected x.entries) (selections x) s item (to_selections x s selects)
+      (subst (λ h. Contains (conditions_in x.entries s.file h) item) (sym is) c))
+
+  to_unknown : IsUnknownCondition x item → Contains (fragment_faults x) item
+  to_unknown w = to_condition w.is_condition
+      (subst (λ o. Contains (condition_of_kind w.file w.name o) item) (sym w.is_unknown) (contains_first (item_at w.file UnknownTypeCondition w.name) [] item (sym w.is)))
+
+  to_not_composite : IsConditionNotComposite x item → Contains (fragment_faults x) item
+  to_not_composite w = to_condition w.is_condition
+      (subst (λ o. Contains (condition_of_kind w.file w.name o) item) (sym w.is_known)
+      (subst (λ b. Contains (if b then [] else item_at w.file ConditionNotComposite w.name ∷ []) item) (sym w.is_not_composite) (contains_first (item_at w.file ConditionNotComposite w.name) [] item (sym w.is))))
+
+  -- spreads
+  impossible_is_fault : (s : SelectedOf) → Selects x s → (type_name : Text) (place : Span) → IsSpread x.fragments s.selection.label type_name place → (o : Option Text) → s.parent ≡ o →
+      Contains (impossible_under x.entries s.file place o type_name) item → IsFragmentFault x item
+  impossible_is_fault s selects type_name place is None below found = absurd (contains_none item found)
+  impossible_is_fault s selects type_name place is (Some parent) below found =
+      let told = from_if (is_impossible x.entries parent type_name) (item_over s.file SpreadNotPossible place) item found in
+      fault.spread_not_possible (record {
+        selected = s;
+        is_selected = selects;
+        parent = parent;
+        is_below = below;
+        condition = type_name;
+        place = place;
+        is_spread = is;
+        have_no_object = have_no_object x.entries parent type_name told.0;
+        is = told.1;
+      })
+
+  spread_is_fault : (s : SelectedOf) → Selects x s → (h : Head Span) → s.selection.label ≡ h → Contains (impossible_by x.entries x.fragments s h) item → IsFragmentFault x item
+  spread_is_fault s selects (field alias name arguments directives braces place) is found = absurd (contains_none item found)
+  spread_is_fault s selects (spread name directives place) is found =
+      let one = from_flat (impossible_numbered x.entries x.fragments s name) (places_from 0 name.text (name_texts x.fragments)) item found in
+      let numbered = from_places name.text x.fragments one.0 one.1 in
+      let told = subst (λ o. Contains (option_map_or (λ (f : FragmentOf). impossible_in x.entries s name.place f.on.text) o []) item) numbered.at one.2 in
+      let spread_is = spreads.of_fragment {directives = directives} {place = place} (contained x.fragments one.0 numbered.fragment numbered.at) numbered.has_name in
+      impossible_is_fault s selects numbered.fragment.on.text name.place (subst (λ h. IsSpread x.fragments h numbered.fragment.on.text name.place) (sym is) spread_is) s.parent refl told
+  spread_is_fault s selects (inline None directives braces place) is found = absurd (contains_none item found)
+  spread_is_fault s selects (inline (Some name) directives braces place) is found =
+      impossible_is_fault s selects name.text (first_bytes 3 place) (subst (λ h. IsSpread x.fragments h name.text (first_bytes 3 place)) (sym is) spreads.of_inline_fragment) s.parent refl found
+
+  impossible_spread_is_fault : Contains (impossible_spreads x.entries x.fragments (selections x)) item → IsFragmentFault x item
+  impossible_spread_is_fault found =
+      let one = from_flat (impossible_at x.entries x.fragments) (selections x) item found in
+      spread_is_fault one.0 (from_selections x one.0 one.1) one.0.selection.label refl one.2
+
+  to_by_head : (s : SelectedOf) {h : Head Span} {type_name : Text} {place : Span} → IsSpread x.fragments h type_name place → Contains (impossible_in x.entries s place type_name) item →
+      Contains (impossible_by x.entries x.fragments s h) item
+  to_by_head s (spreads.of_fragment {f} {name} {directives} {place} stands has_name) told =
+      let number = number_of x.fragments f stands in
+      let one = subst (λ o. Contains (option_map_or (λ (f : FragmentOf). impossible_in x.entries s name.place f.on.text) o []) item) (sym number.1) told in
+      to_flat (impossible_numbered x.entries x.fragments s name) (places_from 0 name.text (name_texts x.fragments)) number.0 item
+      (to_places name.text x.fragments number.0 (record { fragment = f; at = number.1; has_name = has_name })) one
+  to_by_head s spreads.of_inline_fragment told = told
+
+  to_spread : IsSpreadNotPossible x item → Contains (fragment_faults x) item
+  to_spread w =
+      let told = to_if (is_impossible x.entries w.parent w.condition) (item_over w.selected.file SpreadNotPossible w.place) item (to_impossible x.entries w.parent w.condition w.have_no_object) w.is in
+      let below = subst (λ o. Contains (impossible_under x.entries w.selected.file w.place o w.condition) item) (sym w.is_below) told in
+      in_impossible_spreads (to_flat (impossible_at x.entries x.fragments) (selections x) w.selected item (to_selections x w.selected w.is_selected) (to_by_head w.selected w.is_spread below))
+
+  -- all rules
+  fault_is : Contains (fragment_faults x) item → IsFragmentFault x item
+  fault_is found =
+      elim (Contains-append_cases (repeated_names [] x.fragments) (conditions_of_fragments x.entries x.fragments ++ faults_of_selections x (selections x)) item found) [
+        | inl a ↦ repeated_is_fault a
+        | inr b ↦ elim (Contains-append_cases (conditions_of_fragments x.entries x.fragments) (faults_of_selections x (selections x)) item b) [
+          | inl a ↦ fragment_condition_is_fault a
+          | inr b ↦ elim (Contains-append_cases (conditions_of_selections x.entries (selections x)) (impossible_spreads x.entries x.fragments (selections x)) item b) [
+            | inl a ↦ inline_condition_is_fault a
+            | inr b ↦ impossible_spread_is_fault b
+          ]
+        ]
+      ]
+
+  to_faults : IsFragmentFault x item → Contains (fragment_faults x) item
+  to_faults (fault.repeated_fragment_name w) =
+      Contains-append_left (repeated_names [] x.fragments) (conditions_of_fragments x.entries x.fragments ++ faults_of_selections x (selections x)) item (to_repeated w)
+  to_faults (fault.unknown_condition w) = to_unknown w
+  to_faults (fault.condition_not_composite w) = to_not_composite w
+  to_faults (fault.spread_not_possible w) = to_spread w
+
+  pub fragment_faults_are : Contains (fragment_faults x) item ↔ IsFragmentFault x item
+  fragment_faults_are = (fault_is, to_faults)

@@ -1,0 +1,6 @@
+pub mod FoundLemmas
+pub mod RepeatedNames
+pub mod OperationLemmas
+pub mod SharedLemmas
+pub mod SpreadLemmas
+pub mod FragmentLemmas

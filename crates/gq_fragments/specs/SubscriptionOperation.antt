@@ -1,0 +1,16 @@
+-- Subscription operations (section 2.3) are not executed: each is told.
+use Rattle.std.specs.Prelude.{◌≡◌, Contains}
+use Rattle.gq_tree.specs.declared.tree.OperationKind.TheVariants.{Subscription}
+use Rattle.gq_found.specs.declared.code.Code.TheVariants.{SubscriptionOperation}
+use Rattle.gq_found.specs.declared.item.Item.{Item}
+use Rattle.gq_document.specs.Definitions.{OperationOf}
+use Rattle.gq_document.specs.Executable.{ExecutableOf}
+use Rattle.gq_fragments.specs.Items.{item_over}
+use Rattle.gq_fragments.specs.OperationPlace.{operation_place}
+
+-- a subscription
+pub record IsSubscription (x : ExecutableOf) (item : Item) : Type 0 where
+  pub operation : OperationOf
+  pub stands : Contains x.operations operation
+  pub is_subscription : operation.kind ≡ Subscription
+  pub is : item ≡ item_over operation.file SubscriptionOperation (operation_place operation)

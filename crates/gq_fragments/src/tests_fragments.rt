@@ -1,0 +1,236 @@
+use crate::tests_project::fragment_faults;
+use std::test::Fail;
+
+/// `I` has the objects `A` and `B`, `J` has `B` and `K` has none.
+const TYPES: &str =
+    "type Query{a:A i:I j:J k:K u:U} type A implements I{x:Int} type B implements I&J{x:Int} interface I{x:Int} interface J{x:Int} interface K{x:Int} union U=A enum E{V} input N{x:Int}";
+
+#[test]
+fn a_fragments_name_in_two_documents_is_told_in_the_later(rt: HostRuntime) -> Result<(), Fail> {
+    let alloc = rt.alloc();
+    assert_eq!(rt;
+        fragment_faults(alloc, &[TYPES, "fragment F on A{x}", "fragment F on A{x}"])?.as_str(),
+        "2:V10[9,10]"
+    );
+    assert_eq!(rt;
+        fragment_faults(alloc, &[TYPES, "fragment F on A{x}", "fragment G on A{x}"])?.as_str(),
+        ""
+    );
+    Ok(())
+}
+
+#[test]
+fn a_condition_of_no_type_is_told(rt: HostRuntime) -> Result<(), Fail> {
+    let alloc = rt.alloc();
+    assert_eq!(rt;
+        fragment_faults(alloc, &[TYPES, "fragment F on Z{x}"])?.as_str(),
+        "1:V11[14,15]"
+    );
+    assert_eq!(rt;
+        fragment_faults(alloc, &[TYPES, "{...on Z{x}}"])?.as_str(),
+        "1:V11[7,8]"
+    );
+    assert_eq!(rt;
+        fragment_faults(alloc, &[TYPES, "{a{...F}} fragment F on Z{x}"])?.as_str(),
+        "1:V11[24,25]"
+    );
+    Ok(())
+}
+
+#[test]
+fn a_condition_of_a_leaf_or_input_object_is_told(rt: HostRuntime) -> Result<(), Fail> {
+    let alloc = rt.alloc();
+    assert_eq!(rt;
+        fragment_faults(alloc, &[TYPES, "fragment F on Int{x}"])?.as_str(),
+        "1:V12[14,17]"
+    );
+    assert_eq!(rt;
+        fragment_faults(alloc, &[TYPES, "fragment F on E{x}"])?.as_str(),
+        "1:V12[14,15]"
+    );
+    assert_eq!(rt;
+        fragment_faults(alloc, &[TYPES, "fragment F on N{x}"])?.as_str(),
+        "1:V12[14,15]"
+    );
+    assert_eq!(rt;
+        fragment_faults(alloc, &[TYPES, "fragment F on U{x}"])?.as_str(),
+        ""
+    );
+    Ok(())
+}
+
+#[test]
+fn an_inline_condition_of_a_leaf_shares_no_object_either(rt: HostRuntime) -> Result<(), Fail> {
+    let alloc = rt.alloc();
+    assert_eq!(rt;
+        fragment_faults(alloc, &[TYPES, "{...on E{x}}"])?.as_str(),
+        "1:V16[1,4]1:V12[7,8]"
+    );
+    assert_eq!(rt;
+        fragment_faults(alloc, &[TYPES, "{...on N{x}}"])?.as_str(),
+        "1:V16[1,4]1:V12[7,8]"
+    );
+    Ok(())
+}
+
+#[test]
+fn an_object_is_spread_in_itself_alone(rt: HostRuntime) -> Result<(), Fail> {
+    let alloc = rt.alloc();
+    assert_eq!(rt;
+        fragment_faults(alloc, &[TYPES, "{a{...F}} fragment F on A{x}"])?.as_str(),
+        ""
+    );
+    assert_eq!(rt;
+        fragment_faults(alloc, &[TYPES, "{a{...F}} fragment F on B{x}"])?.as_str(),
+        "1:V16[6,7]"
+    );
+    assert_eq!(rt;
+        fragment_faults(alloc, &[TYPES, "{a{...on A{x}}}"])?.as_str(),
+        ""
+    );
+    Ok(())
+}
+
+#[test]
+fn an_object_is_spread_in_an_interface_that_it_implements(rt: HostRuntime) -> Result<(), Fail> {
+    let alloc = rt.alloc();
+    assert_eq!(rt;
+        fragment_faults(alloc, &[TYPES, "{i{...F}} fragment F on A{x}"])?.as_str(),
+        ""
+    );
+    assert_eq!(rt;
+        fragment_faults(alloc, &[TYPES, "{j{...F}} fragment F on A{x}"])?.as_str(),
+        "1:V16[6,7]"
+    );
+    assert_eq!(rt;
+        fragment_faults(alloc, &[TYPES, "{a{...on J{x}}}"])?.as_str(),
+        "1:V16[3,6]"
+    );
+    Ok(())
+}
+
+#[test]
+fn an_object_is_spread_in_a_union_that_has_it(rt: HostRuntime) -> Result<(), Fail> {
+    let alloc = rt.alloc();
+    assert_eq!(rt;
+        fragment_faults(alloc, &[TYPES, "{u{...F}} fragment F on A{x}"])?.as_str(),
+        ""
+    );
+    assert_eq!(rt;
+        fragment_faults(alloc, &[TYPES, "{u{...F}} fragment F on B{x}"])?.as_str(),
+        "1:V16[6,7]"
+    );
+    Ok(())
+}
+
+#[test]
+fn interfaces_with_an_object_in_common_may_be_spread(rt: HostRuntime) -> Result<(), Fail> {
+    let alloc = rt.alloc();
+    assert_eq!(rt;
+        fragment_faults(alloc, &[TYPES, "{i{...F}} fragment F on J{x}"])?.as_str(),
+        ""
+    );
+    assert_eq!(rt;
+        fragment_faults(alloc, &[TYPES, "{i{...on J{x} ...on J{x}}}"])?.as_str(),
+        ""
+    );
+    Ok(())
+}
+
+#[test]
+fn interfaces_without_an_object_in_common_are_told_each_time(rt: HostRuntime) -> Result<(), Fail> {
+    let alloc = rt.alloc();
+    assert_eq!(rt;
+        fragment_faults(alloc, &[TYPES, "{i{...on K{x} ...on K{x}}}"])?.as_str(),
+        "1:V16[3,6]1:V16[14,17]"
+    );
+    assert_eq!(rt;
+        fragment_faults(alloc, &[TYPES, "{i{...on K{x}} k{...on I{x}}}"])?.as_str(),
+        "1:V16[3,6]1:V16[17,20]"
+    );
+    Ok(())
+}
+
+#[test]
+fn an_interface_without_objects_shares_none_with_itself(rt: HostRuntime) -> Result<(), Fail> {
+    let alloc = rt.alloc();
+    assert_eq!(rt;
+        fragment_faults(alloc, &[TYPES, "{k{...on K{x}}}"])?.as_str(),
+        "1:V16[3,6]"
+    );
+    assert_eq!(rt;
+        fragment_faults(alloc, &[TYPES, "{k{...F}} fragment F on K{x}"])?.as_str(),
+        "1:V16[6,7]"
+    );
+    Ok(())
+}
+
+#[test]
+fn a_union_and_an_interface_are_judged_by_the_members(rt: HostRuntime) -> Result<(), Fail> {
+    let alloc = rt.alloc();
+    assert_eq!(rt;
+        fragment_faults(alloc, &[TYPES, "{u{...on I{x}} i{...on U{__typename}}}"])?.as_str(),
+        ""
+    );
+    assert_eq!(rt;
+        fragment_faults(alloc, &[TYPES, "{u{...on J{x}} j{...on U{__typename}}}"])?.as_str(),
+        "1:V16[3,6]1:V16[17,20]"
+    );
+    Ok(())
+}
+
+#[test]
+fn an_inline_fragment_without_condition_may_stand_anywhere(rt: HostRuntime) -> Result<(), Fail> {
+    let alloc = rt.alloc();
+    assert_eq!(rt;
+        fragment_faults(alloc, &[TYPES, "{k{...{x}}}"])?.as_str(),
+        ""
+    );
+    assert_eq!(rt;
+        fragment_faults(alloc, &[TYPES, "{a{...{...on B{x}}}}"])?.as_str(),
+        "1:V16[7,10]"
+    );
+    Ok(())
+}
+
+#[test]
+fn a_parent_that_is_not_known_is_not_judged(rt: HostRuntime) -> Result<(), Fail> {
+    let alloc = rt.alloc();
+    assert_eq!(rt;
+        fragment_faults(alloc, &[TYPES, "{z{...F}} fragment F on B{x}"])?.as_str(),
+        ""
+    );
+    Ok(())
+}
+
+#[test]
+fn spreads_in_fragments_are_judged(rt: HostRuntime) -> Result<(), Fail> {
+    let alloc = rt.alloc();
+    assert_eq!(rt;
+        fragment_faults(alloc, &[TYPES, "fragment G on A{...F} fragment F on B{x}"])?.as_str(),
+        "1:V16[19,20]"
+    );
+    Ok(())
+}
+
+#[test]
+fn of_several_fragments_of_a_name_one_suffices(rt: HostRuntime) -> Result<(), Fail> {
+    let alloc = rt.alloc();
+    assert_eq!(rt;
+        fragment_faults(
+            alloc,
+            &[TYPES, "{a{...F}} fragment F on A{x} fragment F on B{x}"]
+        )?
+        .as_str(),
+        "1:V16[6,7]1:V10[38,39]"
+    );
+    assert_eq!(rt;
+        fragment_faults(
+            alloc,
+            &[TYPES, "{a{...F}} fragment F on B{x} fragment F on B{x}"]
+        )?
+        .as_str(),
+        "1:V16[6,7]1:V10[38,39]"
+    );
+    Ok(())
+}

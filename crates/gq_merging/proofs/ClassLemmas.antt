@@ -1,0 +1,278 @@
+-- Classes of fields by their keys.
+use Rattle.std.proofs.Common.{◌≡◌, ◌↔◌, ℕ, zero, suc, ◌+◌, ◌<◌, Bool, true, false, IsTrue, List, [], ◌∷◌, ◌++◌, Option, Some, None, is_some, All, Contains, length, set, refl, sym, ◌∙◌, ap, subst, arith, inl, inr, not, get_or, take, Vec, Global}
+use Rattle.std.specs.List.{slice_get, position, list_any}
+use Rattle.std.specs.Option.{option_map, option_map_or}
+use Rattle.std.specs.Str.{bytes_eq}
+use Rattle.std.specs.Cmp.Lexicographic.{bytes_decides}
+use Rattle.std.proofs.lemmas.Bool.{cases_eq}
+use Rattle.std.proofs.lemmas.List.{length-set, length_push, map-set, take_more, map-append, length-map}
+use Rattle.std.proofs.lemmas.List.Elements.{All-push, All-set, All-contains, Contains-push, Contains-push_cases}
+use Rattle.std.proofs.lemmas.List.Quantifiers.{position-Some}
+use Rattle.std.proofs.lemmas.Option.{same_Some, none-some, slice_get-map, slice_get_read}
+use Rattle.gq_text.specs.declared.place.Span.{Span}
+use Rattle.gq_names.proofs.PlaceLemmas.{is_some_position, position_push_found, position_push_here}
+use Rattle.gq_names.proofs.RepeatLemmas.{contains_none}
+use Rattle.gq_reach.specs.Reach.{Reach, start, step}
+use Rattle.gq_reach.proofs.Ways.{way_starts, contains_one}
+use Rattle.gq_tree.specs.Plain.{TypeOf}
+use Rattle.gq_types.specs.Entries.{Text, EntryOf}
+use Rattle.gq_merging.specs.FieldSets.{FieldAt, key}
+use Rattle.gq_merging.specs.Shapes.{shape_of}
+use Rattle.gq_merging.specs.Comparisons.{known_type, same_shapes}
+use Rattle.gq_merging.specs.SetTables.{MemberOf, RowOf, members_at, spreads_at, IsMember}
+use Rattle.gq_merging.specs.GroupTables.{IsOfGroup, known_shape, SayTheSame, IsUnder, AreBelow, ClassesOf, HasClass, AreClasses, HaveClasses, Takes, AreSettled}
+use Rattle.gq_merging.specs.Views.{member_view, members_view, row_view, rows_view}
+use Rattle.gq_merging.specs.GroupViews.{groups_view, classes_view}
+use Rattle.gq_merging.specs.declared.classes.Classes.{Classes}
+use Rattle.gq_merging.specs.declared.rows.Member.{Member}
+use Rattle.gq_merging.specs.declared.rows.Row.{Row}
+use Rattle.gq_merging.proofs.CompareLemmas.{shapes_are}
+use Rattle.gq_merging.proofs.MemberLemmas.{get_contains}
+use Rattle.gq_merging.proofs.MemberSteps.{members_of_row, members_past}
+use Rattle.gq_merging.proofs.Worklist.{get_longer, get_seam}
+
+-- two known shapes
+pub known_shapes : (es : List EntryOf) (a b : FieldAt) (t u : TypeOf Span) (same : Bool) → known_type es a ≡ Some t → known_type es b ≡ Some u → same ≡ same_shapes es t u →
+    IsTrue same ↔ (known_shape es a ≡ known_shape es b)
+known_shapes es a b t u same ea eb is =
+    let left : known_shape es a ≡ Some (shape_of es t) = ap (option_map (shape_of es)) ea in
+    let right : known_shape es b ≡ Some (shape_of es u) = ap (option_map (shape_of es)) eb in
+    let are = shapes_are es t u in (
+      (λ e. left ∙ ap Some (are.0 (sym is ∙ e)) ∙ sym right),
+      (λ e. is ∙ are.1 (same_Some (shape_of es t) (shape_of es u) (sym left ∙ e ∙ right))),
+    )
+
+-- a way from a number that leads nowhere
+stays : (next : ℕ → List ℕ) (n k : ℕ) → next n ≡ [] → Reach (n ∷ []) next k → k ≡ n
+stays next n k e (start c) = contains_one n k c
+stays next n k e (step {m = m} h c) =
+    let at : m ≡ n = stays next n m e h in
+    absurd (contains_none k (subst (λ ns. Contains ns k) (ap next at ∙ e) c))
+
+nothing_there : (rows : List RowOf) (n : ℕ) (m : MemberOf) → members_at rows n ≡ [] → spreads_at rows n ≡ [] → IsMember rows n m → ⊥
+nothing_there rows n m none no_way h =
+    let at : h.reached ≡ n = stays (spreads_at rows) n h.reached no_way h.reach in
+    contains_none m (subst (λ ms. Contains ms m) (ap (members_at rows) at ∙ none) h.stands)
+
+spreads_of_row : (rows : List Row) (n : ℕ) (r : Row) → slice_get rows n ≡ Some r → spreads_at (rows_view rows) n ≡ r.spreads.items
+spreads_of_row rows n r e = ap (λ (o : Option RowOf). option_map_or (λ (r : RowOf). r.spreads) o []) (slice_get-map row_view rows n ∙ ap (option_map row_view) e)
+
+spreads_past : (rows : List Row) (n : ℕ) → slice_get rows n ≡ None → spreads_at (rows_view rows) n ≡ []
+spreads_past rows n e = ap (λ (o : Option RowOf). option_map_or (λ (r : RowOf). r.spreads) o []) (slice_get-map row_view rows n ∙ ap (option_map row_view) e)
+
+pub nothing_in_row : (rows : List Row) (n : ℕ) (r : Row) → slice_get rows n ≡ Some r → r.members.items ≡ [] → r.spreads.items ≡ [] → (m : MemberOf) → IsMember (rows_view rows) n m → ⊥
+nothing_in_row rows n r e none no_way m h =
+    nothing_there (rows_view rows) n m (members_of_row rows n r e ∙ ap members_view none) (spreads_of_row rows n r e ∙ no_way) h
+
+pub nothing_past : (rows : List Row) (n : ℕ) → slice_get rows n ≡ None → (m : MemberOf) → IsMember (rows_view rows) n m → ⊥
+nothing_past rows n e m h = nothing_there (rows_view rows) n m (members_past rows n e) (spreads_past rows n e) h
+
+-- the fields of a set that stands in a group
+pub under_one : (rows : List RowOf) (n : ℕ) (group : List ℕ) → Contains group n → IsUnder rows n group
+under_one rows n group c = record {
+  each = λ m h. record {
+    reached = h.reached;
+    reach = way_starts (spreads_at rows) (n ∷ []) group (λ k d. subst (λ j. Contains group j) (sym (contains_one n k d)) c) h.reached h.reach;
+    stands = h.stands;
+  };
+}
+
+pub under_pushed : (rows : List RowOf) (n : ℕ) (old new : List ℕ) → new ≡ old ++ n ∷ [] → IsUnder rows n new
+under_pushed rows n old new is = under_one rows n new (subst (λ ns. Contains ns n) (sym is) (Contains-push old n))
+
+pub under_none : (rows : List RowOf) (n : ℕ) (group : List ℕ) → ((m : MemberOf) → IsMember rows n m → ⊥) → IsUnder rows n group
+under_none rows n group none = record { each = λ m h. absurd (none m h) }
+
+of_more : (rows : List RowOf) (old new : List ℕ) → ((k : ℕ) → Contains old k → Contains new k) → (m : MemberOf) → IsOfGroup rows old m → IsOfGroup rows new m
+of_more rows old new more m h = record {
+  reached = h.reached;
+  reach = way_starts (spreads_at rows) old new more h.reached h.reach;
+  stands = h.stands;
+}
+
+under_more : (rows : List RowOf) (n : ℕ) (old new : List ℕ) → ((k : ℕ) → Contains old k → Contains new k) → IsUnder rows n old → IsUnder rows n new
+under_more rows n old new more h = record { each = λ m i. of_more rows old new more m (h.each m i) }
+
+-- places of a list
+get_set_same : {A : Type 0} (xs : List A) (i : ℕ) (y z : A) → slice_get xs i ≡ Some z → slice_get (set xs i y) i ≡ Some y
+get_set_same [] i y z e = absurd (none-some z e)
+get_set_same (x ∷ xs) zero y z e = refl
+get_set_same (x ∷ xs) (suc i) y z e = get_set_same xs i y z e
+
+get_set_other : {A : Type 0} (xs : List A) (i j : ℕ) (y : A) → (j ≡ i → ⊥) → slice_get (set xs i y) j ≡ slice_get xs j
+get_set_other [] i j y apart = refl
+get_set_other (x ∷ xs) zero zero y apart = absurd (apart refl)
+get_set_other (x ∷ xs) zero (suc j) y apart = refl
+get_set_other (x ∷ xs) (suc i) zero y apart = refl
+get_set_other (x ∷ xs) (suc i) (suc j) y apart = get_set_other xs i j y (λ e. apart (ap suc e))
+
+place_stays : (p : Text → Bool) (xs : List Text) (y : Text) (i : ℕ) → position p xs ≡ Some i → position p (xs ++ y ∷ []) ≡ Some i
+place_stays p xs y i e =
+    let any : list_any p xs ≡ true = sym (is_some_position p xs) ∙ ap is_some e in
+    position_push_found p xs y any ∙ e
+
+place_new : (p : Text → Bool) (xs : List Text) (y : Text) → position p xs ≡ None → p y ≡ true → position p (xs ++ y ∷ []) ≡ Some (length xs)
+place_new p xs y e at =
+    let any : list_any p xs ≡ false = sym (is_some_position p xs) ∙ ap is_some e in
+    position_push_here p xs y any at
+
+-- the place of a key is one of the classes
+place_within : (rows : List RowOf) (classes : ClassesOf) (text : Text) (i : ℕ) → AreClasses rows classes → position (bytes_eq text) classes.keys ≡ Some i →
+    (i < length classes.firsts) × (i < length classes.groups)
+place_within rows classes text i h e =
+    let l : i < length classes.keys = within (bytes_eq text) classes.keys i e in
+    (omega (arith, l, h.firsts_count), omega (arith, l, h.groups_count))
+  where
+    within : (p : Text → Bool) (xs : List Text) (i : ℕ) → position p xs ≡ Some i → i < length xs
+    within p xs i e = (position-Some p xs i [] e).0
+
+module _ (es : List EntryOf) (rows : List RowOf) (m : MemberOf) (old new : ClassesOf) (h : AreClasses rows old) where
+  -- a class more
+  module _ (group : List ℕ) (keys : new.keys ≡ old.keys ++ key m.field_at ∷ []) (firsts : new.firsts ≡ old.firsts ++ m ∷ []) (groups : new.groups ≡ old.groups ++ group ∷ []) where
+    pub classes_first : All (λ n. n < length rows) group → AreClasses rows new
+    classes_first range = record {
+      firsts_count = ap length firsts ∙ length_push old.firsts m ∙ ap (λ n. n + 1) h.firsts_count ∙ sym (ap length keys ∙ length_push old.keys (key m.field_at));
+      groups_count = ap length groups ∙ length_push old.groups group ∙ ap (λ n. n + 1) h.groups_count ∙ sym (ap length keys ∙ length_push old.keys (key m.field_at));
+      range = subst (AreBelow rows) (sym groups) (All-push (λ group. All (λ n. n < length rows) group) old.groups group h.range range);
+    }
+
+    kept_first : (w : MemberOf) → HasClass es rows old w → HasClass es rows new w
+    kept_first w c = record {
+      place = c.place;
+      is = ap (position (bytes_eq (key w.field_at))) keys ∙ place_stays (bytes_eq (key w.field_at)) old.keys (key m.field_at) c.place c.is;
+      first = c.first;
+      is_first = ap (λ ms. slice_get ms c.place) firsts ∙ get_longer old.firsts (m ∷ []) c.place c.first c.is_first;
+      same = c.same;
+      group = c.group;
+      is_group = ap (λ gs. slice_get gs c.place) groups ∙ get_longer old.groups (group ∷ []) c.place c.group c.is_group;
+      under = c.under;
+    }
+
+    class_new : position (bytes_eq (key m.field_at)) old.keys ≡ None → IsUnder rows m.below group → HasClass es rows new m
+    class_new absent under = record {
+      place = length old.keys;
+      is = ap (position (bytes_eq (key m.field_at))) keys ∙ place_new (bytes_eq (key m.field_at)) old.keys (key m.field_at) absent ((bytes_decides (key m.field_at) (key m.field_at)).1 refl);
+      first = m;
+      is_first = ap (λ ms. slice_get ms (length old.keys)) firsts ∙ ap (slice_get (old.firsts ++ m ∷ [])) (sym h.firsts_count) ∙ get_seam old.firsts m [];
+      same = record { one_name = refl; one_row = refl; one_shape = refl };
+      group = group;
+      is_group = ap (λ gs. slice_get gs (length old.keys)) groups ∙ ap (slice_get (old.groups ++ group ∷ [])) (sym h.groups_count) ∙ get_seam old.groups group [];
+      under = under;
+    }
+
+    pub takes_first : position (bytes_eq (key m.field_at)) old.keys ≡ None → IsUnder rows m.below group → Takes es rows m old new
+    takes_first absent under = record {
+      have = λ ms k. record {
+        each = λ w c. elim (Contains-push_cases ms m w c) [
+          | inl d ↦ kept_first w (k.each w d)
+          | inr e ↦ subst (HasClass es rows new) e (class_new absent under)
+        ];
+      };
+    }
+
+  -- a class with one field more
+  module _ (place : ℕ) (group more : List ℕ) (keys : new.keys ≡ old.keys) (firsts : new.firsts ≡ old.firsts) (groups : new.groups ≡ set old.groups place more) where
+    pub classes_other : All (λ n. n < length rows) more → AreClasses rows new
+    classes_other range = record {
+      firsts_count = ap length firsts ∙ h.firsts_count ∙ sym (ap length keys);
+      groups_count = ap length groups ∙ length-set old.groups place more ∙ h.groups_count ∙ sym (ap length keys);
+      range = subst (AreBelow rows) (sym groups) (All-set (λ group. All (λ n. n < length rows) group) old.groups place more range h.range);
+    }
+
+    kept_other : slice_get old.groups place ≡ Some group → ((k : ℕ) → Contains group k → Contains more k) → (w : MemberOf) → HasClass es rows old w → HasClass es rows new w
+    kept_other at keeps w c = elim (cases_eq c.place place) [
+      | inl same ↦
+          let one : c.group ≡ group = same_Some c.group group (sym c.is_group ∙ ap (slice_get old.groups) same ∙ at) in
+          record {
+            place = c.place;
+            is = ap (position (bytes_eq (key w.field_at))) keys ∙ c.is;
+            first = c.first;
+            is_first = ap (λ ms. slice_get ms c.place) firsts ∙ c.is_first;
+            same = c.same;
+            group = more;
+            is_group = ap (λ gs. slice_get gs c.place) groups ∙ ap (slice_get (set old.groups place more)) same ∙ get_set_same old.groups place more group at;
+            under = under_more rows w.below group more keeps (subst (IsUnder rows w.below) one c.under);
+          }
+      | inr apart ↦ record {
+        place = c.place;
+        is = ap (position (bytes_eq (key w.field_at))) keys ∙ c.is;
+        first = c.first;
+        is_first = ap (λ ms. slice_get ms c.place) firsts ∙ c.is_first;
+        same = c.same;
+        group = c.group;
+        is_group = ap (λ gs. slice_get gs c.place) groups ∙ get_set_other old.groups place c.place more apart ∙ c.is_group;
+        under = c.under;
+      }
+    ]
+
+    pub takes_other : (first : MemberOf) → position (bytes_eq (key m.field_at)) old.keys ≡ Some place → slice_get old.firsts place ≡ Some first → SayTheSame es first.field_at m.field_at →
+        slice_get old.groups place ≡ Some group → ((k : ℕ) → Contains group k → Contains more k) → IsUnder rows m.below more → Takes es rows m old new
+    takes_other first is is_first same at keeps under = record {
+      have = λ ms k. record {
+        each = λ w c. elim (Contains-push_cases ms m w c) [
+          | inl d ↦ kept_other at keeps w (k.each w d)
+          | inr e ↦ subst (HasClass es rows new) e (record {
+            place = place;
+            is = ap (position (bytes_eq (key m.field_at))) keys ∙ is;
+            first = first;
+            is_first = ap (λ ms. slice_get ms place) firsts ∙ is_first;
+            same = same;
+            group = more;
+            is_group = ap (λ gs. slice_get gs place) groups ∙ get_set_same old.groups place more group at;
+            under = under;
+          })
+        ];
+      };
+    }
+
+-- what says the same as one field says the same
+same_as_one : (es : List EntryOf) (first a b : FieldAt) → SayTheSame es first a → SayTheSame es first b → SayTheSame es a b
+same_as_one es first a b h k = record {
+  one_name = sym h.one_name ∙ k.one_name;
+  one_row = sym h.one_row ∙ k.one_row;
+  one_shape = sym h.one_shape ∙ k.one_shape;
+}
+
+-- fields in classes are settled
+pub settled_classes : (es : List EntryOf) (rows : List RowOf) (classes : ClassesOf) (ms : List MemberOf) → HaveClasses es rows classes ms → AreSettled es rows classes.groups ms
+settled_classes es rows classes ms h = record {
+  each = λ a b ca cb k.
+      let p = h.each a ca in
+      let q = h.each b cb in
+      let place : p.place ≡ q.place = same_Some p.place q.place (sym p.is ∙ ap (λ t. position (bytes_eq t) classes.keys) k ∙ q.is) in
+      let first : q.first ≡ p.first = same_Some q.first p.first (sym q.is_first ∙ ap (slice_get classes.firsts) (sym place) ∙ p.is_first) in
+      let group : q.group ≡ p.group = same_Some q.group p.group (sym q.is_group ∙ ap (slice_get classes.groups) (sym place) ∙ p.is_group) in
+      record {
+        same = same_as_one es p.first.field_at a.field_at b.field_at p.same (subst (λ (f : MemberOf). SayTheSame es f.field_at b.field_at) first q.same);
+        group = p.group;
+        is_group = get_contains classes.groups p.place p.group p.is_group;
+        left = p.under;
+        right = subst (IsUnder rows b.below) group q.under;
+      };
+}
+
+pub turned_false : (b : Bool) → not b ≡ false → b ≡ true
+turned_false true e = refl
+turned_false false e = absurd (cc)
+
+-- the code's lists
+pub group_at : (vs : List (Vec ℕ Global)) (i : ℕ) (v : Vec ℕ Global) → i < length vs → v ≡ get_or vs i v → slice_get (groups_view vs) i ≡ Some v.items
+group_at vs i v l e = slice_get-map (λ v. v.items) vs i ∙ ap (option_map (λ v. v.items)) (slice_get_read vs (length vs) i v refl l e)
+
+pub member_at : (ms : List Member) (i : ℕ) (m : Member) → i < length ms → m ≡ get_or ms i m → slice_get (members_view ms) i ≡ Some (member_view m)
+member_at ms i m l e = slice_get-map member_view ms i ∙ ap (option_map member_view) (slice_get_read ms (length ms) i m refl l e)
+
+pub group_in_range : (rows : List RowOf) (vs : List (Vec ℕ Global)) (i : ℕ) (v : Vec ℕ Global) → i < length vs → v ≡ get_or vs i v → AreBelow rows (groups_view vs) → All (λ n. n < length rows) v.items
+group_in_range rows vs i v l e range = All-contains (λ group. All (λ n. n < length rows) group) (groups_view vs) v.items range (get_contains (groups_view vs) i v.items (group_at vs i v l e))
+
+pub groups_set : (vs : List (Vec ℕ Global)) (i : ℕ) (v : Vec ℕ Global) → groups_view (set vs i v) ≡ set (groups_view vs) i v.items
+groups_set vs i v = map-set (λ v. v.items) vs i v
+
+pub members_more : (ms : List Member) (i : ℕ) (m : Member) → i < length ms → get_or ms i m ≡ m → members_view (take (i + 1) ms) ≡ members_view (take i ms) ++ member_view m ∷ []
+members_more ms i m l e = ap members_view (take_more ms i m l ∙ ap (λ w. take i ms ++ w ∷ []) e) ∙ map-append member_view (take i ms) (m ∷ [])
+
+pub places_within : (rows : List RowOf) (classes : Classes) (text : Text) (i : ℕ) → AreClasses rows (classes_view classes) → position (bytes_eq text) classes.keys ≡ Some i →
+    (i < length classes.firsts.items) × (i < length classes.groups.items)
+places_within rows classes text i h e =
+    let l = place_within rows (classes_view classes) text i h e in
+    (omega (arith, l.0, length-map classes.firsts.items member_view), omega (arith, l.1, length-map classes.groups.items (λ v. v.items)))

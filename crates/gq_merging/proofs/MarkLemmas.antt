@@ -1,0 +1,130 @@
+-- Each pair of entries is compared once: what the marks then say.
+use Rattle.std.proofs.Common.{◌≡◌, ◌≢◌, ◌↔◌, ◌⊎◌, inl, inr, ⊎_elim, ℕ, zero, suc, ◌+◌, ◌<◌, ◌≤◌, Bool, true, false, IsTrue, List, [], ◌∷◌, ◌++◌, length, take, map, get_or, set, Contains, refl, sym, ◌∙◌, ap, subst, arith}
+use Rattle.std.specs.List.{list_all}
+use Rattle.std.proofs.lemmas.Bool.Decides.{eqb_tells}
+use Rattle.std.proofs.lemmas.List.{get_or_default, get_or-map, length-map, take_more, take_all, map-append, get_or-set_same, get_or-set_other, length-set}
+use Rattle.std.proofs.lemmas.List.Elements.{Contains-append_left, Contains-append_right, Contains-append_cases}
+use Rattle.gq_names.proofs.RepeatLemmas.{contains_none, contains_first, contains_cases}
+use Rattle.gq_names.specs.Repeats.{StandsAt}
+use Rattle.gq_text.specs.declared.place.Span.{Span}
+use Rattle.gq_tree.specs.Plain.{Val}
+use Rattle.gq_merging.specs.SameArguments.{IsArgument, SameArguments}
+use Rattle.gq_merging.specs.Marks.{IsAmong, IsSameAt, IsAmongFirst, is_marked, MarksSame, MarksEach, AllFound}
+
+one_stands : {A : Type 0} (xs : List A) (i : ℕ) (x y : A) → StandsAt xs i x → StandsAt xs i y → x ≡ y
+one_stands xs i x y h k = sym h.1 ∙ get_or_default xs i x y h.0 ∙ k.1
+
+-- an item that is read from a list stands in what is seen of the list
+pub stands_seen : {A : Type 0} (view : A → Val Span) (xs : List A) (i : ℕ) (x : A) → i < length xs → get_or xs i x ≡ x → StandsAt (map view xs) i (view x)
+stands_seen view xs i x inside is = (subst (λ n. i < n) (sym (length-map xs view)) inside, get_or-map view xs i x (view x) inside ∙ ap view is)
+
+module _ (a : Val Span) (bs : List (Val Span)) where
+  pub marks_begin : (old : List Bool) → MarksSame a bs 0 old old
+  marks_begin old = record { as_many = refl; are = λ j. ((λ t. inl t), (λ s. ⊎_elim (λ t. t) (λ p. absurd (omega (arith, p.0))) s)) }
+
+  module _ (i : ℕ) (b : Val Span) (stands : StandsAt bs i b) where
+    -- the entry at the place is compared: it is marked if it is identical, and no other mark changes
+    marks_more : (old new then : List Bool) (same : Bool) → (IsTrue same ↔ IsArgument a b) → MarksSame a bs i old new → length then ≡ length new →
+        (IsTrue (is_marked then i) ↔ (IsTrue same ⊎ IsTrue (is_marked new i))) → ((j : ℕ) → j ≢ i → is_marked then j ≡ is_marked new j) → MarksSame a bs (i + 1) old then
+    marks_more old new then same are m long here others = record { as_many = long ∙ m.as_many; are = λ j. ⊎_elim (λ p. at_place j p.1) (λ p. elsewhere j p.1) (eqb_tells j i) }
+      where
+        from_place : IsTrue (is_marked new i) → IsTrue (is_marked old i) ⊎ ((i < i + 1) × IsSameAt a bs i)
+        from_place t = ⊎_elim (λ o. inl o) (λ p. inr (omega arith, p.1)) ((m.are i).0 t)
+
+        to_place : IsTrue (is_marked old i) ⊎ ((i < i + 1) × IsSameAt a bs i) → IsTrue (is_marked then i)
+        to_place s = ⊎_elim (λ o. here.1 (inr ((m.are i).1 (inl o)))) (λ p. here.1 (inl (are.1 (subst (IsArgument a) (one_stands bs i p.1.0 b p.1.1 stands) p.1.2)))) s
+
+        at_place : (j : ℕ) → j ≡ i → IsTrue (is_marked then j) ↔ (IsTrue (is_marked old j) ⊎ ((j < i + 1) × IsSameAt a bs j))
+        at_place j e = subst (λ k. IsTrue (is_marked then k) ↔ (IsTrue (is_marked old k) ⊎ ((k < i + 1) × IsSameAt a bs k))) (sym e)
+            ((λ t. ⊎_elim (λ s. inr (omega arith, (b, stands, are.0 s))) from_place (here.0 t)), to_place)
+
+        elsewhere : (j : ℕ) → j ≢ i → IsTrue (is_marked then j) ↔ (IsTrue (is_marked old j) ⊎ ((j < i + 1) × IsSameAt a bs j))
+        elsewhere j n = (
+          (λ t. ⊎_elim (λ o. inl o) (λ p. inr (omega (arith, p.0), p.1)) ((m.are j).0 (sym (others j n) ∙ t))),
+          (λ s. others j n ∙ (m.are j).1 (⊎_elim (λ o. inl o) (λ p. inr (omega (arith, n, p.0), p.1)) s)),
+        )
+
+    pub marks_set : (old new : List Bool) → IsArgument a b → i < length new → MarksSame a bs i old new → MarksSame a bs (i + 1) old (set new i true)
+    marks_set old new is inside m = marks_more old new (set new i true) true ((λ t. is), (λ t. refl)) m (length-set new i true)
+        ((λ t. inl refl), (λ s. get_or-set_same new i true false inside)) (λ j n. get_or-set_other new i j true false n)
+
+    pub marks_kept : (old new : List Bool) (same : Bool) → (IsTrue same ↔ IsArgument a b) → same ≡ false → MarksSame a bs i old new → MarksSame a bs (i + 1) old new
+    marks_kept old new same are apart m = marks_more old new new same are m refl ((λ t. inr t), (λ s. ⊎_elim (λ t. absurd (cc)) (λ t. t) s)) (λ j n. refl)
+
+    pub found_here : IsArgument a b → IsTrue true ↔ IsAmongFirst a bs (i + 1)
+    found_here is = ((λ t. (i, omega arith, (b, stands, is))), (λ h. refl))
+
+    pub found_kept : (found same : Bool) → (IsTrue same ↔ IsArgument a b) → same ≡ false → IsTrue found ↔ IsAmongFirst a bs i → IsTrue found ↔ IsAmongFirst a bs (i + 1)
+    found_kept found same are apart h = (
+      (λ t. let q = h.0 t in (q.0, omega (arith, q.1), q.2)),
+      (λ q. ⊎_elim
+          (λ p. absurd (true_false (are.1 (subst (IsArgument a) (one_stands bs i q.2.0 b (subst (λ k. StandsAt bs k q.2.0) p.1 q.2.1) stands) q.2.2)) apart))
+          (λ p. h.1 (q.0, omega (arith, p.1, q.1), q.2)) (eqb_tells q.0 i)),
+    )
+      where
+        true_false : {b : Bool} → b ≡ true → b ≡ false → ⊥
+        true_false t f = cc
+
+  pub found_none : IsTrue false ↔ IsAmongFirst a bs 0
+  found_none = ((λ t. absurd (cc)), (λ q. absurd (omega (arith, q.1))))
+
+-- one more entry has found an identical one
+pub all_more : (xs bs : List (Val Span)) (a : Val Span) (old new : List Bool) → AllFound xs bs old → IsAmong a bs → MarksSame a bs (length bs) old new → AllFound (xs ++ a ∷ []) bs new
+all_more xs bs a old new h is m = record {
+  found = λ x k. ⊎_elim (λ p. h.found x p) (λ p. subst (λ z. IsAmong z bs) (last x p) is) (Contains-append_cases xs (a ∷ []) x k);
+  as_many = m.as_many ∙ h.as_many;
+  marked = λ j. (
+    (λ t. ⊎_elim (λ o. let q = (h.marked j).0 o in (q.0, Contains-append_left xs (a ∷ []) q.0 q.1, q.2)) (λ p. (a, Contains-append_right xs (a ∷ []) a (contains_first a [] a refl), p.1)) ((m.are j).0 t)),
+    (λ q. (m.are j).1 (⊎_elim (λ p. inl ((h.marked j).1 (q.0, p, q.2))) (λ p. inr (below j q.2, subst (λ z. IsSameAt z bs j) (sym (last q.0 p)) q.2)) (Contains-append_cases xs (a ∷ []) q.0 q.1))),
+  );
+}
+  where
+    last : (x : Val Span) → Contains (a ∷ []) x → a ≡ x
+    last x p = ⊎_elim (λ e. e) (λ f. absurd (contains_none x f)) (contains_cases a [] x p)
+
+    below : {z : Val Span} (j : ℕ) → IsSameAt z bs j → j < length bs
+    below j q = q.1.0
+
+-- the same where the entry is read from a list
+pub all_more_seen : {A : Type 0} (view : A → Val Span) (xs : List A) (bs : List (Val Span)) (i : ℕ) (x : A) (old new : List Bool) → i < length xs → get_or xs i x ≡ x →
+    AllFound (map view (take i xs)) bs old → IsAmong (view x) bs → MarksEach (view x) bs old new → AllFound (map view (take (i + 1) xs)) bs new
+all_more_seen view xs bs i x old new inside read h is m =
+    subst (λ ys. AllFound ys bs new) (sym (ap (map view) (take_more xs i x inside ∙ ap (λ y. take i xs ++ y ∷ []) read) ∙ map-append view (take i xs) (x ∷ [])))
+    (all_more (map view (take i xs)) bs (view x) old new h is m)
+
+-- all marks are set exactly if the sets are one
+marks_all : (marks : List Bool) → list_all (λ m. m) marks ≡ true → (j : ℕ) → j < length marks → is_marked marks j ≡ true
+marks_all [] h j k = absurd (omega (arith, k))
+marks_all (true ∷ marks) h zero k = refl
+marks_all (true ∷ marks) h (suc j) k = marks_all marks h j (omega (arith, k))
+marks_all (false ∷ marks) h j k = absurd (cc)
+
+all_marks : (marks : List Bool) → ((j : ℕ) → j < length marks → is_marked marks j ≡ true) → list_all (λ m. m) marks ≡ true
+all_marks [] h = refl
+all_marks (true ∷ marks) h = all_marks marks (λ j k. h (suc j) (omega (arith, k)))
+all_marks (false ∷ marks) h = h 0 (omega arith)
+
+pub sets_marked : (xs bs : List (Val Span)) (marks : List Bool) (all : Bool) → AllFound xs bs marks → all ≡ list_all (λ m. m) marks → IsTrue all ↔ SameArguments xs bs
+sets_marked xs bs marks all h is = (
+  (λ t. record {
+    given = h.found;
+    others = λ b k. let q = (h.marked k.0).0 (marks_all marks (sym is ∙ t) k.0 (subst (λ n. k.0 < n) (sym h.as_many) k.1)) in
+        (q.0, q.1, subst (IsArgument q.0) (one_stands bs k.0 q.2.0 b q.2.1 (k.1, k.2)) q.2.2);
+  }),
+  (λ s. is ∙ all_marks marks (λ j k. (h.marked j).1 (by s j (subst (λ n. j < n) h.as_many k)))),
+)
+  where
+    by : SameArguments xs bs → (j : ℕ) → j < length bs → (a : Val Span) × Contains xs a × IsSameAt a bs j
+    by s j k = by_item s j k (item bs j k)
+      where
+        item : (ys : List (Val Span)) (i : ℕ) → i < length ys → (b : Val Span) × StandsAt ys i b
+        item [] i l = absurd (omega (arith, l))
+        item (y ∷ ys) zero l = (y, (omega arith, refl))
+        item (y ∷ ys) (suc i) l = let q = item ys i (omega (arith, l)) in (q.0, (omega (arith, q.1.0), q.1.1))
+
+        by_item : SameArguments xs bs → (j : ℕ) → j < length bs → (b : Val Span) × StandsAt bs j b → (a : Val Span) × Contains xs a × IsSameAt a bs j
+        by_item s j k b = let q = s.others b.0 (j, b.1.0, b.1.1) in (q.0, q.1, (b.0, b.1, q.2))
+
+pub sets_marked_seen : {A : Type 0} (view : A → Val Span) (xs : List A) (bs : List (Val Span)) (i : ℕ) (marks : List Bool) (all : Bool) → length xs ≤ i →
+    AllFound (map view (take i xs)) bs marks → all ≡ list_all (λ m. m) marks → IsTrue all ↔ SameArguments (map view xs) bs
+sets_marked_seen view xs bs i marks all end h is = sets_marked (map view xs) bs marks all (subst (λ ys. AllFound (map view ys) bs marks) (take_all i xs end) h) is

@@ -1,0 +1,111 @@
+-- Members in the code's rows and tables.
+use Rattle.std.proofs.Common.{◌≡◌, ◌↔◌, ℕ, zero, suc, ◌≤◌, ◌<◌, List, [], ◌∷◌, ◌++◌, Option, Some, None, All, Contains, map, length, refl, sym, ◌∙◌, ap, subst, arith, inl, inr, Vec, Global, Bool, ⊎_elim}
+use Rattle.std.specs.List.{slice_get, flat_map}
+use Rattle.std.specs.Option.{option_map, option_map_or}
+use Rattle.std.specs.Prelude.{unwrap_or}
+use Rattle.std.proofs.lemmas.List.{length-map, length-append}
+use Rattle.std.proofs.lemmas.Option.{slice_get-map}
+use Rattle.std.proofs.lemmas.List.Elements.{Contains-append_left, Contains-append_right, Contains-append_cases, All-contains, All-weaker, All-contains_itself}
+use Rattle.gq_names.proofs.RepeatLemmas.{contains_none, contains_later, contains_first, contains_cases}
+use Rattle.gq_reach.specs.Reach.{Reach, start, step, row, InRange}
+use Rattle.gq_document.specs.Executable.{ExecutableOf}
+use Rattle.gq_merging.specs.FieldSets.{fragment_set, operation_set}
+use Rattle.gq_merging.specs.SetTables.{MemberOf, RowOf, IsRow, AreRows, first_sets, names_of, members_at, spreads_at, IsMember}
+use Rattle.gq_merging.specs.StartTables.{Passes}
+use Rattle.gq_merging.specs.Views.{members_view, row_view, rows_view}
+use Rattle.gq_merging.specs.declared.rows.Row.{Row}
+use Rattle.gq_merging.specs.declared.rows.Member.{Member}
+use Rattle.gq_merging.proofs.MemberLemmas.{from_map, to_map, spreads_within}
+
+pub members_of_row : (rows : List Row) (n : ℕ) (r : Row) → slice_get rows n ≡ Some r → members_at (rows_view rows) n ≡ members_view r.members.items
+members_of_row rows n r e = ap (λ (o : Option RowOf). option_map_or (λ (r : RowOf). r.members) o []) (slice_get-map row_view rows n ∙ ap (option_map row_view) e)
+
+pub members_past : (rows : List Row) (n : ℕ) → slice_get rows n ≡ None → members_at (rows_view rows) n ≡ []
+members_past rows n e = ap (λ (o : Option RowOf). option_map_or (λ (r : RowOf). r.members) o []) (slice_get-map row_view rows n ∙ ap (option_map row_view) e)
+
+row_is : (table : List (Vec ℕ Global)) (n : ℕ) → row table n ≡ unwrap_or (slice_get (map (λ (v : Vec ℕ Global). v.items) table) n) []
+row_is [] n = refl
+row_is (v ∷ table) zero = refl
+row_is (v ∷ table) (suc n) = row_is table n
+
+spreads_are : (rows : List Row) (n : ℕ) → spreads_at (rows_view rows) n ≡ unwrap_or (slice_get (map (λ (r : Row). r.spreads.items) rows) n) []
+spreads_are [] n = refl
+spreads_are (r ∷ rows) zero = refl
+spreads_are (r ∷ rows) (suc n) = spreads_are rows n
+
+pub reach_alike : (f g : ℕ → List ℕ) (starts : List ℕ) → ((n : ℕ) → f n ≡ g n) → (k : ℕ) → Reach starts f k → Reach starts g k
+reach_alike f g starts same k (start c) = start c
+reach_alike f g starts same k (step {m = m} h c) = step (reach_alike f g starts same m h) (subst (λ ns. Contains ns k) (same m) c)
+
+pub from_flat : {X A : Type 0} (f : X → List A) (xs : List X) (y : A) → Contains (flat_map f xs) y → (x : X) × Contains xs x × Contains (f x) y
+from_flat f [] y c = absurd (contains_none y c)
+from_flat f (x ∷ xs) y c = elim (Contains-append_cases (f x) (flat_map f xs) y c) [
+  | inl a ↦ (x, contains_first x xs x refl, a)
+  | inr b ↦ let r = from_flat f xs y b in (r.0, contains_later x xs r.0 r.1, r.2)
+]
+
+pub to_flat : {X A : Type 0} (f : X → List A) (xs : List X) (x : X) (y : A) → Contains xs x → Contains (f x) y → Contains (flat_map f xs) y
+to_flat f [] x y c d = absurd (contains_none x c)
+to_flat f (w ∷ xs) x y c d = elim (contains_cases w xs x c) [
+  | inl e ↦ Contains-append_left (f w) (flat_map f xs) y (subst (λ v. Contains (f v) y) (sym e) d)
+  | inr b ↦ Contains-append_right (f w) (flat_map f xs) y (to_flat f xs x y b d)
+]
+
+module _ (rows : List Row) (table : List (Vec ℕ Global)) (same : map (λ v. v.items) table ≡ map (λ r. r.spreads.items) rows) where
+  pub alike : (n : ℕ) → row table n ≡ spreads_at (rows_view rows) n
+  alike n = row_is table n ∙ ap (λ ls. unwrap_or (slice_get ls n) []) same ∙ sym (spreads_are rows n)
+
+  pub count_alike : length table ≡ length (rows_view rows)
+  count_alike = sym (length-map table (λ v. v.items)) ∙ ap length same ∙ length-map rows (λ r. r.spreads.items) ∙ sym (length-map rows row_view)
+
+  pub passes_alike : (marks passed : List Bool) → Passes (row table) marks passed → Passes (spreads_at (rows_view rows)) marks passed
+  passes_alike marks passed p = record {
+    count = p.count;
+    why = λ n e. ⊎_elim inl
+        (λ h. inr (record { from = h.from; within = h.within; stays = h.stays; reach = reach_alike (row table) (spreads_at (rows_view rows)) (h.from ∷ []) alike n h.reach }))
+        (p.why n e);
+  }
+
+  pub members_are : (n : ℕ) (found : List ℕ) (ms : List Member) →
+      All (λ k. Reach (n ∷ []) (row table) k) found → ((k : ℕ) → Reach (n ∷ []) (row table) k → Contains found k) →
+      members_view ms ≡ flat_map (members_at (rows_view rows)) found →
+      (m : MemberOf) → Contains (members_view ms) m ↔ IsMember (rows_view rows) n m
+  members_are n found ms sound complete is m = (
+    λ c. let q = from_flat (members_at (rows_view rows)) found m (subst (λ ls. Contains ls m) is c) in
+        record {
+          reached = q.0;
+          reach = reach_alike (row table) (spreads_at (rows_view rows)) (n ∷ []) alike q.0 (All-contains (λ k. Reach (n ∷ []) (row table) k) found q.0 sound q.1);
+          stands = q.2;
+        },
+    λ h. subst (λ ls. Contains ls m) (sym is)
+        (to_flat (members_at (rows_view rows)) found h.reached m
+        (complete h.reached (reach_alike (spreads_at (rows_view rows)) (row table) (n ∷ []) (λ k. sym (alike k)) h.reached h.reach)) h.stands),
+  )
+
+  pub spreads_in_range : (x : ExecutableOf) → AreRows x (rows_view rows) → InRange table
+  spreads_in_range x a =
+      let names = names_of x in
+      let count : length (rows_view rows) ≡ length (first_sets x ++ a.others) = sym (length-map (rows_view rows) (λ r. r.set)) ∙ ap length a.begin in
+      let c1 = length-append (first_sets x) a.others in
+      let c2 = length-append (map fragment_set x.fragments) (map (operation_set x.entries) x.operations) in
+      let c3 = length-map x.fragments fragment_set in
+      let c4 = length-map x.fragments (λ f. f.name.text) in
+      let c5 = count_alike in
+      let bound : length names ≤ length table = omega (arith, count, c1, c2, c3, c4, c5) in
+      All-weaker (Contains table) (λ v. All (λ n. n < length table) v.items)
+      (λ v c.
+      let q = from_map (λ (r : Row). r.spreads.items) rows v.items (subst (λ ls. Contains ls v.items) same (to_map (λ (v : Vec ℕ Global). v.items) table v c)) in
+      let w : IsRow x.entries names (map (λ r. r.set) (rows_view rows)) (row_view q.0) = All-contains (IsRow x.entries names (map (λ r. r.set) (rows_view rows))) (rows_view rows) (row_view q.0) a.each (to_map row_view rows q.0 q.1) in
+      All-weaker (Contains v.items) (λ n. n < length table)
+      (λ n d. let l = spreads_within names (row_view q.0).set.selections n (subst (λ ns. Contains ns n) (q.2 ∙ w.spreads) d) in omega (arith, l, bound))
+      v.items (All-contains_itself v.items))
+      table (All-contains_itself table)
+
+pub append_nothing : {A : Type 0} (xs : List A) → xs ++ [] ≡ xs
+append_nothing [] = refl
+append_nothing (x ∷ xs) = ap (λ ys. x ∷ ys) (append_nothing xs)
+
+-- the same, as the code has the rows and the table
+pub spreads_seen_in_range : (x : ExecutableOf) (rows seen : List Row) (table there : List (Vec ℕ Global)) → AreRows x (rows_view rows) →
+    map (λ v. v.items) table ≡ map (λ r. r.spreads.items) seen → seen ≡ rows → there ≡ table → InRange there
+spreads_seen_in_range x rows seen table there a e same is = subst InRange (sym is) (spreads_in_range rows table (e ∙ ap (map (λ (r : Row). r.spreads.items)) same) x a)

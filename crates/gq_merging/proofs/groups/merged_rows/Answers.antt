@@ -1,0 +1,6 @@
+use Rattle.gq_document.specs.Executable.{executable_view}
+use Rattle.gq_merging.proofs.GroupLemmas.{tested_merged}
+use Rattle.gq_merging.proofs.groups.merged_rows.Goals as goal
+
+pub returns : goal.returns
+returns c = tested_merged (executable_view c.args.executable.now) c.args.rows.now c.requires.rows c.mark_those-2.new.marks.items c.in_ok-mark_those-2.ensures.tested

@@ -1,0 +1,13 @@
+pub mod FieldSets
+pub mod Shapes
+pub mod SameArguments
+pub mod Marks
+pub mod FieldsMerge
+pub mod Comparisons
+pub mod SetTables
+pub mod Groups
+pub mod GroupTables
+pub mod StartTables
+pub mod PairTables
+pub mod Views
+pub mod GroupViews

@@ -1,0 +1,173 @@
+//! Fields of selection sets that stand together, put into classes by their response keys.
+ghost use Rattle.std.specs.Prelude.{◌≡◌, ◌↔◌, ◌<◌, ℕ, Some, None, All, Contains, IsTrue, IfSome, IfOk, OnOk, length, position, false};
+ghost use Rattle.std.specs.Str.{bytes_eq};
+ghost use Rattle.gq_tree.specs.Views.{type_view};
+ghost use Rattle.gq_types.specs.Look.{types_view};
+ghost use Rattle.gq_document.specs.Selections.{typename_field};
+ghost use Rattle.gq_merging.specs.SetTables.{MemberOf, IsMember};
+ghost use Rattle.gq_merging.specs.FieldSets.{key};
+ghost use Rattle.gq_merging.specs.GroupTables.{known_shape, SayTheSame, IsUnder, AreBelow, AreClasses, Takes, AreSettled};
+ghost use Rattle.gq_merging.specs.Views.{field_at, member_view, members_view, rows_view};
+ghost use Rattle.gq_merging.specs.GroupViews.{groups_view, classes_view};
+
+use crate::comparing::{have_same_shape, key, known_type};
+use crate::rows::{Member, Row};
+use crate::sets::StandingField;
+use gq_names::NameList;
+use gq_text::NoMemory;
+use gq_tree::{TypeRef, are_same_arguments};
+use gq_types::Types;
+use std::alloc::Global;
+
+/// The rows, the numbers of the fragments spread in each, and what the types of fields are found by.
+#[derive(Clone, Copy)]
+pub(crate) struct Tables<'a> {
+    pub(crate) alloc: Global,
+    pub(crate) types: &'a Types,
+    pub(crate) typename_type: &'a TypeRef,
+    pub(crate) rows: &'a [Row<'a>],
+    pub(crate) spreads: &'a [Vec<usize>],
+}
+
+/// Whether both fields have one shape, or the type of neither is known.
+fn have_one_shape(tables: Tables<'_>, left: &StandingField<'_>, right: &StandingField<'_>) -> bool
+    requires { type_view tables.typename_type.now ≡ typename_field.type_ref }
+    ensures { IsTrue result ↔ (known_shape (types_view tables.entry.types.now) (field_at left.now) ≡ known_shape (types_view tables.entry.types.now) (field_at right.now)) }
+{
+    match known_type(tables.types, tables.typename_type, left) {
+        Some(left) => match known_type(tables.types, tables.typename_type, right) {
+            Some(right) => have_same_shape(tables.types, left, right),
+            None => false,
+        },
+        None => known_type(tables.types, tables.typename_type, right).is_none(),
+    }
+}
+
+/// Whether the two say the same: one name, the same arguments in one order, and one shape.
+fn say_the_same(tables: Tables<'_>, left: &StandingField<'_>, right: &StandingField<'_>) -> bool
+    requires { type_view tables.typename_type.now ≡ typename_field.type_ref }
+    ensures { IsTrue result ↔ SayTheSame (types_view tables.entry.types.now) (field_at left.now) (field_at right.now) }
+{
+    if left.name.text.as_str() != right.name.text.as_str() {
+        return false;
+    }
+    if !are_same_arguments(left.arguments, right.arguments) {
+        return false;
+    }
+    have_one_shape(tables, left, right)
+}
+
+/// Whether fields or spreads stand in the set with that number; not past the end.
+fn has_selections(rows: &[Row<'_>], number: usize) -> bool
+    ensures range { IsTrue result → number < length rows.now }
+    ensures none { result ≡ false → (m : MemberOf) → IsMember (rows_view rows.now) number m → ⊥ }
+{
+    if number >= rows.len() {
+        return false;
+    }
+    let row = &rows[number];
+    !row.members.is_empty() || !row.spreads.is_empty()
+}
+
+/// Puts the number of a set into a group, if something stands in the set.
+fn put_number(rows: &[Row<'_>], number: usize, group: &mut Vec<usize>) -> Result<(), NoMemory>
+    requires range { All (λ n. n < length (rows_view rows.now)) group.old.items }
+    ensures range { OnOk result (All (λ n. n < length (rows_view rows.now)) group.new.items) }
+    ensures kept { OnOk result ((n : ℕ) → Contains group.old.items n → Contains group.new.items n) }
+    ensures under { OnOk result (IsUnder (rows_view rows.now) number group.new.items) }
+{
+    if has_selections(rows, number) {
+        group.push(number)?;
+    }
+    Ok(())
+}
+
+/// Fields by their keys: each key, the first field that has it, and the sets in the braces of all that have it.
+#[derive(Drop)]
+struct Classes<'a> {
+    keys: NameList,
+    firsts: Vec<Member<'a>>,
+    groups: Vec<Vec<usize>>,
+}
+
+/// A class for a field whose key no class has yet.
+fn put_first<'a>(
+    tables: Tables<'_>,
+    member: &Member<'a>,
+    classes: &mut Classes<'a>,
+) -> Result<(), NoMemory>
+    requires absent { position (bytes_eq (key (field_at member.now.it))) classes.old.keys ≡ None }
+    requires classes { AreClasses (rows_view tables.rows.now) (classes_view classes.old) }
+    ensures classes { OnOk result (AreClasses (rows_view tables.entry.rows.now) (classes_view classes.new)) }
+    ensures takes { OnOk result (Takes (types_view tables.entry.types.now) (rows_view tables.entry.rows.now) (member_view member.now) (classes_view classes.old) (classes_view classes.new)) }
+{
+    let mut group = Vec::new(tables.alloc);
+    put_number(tables.rows, member.below, &mut group)?;
+    classes.keys.push(key(&member.it))?;
+    classes.firsts.push(*member)?;
+    classes.groups.push(group)?;
+    Ok(())
+}
+
+/// Puts a field into the class at that place, if it says the same as the first one there.
+fn put_other<'a>(
+    tables: Tables<'_>,
+    member: &Member<'a>,
+    place: usize,
+    classes: &mut Classes<'a>,
+) -> Result<bool, NoMemory>
+    requires typename { type_view tables.typename_type.now ≡ typename_field.type_ref }
+    requires place { position (bytes_eq (key (field_at member.now.it))) classes.old.keys ≡ Some place }
+    requires classes { AreClasses (rows_view tables.rows.now) (classes_view classes.old) }
+    ensures classes { OnOk result (AreClasses (rows_view tables.entry.rows.now) (classes_view classes.new)) }
+    ensures takes { IfOk result (λ put. IsTrue put → Takes (types_view tables.entry.types.now) (rows_view tables.entry.rows.now) (member_view member.now) (classes_view classes.old) (classes_view classes.new)) }
+{
+    let first = classes.firsts[place];
+    if !say_the_same(tables, &first.it, &member.it) {
+        return Ok(false);
+    }
+    put_number(tables.rows, member.below, &mut classes.groups[place])?;
+    Ok(true)
+}
+
+/// Puts a field into the class of its key, if it says the same as the first one there.
+fn put_member<'a>(
+    tables: Tables<'_>,
+    member: &Member<'a>,
+    classes: &mut Classes<'a>,
+) -> Result<bool, NoMemory>
+    requires typename { type_view tables.typename_type.now ≡ typename_field.type_ref }
+    requires classes { AreClasses (rows_view tables.rows.now) (classes_view classes.old) }
+    ensures classes { OnOk result (AreClasses (rows_view tables.entry.rows.now) (classes_view classes.new)) }
+    ensures takes { IfOk result (λ put. IsTrue put → Takes (types_view tables.entry.types.now) (rows_view tables.entry.rows.now) (member_view member.now) (classes_view classes.old) (classes_view classes.new)) }
+{
+    match classes.keys.place(key(&member.it)) {
+        Some(place) => put_other(tables, member, place, classes),
+        None => {
+            put_first(tables, member, classes)?;
+            Ok(true)
+        }
+    }
+}
+
+/// For each key the group of the sets in the braces of its fields, if all fields of one key say the same.
+pub(crate) fn groups_below(
+    tables: Tables<'_>,
+    members: &[Member<'_>],
+) -> Result<Option<Vec<Vec<usize>>>, NoMemory>
+    requires typename { type_view tables.typename_type.now ≡ typename_field.type_ref }
+    ensures range { IfOk result (λ found. IfSome found (λ groups. AreBelow (rows_view tables.entry.rows.now) (groups_view groups.items))) }
+    ensures settled { IfOk result (λ found. IfSome found (λ groups. AreSettled (types_view tables.entry.types.now) (rows_view tables.entry.rows.now) (groups_view groups.items) (members_view members.now))) }
+{
+    let mut classes = Classes {
+        keys: NameList::new(tables.alloc),
+        firsts: Vec::new(tables.alloc),
+        groups: Vec::new(tables.alloc),
+    };
+    for member in members {
+        if !put_member(tables, member, &mut classes)? {
+            return Ok(None);
+        }
+    }
+    Ok(Some(classes.groups))
+}

@@ -1,0 +1,298 @@
+//! A quick test for selection sets under which all fields merge. It goes over groups of sets whose fields stand together,
+//! and takes time in proportion to their fields, where a look at all pairs of fields would not.
+//!
+//! A group is a list of sets. Its fields are those of the sets, and of the fragments that they reach by spreads. The fields
+//! of one key have to say the same, and the sets in their braces are a group again. A test begins with one set alone. Where
+//! all groups pass, the fields under each set that one of them reaches merge, so a chain of fragments is tested once. A group
+//! is passed over if it was there already, or if it is one set of which this is known.
+ghost use Rattle.std.specs.Prelude.{◌≡◌, ◌<◌, ◌+◌, All, IsTrue, IfOk, OnOk, length, map, slice_get};
+ghost use Rattle.gq_reach.specs.Reach.{InRange};
+ghost use Rattle.gq_tree.specs.Views.{type_view};
+ghost use Rattle.gq_types.specs.Look.{types_view};
+ghost use Rattle.gq_document.specs.Selections.{typename_field};
+ghost use Rattle.gq_document.specs.Executable.{executable_view};
+ghost use Rattle.gq_merging.specs.SetTables.{AreRows};
+ghost use Rattle.gq_merging.specs.Groups.{AreMerged};
+ghost use Rattle.gq_merging.specs.GroupTables.{IsTest, IsTested, ArePassed, AreTested, AreMarked, IsKnown, IsMarkedOne};
+ghost use Rattle.gq_merging.specs.Views.{rows_view};
+ghost use Rattle.gq_merging.specs.GroupViews.{groups_view};
+
+use crate::classes::{Tables, groups_below};
+use crate::members::gathered;
+use crate::rows::Row;
+use gq_document::Executable;
+use gq_reach::reach_rows;
+use gq_text::NoMemory;
+use gq_tree::TypeRef;
+use std::alloc::Global;
+
+/// What the tests keep for each other, that they take few steps: the place of the last group that began with each set, and
+/// how many steps are left for all of them.
+#[derive(Drop)]
+struct Notes {
+    places: Vec<usize>,
+    left: usize,
+}
+
+/// Takes this many steps, and one more, from what is left. Where there are not so many, nothing is left and it is false.
+fn spend(left: &mut usize, rows: usize, fields: usize) -> bool
+    ensures { IsTrue result → left.new < left.old }
+{
+    let steps = rows.saturating_add(fields);
+    if *left <= steps {
+        *left = 0;
+        return false;
+    }
+    *left -= steps;
+    *left -= 1;
+    true
+}
+
+/// Whether the group is one set that is marked.
+fn is_marked_one(group: &[usize], marks: &[bool]) -> bool
+    ensures { IsTrue result → IsMarkedOne group.now marks.now }
+{
+    if group.len() != 1 {
+        return false;
+    }
+    let number = group[0];
+    number < marks.len() && marks[number]
+}
+
+/// Whether an earlier group is the same as the one at that place.
+fn is_as_before(groups: &[Vec<usize>], earlier: usize, place: usize) -> bool
+    requires { place < length groups.now }
+    ensures before { IsTrue result → earlier < place }
+    ensures same { IsTrue result → slice_get (groups_view groups.now) earlier ≡ slice_get (groups_view groups.now) place }
+{
+    earlier < place && groups[earlier] == groups[place]
+}
+
+/// Whether the group at that place need not be looked at. Its place is noted.
+fn is_known(groups: &[Vec<usize>], marks: &[bool], place: usize, places: &mut Vec<usize>) -> bool
+    requires { place < length groups.now }
+    ensures { IsTrue result → IsKnown (groups_view groups.now) marks.now place }
+{
+    let group = &groups[place];
+    if group.is_empty() {
+        return true;
+    }
+    if is_marked_one(group, marks) {
+        return true;
+    }
+    let first = group[0];
+    if first >= places.len() {
+        return false;
+    }
+    let earlier = places[first];
+    places[first] = place;
+    is_as_before(groups, earlier, place)
+}
+
+/// Marks the numbers.
+fn mark_all(marks: &mut Vec<bool>, numbers: &[usize])
+    requires range { All (λ n. n < length marks.old.items) numbers.now }
+    ensures count { length marks.new.items ≡ length marks.old.items }
+    ensures marked { AreMarked numbers.now marks.old.items marks.new.items }
+{
+    for number in numbers {
+        marks[*number] = true;
+    }
+}
+
+/// Looks at one group of a test: puts the groups below it behind the others, and the sets that it reaches. False where
+/// fields of one key do not say the same, or the steps are used up.
+fn look_at(
+    tables: Tables<'_>,
+    place: usize,
+    groups: &mut Vec<Vec<usize>>,
+    reached: &mut Vec<usize>,
+    left: &mut usize,
+) -> Result<bool, NoMemory>
+    requires typename { type_view tables.typename_type.now ≡ typename_field.type_ref }
+    requires range { InRange tables.spreads.now }
+    requires spreads { map (λ v. v.items) tables.spreads.now ≡ map (λ r. r.spreads.items) tables.rows.now }
+    requires place { place < length groups.old.items }
+    requires test { IsTest (types_view tables.types.now) (rows_view tables.rows.now) (groups_view groups.old.items) place reached.old.items }
+    ensures test { IfOk result (λ passed. IsTrue passed → IsTest (types_view tables.entry.types.now) (rows_view tables.entry.rows.now) (groups_view groups.new.items) (place + 1) reached.new.items) }
+    ensures left { IfOk result (λ passed. IsTrue passed → left.new < left.old) }
+{
+    let found = reach_rows(tables.alloc, tables.spreads, &groups[place])?;
+    let members = gathered(tables.alloc, tables.rows, &found)?;
+    if !spend(left, found.len(), members.len()) {
+        return Ok(false);
+    }
+    let Some(mut below) = groups_below(tables, &members)? else {
+        return Ok(false);
+    };
+    groups.append(&mut below)?;
+    reached.extend_from_slice(&found)?;
+    Ok(true)
+}
+
+/// The same, but passes over a group that is known.
+fn pass(
+    tables: Tables<'_>,
+    marks: &[bool],
+    place: usize,
+    groups: &mut Vec<Vec<usize>>,
+    reached: &mut Vec<usize>,
+    notes: &mut Notes,
+) -> Result<bool, NoMemory>
+    requires typename { type_view tables.typename_type.now ≡ typename_field.type_ref }
+    requires range { InRange tables.spreads.now }
+    requires spreads { map (λ v. v.items) tables.spreads.now ≡ map (λ r. r.spreads.items) tables.rows.now }
+    requires tested { AreTested (types_view tables.types.now) (rows_view tables.rows.now) marks.now }
+    requires place { place < length groups.old.items }
+    requires test { IsTest (types_view tables.types.now) (rows_view tables.rows.now) (groups_view groups.old.items) place reached.old.items }
+    ensures test { IfOk result (λ passed. IsTrue passed → IsTest (types_view tables.entry.types.now) (rows_view tables.entry.rows.now) (groups_view groups.new.items) (place + 1) reached.new.items) }
+    ensures left { IfOk result (λ passed. IsTrue passed → notes.new.left < notes.old.left) }
+{
+    if is_known(groups, marks, place, &mut notes.places) {
+        return Ok(spend(&mut notes.left, 0, 0));
+    }
+    look_at(tables, place, groups, reached, &mut notes.left)
+}
+
+/// All sets that a test reaches which begins with this one, where it passes; otherwise none. The groups of the tests that
+/// passed since one failed are kept.
+fn tested_from(
+    tables: Tables<'_>,
+    marks: &[bool],
+    start: usize,
+    groups: &mut Vec<Vec<usize>>,
+    notes: &mut Notes,
+) -> Result<Vec<usize>, NoMemory>
+    requires typename { type_view tables.typename_type.now ≡ typename_field.type_ref }
+    requires range { InRange tables.spreads.now }
+    requires spreads { map (λ v. v.items) tables.spreads.now ≡ map (λ r. r.spreads.items) tables.rows.now }
+    requires tested { AreTested (types_view tables.types.now) (rows_view tables.rows.now) marks.now }
+    requires start { start < length tables.rows.now }
+    requires groups { ArePassed (types_view tables.types.now) (rows_view tables.rows.now) (groups_view groups.old.items) }
+    ensures groups { OnOk result (ArePassed (types_view tables.entry.types.now) (rows_view tables.entry.rows.now) (groups_view groups.new.items)) }
+    ensures within { IfOk result (λ numbers. All (λ n. n < length tables.entry.rows.now) numbers.items) }
+    ensures tested { IfOk result (λ numbers. All (IsTested (types_view tables.entry.types.now) (rows_view tables.entry.rows.now)) numbers.items) }
+{
+    let mut done = groups.len();
+    groups.push(vec![in tables.alloc; start; 1]?)?;
+    let mut reached = Vec::new(tables.alloc);
+    while done < groups.len() {
+        if !pass(tables, marks, done, groups, &mut reached, notes)? {
+            groups.clear();
+            return Ok(Vec::new(tables.alloc));
+        }
+        done += 1;
+    }
+    Ok(reached)
+}
+
+/// Tests the set with that number, if it is not marked and steps are left, and marks what the test finds.
+fn mark_from(
+    tables: Tables<'_>,
+    number: usize,
+    marks: &mut Vec<bool>,
+    groups: &mut Vec<Vec<usize>>,
+    notes: &mut Notes,
+) -> Result<(), NoMemory>
+    requires typename { type_view tables.typename_type.now ≡ typename_field.type_ref }
+    requires range { InRange tables.spreads.now }
+    requires spreads { map (λ v. v.items) tables.spreads.now ≡ map (λ r. r.spreads.items) tables.rows.now }
+    requires number { number < length tables.rows.now }
+    requires tested { AreTested (types_view tables.types.now) (rows_view tables.rows.now) marks.old.items }
+    requires groups { ArePassed (types_view tables.types.now) (rows_view tables.rows.now) (groups_view groups.old.items) }
+    ensures tested { OnOk result (AreTested (types_view tables.entry.types.now) (rows_view tables.entry.rows.now) marks.new.items) }
+    ensures groups { OnOk result (ArePassed (types_view tables.entry.types.now) (rows_view tables.entry.rows.now) (groups_view groups.new.items)) }
+{
+    if marks[number] || notes.left == 0 {
+        return Ok(());
+    }
+    let tested = tested_from(tables, marks, number, groups, notes)?;
+    mark_all(marks, &tested);
+    Ok(())
+}
+
+/// Tests the sets that spreads name, or those that none names, in order.
+fn mark_those(
+    tables: Tables<'_>,
+    named: &[bool],
+    are_named: bool,
+    marks: &mut Vec<bool>,
+    groups: &mut Vec<Vec<usize>>,
+    notes: &mut Notes,
+) -> Result<(), NoMemory>
+    requires typename { type_view tables.typename_type.now ≡ typename_field.type_ref }
+    requires range { InRange tables.spreads.now }
+    requires spreads { map (λ v. v.items) tables.spreads.now ≡ map (λ r. r.spreads.items) tables.rows.now }
+    requires named { length named.now ≡ length tables.rows.now }
+    requires tested { AreTested (types_view tables.types.now) (rows_view tables.rows.now) marks.old.items }
+    requires groups { ArePassed (types_view tables.types.now) (rows_view tables.rows.now) (groups_view groups.old.items) }
+    ensures tested { OnOk result (AreTested (types_view tables.entry.types.now) (rows_view tables.entry.rows.now) marks.new.items) }
+    ensures groups { OnOk result (ArePassed (types_view tables.entry.types.now) (rows_view tables.entry.rows.now) (groups_view groups.new.items)) }
+{
+    for number in 0..named.len() {
+        if named[number] == are_named {
+            mark_from(tables, number, marks, groups, notes)?;
+        }
+    }
+    Ok(())
+}
+
+/// A mark at each set that spreads name.
+fn named_sets(alloc: Global, spreads: &[Vec<usize>]) -> Result<Vec<bool>, NoMemory>
+    requires { InRange spreads.now }
+    ensures { IfOk result (λ marks. length marks.items ≡ length spreads.now) }
+{
+    let mut marks = vec![in alloc; false; spreads.len()]?;
+    for numbers in spreads {
+        mark_all(&mut marks, numbers);
+    }
+    Ok(marks)
+}
+
+/// How many steps all tests may take together: some for each set, field and spread. Fields that double at each level of
+/// fragments would take many more.
+fn all_steps(rows: &[Row<'_>]) -> usize {
+    let mut steps: usize = 1000;
+    for row in rows {
+        let size = row.members.len().saturating_add(row.spreads.len());
+        let share = size.saturating_add(1).saturating_mul(64);
+        steps = steps.saturating_add(share);
+    }
+    steps
+}
+
+/// A mark at each row of whose set it is known that the fields under it merge.
+///
+/// First the sets that no spread names are tested, since they reach the others. What is not marked may merge as well: the
+/// test asks for more than the rule, and it takes no more steps than in proportion to the rows and what stands in them.
+pub(crate) fn merged_rows(
+    alloc: Global,
+    executable: &Executable<'_>,
+    typename_type: &TypeRef,
+    rows: &[Row<'_>],
+    spreads: &[Vec<usize>],
+) -> Result<Vec<bool>, NoMemory>
+    requires typename { type_view typename_type.now ≡ typename_field.type_ref }
+    requires rows { AreRows (executable_view executable.now) (rows_view rows.now) }
+    requires range { InRange spreads.now }
+    requires spreads { map (λ v. v.items) spreads.now ≡ map (λ r. r.spreads.items) rows.now }
+    ensures { IfOk result (λ marks. AreMerged (executable_view executable.now) (rows_view rows.now) marks.items) }
+{
+    let tables = Tables {
+        alloc,
+        types: executable.types,
+        typename_type,
+        rows,
+        spreads,
+    };
+    let named = named_sets(alloc, spreads)?;
+    let mut marks = vec![in alloc; false; rows.len()]?;
+    let mut notes = Notes {
+        places: vec![in alloc; 0; rows.len()]?,
+        left: all_steps(rows),
+    };
+    let mut groups = Vec::new(alloc);
+    mark_those(tables, &named, false, &mut marks, &mut groups, &mut notes)?;
+    mark_those(tables, &named, true, &mut marks, &mut groups, &mut notes)?;
+    Ok(marks)
+}

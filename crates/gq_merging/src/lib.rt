@@ -1,0 +1,27 @@
+//! Field selection merging (GraphQL, October 2021, section 5.3.2): fields under one response key that do not merge.
+#![tactic(auto)]
+
+mod classes;
+mod comparing;
+mod faults;
+mod groups;
+mod marks;
+mod members;
+mod pairs;
+mod passed;
+pub mod purpose;
+mod rows;
+mod same_arguments;
+mod same_strings;
+mod same_values;
+mod sets;
+
+pub use faults::put_merging_faults;
+pub use purpose::Purpose;
+
+#[cfg(test)]
+mod tests_arguments;
+#[cfg(test)]
+mod tests_groups;
+#[cfg(test)]
+mod tests_merging;

@@ -1,0 +1,76 @@
+//! The fields of a selection set, those of the fragments that it reaches by spreads among them.
+ghost use Rattle.std.specs.Prelude.{◌≡◌, ◌++◌, ◌↔◌, ◌<◌, IfOk, OnOk, length, map, Contains};
+ghost use Rattle.std.specs.List.{flat_map};
+ghost use Rattle.gq_reach.specs.Reach.{InRange};
+ghost use Rattle.gq_merging.specs.SetTables.{MemberOf, members_at, IsMember};
+ghost use Rattle.gq_merging.specs.Views.{members_view, rows_view};
+
+use crate::rows::{Member, Row};
+use gq_reach::reach_rows;
+use gq_text::NoMemory;
+use std::alloc::Global;
+
+/// A copy of the numbers.
+fn copied(alloc: Global, numbers: &[usize]) -> Result<Vec<usize>, NoMemory>
+    ensures { IfOk result (λ copy. copy.items ≡ numbers.now) }
+{
+    let mut copy = Vec::new(alloc);
+    copy.extend_from_slice(numbers)?;
+    Ok(copy)
+}
+
+/// The numbers of the fragments spread in each set.
+pub(crate) fn all_spreads(alloc: Global, rows: &[Row<'_>]) -> Result<Vec<Vec<usize>>, NoMemory>
+    ensures { IfOk result (λ table. map (λ v. v.items) table.items ≡ map (λ r. r.spreads.items) rows.now) }
+{
+    let mut table = Vec::new(alloc);
+    for row in rows {
+        table.push(copied(alloc, &row.spreads)?)?;
+    }
+    Ok(table)
+}
+
+/// The fields of the sets with these numbers.
+pub(crate) fn gathered<'a>(
+    alloc: Global,
+    rows: &[Row<'a>],
+    numbers: &[usize],
+) -> Result<Vec<Member<'a>>, NoMemory>
+    ensures { IfOk result (λ members. members_view members.items ≡ flat_map (members_at (rows_view rows.now)) numbers.now) }
+{
+    let mut members = Vec::new(alloc);
+    for number in numbers {
+        put_members(rows, *number, &mut members)?;
+    }
+    Ok(members)
+}
+
+fn put_members<'a>(
+    rows: &[Row<'a>],
+    number: usize,
+    members: &mut Vec<Member<'a>>,
+) -> Result<(), NoMemory>
+    ensures { OnOk result (members_view members.new.items ≡ members_view members.old.items ++ members_at (rows_view rows.now) number) }
+{
+    if number < rows.len() {
+        members.extend_from_slice(&rows[number].members)?;
+    }
+    Ok(())
+}
+
+/// The fields of the set with that number and of the fragments that it reaches.
+pub(crate) fn members_of<'a>(
+    alloc: Global,
+    rows: &[Row<'a>],
+    spreads: &[Vec<usize>],
+    number: usize,
+) -> Result<Vec<Member<'a>>, NoMemory>
+    requires number { number < length spreads.now }
+    requires range { InRange spreads.now }
+    requires spreads { map (λ v. v.items) spreads.now ≡ map (λ r. r.spreads.items) rows.now }
+    ensures { IfOk result (λ members. (m : MemberOf) → Contains (members_view members.items) m ↔ IsMember (rows_view rows.now) number m) }
+{
+    let found = reach_rows(alloc, spreads, &[number])?;
+    let members = gathered(alloc, rows, &found)?;
+    Ok(members)
+}

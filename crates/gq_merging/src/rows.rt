@@ -1,0 +1,113 @@
+//! A row for each selection set that stands in the project.
+ghost use Rattle.std.specs.Prelude.{◌≡◌, ◌++◌, ◌∷◌, [], IfOk, OnOk, length, map};
+ghost use Rattle.gq_tree.specs.Views.{sels_view};
+ghost use Rattle.gq_types.specs.Look.{types_view, text_of};
+ghost use Rattle.gq_document.specs.Executable.{executable_view};
+ghost use Rattle.gq_merging.specs.SetTables.{AreRows, first_sets, field_sets, numbered_from, own_fields, own_spreads, names_of};
+ghost use Rattle.gq_merging.specs.Views.{fields_at, set_at, sets_at, members_view, rows_view};
+
+use crate::sets::{
+    StandingField, StandingSet, field_set, fragment_set, operation_set, put_fields, put_spreads,
+};
+use gq_document::Executable;
+use gq_spreads::FragmentNames;
+use gq_text::NoMemory;
+use gq_types::Types;
+use std::alloc::Global;
+
+/// A field, and the number of the selection set in its braces.
+#[derive(Clone, Copy)]
+pub(crate) struct Member<'a> {
+    pub(crate) it: StandingField<'a>,
+    pub(crate) below: usize,
+}
+
+/// A selection set, its fields with those of its inline fragments, and the numbers of the fragments spread among them. A
+/// fragment's number is its place among all fragments, and the number of its set too.
+#[derive(Drop)]
+pub(crate) struct Row<'a> {
+    pub(crate) set: StandingSet<'a>,
+    pub(crate) members: Vec<Member<'a>>,
+    pub(crate) spreads: Vec<usize>,
+}
+
+/// The selection sets of the fragments, then those of the operations.
+fn first_sets<'a>(
+    alloc: Global,
+    executable: &Executable<'a>,
+) -> Result<Vec<StandingSet<'a>>, NoMemory>
+    ensures { IfOk result (λ sets. sets_at sets.items ≡ first_sets (executable_view executable.now)) }
+{
+    let mut sets = Vec::new(alloc);
+    for fragment in executable.fragments {
+        sets.push(fragment_set(fragment))?;
+    }
+    for operation in executable.operations {
+        sets.push(operation_set(executable.types, operation))?;
+    }
+    Ok(sets)
+}
+
+/// The fields with the numbers of their selection sets, which are put behind the others.
+fn numbered<'a>(
+    alloc: Global,
+    types: &'a Types,
+    fields: &[StandingField<'a>],
+    sets: &mut Vec<StandingSet<'a>>,
+) -> Result<Vec<Member<'a>>, NoMemory>
+    ensures sets { OnOk result (sets_at sets.new.items ≡ sets_at sets.old.items ++ field_sets (types_view types.now) (fields_at fields.now)) }
+    ensures members { IfOk result (λ members. members_view members.items ≡ numbered_from (length sets.old.items) (fields_at fields.now)) }
+{
+    let mut members = Vec::new(alloc);
+    for field in fields {
+        members.push(Member {
+            it: *field,
+            below: sets.len(),
+        })?;
+        sets.push(field_set(types, *field))?;
+    }
+    Ok(members)
+}
+
+/// The row of a selection set. The sets of its fields are put behind the others.
+fn row_of<'a>(
+    alloc: Global,
+    types: &'a Types,
+    names: &FragmentNames,
+    set: StandingSet<'a>,
+    sets: &mut Vec<StandingSet<'a>>,
+) -> Result<Row<'a>, NoMemory>
+    ensures sets { OnOk result (sets_at sets.new.items ≡ sets_at sets.old.items ++ field_sets (types_view types.now) (own_fields set.entry.file (text_of set.entry.parent) (sels_view set.entry.selections.now))) }
+    ensures set { IfOk result (λ row. row.set ≡ set.entry) }
+    ensures members { IfOk result (λ row. members_view row.members.items ≡ numbered_from (length sets.old.items) (own_fields set.entry.file (text_of set.entry.parent) (sels_view set.entry.selections.now))) }
+    ensures spreads { IfOk result (λ row. row.spreads.items ≡ own_spreads names.now.names.items (sels_view set.entry.selections.now)) }
+{
+    let mut spreads = Vec::new(alloc);
+    put_spreads(names, set.selections, &mut spreads)?;
+    let mut fields = Vec::new(alloc);
+    put_fields(set.file, set.parent, set.selections, &mut fields)?;
+    let members = numbered(alloc, types, &fields, sets)?;
+    Ok(Row {
+        set,
+        members,
+        spreads,
+    })
+}
+
+/// A row for each selection set that stands in the project, those of fragments and of operations first.
+pub(crate) fn all_rows<'a>(
+    alloc: Global,
+    executable: &Executable<'a>,
+) -> Result<Vec<Row<'a>>, NoMemory>
+    ensures { IfOk result (λ rows. AreRows (executable_view executable.now) (rows_view rows.items)) }
+{
+    let names = FragmentNames::of(alloc, executable.fragments)?;
+    let mut sets = first_sets(alloc, executable)?;
+    let mut rows = Vec::new(alloc);
+    while rows.len() < sets.len() {
+        let set = sets[rows.len()];
+        let row = row_of(alloc, executable.types, &names, set, &mut sets)?;
+        rows.push(row)?;
+    }
+    Ok(rows)
+}

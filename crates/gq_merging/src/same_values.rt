@@ -1,0 +1,128 @@
+//! Identical values (section 5.3.2): lists item by item, input objects as sets of names and values.
+ghost use Rattle.std.specs.Prelude.{◌≡◌, ◌↔◌, ◌<◌, IsTrue, IfOk, OnOk, length, map};
+ghost use Rattle.std.specs.Str.{bytes_eq};
+ghost use Rattle.gq_tree.specs.Views.{value_view, values_view, entry_view};
+ghost use Rattle.gq_merging.specs.SameArguments.{AreInOrder, IsArgument, SameArguments};
+ghost use Rattle.gq_merging.specs.Marks.{AreAlike, IsAmong, MarksEach};
+
+use crate::marks::{are_all_marked, unmarked};
+use crate::same_strings::are_same_strings;
+use gq_text::NoMemory;
+use gq_tree::{Literal, Name, ObjectField, Value};
+use std::alloc::Global;
+
+pub(crate) fn have_same_text(left: &Name, right: &Name) -> bool
+    ensures { result ≡ bytes_eq left.now.text right.now.text }
+{
+    left.text.as_str() == right.text.as_str()
+}
+
+fn have_same_spelling(left: &Literal, right: &Literal) -> bool
+    ensures { result ≡ bytes_eq left.now.text right.now.text }
+{
+    left.text.as_str() == right.text.as_str()
+}
+
+/// Whether the values are identical.
+#[cycle(alike)]
+#[tactic(auto, using(gq_tree::proofs::Trees::values))]
+pub(crate) fn are_identical(alloc: Global, left: &Value, right: &Value) -> Result<bool, NoMemory>
+    ensures { IfOk result (λ same. IsTrue same ↔ AreAlike (value_view left.now) (value_view right.now)) }
+{
+    match (left, right) {
+        (Value::Variable(left), Value::Variable(right)) => {
+            Ok(have_same_text(&left.name, &right.name))
+        }
+        (Value::Int(left), Value::Int(right)) => Ok(have_same_spelling(left, right)),
+        (Value::Float(left), Value::Float(right)) => Ok(have_same_spelling(left, right)),
+        (Value::String(left), Value::String(right)) => {
+            are_same_strings(alloc, left.text.as_str(), right.text.as_str())
+        }
+        (Value::Boolean { value: left, .. }, Value::Boolean { value: right, .. }) => {
+            Ok(left == right)
+        }
+        (Value::Null { .. }, Value::Null { .. }) => Ok(true),
+        (Value::Enum(left), Value::Enum(right)) => Ok(have_same_text(left, right)),
+        (Value::List { items: left, .. }, Value::List { items: right, .. }) => {
+            are_in_order(alloc, left, right)
+        }
+        (Value::Object { fields: left, .. }, Value::Object { fields: right, .. }) => {
+            have_same_fields(alloc, left, right)
+        }
+        _ => Ok(false),
+    }
+}
+
+/// Whether each item is identical to the other's at its place.
+#[cycle(alike)]
+#[tactic(auto, using(gq_tree::proofs::Trees::values))]
+fn are_in_order(alloc: Global, left: &[Value], right: &[Value]) -> Result<bool, NoMemory>
+    ensures { IfOk result (λ same. IsTrue same ↔ AreInOrder (values_view left.now) (values_view right.now)) }
+{
+    if left.len() != right.len() {
+        return Ok(false);
+    }
+    for i in 0..left.len() {
+        let same = are_identical(alloc, &left[i], &right[i])?;
+        if !same {
+            return Ok(false);
+        }
+    }
+    Ok(true)
+}
+
+/// Whether each field of the one is in the other, and the other way round. Each pair of fields is compared once.
+#[cycle(alike)]
+#[tactic(auto, using(gq_tree::proofs::Trees::values))]
+fn have_same_fields(
+    alloc: Global,
+    left: &[ObjectField],
+    right: &[ObjectField],
+) -> Result<bool, NoMemory>
+    ensures { IfOk result (λ same. IsTrue same ↔ SameArguments (map entry_view left.now) (map entry_view right.now)) }
+{
+    let mut marks = unmarked(alloc, right.len())?;
+    for field in left {
+        let found = mark_fields(alloc, field, right, &mut marks)?;
+        if !found {
+            return Ok(false);
+        }
+    }
+    Ok(are_all_marked(&marks))
+}
+
+/// Marks the fields that are identical to this one, and answers whether there are some.
+#[cycle(alike)]
+#[tactic(auto, using(gq_tree::proofs::Trees::values))]
+fn mark_fields(
+    alloc: Global,
+    field: &ObjectField,
+    others: &[ObjectField],
+    marks: &mut Vec<bool>,
+) -> Result<bool, NoMemory>
+    requires { length marks.old.items ≡ length others.now }
+    ensures found { IfOk result (λ found. IsTrue found ↔ IsAmong (entry_view field.now) (map entry_view others.now)) }
+    ensures marks { OnOk result (MarksEach (entry_view field.now) (map entry_view others.now) marks.old.items marks.new.items) }
+{
+    let mut found = false;
+    for i in 0..others.len() {
+        let same = is_same_field(alloc, field, &others[i])?;
+        if same {
+            marks[i] = true;
+            found = true;
+        }
+    }
+    Ok(found)
+}
+
+/// Whether the names are one and the values identical.
+#[cycle(alike)]
+#[tactic(auto, using(gq_tree::proofs::Trees::values))]
+fn is_same_field(alloc: Global, left: &ObjectField, right: &ObjectField) -> Result<bool, NoMemory>
+    ensures { IfOk result (λ same. IsTrue same ↔ IsArgument (entry_view left.now) (entry_view right.now)) }
+{
+    if !have_same_text(&left.name, &right.name) {
+        return Ok(false);
+    }
+    are_identical(alloc, &left.value, &right.value)
+}

@@ -1,0 +1,5 @@
+pub mod ItemLemmas
+pub mod DemandLemmas
+pub mod ValidityLemmas
+pub mod RuleLemmas
+pub mod OneReading

@@ -1,0 +1,9 @@
+pub mod Project
+pub mod Unread
+pub mod ExecutableDefinitions
+pub mod RuleFaults
+pub mod Demands
+pub mod Places
+pub mod Validity
+pub mod ValidityViews
+pub mod Reported

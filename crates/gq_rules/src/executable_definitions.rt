@@ -1,0 +1,88 @@
+//! Executable Definitions (section 5.1.1): no document has both executable definitions and such of the type system.
+ghost use Rattle.std.specs.Prelude.{◌≡◌, ◌++◌, OnOk, map};
+ghost use Rattle.std.specs.Option.{option_map};
+ghost use Rattle.std.specs.List.{list_any};
+ghost use Rattle.gq_tree.specs.Views.{def_view, type_system_view};
+ghost use Rattle.gq_type_system.specs.DefinedTwice.{definition_place};
+ghost use Rattle.gq_rules.specs.ExecutableDefinitions.{is_executable, first_of_type_system};
+ghost use Rattle.gq_rules.specs.Places.{mixed_in, mixed_at, each_from};
+
+use gq_found::{Code, Item};
+use gq_read::Reading;
+use gq_text::{NoMemory, Span};
+use gq_tree::{Definition, TypeSystemDefinition};
+use gq_type_system::definition_place;
+
+fn is_executable(definition: &Definition) -> bool
+    ensures { result ≡ is_executable (def_view definition.now) }
+{
+    match definition {
+        Definition::Operation(_) => true,
+        Definition::Fragment(_) => true,
+        Definition::TypeSystem(_) => false,
+    }
+}
+
+fn has_executable(definitions: &[Definition]) -> bool
+    ensures { result ≡ list_any is_executable (map def_view definitions.now) }
+{
+    for definition in definitions {
+        if is_executable(definition) {
+            return true;
+        }
+    }
+    false
+}
+
+fn first_of_type_system(definitions: &[Definition]) -> Option<&TypeSystemDefinition>
+    ensures { option_map (λ d. type_system_view d.now) result ≡ first_of_type_system (map def_view definitions.now) }
+{
+    for definition in definitions {
+        if let Definition::TypeSystem(one) = definition {
+            return Some(one);
+        }
+    }
+    None
+}
+
+fn put_mixed_in(
+    file: usize,
+    definitions: &[Definition],
+    items: &mut Vec<Item>,
+) -> Result<(), NoMemory>
+    ensures { OnOk result (items.new.items ≡ items.old.items ++ mixed_in file (map def_view definitions.now)) }
+{
+    if !has_executable(definitions) {
+        return Ok(());
+    }
+    if let Some(definition) = first_of_type_system(definitions) {
+        let place = definition_place(definition);
+        items.push(Item {
+            file,
+            start: place.start,
+            code: Code::MixedFile,
+            end: place.end,
+        })?;
+    }
+    Ok(())
+}
+
+fn put_mixed_at(file: usize, reading: &Reading, items: &mut Vec<Item>) -> Result<(), NoMemory>
+    ensures { OnOk result (items.new.items ≡ items.old.items ++ mixed_at file reading.now) }
+{
+    match reading {
+        Reading::Tree(document) => put_mixed_in(file, &document.definitions, items),
+        Reading::Syntax { .. } => Ok(()),
+        Reading::Limit { .. } => Ok(()),
+    }
+}
+
+/// The items of the documents with definitions of both sorts (section 5.1.1).
+pub fn put_mixed(readings: &[Reading], items: &mut Vec<Item>) -> Result<(), NoMemory>
+    ensures { OnOk result (items.new.items ≡ items.old.items ++ each_from mixed_at 0 readings.now) }
+{
+    for file in 0..readings.len() {
+        put_mixed_at(file, &readings[file], items)?;
+    }
+    Ok(())
+}

@@ -1,0 +1,15 @@
+//! The rules of validation (GraphQL, October 2021, section 5): every fault of a project, exactly where it stands.
+#![tactic(auto)]
+
+mod executable_definitions;
+pub mod laws;
+pub mod report;
+mod rule_faults;
+mod unread;
+pub mod valid;
+
+pub use report::{Report, validate};
+pub use valid::{Invalid, Valid, Why};
+
+#[cfg(test)]
+mod tests;

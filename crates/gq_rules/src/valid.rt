@@ -1,0 +1,93 @@
+//! Projects with which nothing is wrong.
+ghost use Rattle.std.specs.Prelude.{◌≡◌, IfOk, IfErr};
+ghost use Rattle.gq_rules.specs.Validity.{IsValid};
+ghost use Rattle.gq_rules.specs.Reported.{IsReported};
+
+use crate::report::{Report, demanded};
+use gq_found::found_at;
+use gq_project::Project;
+use gq_read::read;
+use gq_text::NoMemory;
+use std::alloc::Global;
+use std::marker::Model;
+
+/// A valid project (section 5): all its texts parse, and no rule is broken.
+///
+/// Contracts see it as the list of its documents.
+#[derive(Drop)]
+pub struct Valid {
+    project: Project,
+}
+
+impl Model for Valid {
+    ghost use Rattle.std.specs.Prelude.{List};
+    ghost use Rattle.gq_project.specs.declared.document.Doc.{Doc};
+    ghost use Rattle.gq_rules.specs.Validity.{IsValid};
+
+    ghost Value = { List Doc };
+
+    ghost view = { λ v. v.project };
+
+    ghost invariant = { λ v. ∥ IsValid v.project ∥₁ };
+}
+
+/// Why a project is no valid one.
+#[derive(Debug, Drop)]
+pub enum Why {
+    /// What is wrong with it.
+    Report(Report),
+    /// A growth was refused: nothing is said of the project.
+    NoMemory,
+}
+
+/// A project that is handed back, and why.
+#[derive(Debug, Drop)]
+pub struct Invalid {
+    pub project: Project,
+    pub why: Why,
+}
+
+impl Valid {
+    ghost use Rattle.gq_rules.specs.ValidityViews.{IsWhy};
+
+    /// The project, if nothing is wrong with it; else it is handed back with all that is.
+    pub fn new(alloc: Global, project: Project) -> Result<Valid, Invalid>
+        ensures same { IfOk result (λ valid. valid ≡ project) }
+        ensures valid { IfOk result (λ valid. ∥ IsValid valid ∥₁) }
+        ensures handed_back { IfErr result (λ invalid. invalid.project ≡ project) }
+        ensures why { IfErr result (λ invalid. IsWhy project invalid.why) }
+    {
+        match why_not(alloc, &project) {
+            Ok(None) => Ok(Valid { project }),
+            Ok(Some(report)) => Err(Invalid {
+                project,
+                why: Why::Report(report),
+            }),
+            Err(NoMemory) => Err(Invalid {
+                project,
+                why: Why::NoMemory,
+            }),
+        }
+    }
+
+    /// The project. It takes no memory.
+    pub fn project(&self) -> &Project
+        ensures same { result.now ≡ self.now }
+        ensures valid { ∥ IsValid self.now ∥₁ }
+    {
+        &self.project
+    }
+}
+
+/// The report on a project, if something is told of it.
+fn why_not(alloc: Global, project: &Project) -> Result<Option<Report>, NoMemory>
+    ensures { IfOk result (λ report. IsReported project.now report) }
+{
+    let readings = read(alloc, project.documents())?;
+    let items = demanded(alloc, readings)?;
+    if items.is_empty() {
+        return Ok(None);
+    }
+    let found = found_at(alloc, &items, project.documents())?;
+    Ok(Some(Report { found }))
+}

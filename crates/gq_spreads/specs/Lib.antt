@@ -1,0 +1,11 @@
+pub mod Spreads
+pub mod Rows
+pub mod FragmentNumbers
+pub mod Items
+pub mod FragmentsMustBeUsed
+pub mod FragmentsMustBeUsedPlaces
+pub mod FragmentSpreadTargetDefined
+pub mod FragmentSpreadTargetDefinedPlaces
+pub mod FragmentSpreadsMustNotFormCycles
+pub mod FragmentSpreadsMustNotFormCyclesPlaces
+pub mod SpreadFaults

@@ -1,0 +1,152 @@
+-- What is put for each operation is what is wrong with its variables.
+use Rattle.std.proofs.Common.{◌≡◌, ◌↔◌, ℕ, ◌+◌, ◌<◌, ◌≤◌, length, get_or, map, List, [], ◌++◌, Some, ◌⊎◌, inl, inr, refl, sym, ap, subst, ◌∙◌, Contains, arith, zero, suc}
+use Rattle.std.specs.Prelude.{slice_get}
+use Rattle.std.specs.Option.{option_map}
+use Rattle.std.proofs.lemmas.List.{length-map}
+use Rattle.std.proofs.lemmas.List.Elements.{Contains-append_left, Contains-append_right, Contains-append_cases}
+use Rattle.std.proofs.lemmas.Option.{same_Some, slice_get-map, slice_get-get_or, slice_get_within, get_or_from_slice_get}
+use Rattle.gq_found.specs.declared.item.Item.{Item}
+use Rattle.gq_found.specs.Puts.{Puts}
+use Rattle.gq_found.proofs.PutLemmas.{puts_both, puts_as, puts_list}
+use Rattle.gq_text.specs.declared.place.Span.{Span}
+use Rattle.gq_tree.specs.Plain.{VariableOf}
+use Rattle.gq_types.specs.Entries.{EntryOf}
+use Rattle.gq_values.proofs.Steps.{both_done}
+use Rattle.gq_document.specs.Definitions.{OperationOf, operation_view}
+use Rattle.gq_document.specs.declared.definitions.OperationEntry.{OperationEntry}
+use Rattle.gq_document.specs.Executable.{ExecutableOf}
+use Rattle.gq_spreads.specs.Spreads.{AreReached}
+use Rattle.gq_variables.specs.Uses.{UseOf}
+use Rattle.gq_variables.specs.ReachedUses.{ReachesUse}
+use Rattle.gq_variables.specs.UsesPlaces.{reached_uses}
+use Rattle.gq_variables.specs.VariableFaults.{IsFaultOfOperation, IsVariableFault}
+use Rattle.gq_variables.specs.VariableFaults as rule
+use Rattle.gq_variables.specs.VariablePlaces.{variable_texts, use_texts, repeated_variables, not_unique, not_of_input_type, not_defined, not_used, not_allowed, definition_faults, use_faults, operation_faults, IsFaultAt, IsFaultBefore}
+use Rattle.gq_variables.proofs.UseLemmas.{reached_are}
+use Rattle.gq_variables.proofs.RuleLemmas.{not_unique_are, not_of_input_type_are, not_defined_are, not_used_are, not_allowed_are}
+
+module _ (x : ExecutableOf) (o : OperationOf) (uses : List UseOf) (are : (u : UseOf) → Contains uses u ↔ ReachesUse x o u) (item : Item) where
+  abbrev Unique : List Item
+  Unique = not_unique o.file (repeated_variables [] o.variables)
+
+  abbrev Input : List Item
+  Input = not_of_input_type x.entries o.file o.variables
+
+  abbrev Defined : List Item
+  Defined = not_defined (variable_texts o.variables) uses
+
+  abbrev Used : List Item
+  Used = not_used o.file (use_texts uses) o.variables
+
+  abbrev Allowed : List Item
+  Allowed = not_allowed x.entries o.variables (repeated_variables [] o.variables) uses
+
+  from_definitions : Contains (Unique ++ Input) item → IsFaultOfOperation x o item
+  from_definitions c = elim (Contains-append_cases Unique Input item c) [
+    | inl a ↦ rule.not_unique ((not_unique_are o item).0 a)
+    | inr b ↦ rule.not_of_input_type ((not_of_input_type_are x.entries o item).0 b)
+  ]
+
+  from_uses : Contains (Defined ++ (Used ++ Allowed)) item → IsFaultOfOperation x o item
+  from_uses c = elim (Contains-append_cases Defined (Used ++ Allowed) item c) [
+    | inl a ↦ rule.not_defined ((not_defined_are x o uses are item).0 a)
+    | inr d ↦ elim (Contains-append_cases Used Allowed item d) [
+      | inl a ↦ rule.not_used ((not_used_are x o uses are item).0 a)
+      | inr b ↦ rule.not_allowed ((not_allowed_are x o uses are item).0 b)
+    ]
+  ]
+
+  from_all : Contains (operation_faults x.entries o uses) item → IsFaultOfOperation x o item
+  from_all c = elim (Contains-append_cases (Unique ++ Input) (Defined ++ (Used ++ Allowed)) item c) [ inl a ↦ from_definitions a | inr b ↦ from_uses b ]
+
+  of_definitions : Contains (Unique ++ Input) item → Contains (operation_faults x.entries o uses) item
+  of_definitions c = Contains-append_left (Unique ++ Input) (Defined ++ (Used ++ Allowed)) item c
+
+  of_uses : Contains (Defined ++ (Used ++ Allowed)) item → Contains (operation_faults x.entries o uses) item
+  of_uses c = Contains-append_right (Unique ++ Input) (Defined ++ (Used ++ Allowed)) item c
+
+  to_all : IsFaultOfOperation x o item → Contains (operation_faults x.entries o uses) item
+  to_all (rule.not_unique w) = of_definitions (Contains-append_left Unique Input item ((not_unique_are o item).1 w))
+  to_all (rule.not_of_input_type w) = of_definitions (Contains-append_right Unique Input item ((not_of_input_type_are x.entries o item).1 w))
+  to_all (rule.not_defined w) = of_uses (Contains-append_left Defined (Used ++ Allowed) item ((not_defined_are x o uses are item).1 w))
+  to_all (rule.not_used w) = of_uses (Contains-append_right Defined (Used ++ Allowed) item (Contains-append_left Used Allowed item ((not_used_are x o uses are item).1 w)))
+  to_all (rule.not_allowed w) = of_uses (Contains-append_right Defined (Used ++ Allowed) item (Contains-append_right Used Allowed item ((not_allowed_are x o uses are item).1 w)))
+
+  faults_are : Contains (operation_faults x.entries o uses) item ↔ IsFaultOfOperation x o item
+  faults_are = (from_all, to_all)
+
+-- what is put for an operation
+pub operation_put : (es : List EntryOf) (o : OperationOf) (uses given : List UseOf) (one two first second : List (VariableOf Span)) (old middle new : List Item) →
+    one ≡ o.variables → first ≡ repeated_variables [] o.variables → two ≡ o.variables → second ≡ repeated_variables [] o.variables → given ≡ uses →
+    middle ≡ old ++ definition_faults es o.file one first → new ≡ middle ++ use_faults es o.file two second given → new ≡ old ++ operation_faults es o uses
+operation_put es o uses given one two first second old middle new e f g h k put then =
+    both_done old middle new (definition_faults es o.file o.variables (repeated_variables [] o.variables)) (use_faults es o.file o.variables (repeated_variables [] o.variables) uses)
+    (put ∙ ap (λ vs. old ++ definition_faults es o.file vs first) e ∙ ap (λ vs. old ++ definition_faults es o.file o.variables vs) f)
+    (then ∙ ap (λ vs. middle ++ use_faults es o.file vs second given) g ∙ ap (λ vs. middle ++ use_faults es o.file o.variables vs given) h
+    ∙ ap (λ us. middle ++ use_faults es o.file o.variables (repeated_variables [] o.variables) us) k)
+
+-- the operation of a number
+pub operation_at : (entries : List OperationEntry) (k : ℕ) (d : OperationEntry) → k < length (map operation_view entries) →
+    slice_get (map operation_view entries) k ≡ Some (operation_view (get_or entries k d))
+operation_at entries k d inside =
+    let same = length-map entries operation_view in
+    slice_get-map operation_view entries k ∙ ap (option_map operation_view) (slice_get-get_or entries k d (omega (arith, inside, same)))
+
+below_or_at : (k n : ℕ) → k < n + 1 → (k < n) ⊎ (k ≡ n)
+below_or_at zero zero h = inr refl
+below_or_at zero (suc n) h = inl (omega arith)
+below_or_at (suc k) zero h = absurd (omega (arith, h))
+below_or_at (suc k) (suc n) h = elim (below_or_at k n (omega (arith, h))) [ inl less ↦ inl (omega (arith, less)) | inr is ↦ inr (ap suc is) ]
+
+module _ (x : ExecutableOf) where
+  -- the faults of one operation
+  pub puts_at : (number : ℕ) (o : OperationOf) (numbers : List ℕ) (old new : List Item) → slice_get x.operations number ≡ Some o → AreReached x number numbers →
+      new ≡ old ++ operation_faults x.entries o (reached_uses x.entries x.fragments o numbers) → Puts (IsFaultAt x number) old new
+  puts_at number o numbers old new at reached is = puts_list (IsFaultAt x number) old new (operation_faults x.entries o uses) is exactly
+    where
+      uses : List UseOf
+      uses = reached_uses x.entries x.fragments o numbers
+
+      exactly : (item : Item) → Contains (operation_faults x.entries o uses) item ↔ IsFaultAt x number item
+      exactly item =
+          let are = faults_are x o uses (reached_are x o numbers (reached o at)) item in (
+            λ c. record { operation = o; at = at; fault = are.0 c },
+            λ w. are.1 (subst (λ p. IsFaultOfOperation x p item) (same_Some w.operation o (sym w.at ∙ at)) w.fault),
+          )
+
+  -- one more
+  pub puts_more : (number : ℕ) (old middle new : List Item) → Puts (IsFaultBefore x number) old middle → Puts (IsFaultAt x number) middle new → Puts (IsFaultBefore x (number + 1)) old new
+  puts_more number old middle new before now =
+      puts_as (λ item. IsFaultBefore x number item ⊎ IsFaultAt x number item) (IsFaultBefore x (number + 1)) old new same
+      (puts_both (IsFaultBefore x number) (IsFaultAt x number) old middle new before now)
+    where
+      by_place : (item : Item) (w : IsFaultBefore x (number + 1) item) → (w.earlier < number) ⊎ (w.earlier ≡ number) → IsFaultBefore x number item ⊎ IsFaultAt x number item
+      by_place item w (inl less) = inl (record { earlier = w.earlier; is_earlier = less; fault = w.fault })
+      by_place item w (inr is) = inr (subst (λ n. IsFaultAt x n item) is w.fault)
+
+      same : (item : Item) → (IsFaultBefore x number item ⊎ IsFaultAt x number item) ↔ IsFaultBefore x (number + 1) item
+      same item = (
+        λ s. elim s [
+          | inl w ↦ record { earlier = w.earlier; is_earlier = omega (arith, w.is_earlier); fault = w.fault }
+          | inr w ↦ record { earlier = number; is_earlier = omega arith; fault = w }
+        ],
+        λ w. by_place item w (below_or_at w.earlier number w.is_earlier),
+      )
+
+  -- those of all operations
+  pub puts_all : (number : ℕ) (old new : List Item) → length x.operations ≤ number → Puts (IsFaultBefore x number) old new → Puts (IsVariableFault x) old new
+  puts_all number old new end before = puts_as (IsFaultBefore x number) (IsVariableFault x) old new same before
+    where
+      same : (item : Item) → IsFaultBefore x number item ↔ IsVariableFault x item
+      same item = (
+        λ w. record {
+          operation = w.fault.operation;
+          stands = (w.earlier, slice_get_within x.operations w.earlier w.fault.operation w.fault.at, get_or_from_slice_get x.operations w.earlier w.fault.operation w.fault.operation w.fault.at);
+          fault = w.fault.fault;
+        },
+        λ w. record {
+          earlier = w.stands.0;
+          is_earlier = omega (arith, w.stands.1, end);
+          fault = record { operation = w.operation; at = slice_get-get_or x.operations w.stands.0 w.operation w.stands.1 ∙ ap Some w.stands.2; fault = w.fault };
+        },
+      )

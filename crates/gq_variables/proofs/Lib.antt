@@ -1,0 +1,5 @@
+pub mod LiteralUseLemmas
+pub mod UseLemmas
+pub mod CompatibleLemmas
+pub mod RuleLemmas
+pub mod FaultLemmas

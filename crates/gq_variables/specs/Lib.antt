@@ -1,0 +1,11 @@
+pub mod Uses
+pub mod ReachedUses
+pub mod VariableUniqueness
+pub mod VariablesAreInputTypes
+pub mod AllVariableUsesDefined
+pub mod AllVariablesUsed
+pub mod AllVariableUsagesAreAllowed
+pub mod VariableFaults
+pub mod Views
+pub mod UsesPlaces
+pub mod VariablePlaces

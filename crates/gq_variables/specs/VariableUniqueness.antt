@@ -1,0 +1,15 @@
+-- No two variables of an operation may have the same name (section 5.8.1).
+use Rattle.std.specs.Prelude.{◌≡◌}
+use Rattle.gq_text.specs.declared.place.Span.{Span}
+use Rattle.gq_tree.specs.Plain.{VariableOf}
+use Rattle.gq_names.specs.Repeats.{IsRepeated}
+use Rattle.gq_found.specs.declared.code.Code.TheVariants.{VariableNotUnique}
+use Rattle.gq_found.specs.declared.item.Item.{Item}
+use Rattle.gq_values.specs.Items.{item_at}
+use Rattle.gq_document.specs.Definitions.{OperationOf}
+
+-- a variable whose name an earlier one has
+pub record IsNotUnique (o : OperationOf) (item : Item) : Type 0 where
+  pub variable : VariableOf Span
+  pub repeated : IsRepeated (λ v. v.name.text) o.variables variable
+  pub is : item ≡ item_at o.file VariableNotUnique variable.name

@@ -1,0 +1,100 @@
+//! Uses of variables at types that do not allow them (GraphQL, October 2021, section 5.8.5).
+ghost use Rattle.std.specs.Prelude.{◌≡◌, ◌++◌, OnOk, map};
+ghost use Rattle.std.specs.List.{list_any};
+ghost use Rattle.gq_tree.specs.Views.{type_view, variable_view};
+ghost use Rattle.gq_types.specs.Look.{types_view};
+ghost use Rattle.gq_variables.specs.AllVariableUsagesAreAllowed.{is_known};
+ghost use Rattle.gq_variables.specs.VariablePlaces.{is_wrong_at, is_wrong_for, first_is_wrong, is_misused, not_allowed_at, not_allowed};
+ghost use Rattle.gq_variables.specs.Views.{place_view, use_view, uses_view, variables_view};
+
+use crate::compatible::is_allowed;
+use crate::items::put_at;
+use crate::uses::{Place, Use};
+use crate::variables::Variables;
+use gq_document::base_name;
+use gq_found::{Code, Item};
+use gq_text::NoMemory;
+use gq_tree::{TypeRef, VariableDefinition};
+use gq_types::Types;
+use gq_values::Read;
+
+fn is_known(types: &Types, type_ref: &TypeRef) -> bool
+    ensures { result ≡ is_known (types_view types.now) (type_view type_ref.now) }
+{
+    types.kind(base_name(type_ref)).is_some()
+}
+
+/// Whether the variable may not stand at the place. Where a type is not known it may.
+fn is_wrong_at(types: &Types, place: Place<'_>, variable: &VariableDefinition) -> bool
+    ensures { result ≡ is_wrong_at (types_view types.now) (place_view place.entry) (variable_view variable.now) }
+{
+    match place.reading {
+        Read::AtType(location) => {
+            is_known(types, &variable.type_ref)
+                && is_known(types, location)
+                && !is_allowed(variable, place.has_default, location)
+        }
+        Read::AtAny => false,
+        Read::NotRead => false,
+    }
+}
+
+fn first_is_wrong(types: &Types, variables: &Variables<'_>, one: &Use<'_>) -> bool
+    ensures { result ≡ first_is_wrong (types_view types.now) (map variable_view variables.now.all.now) (use_view one.now) }
+{
+    match variables.first(one.name.text.as_str()) {
+        Some(variable) => is_wrong_at(types, one.place, variable),
+        None => false,
+    }
+}
+
+fn is_wrong_for(types: &Types, one: &Use<'_>, variable: &VariableDefinition) -> bool
+    ensures { result ≡ is_wrong_for (types_view types.now) (use_view one.now) (variable_view variable.now) }
+{
+    one.name.text.as_str() == variable.variable.name.text.as_str()
+        && is_wrong_at(types, one.place, variable)
+}
+
+#[tactic(auto, using(gq_tree::proofs::Trees::gathers))]
+fn any_is_wrong(types: &Types, one: &Use<'_>, variables: &[&VariableDefinition]) -> bool
+    ensures { result ≡ list_any (is_wrong_for (types_view types.now) (use_view one.now)) (variables_view variables.now) }
+{
+    for variable in variables {
+        if is_wrong_for(types, one, variable) {
+            return true;
+        }
+    }
+    false
+}
+
+fn put_if_not_allowed(
+    types: &Types,
+    variables: &Variables<'_>,
+    repeated: &[&VariableDefinition],
+    one: &Use<'_>,
+    items: &mut Vec<Item>,
+) -> Result<(), NoMemory>
+    ensures { OnOk result (items.new.items ≡ items.old.items ++ not_allowed_at (types_view types.now) (map variable_view variables.now.all.now) (variables_view repeated.now) (use_view one.now)) }
+{
+    if first_is_wrong(types, variables, one) || any_is_wrong(types, one, repeated) {
+        put_at(one.file, Code::VariableNotAllowedHere, one.name, items)?;
+    }
+    Ok(())
+}
+
+/// Puts an item at each use at a type that does not allow a variable of its name.
+#[tactic(auto, using(gq_tree::proofs::Trees::gathers))]
+pub(crate) fn put_not_allowed(
+    types: &Types,
+    variables: &Variables<'_>,
+    repeated: &[&VariableDefinition],
+    uses: &[Use<'_>],
+    items: &mut Vec<Item>,
+) -> Result<(), NoMemory>
+    ensures { OnOk result (items.new.items ≡ items.old.items ++ not_allowed (types_view types.now) (map variable_view variables.now.all.now) (variables_view repeated.now) (uses_view uses.now)) }
+{
+    for one in uses {
+        put_if_not_allowed(types, variables, repeated, one, items)?;
+    }
+    Ok(())
+}

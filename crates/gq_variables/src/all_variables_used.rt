@@ -1,0 +1,69 @@
+//! Variables that an operation does not use (GraphQL, October 2021, section 5.8.4).
+ghost use Rattle.std.specs.Prelude.{◌≡◌, ◌++◌, IfOk, OnOk, map};
+ghost use Rattle.gq_tree.specs.Views.{variable_view};
+ghost use Rattle.gq_variables.specs.VariablePlaces.{use_texts, not_used_at, not_used};
+ghost use Rattle.gq_variables.specs.Views.{uses_view};
+
+use crate::items::put_at;
+use crate::uses::Use;
+use gq_found::{Code, Item};
+use gq_names::NameList;
+use gq_text::NoMemory;
+use gq_tree::VariableDefinition;
+use std::alloc::Global;
+
+/// The names of uses.
+#[tactic(auto, using(gq_tree::proofs::Trees::gathers))]
+fn used_names(alloc: Global, uses: &[Use<'_>]) -> Result<NameList, NoMemory>
+    ensures { IfOk result (λ names. names ≡ use_texts (uses_view uses.now)) }
+{
+    let mut names = NameList::new(alloc);
+    for one in uses {
+        names.push(one.name.text.as_str())?;
+    }
+    Ok(names)
+}
+
+fn put_if_not_used(
+    file: usize,
+    used: &NameList,
+    one: &VariableDefinition,
+    items: &mut Vec<Item>,
+) -> Result<(), NoMemory>
+    ensures { OnOk result (items.new.items ≡ items.old.items ++ not_used_at file used.now (variable_view one.now)) }
+{
+    let name = &one.variable.name;
+    if !used.contains(name.text.as_str()) {
+        put_at(file, Code::VariableNotUsed, name, items)?;
+    }
+    Ok(())
+}
+
+#[tactic(auto, using(gq_tree::proofs::Trees::gathers))]
+fn put_each_not_used(
+    file: usize,
+    used: &NameList,
+    variables: &[VariableDefinition],
+    items: &mut Vec<Item>,
+) -> Result<(), NoMemory>
+    ensures { OnOk result (items.new.items ≡ items.old.items ++ not_used file used.now (map variable_view variables.now)) }
+{
+    for one in variables {
+        put_if_not_used(file, used, one, items)?;
+    }
+    Ok(())
+}
+
+/// Puts an item at the name of each variable whose name none of the uses has.
+pub(crate) fn put_not_used(
+    alloc: Global,
+    file: usize,
+    variables: &[VariableDefinition],
+    uses: &[Use<'_>],
+    items: &mut Vec<Item>,
+) -> Result<(), NoMemory>
+    ensures { OnOk result (items.new.items ≡ items.old.items ++ not_used file (use_texts (uses_view uses.now)) (map variable_view variables.now)) }
+{
+    let used = used_names(alloc, uses)?;
+    put_each_not_used(file, &used, variables, items)
+}

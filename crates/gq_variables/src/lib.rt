@@ -1,0 +1,26 @@
+//! The variables of operations, and what is wrong with them (GraphQL, October 2021, section 5.8).
+#![tactic(auto)]
+
+mod all_variable_usages_are_allowed;
+mod all_variable_uses_defined;
+mod all_variables_used;
+mod compatible;
+pub mod faults;
+mod items;
+mod places;
+mod reached;
+mod selections;
+mod uses;
+mod values;
+mod variable_uniqueness;
+mod variables;
+mod variables_are_input_types;
+
+pub use faults::put_variable_faults;
+
+#[cfg(test)]
+mod tests;
+#[cfg(test)]
+mod tests_allowed;
+#[cfg(test)]
+mod tests_uses;

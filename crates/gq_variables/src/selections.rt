@@ -1,0 +1,126 @@
+//! The uses of variables in selections, operations and fragments.
+ghost use Rattle.std.specs.Prelude.{◌≡◌, ◌++◌, IfOk, OnOk, map};
+ghost use Rattle.gq_tree.specs.Views.{variable_view};
+ghost use Rattle.gq_types.specs.Look.{types_view};
+ghost use Rattle.gq_document.specs.Definitions.{operation_view, fragment_view};
+ghost use Rattle.gq_document.specs.Views.{selected_view, selections_view};
+ghost use Rattle.gq_values.specs.ArgumentPlaces.{definitions_view};
+ghost use Rattle.gq_types.specs.Look.{text_of};
+ghost use Rattle.gq_variables.specs.Uses.{field_arguments};
+ghost use Rattle.gq_variables.specs.UsesPlaces.{uses_of_selection, selection_uses, variable_uses, operation_uses, fragment_uses};
+ghost use Rattle.gq_variables.specs.Views.{uses_view};
+
+use crate::uses::Use;
+use crate::values::{put_uses_of_arguments, put_uses_of_directives};
+use gq_document::{
+    FragmentEntry, OperationEntry, Selected, fragment_selections, operation_selections,
+    selected_field,
+};
+use gq_text::NoMemory;
+use gq_tree::{InputValueDefinition, Selection, VariableDefinition};
+use gq_types::Types;
+use std::alloc::Global;
+
+/// The definitions of the arguments of the field of that name, where the type of its parent is known and has it.
+fn field_arguments<'a>(
+    types: &'a Types,
+    parent: Option<&str>,
+    name: &str,
+) -> Option<&'a [InputValueDefinition]>
+    ensures { definitions_view result ≡ field_arguments (types_view types.now) (text_of parent.entry) name.now }
+{
+    match selected_field(types, parent, name) {
+        Some(field) => Some(field.arguments()),
+        None => None,
+    }
+}
+
+#[tactic(auto, using(gq_tree::proofs::Trees::gathers))]
+fn put_uses_of_selection<'a>(
+    alloc: Global,
+    types: &'a Types,
+    selected: Selected<'a>,
+    uses: &mut Vec<Use<'a>>,
+) -> Result<(), NoMemory>
+    ensures { OnOk result (uses_view uses.new.items ≡ uses_view uses.old.items ++ uses_of_selection (types_view types.now) (selected_view selected.entry)) }
+{
+    let file = selected.file;
+    match selected.selection {
+        Selection::Field(field) => {
+            let definitions = field_arguments(types, selected.parent, field.name.text.as_str());
+            put_uses_of_arguments(alloc, types, file, definitions, &field.arguments, uses)?;
+            put_uses_of_directives(alloc, types, file, &field.directives, uses)
+        }
+        Selection::Spread(spread) => {
+            put_uses_of_directives(alloc, types, file, &spread.directives, uses)
+        }
+        Selection::Inline(inline) => {
+            put_uses_of_directives(alloc, types, file, &inline.directives, uses)
+        }
+    }
+}
+
+#[tactic(auto, using(gq_tree::proofs::Trees::gathers))]
+fn put_uses_of_selections<'a>(
+    alloc: Global,
+    types: &'a Types,
+    selections: &[Selected<'a>],
+    uses: &mut Vec<Use<'a>>,
+) -> Result<(), NoMemory>
+    ensures { OnOk result (uses_view uses.new.items ≡ uses_view uses.old.items ++ selection_uses (types_view types.now) (selections_view selections.now)) }
+{
+    for selected in selections {
+        put_uses_of_selection(alloc, types, *selected, uses)?;
+    }
+    Ok(())
+}
+
+#[tactic(auto, using(gq_tree::proofs::Trees::gathers))]
+fn put_uses_of_variables<'a>(
+    alloc: Global,
+    types: &'a Types,
+    file: usize,
+    variables: &'a [VariableDefinition],
+    uses: &mut Vec<Use<'a>>,
+) -> Result<(), NoMemory>
+    ensures { OnOk result (uses_view uses.new.items ≡ uses_view uses.old.items ++ variable_uses (types_view types.now) file (map variable_view variables.now)) }
+{
+    for variable in variables {
+        put_uses_of_directives(alloc, types, file, &variable.directives, uses)?;
+    }
+    Ok(())
+}
+
+/// Puts the uses that stand in an operation behind the others, in its selections, its directives and those of its variables.
+#[tactic(auto, using(gq_tree::proofs::Trees::gathers))]
+pub(crate) fn put_uses_of_operation<'a>(
+    alloc: Global,
+    types: &'a Types,
+    operation: &'a OperationEntry,
+    uses: &mut Vec<Use<'a>>,
+) -> Result<(), NoMemory>
+    ensures { OnOk result (uses_view uses.new.items ≡ uses_view uses.old.items ++ operation_uses (types_view types.now) (operation_view operation.now)) }
+{
+    let (file, definition) = (operation.file, &operation.definition);
+    let selections = operation_selections(alloc, types, operation)?;
+    put_uses_of_selections(alloc, types, &selections, uses)?;
+    put_uses_of_directives(alloc, types, file, &definition.directives, uses)?;
+    put_uses_of_variables(alloc, types, file, &definition.variables, uses)
+}
+
+/// The uses that stand in a fragment, in its selections and its directives.
+#[tactic(auto, using(gq_tree::proofs::Trees::gathers))]
+pub(crate) fn fragment_uses<'a>(
+    alloc: Global,
+    types: &'a Types,
+    fragment: &'a FragmentEntry,
+) -> Result<Vec<Use<'a>>, NoMemory>
+    ensures { IfOk result (λ uses. uses_view uses.items ≡ fragment_uses (types_view types.now) (fragment_view fragment.now)) }
+{
+    let mut uses = Vec::new(alloc);
+    let selections = fragment_selections(alloc, types, fragment)?;
+    put_uses_of_selections(alloc, types, &selections, &mut uses)?;
+    let directives = &fragment.definition.directives;
+    put_uses_of_directives(alloc, types, fragment.file, directives, &mut uses)?;
+    Ok(uses)
+}
