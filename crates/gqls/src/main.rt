@@ -1,13 +1,20 @@
-//! The program: `gqls serve --workers 0` serves the language server protocol on the standard streams.
+//! The program: `gqls serve --workers 0` serves the language server protocol on the standard streams, and
+//! `gqls check FILE..` prints what is wrong with files.
 #![tactic(auto)]
 
 use clap::error::ErrorKind;
-use clap::{Arg, ArgMatches, Command, Error, value_parser};
+use clap::{Arg, ArgAction, ArgMatches, Command, Error, value_parser};
+use gq_check::files::FILES_MAX;
+use gq_check::{File, check};
 use gq_crew::{Ended, RunFault, run_one};
 use gq_rpc::Flagged;
+use gq_text::text::TEXT_MAX;
+use gq_text::{NoMemory, OwnedText};
 use std::alloc::{AllocError, Global};
-use std::io;
+use std::collections::HashSet;
+use std::io::Read;
 use std::process::ExitCode;
+use std::{fs, io};
 
 /// The status where the words of the command line are no command.
 const USAGE_STATUS: u8 = 2;
@@ -15,27 +22,63 @@ const USAGE_STATUS: u8 = 2;
 /// The status where memory or a standard stream fails.
 const FAULT_STATUS: u8 = 3;
 
-const EXAMPLE: &str = "Example:
+const EXAMPLE: &str = "Examples:
+  gqls serve --workers 0
+  gqls check schema.graphql query.graphql
+
+An editor starts `serve`, and writes to its standard input and reads from its standard output.
+`check` is for a command line: `gqls check --help` says what it prints.";
+
+const SERVE_EXAMPLE: &str = "Example:
   gqls serve --workers 0
 
 An editor starts this command, and writes to its standard input and reads from its standard output.";
 
-/// What the words say: `serve`, with 0 workers.
-fn parse_words<'a>(alloc: Global, words: &'a [String]) -> Result<ArgMatches<'a>, Error> {
+const CHECK_EXAMPLE: &str = "Example:
+  $ gqls check schema.graphql query.graphql
+  query.graphql:1:11: V4 unknown field
+
+The files are one project: its type system, operations and fragments. Each fault is a line: the file, the line
+and the column of its start, counted from 1, the code of the rule and a few words; the status is then 1.
+Where there is none, it prints `ok`, and the status is 0. At most 4,096 files are read, of at most 4 MiB each.
+Where there are more, or a file is larger or cannot be read, the status is 3, and standard error says why.";
+
+/// The command `serve`, with 0 workers.
+fn serve_command<'a>(alloc: Global) -> Result<Command<'a>, AllocError> {
     let workers = Arg::new(alloc, "workers")
         .long("workers")
         .value_name("N")
         .help("How many threads answer beside the one that reads: 0, for now")
         .value_parser(value_parser!(u8).range(0..=0))
         .required(true);
-    let serve = Command::new(alloc, "serve")
+    Command::new(alloc, "serve")
         .about("Serves the language server protocol on the standard streams")
-        .arg(workers)?;
+        .after_help(SERVE_EXAMPLE)
+        .arg(workers)
+}
+
+/// The command `check`, with the names of files.
+fn check_command<'a>(alloc: Global) -> Result<Command<'a>, AllocError> {
+    let files = Arg::new(alloc, "files")
+        .value_name("FILE")
+        .help("The files of the project, schema and queries in any order")
+        .action(ArgAction::Append)
+        .num_args(1..)
+        .required(true);
+    Command::new(alloc, "check")
+        .about("Checks files as one project, and prints what is wrong with it")
+        .after_help(CHECK_EXAMPLE)
+        .arg(files)
+}
+
+/// What the words say.
+fn parse_words<'a>(alloc: Global, words: &'a [String]) -> Result<ArgMatches<'a>, Error> {
     let command = Command::new(alloc, "gqls")
         .about("A language server for GraphQL")
         .after_help(EXAMPLE)
         .subcommand_required(true)
-        .subcommand(serve)?;
+        .subcommand(serve_command(alloc)?)?
+        .subcommand(check_command(alloc)?)?;
     command.try_get_matches_from(words)
 }
 
@@ -68,6 +111,69 @@ fn serve(rt: &HostRuntime) -> u8 {
     }
 }
 
+/// Up to one byte more of a file than a text may have.
+fn read_front(rt: &HostRuntime, name: &str) -> io::Result<Vec<u8>> {
+    let limit = TEXT_MAX as u64 + 1;
+    let mut bytes = Vec::new(rt.alloc());
+    fs::open(rt, name)?.take(limit).read_to_end(&mut bytes)?;
+    Ok(bytes)
+}
+
+/// The bytes of a file, or none where it cannot be read.
+fn read_file(rt: &HostRuntime, name: &str) -> Result<Option<Vec<u8>>, NoMemory> {
+    match read_front(rt, name) {
+        Ok(bytes) => Ok(Some(bytes)),
+        Err(error) if error.kind() == io::ErrorKind::OutOfMemory => Err(NoMemory),
+        Err(_) => Ok(None),
+    }
+}
+
+/// Whether there are more names than may be given.
+fn are_too_many(alloc: Global, names: &[&str]) -> Result<bool, NoMemory> {
+    let mut seen = HashSet::new(alloc);
+    for name in names {
+        seen.insert(*name)?;
+    }
+    Ok(seen.len() > FILES_MAX)
+}
+
+/// The files of these names, each read where its name first stands. None is read where there are too many, nor any behind
+/// one that is absent or too large, since what is told is known then.
+fn read_files(rt: &HostRuntime, names: &[&str]) -> Result<Vec<File>, NoMemory> {
+    let alloc = rt.alloc();
+    let mut goes_on = !are_too_many(alloc, names)?;
+    let mut seen = HashSet::new(alloc);
+    let mut files = Vec::new(alloc);
+    for name in names {
+        let mut bytes = None;
+        if seen.insert(*name)? && goes_on {
+            bytes = read_file(rt, name)?;
+            goes_on = bytes.as_ref().is_some_and(|bytes| bytes.len() <= TEXT_MAX);
+        }
+        let name = OwnedText::from_str(alloc, name)?;
+        files.push(File { name, bytes })?;
+    }
+    Ok(files)
+}
+
+/// Checks the files of these names.
+fn check_files(rt: &HostRuntime, names: &[&str]) -> u8 {
+    let Ok(files) = read_files(rt, names) else {
+        return tell_fault(rt, RunFault::NoMemory);
+    };
+    let mut output = Flagged::new(rt.stdout());
+    let mut errors = Flagged::new(rt.stderr());
+    check(rt.alloc(), &files, &mut output, &mut errors)
+}
+
+/// Does what the words say, and answers the status.
+fn run(rt: &HostRuntime, matches: &ArgMatches<'_>) -> u8 {
+    match matches.subcommand() {
+        Some(("check", words)) => check_files(rt, words.get_raw("files").unwrap_or(&[])),
+        _ => serve(rt),
+    }
+}
+
 /// The words of the command line.
 fn read_words(rt: &HostRuntime) -> io::Result<Vec<String>> {
     Ok(std::env::args(rt)?.collect(rt.alloc())?)
@@ -76,7 +182,7 @@ fn read_words(rt: &HostRuntime) -> io::Result<Vec<String>> {
 fn main(rt: HostRuntime) -> ExitCode {
     let status = match read_words(&rt) {
         Ok(words) => match parse_words(rt.alloc(), words.as_slice()) {
-            Ok(_) => serve(&rt),
+            Ok(matches) => run(&rt, &matches),
             Err(error) => explain(&rt, &error),
         },
         Err(_) => tell_fault(&rt, RunFault::NoMemory),

@@ -1,0 +1,148 @@
+#!/usr/bin/env python3
+"""Writes projects on which the time of `gqls check` is measured.
+
+    python3 bench/projects.py FOLDER        one folder for each project below FOLDER
+
+Each has files s.graphql (the type system) and q.graphql or q0.graphql, q1.graphql and so on (operations and fragments).
+docs/PERFORMANCE.md has the commands and what was seen.
+"""
+import os
+import sys
+
+SCHEMA = "type Query{x:Int f(a:Int,b:In):Int q:Query n:Node} interface Node{id:ID! q:Query} input In{a:Int b:[In!]}\n"
+
+
+def chain(count):
+    """Fragments that each spread the next one."""
+    yield "s.graphql", SCHEMA
+    rows = ["{...F0}"]
+    rows += ["fragment F%d on Query{k%d:x ...F%d}" % (i, i, i + 1) for i in range(count - 1)]
+    yield "q.graphql", "\n".join(rows + ["fragment F%d on Query{x}" % (count - 1)])
+
+
+def cycle(count):
+    """Fragments that each spread the next one, the last one the first."""
+    yield "s.graphql", SCHEMA
+    rows = ["{...F0}"]
+    yield "q.graphql", "\n".join(rows + ["fragment F%d on Query{k%d:x ...F%d}" % (i, i, (i + 1) % count) for i in range(count)])
+
+
+def repeated(count):
+    """One field many times in a set."""
+    yield "s.graphql", SCHEMA
+    yield "q.graphql", "{" + " ".join(["f(a:1)"] * count) + "}"
+
+
+def equal_sets(count):
+    """Many equal sets under one key."""
+    yield "s.graphql", SCHEMA
+    yield "q.graphql", "{" + " ".join(["q{x q{x}}"] * count) + "}"
+
+
+def spreads(count):
+    """Many fragments spread in one set."""
+    yield "s.graphql", SCHEMA
+    rows = ["{" + " ".join("...F%d" % i for i in range(count)) + "}"]
+    yield "q.graphql", "\n".join(rows + ["fragment F%d on Query{x q{x}}" % i for i in range(count)])
+
+
+def doubling(depth):
+    """Fragments that each spread the next one under two keys."""
+    yield "s.graphql", SCHEMA
+    rows = ["{...F0}"]
+    rows += ["fragment F%d on Query{a:q{...F%d} b:q{...F%d}}" % (i, i + 1, i + 1) for i in range(depth)]
+    yield "q.graphql", "\n".join(rows + ["fragment F%d on Query{x}" % depth])
+
+
+def interfaces(depth):
+    """Interfaces that each implement those above them, and an object type of all."""
+    rows = ["type Query{x:I0}"]
+    names = []
+    for i in range(depth):
+        head = " implements " + " & ".join(names) if names else ""
+        rows.append("interface I%d%s{id:ID!}" % (i, head))
+        names.append("I%d" % i)
+    rows.append("type T implements %s{id:ID!}" % " & ".join(names))
+    yield "s.graphql", "\n".join(rows)
+    yield "q.graphql", "{x{id ...on T{id} ...on I%d{id}}}" % (depth - 1)
+
+
+def types(count):
+    """A type system of some 1 MB, half of its types object types and half input objects."""
+    rows = ["type Query{n:Node %s}" % " ".join("t%d(id:ID!):T%d" % (i, i) for i in range(count // 2)), "interface Node{id:ID!}"]
+    for i in range(count // 2):
+        rows.append('"What T%d is, in a sentence of some length, as teams write them."\ntype T%d implements Node{id:ID! name:String! size(unit:Unit=METRE,round:Int=0):Float! next:T%d all:[T%d!]! u:U a:Int b:Int c:[String!]! d:Boolean e:Float f(x:Int,y:[Int!]):String g:ID h:[ID] k:Int l:String}' % (i, i, (i + 1) % (count // 2), (i + 7) % (count // 2)))
+        rows.append("input In%d{first:Int=10 after:String in:In%d not:[In%d!]}" % (i, (i + 1) % (count // 2), i))
+    rows += ["enum Unit{METRE FOOT}", "union U=T0|T1|T2"]
+    yield "s.graphql", "\n".join(rows)
+
+
+def formatted(text):
+    """The same operations with a line for each selection, as formatters write them."""
+    out, depth, line, brackets = [], 0, "", 0
+    for word in text.replace("{", " { ").replace("}", " } ").replace("(", " ( ").replace(")", " ) ").split():
+        brackets += (word == "(") - (word == ")")
+        if word == "{":
+            out.append("  " * depth + line + " {")
+            line, depth = "", depth + 1
+        elif word == "}":
+            if line:
+                out.append("  " * depth + line)
+            line, depth = "", depth - 1
+            out.append("  " * depth + "}")
+        elif brackets or word == ")" or not line or line.split()[-1] in ("on", "...on", "query", "fragment") or word == "on":
+            line += word if word in "()" or line.endswith("(") or not line else " " + word
+        elif depth == 0:
+            line += " " + word
+        else:
+            out.append("  " * depth + line)
+            line = word
+    return "\n".join(out)
+
+
+def large(files, bytes_each, is_formatted):
+    """A type system of 1 MB, and many files of operations and fragments."""
+    count = 5000
+    yield from types(count)
+    for f in range(files):
+        rows, size, i = [], 0, 0
+        while size < bytes_each:
+            t = (f * 37 + i * 11) % (count // 2)
+            row = (
+                "query Q%d_%d($id:ID!,$round:Int){t%d(id:$id){...F%d_%d next{id name next{name}} all{id size(unit:FOOT,round:$round)}}}\n"
+                "fragment F%d_%d on T%d{id name size next{...on Node{id} name} u{...on T0{name} ...on T1{id}}}" % (f, i, t, f, i, f, i, t)
+            )
+            if is_formatted:
+                row = formatted(row)
+            rows.append(row)
+            size += len(row) + 1
+            i += 1
+        yield "q%d.graphql" % f, "\n".join(rows)
+
+
+PROJECTS = {
+    "chain": lambda: chain(8000),
+    "cycle": lambda: cycle(8000),
+    "repeated": lambda: repeated(6400),
+    "equal_sets": lambda: equal_sets(3200),
+    "spreads": lambda: spreads(2000),
+    "doubling": lambda: doubling(30),
+    "interfaces": lambda: interfaces(64),
+    "types": lambda: types(5000),
+    "large": lambda: large(200, 20_000, True),
+    "dense": lambda: large(200, 20_000, False),
+}
+
+
+def main():
+    if len(sys.argv) != 2:
+        sys.exit(__doc__)
+    for name, files in PROJECTS.items():
+        folder = os.path.join(sys.argv[1], name)
+        os.makedirs(folder, exist_ok=True)
+        for file, text in files():
+            with open(os.path.join(folder, file), "w", encoding="utf-8") as out:
+                out.write(text)
+
+
+main()

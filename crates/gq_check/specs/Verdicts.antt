@@ -1,0 +1,12 @@
+-- What files that are not refused come to, as it is computed. Nothing here must be believed.
+use Rattle.std.specs.Prelude.{◌≡◌, List, []}
+use Rattle.gq_check.specs.declared.files.File.{File}
+use Rattle.gq_check.specs.declared.judging.Verdict.{Verdict}
+use Rattle.gq_check.specs.Checks.{Outcome, IsOutcome, output_of, error_of, status_of}
+
+pub record IsVerdict (files : List File) (verdict : Verdict) : Type 0 where
+  pub outcome : Outcome
+  pub is_outcome : IsOutcome files outcome
+  pub text : verdict.text ≡ output_of files outcome
+  pub no_error : error_of outcome ≡ []
+  pub status : verdict.status ≡ status_of outcome
