@@ -1,1 +1,2 @@
 pub mod SchemaLemmas
+pub mod OneTypeSystem
