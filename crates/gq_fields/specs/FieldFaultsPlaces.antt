@@ -1,18 +1,29 @@
 -- What the rules put, in the order of operations and fragments. Computed; nothing here must be believed.
-use Rattle.std.specs.Prelude.{ℕ, List, ◌++◌, flat_map}
+use Rattle.std.specs.Prelude.{ℕ, List, ◌++◌, Option, flat_map, is_some}
 use Rattle.gq_text.specs.declared.place.Span.{Span}
 use Rattle.gq_found.specs.declared.item.Item.{Item}
-use Rattle.gq_tree.specs.Plain.{VariableOf}
-use Rattle.gq_types.specs.Entries.{EntryOf}
+use Rattle.gq_tree.specs.Plain.{NameOf, Val, VariableOf}
+use Rattle.gq_types.specs.Entries.{Text, EntryOf}
+use Rattle.gq_values.specs.ArgumentPlaces.{argument_faults}
 use Rattle.gq_document.specs.Definitions.{OperationOf, FragmentOf}
-use Rattle.gq_document.specs.Selections.{SelectedOf, operation_selections, fragment_selections}
+use Rattle.gq_document.specs.Selections.{SelectedOf, selected_field, operation_selections, fragment_selections}
 use Rattle.gq_document.specs.Executable.{ExecutableOf}
 use Rattle.gq_fields.specs.Directives.{operation_site, variable_site, fragment_site, selection_site}
-use Rattle.gq_fields.specs.FieldSelectionsPlaces.{unknown_field_at}
-use Rattle.gq_fields.specs.LeafFieldSelectionsPlaces.{wrong_selections_at}
-use Rattle.gq_fields.specs.ArgumentsPlaces.{wrong_arguments_at}
+use Rattle.gq_fields.specs.FieldSelectionsPlaces.{unknown_field_on, unknown_field_at}
+use Rattle.gq_fields.specs.LeafFieldSelectionsPlaces.{wrong_of_field, wrong_selections_at}
+use Rattle.gq_fields.specs.ArgumentsPlaces.{defined_arguments, wrong_arguments_at}
 use Rattle.gq_fields.specs.DirectivesPlaces.{wrong_directives_at}
 use Rattle.gq_fields.specs.ValuesPlaces.{wrong_default_of}
+
+-- of a field that is selected
+abbrev pub faults_of_field : List EntryOf → ℕ → Option Text → NameOf Span → Option Span → List (Val Span) → List Item
+faults_of_field es file parent name braces arguments =
+    unknown_field_on es file parent name
+    ++ (wrong_of_field es file name (is_some braces) (selected_field es parent name.text)
+    ++ argument_faults es file (defined_arguments es parent name.text) name arguments)
+
+abbrev pub faults_of_named : List EntryOf → SelectedOf → List Item
+faults_of_named es s = unknown_field_at es s ++ (wrong_selections_at es s ++ wrong_arguments_at es s)
 
 -- at one selection
 abbrev pub selection_faults : List EntryOf → SelectedOf → List Item

@@ -1,13 +1,13 @@
 //! All that is wrong with the fields, arguments, directives and default values of operations and fragments.
 ghost use Rattle.std.specs.Prelude.{◌≡◌, ◌++◌, OnOk, map};
 ghost use Rattle.gq_found.specs.Puts.{Puts};
-ghost use Rattle.gq_tree.specs.Views.{variable_view};
-ghost use Rattle.gq_types.specs.Look.{types_view};
+ghost use Rattle.gq_tree.specs.Views.{name_of, braces_of, argument_view, variable_view};
+ghost use Rattle.gq_types.specs.Look.{types_view, text_of};
 ghost use Rattle.gq_document.specs.Definitions.{operation_view, fragment_view, operations_view, fragments_view};
 ghost use Rattle.gq_document.specs.Executable.{executable_view};
 ghost use Rattle.gq_document.specs.Views.{selected_view, selections_view};
 ghost use Rattle.gq_fields.specs.FieldFaults.{IsFieldFault};
-ghost use Rattle.gq_fields.specs.FieldFaultsPlaces.{selection_faults, selections_faults, variable_faults, variables_faults, operation_faults, fragment_faults, operations_faults, fragments_faults, field_faults};
+ghost use Rattle.gq_fields.specs.FieldFaultsPlaces.{faults_of_field, faults_of_named, selection_faults, selections_faults, variable_faults, variables_faults, operation_faults, fragment_faults, operations_faults, fragments_faults, field_faults};
 
 use crate::arguments::put_wrong_arguments;
 use crate::directives::{
@@ -18,12 +18,53 @@ use crate::leaf_field_selections::put_wrong_selections;
 use crate::values::put_wrong_default;
 use gq_document::{
     Executable, FragmentEntry, OperationEntry, Selected, fragment_selections, operation_selections,
+    selected_field,
 };
 use gq_found::Item;
 use gq_text::NoMemory;
-use gq_tree::{DirectiveLocation, VariableDefinition};
+use gq_tree::{Argument, DirectiveLocation, Name, Selection, SelectionSet, VariableDefinition};
 use gq_types::Types;
 use std::alloc::Global;
+
+/// Puts what is wrong with the field that a selection names, which is looked up once.
+fn put_faults_of_field(
+    alloc: Global,
+    types: &Types,
+    file: usize,
+    parent: Option<&str>,
+    name: &Name,
+    set: &Option<SelectionSet>,
+    arguments: &[Argument],
+    items: &mut Vec<Item>,
+) -> Result<(), NoMemory>
+    ensures { OnOk result (items.new.items ≡ items.old.items ++ faults_of_field (types_view types.now) file (text_of parent.entry) (name_of name.now) (braces_of set.now) (map argument_view arguments.now)) }
+{
+    let found = selected_field(types, parent, name.text.as_str());
+    put_unknown_field(types, file, parent, found, name, items)?;
+    put_wrong_selections(types, file, found, name, set, items)?;
+    put_wrong_arguments(alloc, types, file, found, name, arguments, items)
+}
+
+/// Puts what is wrong with the field that a selection names, if it is one.
+#[tactic(auto, using(gq_tree::proofs::Trees::gathers))]
+fn put_faults_of_named(
+    alloc: Global,
+    types: &Types,
+    selected: &Selected<'_>,
+    items: &mut Vec<Item>,
+) -> Result<(), NoMemory>
+    ensures { OnOk result (items.new.items ≡ items.old.items ++ faults_of_named (types_view types.now) (selected_view selected.now)) }
+{
+    let (file, parent) = (selected.file, selected.parent);
+    match selected.selection {
+        Selection::Field(field) => {
+            let (name, set, arguments) = (&field.name, &field.set, &field.arguments);
+            put_faults_of_field(alloc, types, file, parent, name, set, arguments, items)
+        }
+        Selection::Spread(_) => Ok(()),
+        Selection::Inline(_) => Ok(()),
+    }
+}
 
 fn put_faults_of_selection(
     alloc: Global,
@@ -33,9 +74,7 @@ fn put_faults_of_selection(
 ) -> Result<(), NoMemory>
     ensures { OnOk result (items.new.items ≡ items.old.items ++ selection_faults (types_view types.now) (selected_view selected.now)) }
 {
-    put_unknown_field(types, selected, items)?;
-    put_wrong_selections(types, selected, items)?;
-    put_wrong_arguments(alloc, types, selected, items)?;
+    put_faults_of_named(alloc, types, selected, items)?;
     put_wrong_directives_of_selection(alloc, types, selected, items)
 }
 

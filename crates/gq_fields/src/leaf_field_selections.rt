@@ -2,14 +2,14 @@
 ghost use Rattle.std.specs.Prelude.{◌≡◌, ◌++◌, OnOk, Some, is_some};
 ghost use Rattle.gq_tree.specs.Views.{name_of, braces_of};
 ghost use Rattle.gq_types.specs.Look.{types_view};
-ghost use Rattle.gq_document.specs.Views.{field_view, selected_view};
-ghost use Rattle.gq_fields.specs.LeafFieldSelectionsPlaces.{differ, wrong_at_kind, wrong_of_field, wrong_selections_at};
+ghost use Rattle.gq_document.specs.Views.{field_view, selected_field_view};
+ghost use Rattle.gq_fields.specs.LeafFieldSelectionsPlaces.{differ, wrong_at_kind, wrong_of_field};
 
 use crate::items::put_item_at;
-use gq_document::{Selected, SelectedField, selected_field};
+use gq_document::SelectedField;
 use gq_found::{Code, Item};
 use gq_text::NoMemory;
-use gq_tree::{Name, Selection, SelectionSet};
+use gq_tree::{Name, SelectionSet};
 use gq_types::Types;
 
 fn has_set(set: &Option<SelectionSet>) -> bool
@@ -45,26 +45,21 @@ fn put_wrong_selections_of(
 }
 
 /// Puts an item at the name of a field that has selections below it where its type is a leaf, or none where its type is
-/// composite.
-#[tactic(auto, using(gq_tree::proofs::Trees::gathers))]
+/// composite. `found` is its definition.
 pub(crate) fn put_wrong_selections(
     types: &Types,
-    selected: &Selected<'_>,
+    file: usize,
+    found: Option<SelectedField<'_>>,
+    name: &Name,
+    set: &Option<SelectionSet>,
     items: &mut Vec<Item>,
 ) -> Result<(), NoMemory>
-    ensures { OnOk result (items.new.items ≡ items.old.items ++ wrong_selections_at (types_view types.now) (selected_view selected.now)) }
+    ensures { OnOk result (items.new.items ≡ items.old.items ++ wrong_of_field (types_view types.now) file (name_of name.now) (is_some (braces_of set.now)) (selected_field_view found.entry)) }
 {
-    match selected.selection {
-        Selection::Field(field) => {
-            let (name, has_set) = (&field.name, has_set(&field.set));
-            match selected_field(types, selected.parent, name.text.as_str()) {
-                Some(definition) => {
-                    put_wrong_selections_of(types, selected.file, name, has_set, definition, items)
-                }
-                None => Ok(()),
-            }
+    match found {
+        Some(definition) => {
+            put_wrong_selections_of(types, file, name, has_set(set), definition, items)
         }
-        Selection::Spread(_) => Ok(()),
-        Selection::Inline(_) => Ok(()),
+        None => Ok(()),
     }
 }

@@ -38,3 +38,4 @@ pub mod EachMove
 pub mod Machine
 pub mod Defaults
 pub mod Telling
+pub mod OneFault

@@ -47,7 +47,7 @@ begins_all n tokens b = begins_front (take n tokens) (drop n tokens) (subst Begi
 not_behind : (tokens : Tokens) (i j : ℕ) → IsSyntaxAt tokens i → IsSyntaxAt tokens j → i < j → ⊥
 not_behind tokens i j a b h = a.with_it (begins_take (suc i) j tokens (omega (arith, h)) b.before)
 
-one_wrong : (tokens : Tokens) (p q : ℕ) → IsWrongAt tokens p → IsWrongAt tokens q → p ≡ q
+pub one_wrong : (tokens : Tokens) (p q : ℕ) → IsWrongAt tokens p → IsWrongAt tokens q → p ≡ q
 one_wrong tokens p q a b = sym a.2 ∙ ap (λ (n : ℕ). starts (drop n tokens)) same ∙ b.2
   where
     same : a.0 ≡ b.0
@@ -77,14 +77,14 @@ not_deeper tokens p q a b h =
     let r = cut_before a.before b.before a.after b.after a.token b.token (sym a.cut ∙ b.cut) h in
     a.passes (nested_front 100 (a.before ++ a.token ∷ []) r.0 (subst (IsNestedWithin 100) r.1 b.within))
 
-one_deep : (tokens : Tokens) (p q : ℕ) → IsTooDeepAt tokens p → IsTooDeepAt tokens q → p ≡ q
+pub one_deep : (tokens : Tokens) (p q : ℕ) → IsTooDeepAt tokens p → IsTooDeepAt tokens q → p ≡ q
 one_deep tokens p q a b = sym a.at ∙ ap (λ (t : Lexeme). t.span.start) (cut_same a.before b.before a.after b.after a.token b.token (sym a.cut ∙ b.cut) same) ∙ b.at
   where
     same : length a.before ≡ length b.before
     same = omega (arith, not_deeper tokens p q a b, not_deeper tokens q p b a)
 
 -- where all tokens begin a document, none is wrong
-none_wrong : (tokens : Tokens) (p : ℕ) → Begins tokens → IsWrongAt tokens p → ⊥
+pub none_wrong : (tokens : Tokens) (p : ℕ) → Begins tokens → IsWrongAt tokens p → ⊥
 none_wrong tokens p b w = w.1.with_it (begins_all (suc w.0) tokens b)
 
 -- a wrong token is in no document

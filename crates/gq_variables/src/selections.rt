@@ -1,13 +1,13 @@
 //! The uses of variables in selections, operations and fragments.
 ghost use Rattle.std.specs.Prelude.{◌≡◌, ◌++◌, IfOk, OnOk, map};
-ghost use Rattle.gq_tree.specs.Views.{variable_view};
+ghost use Rattle.gq_tree.specs.Views.{argument_view, variable_view};
 ghost use Rattle.gq_types.specs.Look.{types_view};
 ghost use Rattle.gq_document.specs.Definitions.{operation_view, fragment_view};
 ghost use Rattle.gq_document.specs.Views.{selected_view, selections_view};
 ghost use Rattle.gq_values.specs.ArgumentPlaces.{definitions_view};
 ghost use Rattle.gq_types.specs.Look.{text_of};
 ghost use Rattle.gq_variables.specs.Uses.{field_arguments};
-ghost use Rattle.gq_variables.specs.UsesPlaces.{uses_of_selection, selection_uses, variable_uses, operation_uses, fragment_uses};
+ghost use Rattle.gq_variables.specs.UsesPlaces.{argument_uses, uses_of_selection, selection_uses, variable_uses, operation_uses, fragment_uses};
 ghost use Rattle.gq_variables.specs.Views.{uses_view};
 
 use crate::uses::Use;
@@ -17,7 +17,7 @@ use gq_document::{
     selected_field,
 };
 use gq_text::NoMemory;
-use gq_tree::{InputValueDefinition, Selection, VariableDefinition};
+use gq_tree::{Argument, InputValueDefinition, Selection, VariableDefinition};
 use gq_types::Types;
 use std::alloc::Global;
 
@@ -35,6 +35,26 @@ fn field_arguments<'a>(
     }
 }
 
+/// Puts the uses in the arguments of the field of that name behind the others. Where there are no arguments the field is not
+/// looked up.
+fn put_uses_of_field_arguments<'a>(
+    alloc: Global,
+    types: &'a Types,
+    file: usize,
+    parent: Option<&str>,
+    name: &str,
+    arguments: &'a [Argument],
+    uses: &mut Vec<Use<'a>>,
+) -> Result<(), NoMemory>
+    ensures { OnOk result (uses_view uses.new.items ≡ uses_view uses.old.items ++ argument_uses (types_view types.now) file (field_arguments (types_view types.now) (text_of parent.entry) name.now) (map argument_view arguments.now)) }
+{
+    if arguments.is_empty() {
+        return Ok(());
+    }
+    let definitions = field_arguments(types, parent, name);
+    put_uses_of_arguments(alloc, types, file, definitions, arguments, uses)
+}
+
 #[tactic(auto, using(gq_tree::proofs::Trees::gathers))]
 fn put_uses_of_selection<'a>(
     alloc: Global,
@@ -47,8 +67,16 @@ fn put_uses_of_selection<'a>(
     let file = selected.file;
     match selected.selection {
         Selection::Field(field) => {
-            let definitions = field_arguments(types, selected.parent, field.name.text.as_str());
-            put_uses_of_arguments(alloc, types, file, definitions, &field.arguments, uses)?;
+            let (name, arguments) = (field.name.text.as_str(), &field.arguments);
+            put_uses_of_field_arguments(
+                alloc,
+                types,
+                file,
+                selected.parent,
+                name,
+                arguments,
+                uses,
+            )?;
             put_uses_of_directives(alloc, types, file, &field.directives, uses)
         }
         Selection::Spread(spread) => {
