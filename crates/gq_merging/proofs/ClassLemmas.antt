@@ -1,18 +1,19 @@
 -- Classes of fields by their keys.
-use Rattle.std.proofs.Common.{◌≡◌, ◌↔◌, ℕ, zero, suc, ◌+◌, ◌<◌, Bool, true, false, IsTrue, List, [], ◌∷◌, ◌++◌, Option, Some, None, is_some, All, Contains, length, set, refl, sym, ◌∙◌, ap, subst, arith, inl, inr, not, get_or, take, Vec, Global}
-use Rattle.std.specs.List.{slice_get, position, list_any}
-use Rattle.std.specs.Option.{option_map, option_map_or}
+use Rattle.std.proofs.Common.{◌≡◌, ◌↔◌, ℕ, zero, suc, ◌+◌, ◌<◌, Bool, true, false, IsTrue, List, [], ◌∷◌, ◌++◌, Option, Some, None, is_some, All, Contains, length, map, set, refl, sym, ◌∙◌, ap, subst, arith, inl, inr, not, get_or, take, Vec, Global}
+use Rattle.std.specs.List.{slice_get, position, position_or_len, list_any}
+use Rattle.std.specs.Option.{option_map, option_map_or, IfSome}
 use Rattle.std.specs.Str.{bytes_eq}
 use Rattle.std.specs.Cmp.Lexicographic.{bytes_decides}
 use Rattle.std.proofs.lemmas.Bool.{cases_eq}
+use Rattle.std.proofs.lemmas.Grind.{common_steps}
 use Rattle.std.proofs.lemmas.List.{length-set, length_push, map-set, take_more, map-append, length-map}
-use Rattle.std.proofs.lemmas.List.Elements.{All-push, All-set, All-contains, Contains-push, Contains-push_cases}
+use Rattle.std.proofs.lemmas.List.Elements.{All-nil, All-cons, All-push, All-set, All-contains, Contains-push, Contains-push_cases}
 use Rattle.std.proofs.lemmas.List.Quantifiers.{position-Some}
 use Rattle.std.proofs.lemmas.Option.{same_Some, none-some, slice_get-map, slice_get_read}
 use Rattle.gq_text.specs.declared.place.Span.{Span}
 use Rattle.gq_names.proofs.PlaceLemmas.{is_some_position, position_push_found, position_push_here}
-use Rattle.gq_names.proofs.RepeatLemmas.{contains_none}
-use Rattle.gq_reach.specs.Reach.{Reach, start, step}
+use Rattle.gq_names.proofs.RepeatLemmas.{contains_none, contains_first}
+use Rattle.gq_reach.specs.Reach.{Reach, start, step, row}
 use Rattle.gq_reach.proofs.Ways.{way_starts, contains_one}
 use Rattle.gq_tree.specs.Plain.{TypeOf}
 use Rattle.gq_types.specs.Entries.{Text, EntryOf}
@@ -21,7 +22,7 @@ use Rattle.gq_merging.specs.Shapes.{shape_of}
 use Rattle.gq_merging.specs.Comparisons.{known_type, same_shapes}
 use Rattle.gq_merging.specs.SetTables.{MemberOf, RowOf, members_at, spreads_at, IsMember}
 use Rattle.gq_merging.specs.GroupTables.{IsOfGroup, known_shape, SayTheSame, IsUnder, AreBelow, ClassesOf, HasClass, AreClasses, HaveClasses, Takes, AreSettled}
-use Rattle.gq_merging.specs.Views.{member_view, members_view, row_view, rows_view}
+use Rattle.gq_merging.specs.Views.{field_at, member_view, members_view, row_view, rows_view}
 use Rattle.gq_merging.specs.GroupViews.{groups_view, classes_view}
 use Rattle.gq_merging.specs.declared.classes.Classes.{Classes}
 use Rattle.gq_merging.specs.declared.rows.Member.{Member}
@@ -48,6 +49,23 @@ stays next n k e (start c) = contains_one n k c
 stays next n k e (step {m = m} h c) =
     let at : m ≡ n = stays next n m e h in
     absurd (contains_none k (subst (λ ns. Contains ns k) (ap next at ∙ e) c))
+
+row_at : (table : List (Vec ℕ Global)) (n : ℕ) (v : Vec ℕ Global) → slice_get table n ≡ Some v → row table n ≡ v.items
+row_at [] n v e = absurd (cc)
+row_at (w ∷ table) zero v e = ap (λ (v : Vec ℕ Global). v.items) (same_Some w v e)
+row_at (w ∷ table) (suc n) v e = row_at table n v e
+
+-- one number that leads nowhere reaches itself alone
+pub lone_reaches : (table : List (Vec ℕ Global)) (group found : List ℕ) (v : Vec ℕ Global) → length group ≡ 1 →
+    slice_get table (get_or group 0 0) ≡ Some v → v.items ≡ [] → found ≡ group →
+    All (λ n. Reach group (row table) n) found × ((k : ℕ) → Reach group (row table) k → Contains found k)
+lone_reaches table [] found v one at none is = absurd (omega (arith, one))
+lone_reaches table (n ∷ []) found v one at none is = (
+  subst (λ ns. All (λ m. Reach (n ∷ []) (row table) m) ns) (sym is)
+      (All-cons (λ m. Reach (n ∷ []) (row table) m) n [] (start (contains_first n [] n refl)) (All-nil (λ m. Reach (n ∷ []) (row table) m))),
+  λ k h. subst (λ ns. Contains ns k) (sym is) (contains_first n [] k (sym (stays (row table) n k (row_at table n v at ∙ none) h))),
+)
+lone_reaches table (n ∷ m ∷ rest) found v one at none is = absurd (omega (arith, one))
 
 nothing_there : (rows : List RowOf) (n : ℕ) (m : MemberOf) → members_at rows n ≡ [] → spreads_at rows n ≡ [] → IsMember rows n m → ⊥
 nothing_there rows n m none no_way h =
@@ -271,7 +289,42 @@ groups_set vs i v = map-set (λ v. v.items) vs i v
 pub members_more : (ms : List Member) (i : ℕ) (m : Member) → i < length ms → get_or ms i m ≡ m → members_view (take (i + 1) ms) ≡ members_view (take i ms) ++ member_view m ∷ []
 members_more ms i m l e = ap members_view (take_more ms i m l ∙ ap (λ w. take i ms ++ w ∷ []) e) ∙ map-append member_view (take i ms) (m ∷ [])
 
-pub places_within : (rows : List RowOf) (classes : Classes) (text : Text) (i : ℕ) → AreClasses rows (classes_view classes) → position (bytes_eq text) classes.keys ≡ Some i →
+-- the first place in a list where the test passes, from a list that it is made of
+position_map : {A B : Type 0} (p : B → Bool) (f : A → B) (xs : List A) → position p (map f xs) ≡ position (λ x. p (f x)) xs
+position_map p f xs =
+    let count : length (map f xs) ≡ length xs = length-map xs f in
+    let place : position_or_len p (map f xs) ≡ position_or_len (λ x. p (f x)) xs = place_map xs in
+    rw (count, place) refl
+  where
+    place_map : (xs : List _) → position_or_len p (map f xs) ≡ position_or_len (λ x. p (f x)) xs
+    place_map [] = refl
+    place_map (x ∷ xs) = grind (arith, common_steps, place_map xs)
+
+-- the class of a key, looked for among the first fields
+pub position_keys : (text : Text) (classes : Classes) → position (bytes_eq text) (classes_view classes).keys ≡ position (λ (m : Member). bytes_eq text (key (field_at m.it))) classes.firsts.items
+position_keys text classes =
+    position_map (bytes_eq text) (λ (m : MemberOf). key m.field_at) (members_view classes.firsts.items)
+    ∙ position_map (λ (m : MemberOf). bytes_eq text (key m.field_at)) member_view classes.firsts.items
+
+-- one element more
+pub firsts_push : (old new : List Member) (m : Member) → new ≡ old ++ m ∷ [] → members_view new ≡ members_view old ++ member_view m ∷ []
+firsts_push old new m e = ap members_view e ∙ map-append member_view old (m ∷ [])
+
+pub groups_push : (old new : List (Vec ℕ Global)) (v : Vec ℕ Global) → new ≡ old ++ v ∷ [] → groups_view new ≡ groups_view old ++ v.items ∷ []
+groups_push old new v e = ap groups_view e ∙ map-append (λ v. v.items) old (v ∷ [])
+
+pub keys_push : (old new : List Member) (m : Member) → new ≡ old ++ m ∷ [] →
+    map (λ (m : MemberOf). key m.field_at) (members_view new) ≡ map (λ (m : MemberOf). key m.field_at) (members_view old) ++ key (field_at m.it) ∷ []
+keys_push old new m e = ap (map (λ (m : MemberOf). key m.field_at)) (firsts_push old new m e) ∙ map-append (λ (m : MemberOf). key m.field_at) (members_view old) (member_view m ∷ [])
+
+-- the table of the keys, if there is one, with a key more
+pub keyed_push : (old new : Option (List Text)) (keys more : List Text) (text : Text) → new ≡ option_map (λ names. names ++ text ∷ []) old → more ≡ keys ++ text ∷ [] →
+    IfSome old (λ names. names ≡ keys) → IfSome new (λ names. names ≡ more)
+keyed_push None new keys more text e f h = subst (λ (o : Option (List Text)). IfSome o (λ names. names ≡ more)) (sym e) tt
+keyed_push (Some names) new keys more text e f h =
+    subst (λ (o : Option (List Text)). IfSome o (λ names. names ≡ more)) (sym e) (ap (λ ns. ns ++ text ∷ []) h ∙ sym f)
+
+pub places_within : (rows : List RowOf) (classes : Classes) (text : Text) (i : ℕ) → AreClasses rows (classes_view classes) → position (bytes_eq text) (classes_view classes).keys ≡ Some i →
     (i < length classes.firsts.items) × (i < length classes.groups.items)
 places_within rows classes text i h e =
     let l = place_within rows (classes_view classes) text i h e in

@@ -7,7 +7,7 @@ use Rattle.std.proofs.lemmas.List.Elements.{All-append, All-weaker, All-contains
 use Rattle.std.proofs.lemmas.Option.{same_Some, none-some, get_or_from_slice_get}
 use Rattle.gq_names.proofs.RepeatLemmas.{contains_none, contains_first, contains_later}
 use Rattle.gq_reach.specs.Reach.{Reach, start, step, row}
-use Rattle.gq_reach.proofs.Ways.{way_on}
+use Rattle.gq_reach.proofs.Ways.{way_on, contains_one}
 use Rattle.gq_tree.specs.Plain.{erase_values}
 use Rattle.gq_tree.specs.Views.{argument_view}
 use Rattle.gq_tree.specs.declared.value.Argument.{Argument}
@@ -18,8 +18,8 @@ use Rattle.gq_merging.specs.FieldsMerge.{Differ, in_shape, in_call}
 use Rattle.gq_merging.specs.SameArguments.{SameArguments}
 use Rattle.gq_merging.specs.Shapes.{shape_of}
 use Rattle.gq_merging.specs.Groups.{MeetFrom, together, deeper, IsMerged, AreMerged}
-use Rattle.gq_merging.specs.GroupTables.{IsOfGroup, SayTheSame, IsUnder, AreBelow, GoTogether, AreSettled, IsSettled, IsReached, IsTest, ArePassed, IsTested, AreTested, IsKnown, as_empty, as_before, as_marked}
-use Rattle.gq_merging.specs.SetTables.{MemberOf, RowOf, AreRows, members_at, spreads_at}
+use Rattle.gq_merging.specs.GroupTables.{IsOfGroup, SayTheSame, IsUnder, AreBelow, GoTogether, AreSettled, IsSettled, IsReached, IsTest, ArePassed, IsTested, AreTested, AreMarked, IsKnown, as_empty, as_before, as_marked}
+use Rattle.gq_merging.specs.SetTables.{MemberOf, RowOf, AreRows, IsMember, members_at, spreads_at}
 use Rattle.gq_merging.specs.Views.{member_view, row_view, rows_view}
 use Rattle.gq_merging.specs.declared.purpose.Purpose.{Purpose}
 use Rattle.gq_merging.specs.declared.rows.Row.{Row}
@@ -312,3 +312,23 @@ test_ends es rows groups done reached h all =
     let both = All-append (IsSettled es rows (groups ++ h.known)) groups h.known settled h.known_settled in
     All-weaker (IsReached rows groups) (IsTested es rows)
     (λ n r. record { groups = groups ++ h.known; settled = both; is_reached = reached_more rows groups (groups ++ h.known) n (λ g c. Contains-append_left groups h.known g c) r }) reached h.from_groups
+
+-- a set in which nothing stands is tested
+pub nothing_is_tested : (es : List EntryOf) (rows : List RowOf) (n : ℕ) → ((m : MemberOf) → IsMember rows n m → ⊥) → IsTested es rows n
+nothing_is_tested es rows n nothing = record {
+  groups = (n ∷ []) ∷ [];
+  settled = All-cons (IsSettled es rows ((n ∷ []) ∷ [])) (n ∷ []) []
+      (record { each = λ a b ca cb k. absurd (nothing a (record { reached = ca.reached; reach = ca.reach; stands = ca.stands })) }) (All-nil (IsSettled es rows ((n ∷ []) ∷ [])));
+  is_reached = record { group = n ∷ []; is_group = contains_first (n ∷ []) [] (n ∷ []) refl; reach = start (contains_first n [] n refl) };
+}
+
+-- one set more is marked
+pub one_more_tested : (es : List EntryOf) (rows : List RowOf) (n : ℕ) (old new : List Bool) → length new ≡ length old → AreMarked (n ∷ []) old new →
+    IsTested es rows n → AreTested es rows old → AreTested es rows new
+one_more_tested es rows n old new count marked here before = record {
+  count = count ∙ before.count;
+  tested = λ k e. elim (marked k e) [
+    | inl c ↦ subst (IsTested es rows) (sym (contains_one n k c)) here
+    | inr f ↦ before.tested k f
+  ];
+}

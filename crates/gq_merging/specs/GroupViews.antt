@@ -1,7 +1,8 @@
 -- What the code's classes and groups stand for.
-use Rattle.std.specs.Prelude.{ℕ, List, map}
+use Rattle.std.specs.Prelude.{◌≡◌, ℕ, List, map, IfSome}
 use Rattle.std.specs.declared.vec.Vec.{Vec}
 use Rattle.std.specs.declared.alloc.Global.{Global}
+use Rattle.gq_merging.specs.FieldSets.{key}
 use Rattle.gq_merging.specs.GroupTables.{ClassesOf}
 use Rattle.gq_merging.specs.Views.{members_view}
 use Rattle.gq_merging.specs.declared.classes.Classes.{Classes}
@@ -10,4 +11,8 @@ abbrev pub groups_view : List (Vec ℕ Global) → List (List ℕ)
 groups_view vs = map (λ v. v.items) vs
 
 abbrev pub classes_view : Classes → ClassesOf
-classes_view c = record { keys = c.keys; firsts = members_view c.firsts.items; groups = groups_view c.groups.items }
+classes_view c = record { keys = map (λ m. key m.field_at) (members_view c.firsts.items); firsts = members_view c.firsts.items; groups = groups_view c.groups.items }
+
+-- the table, if there is one, has the keys of the classes
+abbrev pub AreKeyed : Classes → Type 0
+AreKeyed c = IfSome c.table (λ names. names ≡ (classes_view c).keys)

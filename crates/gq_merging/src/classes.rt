@@ -1,5 +1,5 @@
 //! Fields of selection sets that stand together, put into classes by their response keys.
-ghost use Rattle.std.specs.Prelude.{◌≡◌, ◌↔◌, ◌<◌, ℕ, Some, None, All, Contains, IsTrue, IfSome, IfOk, OnOk, length, position, false};
+ghost use Rattle.std.specs.Prelude.{◌≡◌, ◌↔◌, ◌<◌, ◌++◌, ◌∷◌, [], ℕ, Some, None, All, Contains, IsTrue, IfSome, IfOk, OnOk, length, option_map, position, false};
 ghost use Rattle.std.specs.Str.{bytes_eq};
 ghost use Rattle.gq_tree.specs.Views.{type_view};
 ghost use Rattle.gq_types.specs.Look.{types_view};
@@ -8,7 +8,7 @@ ghost use Rattle.gq_merging.specs.SetTables.{MemberOf, IsMember};
 ghost use Rattle.gq_merging.specs.FieldSets.{key};
 ghost use Rattle.gq_merging.specs.GroupTables.{known_shape, SayTheSame, IsUnder, AreBelow, AreClasses, Takes, AreSettled};
 ghost use Rattle.gq_merging.specs.Views.{field_at, member_view, members_view, rows_view};
-ghost use Rattle.gq_merging.specs.GroupViews.{groups_view, classes_view};
+ghost use Rattle.gq_merging.specs.GroupViews.{groups_view, classes_view, AreKeyed};
 
 use crate::comparing::{have_same_shape, key, known_type};
 use crate::rows::{Member, Row};
@@ -58,7 +58,7 @@ fn say_the_same(tables: Tables<'_>, left: &StandingField<'_>, right: &StandingFi
 }
 
 /// Whether fields or spreads stand in the set with that number; not past the end.
-fn has_selections(rows: &[Row<'_>], number: usize) -> bool
+pub(crate) fn has_selections(rows: &[Row<'_>], number: usize) -> bool
     ensures range { IsTrue result → number < length rows.now }
     ensures none { result ≡ false → (m : MemberOf) → IsMember (rows_view rows.now) number m → ⊥ }
 {
@@ -82,12 +82,44 @@ fn put_number(rows: &[Row<'_>], number: usize, group: &mut Vec<usize>) -> Result
     Ok(())
 }
 
-/// Fields by their keys: each key, the first field that has it, and the sets in the braces of all that have it.
+/// The most fields that get no table of their keys. To go over so few takes less time than to make one.
+const FEW: usize = 8;
+
+/// Fields by their keys: the keys in a table, where there are many fields, the first field of each key, and the sets in the
+/// braces of all that have it.
 #[derive(Drop)]
 struct Classes<'a> {
-    keys: NameList,
+    table: Option<NameList>,
     firsts: Vec<Member<'a>>,
     groups: Vec<Vec<usize>>,
+}
+
+/// The place of the first of these fields that has that response key.
+fn find_first(firsts: &[Member<'_>], text: &str) -> Option<usize>
+    ensures { result ≡ position (λ m. bytes_eq text.now (key (field_at m.it))) firsts.now }
+{
+    firsts.iter().position(|first| text == key(&first.it))
+}
+
+/// The place of the class of the fields with that response key, if there is one.
+fn find_class(classes: &Classes<'_>, text: &str) -> Option<usize>
+    requires keyed { AreKeyed classes.now }
+    ensures { result ≡ position (bytes_eq text.now) (classes_view classes.now).keys }
+{
+    match &classes.table {
+        Some(names) => names.place(text),
+        None => find_first(&classes.firsts, text),
+    }
+}
+
+/// Puts a key into the table, if there is one.
+fn put_key(table: &mut Option<NameList>, text: &str) -> Result<(), NoMemory>
+    ensures { OnOk result (table.new ≡ option_map (λ names. names ++ text.now ∷ []) table.old) }
+{
+    if let Some(names) = table {
+        names.push(text)?;
+    }
+    Ok(())
 }
 
 /// A class for a field whose key no class has yet.
@@ -96,14 +128,16 @@ fn put_first<'a>(
     member: &Member<'a>,
     classes: &mut Classes<'a>,
 ) -> Result<(), NoMemory>
-    requires absent { position (bytes_eq (key (field_at member.now.it))) classes.old.keys ≡ None }
+    requires absent { position (bytes_eq (key (field_at member.now.it))) (classes_view classes.old).keys ≡ None }
+    requires keyed { AreKeyed classes.old }
     requires classes { AreClasses (rows_view tables.rows.now) (classes_view classes.old) }
+    ensures keyed { OnOk result (AreKeyed classes.new) }
     ensures classes { OnOk result (AreClasses (rows_view tables.entry.rows.now) (classes_view classes.new)) }
     ensures takes { OnOk result (Takes (types_view tables.entry.types.now) (rows_view tables.entry.rows.now) (member_view member.now) (classes_view classes.old) (classes_view classes.new)) }
 {
     let mut group = Vec::new(tables.alloc);
     put_number(tables.rows, member.below, &mut group)?;
-    classes.keys.push(key(&member.it))?;
+    put_key(&mut classes.table, key(&member.it))?;
     classes.firsts.push(*member)?;
     classes.groups.push(group)?;
     Ok(())
@@ -117,8 +151,10 @@ fn put_other<'a>(
     classes: &mut Classes<'a>,
 ) -> Result<bool, NoMemory>
     requires typename { type_view tables.typename_type.now ≡ typename_field.type_ref }
-    requires place { position (bytes_eq (key (field_at member.now.it))) classes.old.keys ≡ Some place }
+    requires place { position (bytes_eq (key (field_at member.now.it))) (classes_view classes.old).keys ≡ Some place }
+    requires keyed { AreKeyed classes.old }
     requires classes { AreClasses (rows_view tables.rows.now) (classes_view classes.old) }
+    ensures keyed { OnOk result (AreKeyed classes.new) }
     ensures classes { OnOk result (AreClasses (rows_view tables.entry.rows.now) (classes_view classes.new)) }
     ensures takes { IfOk result (λ put. IsTrue put → Takes (types_view tables.entry.types.now) (rows_view tables.entry.rows.now) (member_view member.now) (classes_view classes.old) (classes_view classes.new)) }
 {
@@ -137,11 +173,13 @@ fn put_member<'a>(
     classes: &mut Classes<'a>,
 ) -> Result<bool, NoMemory>
     requires typename { type_view tables.typename_type.now ≡ typename_field.type_ref }
+    requires keyed { AreKeyed classes.old }
     requires classes { AreClasses (rows_view tables.rows.now) (classes_view classes.old) }
+    ensures keyed { OnOk result (AreKeyed classes.new) }
     ensures classes { OnOk result (AreClasses (rows_view tables.entry.rows.now) (classes_view classes.new)) }
     ensures takes { IfOk result (λ put. IsTrue put → Takes (types_view tables.entry.types.now) (rows_view tables.entry.rows.now) (member_view member.now) (classes_view classes.old) (classes_view classes.new)) }
 {
-    match classes.keys.place(key(&member.it)) {
+    match find_class(classes, key(&member.it)) {
         Some(place) => put_other(tables, member, place, classes),
         None => {
             put_first(tables, member, classes)?;
@@ -159,10 +197,16 @@ pub(crate) fn groups_below(
     ensures range { IfOk result (λ found. IfSome found (λ groups. AreBelow (rows_view tables.entry.rows.now) (groups_view groups.items))) }
     ensures settled { IfOk result (λ found. IfSome found (λ groups. AreSettled (types_view tables.entry.types.now) (rows_view tables.entry.rows.now) (groups_view groups.items) (members_view members.now))) }
 {
+    let table = if members.len() > FEW {
+        Some(NameList::new(tables.alloc))
+    } else {
+        None
+    };
+    let room = members.len().min(FEW);
     let mut classes = Classes {
-        keys: NameList::new(tables.alloc),
-        firsts: Vec::new(tables.alloc),
-        groups: Vec::new(tables.alloc),
+        table,
+        firsts: Vec::with_capacity(tables.alloc, room)?,
+        groups: Vec::with_capacity(tables.alloc, room)?,
     };
     for member in members {
         if !put_member(tables, member, &mut classes)? {

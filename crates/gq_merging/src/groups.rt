@@ -17,11 +17,10 @@ ghost use Rattle.gq_merging.specs.GroupTables.{IsTest, IsTested, ArePassed, AreT
 ghost use Rattle.gq_merging.specs.Views.{rows_view};
 ghost use Rattle.gq_merging.specs.GroupViews.{groups_view};
 
-use crate::classes::{Tables, groups_below};
-use crate::members::gathered;
+use crate::classes::{Tables, groups_below, has_selections};
+use crate::members::{gathered, reached_sets};
 use crate::rows::Row;
 use gq_document::Executable;
-use gq_reach::reach_rows;
 use gq_text::NoMemory;
 use gq_tree::TypeRef;
 use std::alloc::Global;
@@ -117,7 +116,7 @@ fn look_at(
     ensures test { IfOk result (λ passed. IsTrue passed → IsTest (types_view tables.entry.types.now) (rows_view tables.entry.rows.now) (groups_view groups.new.items) (place + 1) reached.new.items) }
     ensures left { IfOk result (λ passed. IsTrue passed → left.new < left.old) }
 {
-    let found = reach_rows(tables.alloc, tables.spreads, &groups[place])?;
+    let found = reached_sets(tables.alloc, tables.spreads, &groups[place])?;
     let members = gathered(tables.alloc, tables.rows, &found)?;
     if !spend(left, found.len(), members.len()) {
         return Ok(false);
@@ -186,7 +185,8 @@ fn tested_from(
     Ok(reached)
 }
 
-/// Tests the set with that number, if it is not marked and steps are left, and marks what the test finds.
+/// Tests the set with that number, if it is not marked and steps are left, and marks what the test finds. Where nothing
+/// stands in the set there is nothing to test.
 fn mark_from(
     tables: Tables<'_>,
     number: usize,
@@ -204,6 +204,10 @@ fn mark_from(
     ensures groups { OnOk result (ArePassed (types_view tables.entry.types.now) (rows_view tables.entry.rows.now) (groups_view groups.new.items)) }
 {
     if marks[number] || notes.left == 0 {
+        return Ok(());
+    }
+    if !has_selections(tables.rows, number) {
+        mark_all(marks, &[number]);
         return Ok(());
     }
     let tested = tested_from(tables, marks, number, groups, notes)?;

@@ -1,7 +1,7 @@
 //! The fields of a selection set, those of the fragments that it reaches by spreads among them.
-ghost use Rattle.std.specs.Prelude.{◌≡◌, ◌++◌, ◌↔◌, ◌<◌, IfOk, OnOk, length, map, Contains};
+ghost use Rattle.std.specs.Prelude.{◌≡◌, ℕ, ◌++◌, ◌↔◌, ◌<◌, All, IfOk, OnOk, length, map, Contains};
 ghost use Rattle.std.specs.List.{flat_map};
-ghost use Rattle.gq_reach.specs.Reach.{InRange};
+ghost use Rattle.gq_reach.specs.Reach.{Reach, InRange, row};
 ghost use Rattle.gq_merging.specs.SetTables.{MemberOf, members_at, IsMember};
 ghost use Rattle.gq_merging.specs.Views.{members_view, rows_view};
 
@@ -17,6 +17,25 @@ fn copied(alloc: Global, numbers: &[usize]) -> Result<Vec<usize>, NoMemory>
     let mut copy = Vec::new(alloc);
     copy.extend_from_slice(numbers)?;
     Ok(copy)
+}
+
+/// The sets that a group reaches by spreads, each once: the group's own, and the fragments'. Where the group is one set
+/// without spreads, that is the one.
+pub(crate) fn reached_sets(
+    alloc: Global,
+    spreads: &[Vec<usize>],
+    group: &[usize],
+) -> Result<Vec<usize>, NoMemory>
+    requires starts { All (λ n. n < length spreads.now) group.now }
+    requires range { InRange spreads.now }
+    ensures sound { IfOk result (λ found. All (λ n. Reach group.now (row spreads.now) n) found.items) }
+    ensures complete { IfOk result (λ found. (n : ℕ) → Reach group.now (row spreads.now) n → Contains found.items n) }
+    ensures within { IfOk result (λ found. All (λ n. n < length spreads.now) found.items) }
+{
+    match group {
+        [one] if spreads[*one].is_empty() => copied(alloc, group),
+        _ => reach_rows(alloc, spreads, group),
+    }
 }
 
 /// The numbers of the fragments spread in each set.
@@ -70,7 +89,7 @@ pub(crate) fn members_of<'a>(
     requires spreads { map (λ v. v.items) spreads.now ≡ map (λ r. r.spreads.items) rows.now }
     ensures { IfOk result (λ members. (m : MemberOf) → Contains (members_view members.items) m ↔ IsMember (rows_view rows.now) number m) }
 {
-    let found = reach_rows(alloc, spreads, &[number])?;
+    let found = reached_sets(alloc, spreads, &[number])?;
     let members = gathered(alloc, rows, &found)?;
     Ok(members)
 }

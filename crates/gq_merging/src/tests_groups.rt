@@ -92,6 +92,24 @@ fn sets_under_which_fields_do_not_merge_are_not_marked(rt: HostRuntime) -> Resul
 }
 
 #[test]
+fn sets_of_many_keys_are_tested(rt: HostRuntime) -> Result<(), Fail> {
+    let alloc = rt.alloc();
+    assert_eq!(rt;
+        signs(alloc, "{k1:f k2:f k3:f k4:f k5:f k6:f k7:f k8:f k9:g}")?.as_str(),
+        "++++++++++"
+    );
+    assert_eq!(rt;
+        signs(alloc, "{k1:f k2:f k3:f k4:f k5:f k6:f k7:f k8:f k9:g k9:g}")?.as_str(),
+        "+++++++++++"
+    );
+    assert_eq!(rt;
+        signs(alloc, "{k1:f k2:f k3:f k4:f k5:f k6:f k7:f k8:f k9:g k9:f}")?.as_str(),
+        "-++++++++++"
+    );
+    Ok(())
+}
+
+#[test]
 fn fields_of_other_shapes_are_not_alike(rt: HostRuntime) -> Result<(), Fail> {
     let alloc = rt.alloc();
     assert_eq!(rt;

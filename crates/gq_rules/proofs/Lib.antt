@@ -3,3 +3,4 @@ pub mod DemandLemmas
 pub mod ValidityLemmas
 pub mod RuleLemmas
 pub mod OneReading
+pub mod OneReport

@@ -1,13 +1,22 @@
 //! Laws of the validation of projects.
-ghost use Rattle.std.specs.Prelude.{List};
+ghost use Rattle.std.specs.Prelude.{◌≡◌, List};
 ghost use Rattle.gq_project.specs.declared.document.Doc.{Doc};
-ghost use Rattle.gq_rules.specs.Validity.{IsValid, IsInvalid};
+ghost use Rattle.gq_found.specs.declared.found.Found.{Found};
+ghost use Rattle.gq_rules.specs.Validity.{IsReportOf, IsValid, IsInvalid};
 
-use gq_parse::laws::one_tree;
+use gq_parse::laws::{one_fault, one_tree};
 
 /// No project is both valid and invalid: a text has one tree at most, so each reading of the documents demands the same.
 pub fn no_project_is_valid_and_invalid()
     ensures { (documents : List Doc) → IsValid documents → IsInvalid documents → ⊥ }
 {
     one_tree();
+}
+
+/// A project has one report: what is told of its documents is determined, since a text has one tree, or one fault at one place.
+pub fn a_project_has_one_report()
+    ensures { (documents : List Doc) (a b : List Found) → IsReportOf documents a → IsReportOf documents b → a ≡ b }
+{
+    one_tree();
+    one_fault();
 }

@@ -1,18 +1,29 @@
 use Rattle.std.proofs.Common.{◌≡◌, ◌∷◌, [], ◌++◌, ◌∙◌, ap}
-use Rattle.std.proofs.lemmas.List.{map-append}
+use Rattle.std.specs.Option.{option_map}
 use Rattle.gq_types.specs.Look.{types_view}
 use Rattle.gq_merging.specs.FieldSets.{key}
-use Rattle.gq_merging.specs.Views.{field_at, member_view, members_view, rows_view}
-use Rattle.gq_merging.specs.GroupViews.{groups_view, classes_view}
-use Rattle.gq_merging.proofs.ClassLemmas.{takes_first}
+use Rattle.gq_merging.specs.Views.{field_at, member_view, rows_view}
+use Rattle.gq_merging.specs.GroupViews.{classes_view}
+use Rattle.gq_merging.proofs.ClassLemmas.{firsts_push, groups_push, keys_push, keyed_push, classes_first, takes_first}
 use Rattle.gq_merging.proofs.classes.put_first.Goals as goal
+
+pub returns-clause-keyed : goal.returns-clause-keyed
+returns-clause-keyed c =
+    let table : c.put_key.new.table ≡ option_map (λ names. names ++ key (field_at c.args.member.now.it) ∷ []) c.args.classes.now.table =
+    c.in_ok-put_key.ensures ∙ ap (λ t. option_map (λ names. names ++ t ∷ []) c.args.classes.now.table) c.key.ensures in
+    keyed_push c.args.classes.now.table c.put_key.new.table (classes_view c.args.classes.now).keys _ (key (field_at c.args.member.now.it)) table
+    (keys_push c.args.classes.now.firsts.items c.push.new.self.items c.args.member.now c.in_ok-push.ensures.items) c.requires.keyed
+
+pub returns-clause-classes : goal.returns-clause-classes
+returns-clause-classes c =
+    classes_first (types_view c.args.tables.types.now) (rows_view c.args.tables.rows.now) (member_view c.args.member.now) (classes_view c.args.classes.now) _ c.requires.classes
+    c.put_number.new.group.items (keys_push c.args.classes.now.firsts.items c.push.new.self.items c.args.member.now c.in_ok-push.ensures.items)
+    (firsts_push c.args.classes.now.firsts.items c.push.new.self.items c.args.member.now c.in_ok-push.ensures.items)
+    (groups_push c.args.classes.now.groups.items c.push-2.new.self.items c.put_number.new.group c.in_ok-push-2.ensures.items) c.in_ok-put_number.ensures.range
 
 pub returns-clause-takes : goal.returns-clause-takes
 returns-clause-takes c =
-    let keys : c.push.new.self ≡ c.args.classes.now.keys ++ key (field_at c.args.member.now.it) ∷ [] = c.in_ok-push.ensures.ok ∙ ap (λ t. c.args.classes.now.keys ++ t ∷ []) c.key.ensures in
-    let firsts : members_view c.push-2.new.self.items ≡ members_view c.args.classes.now.firsts.items ++ member_view c.args.member.now ∷ [] =
-    ap members_view c.in_ok-push-2.ensures.items ∙ map-append member_view c.args.classes.now.firsts.items (c.args.member.now ∷ []) in
-    let groups : groups_view c.push-3.new.self.items ≡ groups_view c.args.classes.now.groups.items ++ c.put_number.new.group.items ∷ [] =
-    ap groups_view c.in_ok-push-3.ensures.items ∙ map-append (λ v. v.items) c.args.classes.now.groups.items (c.put_number.new.group ∷ []) in
     takes_first (types_view c.args.tables.types.now) (rows_view c.args.tables.rows.now) (member_view c.args.member.now) (classes_view c.args.classes.now) _ c.requires.classes
-    c.put_number.new.group.items keys firsts groups c.requires.absent c.in_ok-put_number.ensures.under
+    c.put_number.new.group.items (keys_push c.args.classes.now.firsts.items c.push.new.self.items c.args.member.now c.in_ok-push.ensures.items)
+    (firsts_push c.args.classes.now.firsts.items c.push.new.self.items c.args.member.now c.in_ok-push.ensures.items)
+    (groups_push c.args.classes.now.groups.items c.push-2.new.self.items c.put_number.new.group c.in_ok-push-2.ensures.items) c.requires.absent c.in_ok-put_number.ensures.under

@@ -11,8 +11,8 @@ use Rattle.gq_merging.proofs.GroupLemmas.{test_goes_on}
 use Rattle.gq_merging.proofs.MemberSteps.{count_alike}
 use Rattle.gq_merging.proofs.groups.look_at.Goals as goal
 
-pub reach_rows-requires-clause-starts : goal.reach_rows-requires-clause-starts
-reach_rows-requires-clause-starts c =
+pub reached_sets-requires-clause-starts : goal.reached_sets-requires-clause-starts
+reached_sets-requires-clause-starts c =
     let range : All (λ n. n < length (rows_view c.args.tables.rows.now)) c.index.result.now.items =
     group_in_range (rows_view c.args.tables.rows.now) c.args.groups.now.items c.args.place c.index.result.now c.requires.place c.index.ensures c.requires.test.range in
     subst (λ ns. All (λ n. n < length c.args.tables.spreads.now) ns) (sym c.deref.ensures.value)

@@ -1,0 +1,13 @@
+use Rattle.std.proofs.Common.{rules, ◌≡◌, false}
+use Rattle.gq_types.specs.Look.{types_view}
+use Rattle.gq_merging.specs.Views.{rows_view}
+use Rattle.gq_merging.proofs.GroupLemmas.{nothing_is_tested, one_more_tested}
+use Rattle.gq_merging.proofs.groups.mark_from.Goals as goal
+
+pub returns-then-not-has_selections-clause-tested : goal.returns-then-not-has_selections-clause-tested
+returns-then-not-has_selections-clause-tested c =
+    let none : c.has_selections.result ≡ false = search rules in
+    one_more_tested (types_view c.args.tables.types.now) (rows_view c.args.tables.rows.now) c.args.number c.args.marks.now.items c.mark_all.new.marks.items
+    c.mark_all.ensures.count c.mark_all.ensures.marked
+    (nothing_is_tested (types_view c.args.tables.types.now) (rows_view c.args.tables.rows.now) c.args.number (c.has_selections.ensures.none none))
+    c.requires.tested

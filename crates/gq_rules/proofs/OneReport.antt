@@ -1,0 +1,94 @@
+-- A text has but one tree, or one fault at one place, so a project has but one report.
+use Rattle.std.proofs.Common.{◌≡◌, ◌↔◌, ℕ, List, [], ◌∷◌, map, Contains, refl, sym, ◌∙◌, ap, subst, inl, inr}
+use Rattle.std.proofs.lemmas.Cmp.{nat_cmp_total, on_total, then_total}
+use Rattle.std.proofs.lemmas.List.Elements.{All-from_recursion, All-contains}
+use Rattle.std.proofs.lemmas.Map.Keys.{sorted_head, sorted_tail}
+use Rattle.std.specs.Cmp.{IsTotalOrder}
+use Rattle.std.specs.List.Sorted.{IsStrictlySortedBy}
+use Rattle.std.specs.declared.cmp.Ordering.{Ordering}
+use Rattle.std.specs.declared.cmp.Ordering.TheVariants.{Less}
+use Rattle.gq_tree.specs.Views.{document_view}
+use Rattle.gq_names.proofs.RepeatLemmas.{contains_none, contains_later, contains_first, contains_cases}
+use Rattle.gq_project.specs.declared.document.Doc.{Doc}
+use Rattle.gq_parse.specs.Faults.{IsSyntaxFault, IsLimitFault}
+use Rattle.gq_found.specs.declared.found.Found.{Found}
+use Rattle.gq_found.specs.declared.item.Item.{Item}
+use Rattle.gq_found.specs.Codes.{number_of}
+use Rattle.gq_found.specs.Order.{item_cmp}
+use Rattle.gq_found.specs.Tells.{told}
+use Rattle.gq_read.specs.declared.reader.Reading.{Reading}
+use Rattle.gq_read.specs.declared.reader.Reading.TheVariants as reading
+use Rattle.gq_read.specs.Readings.{IsReading}
+use Rattle.gq_rules.specs.Validity.{IsReportOf}
+use Rattle.gq_rules.proofs.OneReading.{OneTree, said, tree, syntax_at, limit_at, all_same, demanded_back}
+
+-- lists in order with the same members are one
+module _ {X : Type 0} {c : X → X → Ordering} (o : IsTotalOrder c) where
+  never_both : (x y : X) → c x y ≡ Less → c y x ≡ Less → ⊥
+  never_both x y a b = let e = o.antisymm x y in absurd (cc)
+
+  above_head : (x : X) (xs : List X) → IsStrictlySortedBy c (x ∷ xs) → (z : X) → Contains xs z → c x z ≡ Less
+  above_head x xs s z = All-contains (λ y. c x y ≡ Less) xs z (All-from_recursion (λ y. c x y ≡ Less) xs (sorted_head c x xs s))
+
+  -- what is behind a head is behind the same head
+  behind : (x y : X) (xs ys : List X) → x ≡ y → IsStrictlySortedBy c (x ∷ xs) → ((z : X) → Contains (x ∷ xs) z → Contains (y ∷ ys) z) → (z : X) → Contains xs z → Contains ys z
+  behind x y xs ys e s h z k = elim (contains_cases y ys z (h z (contains_later x xs z k))) [
+    | inl q ↦ let l = subst (λ w. c x w ≡ Less) (sym (e ∙ q)) (above_head x xs s z k) in absurd (never_both x x l l)
+    | inr r ↦ r
+  ]
+
+  same_head : (x y : X) (xs ys : List X) → IsStrictlySortedBy c (x ∷ xs) → IsStrictlySortedBy c (y ∷ ys) → Contains (y ∷ ys) x → Contains (x ∷ xs) y → x ≡ y
+  same_head x y xs ys s t a b = elim (contains_cases y ys x a) [
+    | inl e ↦ sym e
+    | inr l ↦ elim (contains_cases x xs y b) [
+      | inl e ↦ e
+      | inr r ↦ absurd (never_both x y (above_head x xs s y r) (above_head y ys t x l))
+    ]
+  ]
+
+  one_list : (xs ys : List X) → IsStrictlySortedBy c xs → IsStrictlySortedBy c ys → ((z : X) → Contains xs z ↔ Contains ys z) → xs ≡ ys
+  one_list [] [] s t h = refl
+  one_list [] (y ∷ ys) s t h = absurd (contains_none y ((h y).1 (contains_first y ys y refl)))
+  one_list (x ∷ xs) [] s t h = absurd (contains_none x ((h x).0 (contains_first x xs x refl)))
+  one_list (x ∷ xs) (y ∷ ys) s t h =
+      let e = same_head x y xs ys s t ((h x).0 (contains_first x xs x refl)) ((h y).1 (contains_first y ys y refl)) in
+      let rest = one_list xs ys (sorted_tail c x xs s) (sorted_tail c y ys t)
+      (λ z. (behind x y xs ys e s (λ w. (h w).0) z, behind y x ys xs (sym e) t (λ w. (h w).1) z)) in
+      ap (λ z. z ∷ xs) e ∙ ap (λ zs. y ∷ zs) rest
+
+item_cmp_total : IsTotalOrder item_cmp
+item_cmp_total =
+    then_total (on_total (λ (i : Item). i.file) nat_cmp_total)
+    (then_total (on_total (λ (i : Item). i.start) nat_cmp_total)
+    (then_total (on_total (λ (i : Item). number_of i.code) nat_cmp_total) (on_total (λ (i : Item). i.end) nat_cmp_total)))
+
+-- no two faults of a text, and none of both kinds
+abbrev pub OneSyntax : Type 0
+OneSyntax = (text : List ℕ) (a b : ℕ) → IsSyntaxFault text a → IsSyntaxFault text b → a ≡ b
+
+abbrev pub OneLimit : Type 0
+OneLimit = (text : List ℕ) (a b : ℕ) → IsLimitFault text a → IsLimitFault text b → a ≡ b
+
+abbrev pub NotBoth : Type 0
+NotBoth = (text : List ℕ) (a b : ℕ) → IsSyntaxFault text a → IsLimitFault text b → ⊥
+
+module _ (one_tree : OneTree) (one_syntax : OneSyntax) (one_limit : OneLimit) (not_both : NotBoth) where
+  same_reading : (text : List ℕ) (a b : Reading) → IsReading text a → IsReading text b → said a ≡ said b
+  same_reading text (reading.Tree d) (reading.Tree e) p q = ap tree (one_tree text (document_view d) (document_view e) p q)
+  same_reading text (reading.Tree d) (reading.Syntax m) p q = absurd (q.0 (document_view d) p)
+  same_reading text (reading.Tree d) (reading.Limit m) p q = absurd (q.0 (document_view d) p)
+  same_reading text (reading.Syntax n) (reading.Tree e) p q = absurd (p.0 (document_view e) q)
+  same_reading text (reading.Syntax n) (reading.Syntax m) p q = ap syntax_at (one_syntax text n m p.1 q.1)
+  same_reading text (reading.Syntax n) (reading.Limit m) p q = absurd (not_both text n m p.1 q.1)
+  same_reading text (reading.Limit n) (reading.Tree e) p q = absurd (p.0 (document_view e) q)
+  same_reading text (reading.Limit n) (reading.Syntax m) p q = absurd (not_both text m n q.1 p.1)
+  same_reading text (reading.Limit n) (reading.Limit m) p q = ap limit_at (one_limit text n m p.1 q.1)
+
+  pub one_report : (documents : List Doc) (a b : List Found) → IsReportOf documents a → IsReportOf documents b → a ≡ b
+  one_report documents a b r s =
+      let same : map said r.readings ≡ map said s.readings = all_same documents r.readings s.readings (λ file text x y at. same_reading text x y) r.are_readings s.are_readings in
+      let items : r.items ≡ s.items = one_list item_cmp_total r.items s.items r.sorted s.sorted (λ z. (
+        (λ k. (s.exact z).1 (demanded_back s.readings r.readings (sym same) z ((r.exact z).0 k))),
+        (λ k. (r.exact z).1 (demanded_back r.readings s.readings same z ((s.exact z).0 k))),
+      )) in
+      r.are_told ∙ ap (told documents) items ∙ sym s.are_told
