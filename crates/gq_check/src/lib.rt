@@ -10,6 +10,3 @@ mod lines;
 pub use checking::check;
 pub use fault::CheckFault;
 pub use files::File;
-
-#[cfg(test)]
-mod tests;

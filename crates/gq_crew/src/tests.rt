@@ -3,6 +3,7 @@ ghost use Rattle.std.specs.Prelude.{◌<◌};
 use crate::{Ended, RunFault, run_one};
 use gq_rpc::{Flagged, FrameFault, Reading, Sink, Source};
 use std::alloc::Global;
+use std::process::Abort;
 use std::test::Fail;
 
 const INITIALIZE: &str =
@@ -119,39 +120,83 @@ fn stream(alloc: Global, bodies: &[&str]) -> Result<String, Fail> {
     Ok(text)
 }
 
+/// What opens the document of that letter.
+fn open(letter: char) -> &'static str {
+    match letter {
+        's' => OPEN_S,
+        'q' => OPEN_Q,
+        _ => OPEN_R,
+    }
+}
+
 /// A rename at a character of the first line of q.
-fn rename(alloc: Global, character: u32, name: &str) -> Result<String, Fail> {
+fn rename(alloc: Global, character: &str, name: &str) -> Result<String, Fail> {
     Ok(format!(in alloc;
         r#"{{"jsonrpc":"2.0","id":2,"method":"textDocument/rename","params":{{"textDocument":{{"uri":"file:///q.graphql"}},"position":{{"line":0,"character":{character}}},"newName":"{name}"}}}}"#
     )?)
 }
 
-/// The frames of a session that opens documents, asks for one rename and is shut down.
-fn session(alloc: Global, opens: &[&str], character: u32, name: &str) -> Result<String, Fail> {
+/// The frames of a session that opens documents, asks for one rename and is shut down: that of `sq 11 B` opens s and q, and
+/// renames to `B` at character 11.
+fn session(alloc: Global, words: &str) -> Result<String, Fail> {
+    let (opens, asked) = words.split_once(' ').unwrap_or((words, ""));
+    let (character, name) = asked.split_once(' ').unwrap_or((asked, ""));
     let asked = rename(alloc, character, name)?;
     let mut text = stream(alloc, &[INITIALIZE])?;
-    text.push_str(stream(alloc, opens)?.as_str())?;
+    for letter in opens.chars() {
+        text.push_str(stream(alloc, &[open(letter)])?.as_str())?;
+    }
     text.push_str(stream(alloc, &[asked.as_str(), SHUTDOWN, EXIT])?.as_str())?;
     Ok(text)
 }
 
-/// What is written to the session with the rename to `B`.
-fn replies(alloc: Global) -> Result<String, Fail> {
-    Ok(format!(in alloc; "{INITIALIZED}{RENAMED}{SHUT_DOWN}")?)
+/// The frame of that name, and a word that names none as it is.
+fn frame(word: &str) -> &str {
+    match word {
+        "Initialized" => INITIALIZED,
+        "Renamed" => RENAMED,
+        "BadName" => BAD_NAME,
+        "SameName" => SAME_NAME,
+        "NothingHere" => NOTHING_HERE,
+        "ShutDown" => SHUT_DOWN,
+        "Invalid" => INVALID,
+        "NoJson" => NO_JSON,
+        _ => word,
+    }
 }
 
-/// A run over the input, where each read gives at most `most` bytes: what it writes, and how it ends.
-fn run(alloc: Global, input: &[u8], most: usize) -> (Vec<u8>, Ended) {
+/// The frames that the words name, one after another, and the other words as they are.
+fn frames(alloc: Global, words: &str) -> Result<String, Fail> {
+    let mut text = String::new(alloc);
+    for word in words.split_whitespace() {
+        text.push_str(frame(word))?;
+    }
+    Ok(text)
+}
+
+/// A run over the input, where each read gives at most `most` bytes, and the last one fails if `fails`: what it writes, and
+/// how it ends.
+fn run(alloc: Global, input: &[u8], most: usize, fails: bool) -> (Vec<u8>, Ended) {
     let mut source = Pieces {
         rest: input,
         most,
-        fails: false,
+        fails,
         failed: false,
         ended: false,
     };
     let mut sink = Flagged::new(Vec::new(alloc));
     let ended = run_one(alloc, &mut source, &mut sink);
     (sink.inner, ended)
+}
+
+/// The same, printed: what it writes, the status, and the fault where there is one.
+fn ran(alloc: Global, input: &[u8], most: usize, fails: bool) -> Result<String, Fail> {
+    let (written, Ended { status, fault }) = run(alloc, input, most, fails);
+    let written = String::from_utf8(written)?;
+    match fault {
+        None => Ok(format!(in alloc; "{written}{status}")?),
+        Some(fault) => Ok(format!(in alloc; "{written}{status}{fault:?}")?),
+    }
 }
 
 fn stopped(status: u8) -> Ended {
@@ -168,94 +213,71 @@ fn failed(fault: RunFault) -> Ended {
     }
 }
 
-#[test]
-fn renames_are_answered(rt: HostRuntime) -> Result<(), Fail> {
-    let alloc = rt.alloc();
-    let few = [OPEN_S, OPEN_Q];
-    let many = [OPEN_S, OPEN_Q, OPEN_R];
-    let rows = [
-        (few.as_slice(), 11, "B", RENAMED),
-        (many.as_slice(), 11, "B", RENAMED),
-        (few.as_slice(), 11, "on", BAD_NAME),
-        (few.as_slice(), 11, "A", SAME_NAME),
-        (few.as_slice(), 6, "B", NOTHING_HERE),
-    ];
-    for (opens, character, name, reply) in rows {
-        let input = session(alloc, opens, character, name)?;
-        let want = format!(in alloc; "{INITIALIZED}{reply}{SHUT_DOWN}")?;
-        let (written, ended) = run(alloc, input.as_bytes(), 10_000);
-        assert_eq!(rt;
-            written.as_slice(),
-            want.as_bytes(),
-            "{name} at {character}"
-        );
-        assert_eq!(rt; ended, stopped(0), "{name} at {character}");
+/// Each row is a session and, behind `=>`, the names of the frames that are written to it and the status.
+fn assert_answered(alloc: Global, rt: &impl Abort, rows: &str) -> Result<(), Fail> {
+    for row in rows.trim().lines() {
+        let (words, want) = row.split_once("=>").unwrap_or((row, "no arrow"));
+        let input = session(alloc, words.trim())?;
+        let told = ran(alloc, input.as_str().as_bytes(), 10_000, false)?;
+        assert_eq!(rt; told.as_str(), frames(alloc, want)?.as_str(), "{row}");
     }
     Ok(())
 }
 
-/// Inputs, what is written to them, and how the run ends.
-fn inputs() -> [(&'static str, &'static str, Ended); 10] {
-    let bad = failed(RunFault::Frame(FrameFault::BadHeader));
-    [
-        ("", "", stopped(1)),
-        ("Content-Length: 2\r\n\r\n[]", INVALID, stopped(1)),
-        ("Content-Length: 0\r\n\r\n", NO_JSON, stopped(1)),
-        (
-            "content-length: 33\r\nX-A: b\r\n\r\n{\"jsonrpc\":\"2.0\",\"method\":\"exit\"}",
-            "",
-            stopped(1),
-        ),
-        (
-            "X-A: b\r\n\r\n",
-            "",
-            failed(RunFault::Frame(FrameFault::NoLength)),
-        ),
-        (
-            "Content-Length: 33\r\n\r\n{\"jsonrpc\":\"2.0\",\"method\":\"exit\"",
-            "",
-            failed(RunFault::Frame(FrameFault::Truncated)),
-        ),
-        (
-            "Content-Length: 16777217\r\n\r\n{\"jsonrpc\":\"2.0\",\"method\":\"exit\"}",
-            "",
-            failed(RunFault::Frame(FrameFault::TooLong)),
-        ),
-        (
-            "Content-Length: 33\r\nContent-Length: 33\r\n\r\n{\"jsonrpc\":\"2.0\",\"method\":\"exit\"}",
-            "",
-            bad,
-        ),
-        (
-            "Content-Length: 33\n\r\n{\"jsonrpc\":\"2.0\",\"method\":\"exit\"}",
-            "",
-            bad,
-        ),
-        (
-            "Content-Length: 33\r\n\r\n{\"jsonrpc\":\"2.0\",\"method\":\"exit\"}X-A: b\r\n\r\n",
-            "",
-            stopped(1),
-        ),
-    ]
+#[test]
+fn renames_are_answered(rt: HostRuntime) -> Result<(), Fail> {
+    let rows = "
+        sq 11 B => Initialized Renamed ShutDown 0
+        sqr 11 B => Initialized Renamed ShutDown 0
+        sq 11 on => Initialized BadName ShutDown 0
+        sq 11 A => Initialized SameName ShutDown 0
+        sq 6 B => Initialized NothingHere ShutDown 0
+    ";
+    assert_answered(rt.alloc(), &rt, rows)
+}
+
+/// Each row is an input, with `␍` for a carriage return and `␊` for a line feed, and, behind `=>`, the name of the frame that
+/// is written to it if there is one, the status, and the fault if there is one.
+fn assert_told(alloc: Global, rt: &impl Abort, rows: &str) -> Result<(), Fail> {
+    for row in rows.trim().lines() {
+        let (input, want) = row.split_once("=>").unwrap_or((row, "no arrow"));
+        let input = input.trim().replace(alloc, "␍", "\r")?;
+        let input = input.as_str().replace(alloc, "␊", "\n")?;
+        let want = frames(alloc, want)?;
+        for most in [1, 10_000] {
+            let told = ran(alloc, input.as_str().as_bytes(), most, false)?;
+            assert_eq!(rt; told.as_str(), want.as_str(), "{row} by {most}");
+        }
+    }
+    Ok(())
+}
+
+/// What is told of an `exit` with so many bytes in a field of its header part.
+fn told_of_filled(alloc: Global, filler: usize) -> Result<String, Fail> {
+    let filled = "b".repeat(alloc, filler)?;
+    let input = format!(in alloc; "Content-Length: 33\r\nX:{filled}\r\n\r\n{EXIT}")?;
+    ran(alloc, input.as_str().as_bytes(), 10_000, false)
 }
 
 #[test]
 fn bad_input_is_told(rt: HostRuntime) -> Result<(), Fail> {
     let alloc = rt.alloc();
-    for (input, reply, end) in inputs() {
-        for most in [1, 10_000] {
-            let (written, ended) = run(alloc, input.as_bytes(), most);
-            assert_eq!(rt; written.as_slice(), reply.as_bytes(), "{input:?}");
-            assert_eq!(rt; ended, end, "{input:?}");
-        }
-    }
-    let too_long = failed(RunFault::Frame(FrameFault::BadHeader));
-    for (filler, end) in [(4070, stopped(1)), (4071, too_long)] {
-        let filled = "b".repeat(alloc, filler)?;
-        let input = format!(in alloc; "Content-Length: 33\r\nX:{filled}\r\n\r\n{EXIT}")?;
-        let (_, ended) = run(alloc, input.as_bytes(), 10_000);
-        assert_eq!(rt; ended, end, "{filler}");
-    }
+    let rows = r#"
+        => 1
+        Content-Length: 2␍␊␍␊[] => Invalid 1
+        Content-Length: 0␍␊␍␊ => NoJson 1
+        content-length: 33␍␊X-A: b␍␊␍␊{"jsonrpc":"2.0","method":"exit"} => 1
+        X-A: b␍␊␍␊ => 3 Frame(NoLength)
+        Content-Length: 33␍␊␍␊{"jsonrpc":"2.0","method":"exit" => 3 Frame(Truncated)
+        Content-Length: 16777217␍␊␍␊{"jsonrpc":"2.0","method":"exit"} => 3 Frame(TooLong)
+        Content-Length: 33␍␊Content-Length: 33␍␊␍␊{"jsonrpc":"2.0","method":"exit"} => 3 Frame(BadHeader)
+        Content-Length: 33␊␍␊{"jsonrpc":"2.0","method":"exit"} => 3 Frame(BadHeader)
+        Content-Length: 33␍␊␍␊{"jsonrpc":"2.0","method":"exit"}X-A: b␍␊␍␊ => 1
+    "#;
+    assert_told(alloc, &rt, rows)?;
+    let most = told_of_filled(alloc, 4070)?;
+    let more = told_of_filled(alloc, 4071)?;
+    assert_eq!(rt; [most.as_str(), more.as_str()], ["1", "3Frame(BadHeader)"]);
     Ok(())
 }
 
@@ -277,35 +299,36 @@ fn faults_are_printed_as_their_names(rt: HostRuntime) -> Result<(), Fail> {
     Ok(())
 }
 
-/// The frames of the bodies that are whole in the first `count` bytes of the session with the rename to `B`.
-fn replies_to_front(count: usize) -> [&'static str; 3] {
-    match count {
-        0..184 => ["", "", ""],
-        184..762 => [INITIALIZED, "", ""],
-        762..828 => [INITIALIZED, RENAMED, ""],
-        _ => [INITIALIZED, RENAMED, SHUT_DOWN],
-    }
+/// The frames of the bodies that are whole in the first `count` bytes of the session `sq 11 B`, and behind them the end.
+fn replies_to_front(alloc: Global, count: usize, end: &str) -> Result<String, Fail> {
+    let replies = match count {
+        0..184 => "",
+        184..762 => "Initialized",
+        762..828 => "Initialized Renamed",
+        _ => "Initialized Renamed ShutDown",
+    };
+    let mut text = frames(alloc, replies)?;
+    text.push_str(end)?;
+    Ok(text)
 }
 
 /// How a run over the first `count` bytes of that session ends.
-fn end_of_front(count: usize) -> Ended {
+fn end_of_front(count: usize) -> &'static str {
     match count {
-        883 => stopped(0),
-        0 | 184 | 372 | 579 | 762 | 828 => stopped(1),
-        _ => failed(RunFault::Frame(FrameFault::Truncated)),
+        883 => "0",
+        0 | 184 | 372 | 579 | 762 | 828 => "1",
+        _ => "3Frame(Truncated)",
     }
 }
 
 #[test]
 fn cut_off_input_is_answered_as_far_as_it_goes(rt: HostRuntime) -> Result<(), Fail> {
     let alloc = rt.alloc();
-    let input = session(alloc, &[OPEN_S, OPEN_Q], 11, "B")?;
+    let input = session(alloc, "sq 11 B")?;
     for count in 0..=input.len() {
-        let (written, ended) = run(alloc, &input.as_bytes()[..count], 10_000);
-        let [first, second, third] = replies_to_front(count);
-        let want = format!(in alloc; "{first}{second}{third}")?;
-        assert_eq!(rt; written.as_slice(), want.as_bytes(), "after {count} bytes");
-        assert_eq!(rt; ended, end_of_front(count), "after {count} bytes");
+        let told = ran(alloc, &input.as_bytes()[..count], 10_000, false)?;
+        let want = replies_to_front(alloc, count, end_of_front(count))?;
+        assert_eq!(rt; told.as_str(), want.as_str(), "after {count} bytes");
     }
     Ok(())
 }
@@ -313,12 +336,11 @@ fn cut_off_input_is_answered_as_far_as_it_goes(rt: HostRuntime) -> Result<(), Fa
 #[test]
 fn input_may_come_in_any_pieces(rt: HostRuntime) -> Result<(), Fail> {
     let alloc = rt.alloc();
-    let input = session(alloc, &[OPEN_S, OPEN_Q], 11, "B")?;
-    let want = replies(alloc)?;
+    let input = session(alloc, "sq 11 B")?;
+    let want = frames(alloc, "Initialized Renamed ShutDown 0")?;
     for most in [1, 2, 3, 100, 161] {
-        let (written, ended) = run(alloc, input.as_bytes(), most);
-        assert_eq!(rt; written.as_slice(), want.as_bytes(), "by {most}");
-        assert_eq!(rt; ended, stopped(0), "by {most}");
+        let told = ran(alloc, input.as_bytes(), most, false)?;
+        assert_eq!(rt; told.as_str(), want.as_str(), "by {most}");
     }
     Ok(())
 }
@@ -326,25 +348,11 @@ fn input_may_come_in_any_pieces(rt: HostRuntime) -> Result<(), Fail> {
 #[test]
 fn a_source_that_fails_is_told(rt: HostRuntime) -> Result<(), Fail> {
     let alloc = rt.alloc();
-    let input = session(alloc, &[OPEN_S, OPEN_Q], 11, "B")?;
+    let input = session(alloc, "sq 11 B")?;
     for count in 0..input.len() {
-        let mut source = Pieces {
-            rest: &input.as_bytes()[..count],
-            most: 50,
-            fails: true,
-            failed: false,
-            ended: false,
-        };
-        let mut sink = Flagged::new(Vec::new(alloc));
-        let ended = run_one(alloc, &mut source, &mut sink);
-        let [first, second, third] = replies_to_front(count);
-        let want = format!(in alloc; "{first}{second}{third}")?;
-        assert_eq!(rt;
-            sink.inner.as_slice(),
-            want.as_bytes(),
-            "after {count} bytes"
-        );
-        assert_eq!(rt; ended, failed(RunFault::Device), "after {count} bytes");
+        let told = ran(alloc, &input.as_bytes()[..count], 50, true)?;
+        let want = replies_to_front(alloc, count, "3Device")?;
+        assert_eq!(rt; told.as_str(), want.as_str(), "after {count} bytes");
     }
     Ok(())
 }
@@ -352,8 +360,8 @@ fn a_source_that_fails_is_told(rt: HostRuntime) -> Result<(), Fail> {
 #[test]
 fn a_sink_that_fails_has_a_front(rt: HostRuntime) -> Result<(), Fail> {
     let alloc = rt.alloc();
-    let input = session(alloc, &[OPEN_S, OPEN_Q], 11, "B")?;
-    let want = replies(alloc)?;
+    let input = session(alloc, "sq 11 B")?;
+    let all = frames(alloc, "Initialized Renamed ShutDown")?;
     for (most, enough) in [(10_000, 3), (1, 564)] {
         for writes in 0..=enough {
             let mut source = Flagged::new(input.as_bytes());
@@ -364,20 +372,18 @@ fn a_sink_that_fails_has_a_front(rt: HostRuntime) -> Result<(), Fail> {
                 failed: false,
             };
             let ended = run_one(alloc, &mut source, &mut sink);
-            assert!(rt;
-                want.as_bytes().starts_with(&sink.bytes),
+            let starts = all.as_bytes().starts_with(&sink.bytes);
+            let is_long = writes < enough || sink.bytes.len() == all.len();
+            let end = if writes < enough {
+                failed(RunFault::Device)
+            } else {
+                stopped(0)
+            };
+            assert_eq!(rt;
+                (starts, is_long, ended),
+                (true, true, end),
                 "{writes} writes of {most}"
             );
-            if writes < enough {
-                assert_eq!(rt;
-                    ended,
-                    failed(RunFault::Device),
-                    "{writes} writes of {most}"
-                );
-            } else {
-                assert_eq!(rt; sink.bytes.len(), want.len());
-                assert_eq!(rt; ended, stopped(0));
-            }
         }
     }
     Ok(())
@@ -400,20 +406,14 @@ fn is_front(bytes: &[u8], texts: &[&str; 3]) -> bool {
 /// run that does not come to its end says why.
 #[test]
 fn a_refused_growth_is_told(rt: HostRuntime) -> Result<(), Fail> {
-    let input = session(rt.alloc(), &[OPEN_S, OPEN_Q], 11, "B")?;
-    let (written, ended) = run(rt.alloc(), input.as_str().as_bytes(), usize::MAX);
+    let input = session(rt.alloc(), "sq 11 B")?;
+    let (written, ended) = run(rt.alloc(), input.as_bytes(), usize::MAX, false);
     let ample = is_front(&written, &[INITIALIZED, RENAMED, SHUT_DOWN]);
     let refused = is_front(&written, &[INITIALIZED, NO_MEMORY, SHUT_DOWN]);
-    assert!(rt; ample || refused);
-    match ended.fault {
-        None => {
-            assert_eq!(rt; ended.status, 0);
-            assert!(rt; written.as_slice().ends_with(SHUT_DOWN.as_bytes()));
-        }
-        Some(fault) => {
-            assert_eq!(rt; ended.status, 3);
-            assert!(rt; fault != RunFault::Frame(FrameFault::Failed));
-        }
-    }
+    let is_told = match ended.fault {
+        None => ended.status == 0 && written.as_slice().ends_with(SHUT_DOWN.as_bytes()),
+        Some(fault) => ended.status == 3 && fault != RunFault::Frame(FrameFault::Failed),
+    };
+    assert!(rt; (ample || refused) && is_told);
     Ok(())
 }

@@ -88,25 +88,44 @@ fn replacement(alloc: Global, start: usize, end: usize, text: &str) -> Result<Re
     Ok(Replacement { span, text })
 }
 
-/// The edit of a document by replacements of its spans, all by one text.
-fn renaming(
-    rt: &impl Abort,
-    alloc: Global,
-    key: &str,
-    version: i64,
-    spans: &[(usize, usize)],
-    text: &str,
-) -> Result<DocumentEdit, Fail> {
+/// The text that a word says: `x*3` says `xxx`, and a word without `*` itself.
+fn repeated(alloc: Global, word: &str) -> Result<String, Fail> {
+    let (text, count) = word.split_once('*').unwrap_or((word, "1"));
+    Ok(text.repeat(alloc, count.parse()?)?)
+}
+
+/// Replacements of spans such as `11-12 23-24`, all by one text.
+fn replacements_of(alloc: Global, spans: &str, text: &str) -> Result<Vec<Replacement>, Fail> {
     let mut items = Vec::new(alloc);
-    for &(start, end) in spans {
-        items.push(replacement(alloc, start, end, text)?)?;
+    for span in spans.split_whitespace() {
+        let (start, end) = span.split_once('-').ok_or("no end")?;
+        items.push(replacement(alloc, start.parse()?, end.parse()?, text)?)?;
     }
+    Ok(items)
+}
+
+/// The edit that a row says: its document's key and version, spans in it and, behind `=>`, the text for each of them.
+fn renaming(rt: &impl Abort, alloc: Global, row: &str) -> Result<DocumentEdit, Fail> {
+    let (place, text) = row.split_once("=>").unwrap_or((row, "no arrow"));
+    let (key, place) = place.trim().split_once(' ').ok_or("no version")?;
+    let (version, spans) = place.split_once(' ').unwrap_or((place, ""));
+    let text = repeated(alloc, text.trim())?;
+    let items = replacements_of(alloc, spans, text.as_str())?;
     assert!(rt; is_disjoint(0, &items));
     Ok(DocumentEdit {
         key: OwnedText::from_str(alloc, key)?,
-        version,
+        version: version.parse()?,
         replacements: Replacements::from_vec(items),
     })
+}
+
+/// The edits of the rows.
+fn renamings(rt: &impl Abort, alloc: Global, rows: &str) -> Result<Vec<DocumentEdit>, Fail> {
+    let mut all = Vec::new(alloc);
+    for row in rows.trim().lines() {
+        all.push(renaming(rt, alloc, row)?)?;
+    }
+    Ok(all)
 }
 
 /// Whether the spans are in order and do not overlap, and the first begins at `from` or later.
@@ -135,70 +154,133 @@ fn applied(
     apply(alloc, project, &edit)
 }
 
-/// The documents' keys, versions and texts, a document a line.
+/// The documents of the rows, each with its key, its version and its text, where `␍` is a carriage return and `␊` a line feed.
+fn project(alloc: Global, rows: &str) -> Result<Project, Fail> {
+    let mut project = Project::new(alloc);
+    for row in rows.trim().lines() {
+        let (key, rest) = row.trim().split_once(' ').ok_or("no version")?;
+        let (version, text) = rest.split_once(' ').ok_or("no text")?;
+        let text = text.replace(alloc, "␍", "\r")?;
+        let text = text.as_str().replace(alloc, "␊", "\n")?;
+        project.put(doc(alloc, key, version.parse()?, text.as_str())?)?;
+    }
+    Ok(project)
+}
+
+/// The documents' keys, versions and texts, a document a line. Of a long text it says how many bytes there are.
 fn listing(alloc: Global, project: &Project) -> Result<String, Fail> {
     let mut all = String::new(alloc);
     for doc in project.documents() {
-        let key = doc.key.as_str();
-        let text = doc.text.as_str();
-        let version = doc.version;
-        let line = format!(in alloc; "{key} {version} {text}\n")?;
-        all.push_str(line.as_str())?;
+        let (key, version, text) = (doc.key.as_str(), doc.version, doc.text.as_str());
+        if text.len() < 100 {
+            write!(all, "{key} {version} {text}\n")?;
+        } else {
+            write!(all, "{key} {version} {} bytes\n", text.len())?;
+        }
     }
     Ok(all)
 }
 
-#[test]
-fn documents_are_edited(rt: HostRuntime) -> Result<(), Fail> {
-    let alloc = rt.alloc();
-    let mut project = Project::new(alloc);
-    project.put(doc(alloc, "s", 1, "type Query{f(a:Int):Int}")?)?;
-    project.put(doc(alloc, "a", 1, "query A($a:Int){...F}")?)?;
-    project.put(doc(alloc, "b", 1, "query B($a:Int){...F}")?)?;
-    project.put(doc(alloc, "f", 3, "fragment F on Query{f(a:$a)}")?)?;
-    let documents = vec![in alloc;
-        renaming(&rt, alloc, "a", 1, &[(9, 10)], "b")?,
-        renaming(&rt, alloc, "b", 1, &[(9, 10)], "b")?,
-        renaming(&rt, alloc, "f", 3, &[(25, 26)], "b")?,
-    ]?;
-    let after = applied(&rt, alloc, &project, documents)?;
-    let all = listing(alloc, &after)?;
+/// The edited documents, or the fault, a line each.
+fn told(alloc: Global, outcome: Result<Project, EditFault>) -> Result<String, Fail> {
+    match outcome {
+        Ok(after) => listing(alloc, &after),
+        Err(fault) => Ok(format!(in alloc; "{fault:?}\n")?),
+    }
+}
+
+/// The rows, each without the blanks around it.
+fn trimmed(alloc: Global, rows: &str) -> Result<String, Fail> {
+    let mut all = String::new(alloc);
+    for row in rows.trim().lines() {
+        write!(all, "{}\n", row.trim())?;
+    }
+    Ok(all)
+}
+
+/// What the edits make of the documents: the rows of `after`, or a fault.
+fn assert_applied(
+    alloc: Global,
+    rt: &impl Abort,
+    before: &str,
+    edits: &str,
+    after: &str,
+) -> Result<(), Fail> {
+    let project = project(alloc, before)?;
+    let outcome = applied(rt, alloc, &project, renamings(rt, alloc, edits)?);
     assert_eq!(rt;
-        all.as_str(),
-        "a 1 query A($b:Int){...F}\nb 1 query B($b:Int){...F}\nf 3 fragment F on Query{f(a:$b)}\ns 1 type Query{f(a:Int):Int}\n"
+        told(alloc, outcome)?.as_str(),
+        trimmed(alloc, after)?.as_str()
     );
     Ok(())
+}
+
+#[test]
+fn documents_are_edited(rt: HostRuntime) -> Result<(), Fail> {
+    let before = "
+        s 1 type Query{f(a:Int):Int}
+        a 1 query A($a:Int){...F}
+        b 1 query B($a:Int){...F}
+        f 3 fragment F on Query{f(a:$a)}
+    ";
+    let edits = "
+        a 1 9-10 => b
+        b 1 9-10 => b
+        f 3 25-26 => b
+    ";
+    let after = "
+        a 1 query A($b:Int){...F}
+        b 1 query B($b:Int){...F}
+        f 3 fragment F on Query{f(a:$b)}
+        s 1 type Query{f(a:Int):Int}
+    ";
+    assert_applied(rt.alloc(), &rt, before, edits, after)
 }
 
 #[test]
 fn a_text_is_replaced(rt: HostRuntime) -> Result<(), Fail> {
     let alloc = rt.alloc();
     let text = "query Q{...A} fragment A on Query{x}";
-    let edit = renaming(&rt, alloc, "q", 1, &[(11, 12), (23, 24)], "B")?;
+    let edit = renaming(&rt, alloc, "q 1 11-12 23-24 => B")?;
     let replacements = edit.replacements.as_slice();
     assert!(rt; fits_text(text, replacements));
-    assert!(rt; replaced_fits(text, replacements));
+    let fits = replaced_fits(text, replacements);
     let made = replaced_text(alloc, text, replacements)?;
-    assert_eq!(rt; made.as_str(), "query Q{...B} fragment B on Query{x}");
+    assert_eq!(rt;
+        (fits, made.as_str()),
+        (true, "query Q{...B} fragment B on Query{x}")
+    );
     Ok(())
 }
 
 #[test]
 fn positions_count_utf16_units(rt: HostRuntime) -> Result<(), Fail> {
-    let alloc = rt.alloc();
-    let mut project = Project::new(alloc);
-    let text = "{f(s:\"😀\")...F} fragment F on Query{x}";
-    project.put(doc(alloc, "q", 1, text)?)?;
-    project.put(doc(alloc, "t", 2, "a\r\nb\rc\nd")?)?;
-    let documents = vec![in alloc;
-        renaming(&rt, alloc, "q", 1, &[(15, 16), (27, 28)], "G")?,
-        renaming(&rt, alloc, "t", 2, &[(0, 1), (3, 5), (8, 8)], "")?,
-    ]?;
-    let all = positions(&rt, alloc, &project, documents)?;
-    assert_eq!(rt;
-        all.as_str(),
-        "q 1 0:13-0:14 0:25-0:26\nt 2 0:0-0:1 1:0-2:0 3:1-3:1\n"
-    );
+    let before = r#"
+        q 1 {f(s:"😀")...F} fragment F on Query{x}
+        t 2 a␍␊b␍c␊d
+    "#;
+    let edits = "
+        q 1 15-16 27-28 => G
+        t 2 0-1 3-5 8-8 =>
+    ";
+    let placed = "
+        q 1 0:13-0:14 0:25-0:26
+        t 2 0:0-0:1 1:0-2:0 3:1-3:1
+    ";
+    assert_placed(rt.alloc(), &rt, before, edits, placed)
+}
+
+/// Where the edits of the documents stand: the rows of `placed`.
+fn assert_placed(
+    alloc: Global,
+    rt: &impl Abort,
+    before: &str,
+    edits: &str,
+    placed: &str,
+) -> Result<(), Fail> {
+    let project = project(alloc, before)?;
+    let told = positions(rt, alloc, &project, renamings(rt, alloc, edits)?)?;
+    assert_eq!(rt; told.as_str(), trimmed(alloc, placed)?.as_str());
     Ok(())
 }
 
@@ -240,65 +322,45 @@ fn are_texts(docs: &[Doc]) -> bool
     }
 }
 
-fn is_moved(outcome: Result<Project, EditFault>, of: &str, at: i64) -> bool {
-    match outcome {
-        Err(EditFault::Moved { key, version }) => key.as_str() == of && version == at,
-        _ => false,
-    }
-}
-
-fn is_too_large(outcome: Result<Project, EditFault>, of: &str) -> bool {
-    match outcome {
-        Err(EditFault::TooLarge { key }) => key.as_str() == of,
-        _ => false,
-    }
-}
-
 #[test]
 fn the_first_moved_document_is_told(rt: HostRuntime) -> Result<(), Fail> {
-    let alloc = rt.alloc();
-    let mut project = Project::new(alloc);
-    project.put(doc(alloc, "a", 1, "{x}")?)?;
-    project.put(doc(alloc, "c", 1, "{x}")?)?;
-    let large = "x".repeat(alloc, 4_194_304)?;
-    let documents = vec![in alloc;
-        renaming(&rt, alloc, "a", 1, &[(1, 2)], large.as_str())?,
-        renaming(&rt, alloc, "b", 7, &[], "y")?,
-        renaming(&rt, alloc, "c", 2, &[(1, 2)], "y")?,
-    ]?;
-    assert!(rt; is_moved(applied(&rt, alloc, &project, documents), "b", 7));
-    let documents = vec![in alloc;
-        renaming(&rt, alloc, "a", 1, &[(1, 2)], "y")?,
-        renaming(&rt, alloc, "c", 2, &[(1, 2)], "y")?,
-    ]?;
-    assert!(rt; is_moved(applied(&rt, alloc, &project, documents), "c", 2));
-    Ok(())
-}
-
-fn len_of(project: &Project, key: &str) -> usize {
-    match project.get(key) {
-        Some(doc) => doc.text.as_str().len(),
-        None => 0,
-    }
+    let before = "
+        a 1 {x}
+        c 1 {x}
+    ";
+    let absent = "
+        a 1 1-2 => x*4194304
+        b 7 => y
+        c 2 1-2 => y
+    ";
+    let older = "
+        a 1 1-2 => y
+        c 2 1-2 => y
+    ";
+    let told_of_b = r#"Moved { key: "b", version: 7 }"#;
+    let told_of_c = r#"Moved { key: "c", version: 2 }"#;
+    assert_applied(rt.alloc(), &rt, before, absent, told_of_b)?;
+    assert_applied(rt.alloc(), &rt, before, older, told_of_c)
 }
 
 #[test]
 fn a_text_of_more_than_4_mib_is_too_large(rt: HostRuntime) -> Result<(), Fail> {
-    let alloc = rt.alloc();
-    let mut project = Project::new(alloc);
-    project.put(doc(alloc, "a", 1, "{x}")?)?;
-    project.put(doc(alloc, "c", 1, "{x}")?)?;
-    let most = "x".repeat(alloc, 4_194_302)?;
-    let documents = vec![in alloc;
-        renaming(&rt, alloc, "a", 1, &[(1, 2)], "y")?,
-        renaming(&rt, alloc, "c", 1, &[(1, 2)], most.as_str())?,
-    ]?;
-    let after = applied(&rt, alloc, &project, documents)?;
-    assert_eq!(rt; len_of(&after, "c"), 4_194_304);
-    let documents = vec![in alloc;
-        renaming(&rt, alloc, "a", 1, &[(1, 2)], "y")?,
-        renaming(&rt, alloc, "c", 1, &[(1, 1)], most.as_str())?,
-    ]?;
-    assert!(rt; is_too_large(applied(&rt, alloc, &project, documents), "c"));
-    Ok(())
+    let before = "
+        a 1 {x}
+        c 1 {x}
+    ";
+    let most = "
+        a 1 1-2 => y
+        c 1 1-2 => x*4194302
+    ";
+    let after = "
+        a 1 {y}
+        c 1 4194304 bytes
+    ";
+    let more = "
+        a 1 1-2 => y
+        c 1 1-1 => x*4194302
+    ";
+    assert_applied(rt.alloc(), &rt, before, most, after)?;
+    assert_applied(rt.alloc(), &rt, before, more, r#"TooLarge { key: "c" }"#)
 }

@@ -27,7 +27,7 @@ pub(crate) fn operation_location(kind: OperationKind) -> DirectiveLocation
     }
 }
 
-/// Puts an item for each fault of the directives at one place.
+/// Puts an item for each fault of the directives at one place. Most places have none.
 pub(crate) fn put_wrong_directives(
     alloc: Global,
     types: &Types,
@@ -38,6 +38,9 @@ pub(crate) fn put_wrong_directives(
 ) -> Result<(), NoMemory>
     ensures { OnOk result (items.new.items ≡ items.old.items ++ directive_faults (types_view types.now) file location [] (map directive_view directives.now)) }
 {
+    if directives.is_empty() {
+        return Ok(());
+    }
     let mut before = NameList::new(alloc);
     put_directive_faults(alloc, types, file, location, &mut before, directives, items)
 }

@@ -11,14 +11,3 @@ mod leaf_field_selections;
 mod values;
 
 pub use field_faults::put_field_faults;
-
-#[cfg(test)]
-mod tests_arguments;
-#[cfg(test)]
-mod tests_directives;
-#[cfg(test)]
-mod tests_found;
-#[cfg(test)]
-mod tests_selections;
-#[cfg(test)]
-mod tests_values;

@@ -17,10 +17,3 @@ mod type_conditions;
 
 pub use fragment_faults::put_fragment_faults;
 pub use operation_faults::put_operation_faults;
-
-#[cfg(test)]
-mod tests_fragments;
-#[cfg(test)]
-mod tests_operations;
-#[cfg(test)]
-mod tests_project;

@@ -19,12 +19,12 @@ use Rattle.gq_merging.specs.SameArguments.{SameArguments}
 use Rattle.gq_merging.specs.Shapes.{shape_of}
 use Rattle.gq_merging.specs.Groups.{MeetFrom, together, deeper, IsMerged, AreMerged}
 use Rattle.gq_merging.specs.GroupTables.{IsOfGroup, SayTheSame, IsUnder, AreBelow, GoTogether, AreSettled, IsSettled, IsReached, IsTest, ArePassed, IsTested, AreTested, AreMarked, IsKnown, as_empty, as_before, as_marked}
-use Rattle.gq_merging.specs.SetTables.{MemberOf, RowOf, AreRows, IsMember, members_at, spreads_at}
+use Rattle.gq_merging.specs.SetTables.{MemberOf, RowOf, AreRows, AreAlike, IsMember, members_at, spreads_at}
 use Rattle.gq_merging.specs.Views.{member_view, row_view, rows_view}
 use Rattle.gq_merging.specs.declared.purpose.Purpose.{Purpose}
 use Rattle.gq_merging.specs.declared.rows.Row.{Row}
 use Rattle.gq_merging.proofs.CompareLemmas.{type_of}
-use Rattle.gq_merging.proofs.MemberLemmas.{get_contains, get_below, map_get, from_map, to_found, found_member, member_in, row_of_member, members_there}
+use Rattle.gq_merging.proofs.MemberLemmas.{alike_in, alike_back, get_contains, get_below, map_get, from_map, to_found, found_member, member_in, row_of_member, members_there}
 use Rattle.gq_merging.proofs.MemberSteps.{reach_alike, alike, count_alike, to_flat}
 use Rattle.gq_merging.proofs.SamenessLemmas.{same_when_erased}
 
@@ -76,8 +76,10 @@ module _ (x : ExecutableOf) (rows : List RowOf) (are : AreRows x rows) where
   of_below group m h f is below under c i =
       let r = row_of_member rows h.reached m h.stands in
       let w = member_in x rows are h.reached r.0 r.1 m (record { reached = h.reached; reach = start (contains_first h.reached [] h.reached refl); stands = h.stands }) in
-      let s = map_get (λ (r : RowOf). r.set) rows m.below (field_set x.entries m.field_at) w.1 in
-      let q = found_member x rows are (field_set x.entries f) c m.below s.0 (to_found x (field_set x.entries f) c i) s.1 (s.2 ∙ ap (field_set x.entries) is) in
+      let s = map_get (λ (r : RowOf). r.set) rows m.below w.1.set w.1.is_set in
+      let alike : AreAlike w.1.set (field_set x.entries f) = subst (λ (g : FieldAt). AreAlike w.1.set (field_set x.entries g)) is w.1.alike in
+      let there : InSet x w.1.set c = alike_in x (field_set x.entries f) w.1.set (alike_back w.1.set (field_set x.entries f) alike) c i in
+      let q = found_member x rows are w.1.set c m.below s.0 (to_found x w.1.set c there) s.1 s.2 in
       (q.0, under.each q.0 q.1, q.2)
 
   module _ (groups : List (List ℕ)) (settled : All (IsSettled x.entries rows groups) groups) where

@@ -1,4 +1,5 @@
 pub mod Worklist
+pub mod Numbered
 pub mod RowSteps
 pub mod MemberLemmas
 pub mod MemberSteps

@@ -16,8 +16,21 @@ use Rattle.gq_spreads.specs.Spreads.{places_from}
 use Rattle.gq_document.specs.Definitions.{FragmentOf}
 use Rattle.gq_document.specs.Executable.{ExecutableOf}
 use Rattle.gq_merging.specs.FieldSets.{SetOf, FieldAt, narrowed, operation_set, fragment_set, field_set, InSet, here, within, through, after, Stands, of_operation, of_fragment, of_field}
-use Rattle.gq_merging.specs.SetTables.{MemberOf, RowOf, IsRow, AreRows, HasNumber, own_fields, own_spreads, first_sets, names_of, members_at, spreads_at, IsMember}
+use Rattle.gq_merging.specs.SetTables.{MemberOf, RowOf, IsRow, AreRows, AreAlike, HasNumber, own_fields, own_spreads, first_sets, names_of, members_at, spreads_at, IsMember}
 use Rattle.gq_merging.proofs.Worklist.{own_in, get_longer}
+
+nothing : (x : ExecutableOf) (file : ℕ) (parent : Option Text) (ss : Sels Span) → ss ≡ none → (f : FieldAt) → InSet x (record { file = file; parent = parent; selections = ss }) f → ⊥
+nothing x file parent none e f i = elim i [ ]
+nothing x file parent (more head below rest) e f i = absurd (cc)
+
+-- alike sets have the same fields
+pub alike_in : (x : ExecutableOf) (s t : SetOf) → AreAlike s t → (f : FieldAt) → InSet x s f → InSet x t f
+alike_in x s t (inl e) f i = subst (λ u. InSet x u f) e i
+alike_in x s t (inr empty) f i = absurd (nothing x s.file s.parent s.selections empty.0 f i)
+
+pub alike_back : (s t : SetOf) → AreAlike s t → AreAlike t s
+alike_back s t (inl e) = inl (sym e)
+alike_back s t (inr empty) = inr (empty.1, empty.0)
 
 pub get_contains : {A : Type 0} (xs : List A) (k : ℕ) (y : A) → slice_get xs k ≡ Some y → Contains xs y
 get_contains [] k y e = absurd (none-some y e)
@@ -233,22 +246,24 @@ module _ (x : ExecutableOf) (rows : List RowOf) (a : AreRows x rows) where
       let t = map_get (λ (r : RowOf). r.set) rows q.0 s (ap (λ ss. slice_get ss q.0) a.begin ∙ get_longer (first_sets x) a.others q.0 s q.1) in
       (q.0, t.0, t.1, t.2)
 
-  stands_numbered : (s : SetOf) → Stands x s → (n : ℕ) × (r : RowOf) × (slice_get rows n ≡ Some r) × (r.set ≡ s)
+  stands_numbered : (s : SetOf) → Stands x s → (n : ℕ) × (r : RowOf) × (slice_get rows n ≡ Some r) × AreAlike r.set s
   stands_numbered s (of_operation {o = o} c) =
-      first_numbered s (Contains-append_right (map fragment_set x.fragments) (map (operation_set x.entries) x.operations) s (to_map (operation_set x.entries) x.operations o c))
+      let q = first_numbered s (Contains-append_right (map fragment_set x.fragments) (map (operation_set x.entries) x.operations) s (to_map (operation_set x.entries) x.operations o c)) in
+      (q.0, q.1, q.2, inl q.3)
   stands_numbered s (of_fragment {f = f} c) =
-      first_numbered s (Contains-append_left (map fragment_set x.fragments) (map (operation_set x.entries) x.operations) s (to_map fragment_set x.fragments f c))
+      let q = first_numbered s (Contains-append_left (map fragment_set x.fragments) (map (operation_set x.entries) x.operations) s (to_map fragment_set x.fragments f c)) in
+      (q.0, q.1, q.2, inl q.3)
   stands_numbered s (of_field {set = t} {f = f} h i) =
       let q = stands_numbered t h in
-      let m = found_member t f q.0 q.1 (to_found x t f i) q.2 q.3 in
+      let there : InSet x q.1.set f = alike_in x t q.1.set (alike_back q.1.set t q.3) f i in
+      let m = found_member q.1.set f q.0 q.1 (to_found x q.1.set f there) q.2 refl in
       let w = member_in q.0 q.1 q.2 m.0 m.1 in
-      let g : slice_get (map (λ (r : RowOf). r.set) rows) m.0.below ≡ Some s = w.1 ∙ ap (λ (h : FieldAt). Some (field_set x.entries h)) m.2 in
-      let t = map_get (λ (r : RowOf). r.set) rows m.0.below s g in
-      (m.0.below, t.0, t.1, t.2)
+      let g = map_get (λ (r : RowOf). r.set) rows m.0.below w.1.set w.1.is_set in
+      (m.0.below, g.0, g.1, subst (λ u. AreAlike u (field_set x.entries f)) (sym g.2) (subst (λ (h : FieldAt). AreAlike w.1.set (field_set x.entries h)) m.2 w.1.alike))
 
-  -- the fields of a set that stands are the members of its row, each with the number of the set in its braces
-  pub set_numbered : (s : SetOf) → Stands x s → (n : ℕ) × (slice_get (map (λ r. r.set) rows) n ≡ Some s)
-  set_numbered s h = let q = stands_numbered s h in (q.0, get_map (λ (r : RowOf). r.set) rows q.0 q.1 q.2 ∙ ap Some q.3)
+  -- the fields of a set that stands are the members of its row, each with the number of a set like that in its braces
+  pub set_numbered : (s : SetOf) → Stands x s → (n : ℕ) × (t : SetOf) × (slice_get (map (λ r. r.set) rows) n ≡ Some t) × AreAlike t s
+  set_numbered s h = let q = stands_numbered s h in (q.0, q.1.set, get_map (λ (r : RowOf). r.set) rows q.0 q.1 q.2, q.3)
 
   pub field_member : (n : ℕ) (s : SetOf) → slice_get (map (λ r. r.set) rows) n ≡ Some s → (f : FieldAt) → InSet x s f → (m : MemberOf) × IsMember rows n m × (m.field_at ≡ f)
   field_member n s e f i = let r = map_get (λ (r : RowOf). r.set) rows n s e in found_member s f n r.0 (to_found x s f i) r.1 r.2

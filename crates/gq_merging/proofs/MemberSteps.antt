@@ -1,5 +1,5 @@
 -- Members in the code's rows and tables.
-use Rattle.std.proofs.Common.{◌≡◌, ◌↔◌, ℕ, zero, suc, ◌≤◌, ◌<◌, List, [], ◌∷◌, ◌++◌, Option, Some, None, All, Contains, map, length, refl, sym, ◌∙◌, ap, subst, arith, inl, inr, Vec, Global, Bool, ⊎_elim}
+use Rattle.std.proofs.Common.{◌≡◌, ◌↔◌, ℕ, zero, suc, ◌≤◌, ◌<◌, List, [], ◌∷◌, ◌++◌, Option, Some, None, All, Contains, map, length, refl, sym, ◌∙◌, ap, subst, arith, inl, inr, Vec, Global, Bool, ⊎_elim, append-nil, get_or}
 use Rattle.std.specs.List.{slice_get, flat_map}
 use Rattle.std.specs.Option.{option_map, option_map_or}
 use Rattle.std.specs.Prelude.{unwrap_or}
@@ -22,6 +22,12 @@ members_of_row rows n r e = ap (λ (o : Option RowOf). option_map_or (λ (r : Ro
 
 pub members_past : (rows : List Row) (n : ℕ) → slice_get rows n ≡ None → members_at (rows_view rows) n ≡ []
 members_past rows n e = ap (λ (o : Option RowOf). option_map_or (λ (r : RowOf). r.members) o []) (slice_get-map row_view rows n ∙ ap (option_map row_view) e)
+
+-- the fields of a set that stands alone
+pub lone_members : (rows : List RowOf) (numbers : List ℕ) → length numbers ≡ 1 → members_at rows (get_or numbers 0 0) ≡ flat_map (members_at rows) numbers
+lone_members rows [] one = absurd (omega (arith, one))
+lone_members rows (n ∷ []) one = sym (append-nil (members_at rows n))
+lone_members rows (n ∷ m ∷ rest) one = absurd (omega (arith, one))
 
 row_is : (table : List (Vec ℕ Global)) (n : ℕ) → row table n ≡ unwrap_or (slice_get (map (λ (v : Vec ℕ Global). v.items) table) n) []
 row_is [] n = refl

@@ -10,11 +10,11 @@ use Rattle.gq_document.specs.Executable.{ExecutableOf}
 use Rattle.gq_merging.specs.FieldSets.{SetOf, FieldAt, key, InSet, Stands, field_set}
 use Rattle.gq_merging.specs.FieldsMerge.{HaveOneKey, leads_on, Differ, IsNoLater, item_of, Meet, together, deeper, IsFaultFor}
 use Rattle.gq_merging.specs.Groups.{MeetFrom, AreMerged, together as together_there, deeper as deeper_there}
-use Rattle.gq_merging.specs.SetTables.{MemberOf, RowOf, AreRows, HasNumber, IsMember, spreads_at}
+use Rattle.gq_merging.specs.SetTables.{MemberOf, RowOf, AreRows, AreAlike, HasNumber, IsMember, spreads_at}
 use Rattle.gq_merging.specs.StartTables.{LeadsTo, Passes}
 use Rattle.gq_merging.specs.PairTables.{MetOf, LookOf, IsMetAt, IsGiven, IsReached, start, step, IsMetReached, IsFaultOf}
 use Rattle.gq_merging.specs.declared.purpose.Purpose.{Purpose}
-use Rattle.gq_merging.proofs.MemberLemmas.{get_contains, get_below, set_numbered, field_member, member_field, reached_field}
+use Rattle.gq_merging.proofs.MemberLemmas.{alike_in, alike_back, get_contains, get_below, set_numbered, field_member, member_field, reached_field}
 use Rattle.gq_merging.proofs.PairNumbers.{pair_below, left_below, right_below, left_of, right_of}
 use Rattle.gq_merging.proofs.SearchLemmas.{within}
 
@@ -75,15 +75,20 @@ module _ (x : ExecutableOf) (purpose : Purpose) (rows : List RowOf) (are : AreRo
   right_number : (n : ℕ) (p : MetOf) → n < size → IsMetAt look n p → HasNumber x.entries sets p.right
   right_number n p l h = member_there (n % count) p.right (right_below count n (subst (λ k. n < k) square l)) h.right
 
+  one_key_alike : (s t u v : SetOf) (a b : FieldAt) → AreAlike s t → AreAlike u v → HaveOneKey x s u a b → HaveOneKey x t v a b
+  one_key_alike s t u v a b left right k = record { first = alike_in x s t left a k.first; second = alike_in x u v right b k.second; one_key = k.one_key }
+
   reached_meet : (n : ℕ) → IsReached look passed n → (p : MetOf) → IsMetAt look n p → Meet x purpose p.left.field_at p.right.field_at
   reached_meet n (start s) p h =
       let t = get_below sets s.row (subst (λ k. s.row < k) (passes.count ∙ merged.count ∙ sym (length-map rows (λ r. r.set))) s.before) in
       together (All-contains (Stands x) sets t.0 are.stand (get_contains sets s.row t.0 t.1)) (one_key s.row s.row n t.0 t.0 p t.1 t.1 s.number.is h)
   reached_meet n (step {m = k} r g) p h =
       let l = within look passed k r in
+      let a = left_number k g.one l g.these in
+      let b = right_number k g.one l g.these in
       deeper (reached_meet k r g.one g.these) g.gives.leads
-      (one_key g.one.left.below g.one.right.below n (field_set x.entries g.one.left.field_at) (field_set x.entries g.one.right.field_at) p
-      (left_number k g.one l g.these) (right_number k g.one l g.these) g.gives.number.is h)
+      (one_key_alike a.set (field_set x.entries g.one.left.field_at) b.set (field_set x.entries g.one.right.field_at) p.left.field_at p.right.field_at a.alike b.alike
+      (one_key g.one.left.below g.one.right.below n a.set b.set p a.is_set b.is_set g.gives.number.is h))
 
   pub record ReachedMet (a b : FieldAt) : Type 0 where
     pub pair : MetOf
@@ -123,16 +128,20 @@ module _ (x : ExecutableOf) (purpose : Purpose) (rows : List RowOf) (are : AreRo
       let l = within look passed r.met.number r.met.reached in
       let i = r.pair.left.below in
       let j = r.pair.right.below in
-      let ei : slice_get sets i ≡ Some (field_set x.entries c) = left_number r.met.number r.pair l r.met.met ∙ ap (λ f. Some (field_set x.entries f)) r.is_left in
-      let ej : slice_get sets j ≡ Some (field_set x.entries d) = right_number r.met.number r.pair l r.met.met ∙ ap (λ f. Some (field_set x.entries f)) r.is_right in
+      let ei = left_number r.met.number r.pair l r.met.met in
+      let ej = right_number r.met.number r.pair l r.met.met in
+      let s : SetOf = field_set x.entries c in
+      let u : SetOf = field_set x.entries d in
+      let left : AreAlike s ei.set = alike_back ei.set s (subst (λ (f : FieldAt). AreAlike ei.set (field_set x.entries f)) r.is_left ei.alike) in
+      let right : AreAlike u ej.set = alike_back ej.set u (subst (λ (f : FieldAt). AreAlike ej.set (field_set x.entries f)) r.is_right ej.alike) in
       let leads : leads_on x.entries purpose r.pair.left.field_at r.pair.right.field_at ≡ true =
       ap (λ f. leads_on x.entries purpose f r.pair.right.field_at) r.is_left ∙ ap (leads_on x.entries purpose c) r.is_right ∙ w in
-      meet_at i j (field_set x.entries c) (field_set x.entries d) a b ei ej k
+      meet_at i j ei.set ej.set a b ei.is_set ej.is_set (one_key_alike s ei.set u ej.set a b left right k)
       (step r.met.reached
       (record {
         one = r.pair;
         these = r.met.met;
-        gives = record { leads = leads; number = record { is = refl; within = pair_within i j (field_set x.entries c) (field_set x.entries d) ei ej } };
+        gives = record { leads = leads; number = record { is = refl; within = pair_within i j ei.set ej.set ei.is_set ej.is_set } };
       }))
 
   -- the faults of the pairs that are reached are those of the rule
@@ -161,7 +170,12 @@ module _ (x : ExecutableOf) (purpose : Purpose) (rows : List RowOf) (are : AreRo
   to_reached item h =
       let t = meet_somewhere x purpose h.first h.later h.meet in
       let n = set_numbered x rows are t.set t.stands in
-      by_mark t n.0 n.1 (slice_index_or passed n.0 false) refl
+      let q : MeetSomewhere x purpose h.first h.later = record {
+        set = n.1;
+        stands = All-contains (Stands x) sets n.1 are.stand (get_contains sets n.0 n.1 n.2);
+        meet = meet_wider x purpose t.set n.1 (alike_in x t.set n.1 (alike_back n.1 t.set n.3)) h.first h.later t.meet;
+      } in
+      by_mark q n.0 n.2 (slice_index_or passed n.0 false) refl
     where
       by_reason : (t : MeetSomewhere x purpose h.first h.later) (n : ℕ) → slice_get sets n ≡ Some t.set → (slice_index_or marks n false ≡ true) ⊎ LeadsTo (spreads_at rows) passed n →
           IsGiven (IsMetReached look passed) (IsFaultOf look) item

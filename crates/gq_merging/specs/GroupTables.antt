@@ -128,3 +128,8 @@ pub record IsMarkedOne (group : List ℕ) (marks : List Bool) : Type 0 where
   pub number : ℕ
   pub is : group ≡ number ∷ []
   pub marked : slice_index_or marks number false ≡ true
+
+-- these are what is reached from the numbers of the group
+pub record AreReached (next : ℕ → List ℕ) (group found : List ℕ) : Type 0 where
+  pub sound : All (λ n. Reach group next n) found
+  pub complete : (n : ℕ) → Reach group next n → Contains found n

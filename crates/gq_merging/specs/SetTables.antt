@@ -1,5 +1,5 @@
 -- Selection sets with the fields and spreads that stand in them at once, computed. Nothing here must be believed.
-use Rattle.std.specs.Prelude.{◌≡◌, ℕ, ◌+◌, List, [], ◌∷◌, ◌++◌, Option, Some, All, Contains, map, slice_get}
+use Rattle.std.specs.Prelude.{◌≡◌, ◌⊎◌, ℕ, ◌+◌, ◌≤◌, List, [], ◌∷◌, ◌++◌, Option, Some, All, Contains, IfSome, length, map, slice_get}
 use Rattle.std.specs.Option.{option_map_or}
 use Rattle.gq_text.specs.declared.place.Span.{Span}
 use Rattle.gq_tree.specs.Forest.{none, more}
@@ -42,15 +42,26 @@ own_spreads_in names (inline on directives braces place) below = own_spreads nam
 abbrev pub own_spreads_at : List Text → Sel Span → List ℕ
 own_spreads_at names s = own_spreads_in names s.label s.below
 
+-- how many fields stand in selections, at any depth
+abbrev pub weight : Sels Span → ℕ
+weight none = 0
+weight (more (field alias name arguments directives braces place) below rest) = 1 + (weight below + weight rest)
+weight (more (spread name directives place) below rest) = weight rest
+weight (more (inline on directives braces place) below rest) = weight below + weight rest
+
+-- that, and the number of the sets, or of the fields
+abbrev pub weights : List SetOf → ℕ
+weights [] = 0
+weights (s ∷ ss) = 1 + (weight s.selections + weights ss)
+
+abbrev pub field_weights : List FieldAt → ℕ
+field_weights [] = 0
+field_weights (f ∷ fs) = 1 + (weight f.below + field_weights fs)
+
 -- a field, and the number of the selection set in its braces
 pub record MemberOf : Type 0 where
   pub field_at : FieldAt
   pub below : ℕ
-
--- fields whose sets have numbers in a row, the first of which is given
-abbrev pub numbered_from : ℕ → List FieldAt → List MemberOf
-numbered_from k [] = []
-numbered_from k (f ∷ fs) = record { field_at = f; below = k } ∷ numbered_from (k + 1) fs
 
 -- a selection set, its own fields, and the numbers of the fragments spread in it
 pub record RowOf : Type 0 where
@@ -62,13 +73,40 @@ pub record RowOf : Type 0 where
 abbrev pub first_sets : ExecutableOf → List SetOf
 first_sets x = map fragment_set x.fragments ++ map (operation_set x.entries) x.operations
 
--- the sets of these fields
-abbrev pub field_sets : List EntryOf → List FieldAt → List SetOf
-field_sets es fs = map (field_set es) fs
+-- The two are one, or nothing stands in either. Fields without selections share a set.
+abbrev pub AreAlike : SetOf → SetOf → Type 0
+AreAlike s t = (s ≡ t) ⊎ ((s.selections ≡ none) × (t.selections ≡ none))
 
--- each field is there with the number of its set
-abbrev pub HasNumber : List EntryOf → List SetOf → MemberOf → Type 0
-HasNumber es sets m = slice_get sets m.below ≡ Some (field_set es m.field_at)
+-- each field is there with the number of a set like its own
+pub record HasNumber (es : List EntryOf) (sets : List SetOf) (m : MemberOf) : Type 0 where
+  pub set : SetOf
+  pub is_set : slice_get sets m.below ≡ Some set
+  pub alike : AreAlike set (field_set es m.field_at)
+
+-- the number, where there is one, is that of a set in which nothing stands
+abbrev pub IsEmptyAt : List SetOf → Option ℕ → Type 0
+IsEmptyAt sets empty = IfSome empty (λ number. (s : SetOf) × (slice_get sets number ≡ Some s) × (s.selections ≡ none))
+
+-- The set of a field is put behind the others, and has that number; or it has that of another one, and nothing stands in
+-- either.
+pub data IsPut (es : List EntryOf) (f : FieldAt) (sets new : List SetOf) (number : ℕ) : Type 0 where
+  own : new ≡ sets ++ field_set es f ∷ [] → number ≡ length sets → IsPut es f sets new number
+  shared : {s : SetOf} → new ≡ sets → f.below ≡ none → slice_get sets number ≡ Some s → s.selections ≡ none → IsPut es f sets new number
+
+-- a set is that of one of these fields
+pub record IsOfOne (es : List EntryOf) (fs : List FieldAt) (s : SetOf) : Type 0 where
+  pub one : FieldAt
+  pub stands : Contains fs one
+  pub is_set : s ≡ field_set es one
+
+-- the fields with the numbers of their sets, for which sets of these fields are put behind the others
+pub record AreNumbered (es : List EntryOf) (fs : List FieldAt) (sets new : List SetOf) (members : List MemberOf) : Type 0 where
+  pub added : List SetOf
+  pub grown : new ≡ sets ++ added
+  pub fields : map (λ m. m.field_at) members ≡ fs
+  pub numbers : All (HasNumber es new) members
+  pub each : All (IsOfOne es fs) added
+  pub few : weights added ≤ field_weights fs
 
 pub record IsRow (es : List EntryOf) (names : List Text) (sets : List SetOf) (r : RowOf) : Type 0 where
   pub fields : map (λ m. m.field_at) r.members ≡ own_fields r.set.file r.set.parent r.set.selections

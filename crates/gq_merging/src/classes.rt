@@ -2,7 +2,7 @@
 ghost use Rattle.std.specs.Prelude.{◌≡◌, ◌↔◌, ◌<◌, ◌++◌, ◌∷◌, [], ℕ, Some, None, All, Contains, IsTrue, IfSome, IfOk, OnOk, length, option_map, position, false};
 ghost use Rattle.std.specs.Str.{bytes_eq};
 ghost use Rattle.gq_tree.specs.Views.{type_view};
-ghost use Rattle.gq_types.specs.Look.{types_view};
+ghost use Rattle.gq_types.specs.Look.{types_view, text_of};
 ghost use Rattle.gq_document.specs.Selections.{typename_field};
 ghost use Rattle.gq_merging.specs.SetTables.{MemberOf, IsMember};
 ghost use Rattle.gq_merging.specs.FieldSets.{key};
@@ -43,7 +43,20 @@ fn have_one_shape(tables: Tables<'_>, left: &StandingField<'_>, right: &Standing
     }
 }
 
-/// Whether the two say the same: one name, the same arguments in one order, and one shape.
+/// Whether the parents of both fields are of one type, or the types of neither are known.
+fn have_one_parent(left: &StandingField<'_>, right: &StandingField<'_>) -> bool
+    ensures { IsTrue result → text_of left.now.parent ≡ text_of right.now.parent }
+{
+    match (left.parent, right.parent) {
+        (Some(left), Some(right)) => left == right,
+        (Some(_), None) => false,
+        (None, Some(_)) => false,
+        (None, None) => true,
+    }
+}
+
+/// Whether the two say the same: one name, the same arguments in one order, and one shape. Of parents of one type no shapes
+/// are looked up, since the fields are one.
 fn say_the_same(tables: Tables<'_>, left: &StandingField<'_>, right: &StandingField<'_>) -> bool
     requires { type_view tables.typename_type.now ≡ typename_field.type_ref }
     ensures { IsTrue result ↔ SayTheSame (types_view tables.entry.types.now) (field_at left.now) (field_at right.now) }
@@ -54,7 +67,7 @@ fn say_the_same(tables: Tables<'_>, left: &StandingField<'_>, right: &StandingFi
     if !are_same_arguments(left.arguments, right.arguments) {
         return false;
     }
-    have_one_shape(tables, left, right)
+    have_one_parent(left, right) || have_one_shape(tables, left, right)
 }
 
 /// Whether fields or spreads stand in the set with that number; not past the end.

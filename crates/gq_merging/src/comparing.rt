@@ -16,7 +16,7 @@ use crate::purpose::Purpose;
 use crate::same_arguments::have_same_arguments;
 use crate::sets::StandingField;
 use gq_document::{SelectedField, base_name, is_composite_named, selected_field};
-use gq_text::{NoMemory, OwnedText, Span};
+use gq_text::{NoMemory, SmallText, Span};
 use gq_tree::{Name, TypeRef};
 use gq_types::{TypeKind, Types};
 use std::alloc::Global;
@@ -90,7 +90,7 @@ pub(crate) fn typename_type(alloc: Global) -> Result<TypeRef, NoMemory>
 fn string_type(alloc: Global) -> Result<TypeRef, NoMemory>
     ensures { IfOk result (λ t. type_view t ≡ named (record { text = codes "String"; place = no_span })) }
 {
-    let text = OwnedText::from_str(alloc, "String")?;
+    let text = SmallText::from_str(alloc, "String")?;
     let span = Span { start: 0, end: 0 };
     Ok(TypeRef::Named(Name { text, span }))
 }

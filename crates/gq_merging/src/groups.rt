@@ -5,21 +5,22 @@
 //! of one key have to say the same, and the sets in their braces are a group again. A test begins with one set alone. Where
 //! all groups pass, the fields under each set that one of them reaches merge, so a chain of fragments is tested once. A group
 //! is passed over if it was there already, or if it is one set of which this is known.
-ghost use Rattle.std.specs.Prelude.{◌≡◌, ◌<◌, ◌+◌, All, IsTrue, IfOk, OnOk, length, map, slice_get};
-ghost use Rattle.gq_reach.specs.Reach.{InRange};
+ghost use Rattle.std.specs.Prelude.{◌≡◌, ◌<◌, ◌+◌, ℕ, List, All, Some, IsTrue, IfOk, OnOk, length, map, slice_get};
+ghost use Rattle.std.specs.List.{flat_map};
+ghost use Rattle.gq_reach.specs.Reach.{InRange, row};
 ghost use Rattle.gq_tree.specs.Views.{type_view};
 ghost use Rattle.gq_types.specs.Look.{types_view};
 ghost use Rattle.gq_document.specs.Selections.{typename_field};
 ghost use Rattle.gq_document.specs.Executable.{executable_view};
-ghost use Rattle.gq_merging.specs.SetTables.{AreRows};
+ghost use Rattle.gq_merging.specs.SetTables.{AreRows, members_at};
 ghost use Rattle.gq_merging.specs.Groups.{AreMerged};
-ghost use Rattle.gq_merging.specs.GroupTables.{IsTest, IsTested, ArePassed, AreTested, AreMarked, IsKnown, IsMarkedOne};
-ghost use Rattle.gq_merging.specs.Views.{rows_view};
+ghost use Rattle.gq_merging.specs.GroupTables.{AreReached, IsTest, IsTested, ArePassed, AreTested, AreMarked, IsKnown, IsMarkedOne};
+ghost use Rattle.gq_merging.specs.Views.{members_view, rows_view};
 ghost use Rattle.gq_merging.specs.GroupViews.{groups_view};
 
 use crate::classes::{Tables, groups_below, has_selections};
-use crate::members::{gathered, reached_sets};
-use crate::rows::Row;
+use crate::members::{gathered, own_members, reached_sets};
+use crate::rows::{Member, Row};
 use gq_document::Executable;
 use gq_text::NoMemory;
 use gq_tree::TypeRef;
@@ -99,6 +100,37 @@ fn mark_all(marks: &mut Vec<bool>, numbers: &[usize])
     }
 }
 
+/// Looks at the fields of one group of a test, which reaches these sets.
+fn look_at_members(
+    tables: Tables<'_>,
+    place: usize,
+    found: &[usize],
+    members: &[Member<'_>],
+    groups: &mut Vec<Vec<usize>>,
+    reached: &mut Vec<usize>,
+    left: &mut usize,
+) -> Result<bool, NoMemory>
+    requires typename { type_view tables.typename_type.now ≡ typename_field.type_ref }
+    requires spreads { map (λ v. v.items) tables.spreads.now ≡ map (λ r. r.spreads.items) tables.rows.now }
+    requires place { place < length groups.old.items }
+    requires reached { (group : List ℕ) → slice_get (groups_view groups.old.items) place ≡ Some group → AreReached (row tables.spreads.now) group found.now }
+    requires within { All (λ n. n < length tables.spreads.now) found.now }
+    requires members { members_view members.now ≡ flat_map (members_at (rows_view tables.rows.now)) found.now }
+    requires test { IsTest (types_view tables.types.now) (rows_view tables.rows.now) (groups_view groups.old.items) place reached.old.items }
+    ensures test { IfOk result (λ passed. IsTrue passed → IsTest (types_view tables.entry.types.now) (rows_view tables.entry.rows.now) (groups_view groups.new.items) (place + 1) reached.new.items) }
+    ensures left { IfOk result (λ passed. IsTrue passed → left.new < left.old) }
+{
+    if !spend(left, found.len(), members.len()) {
+        return Ok(false);
+    }
+    let Some(mut below) = groups_below(tables, members)? else {
+        return Ok(false);
+    };
+    groups.append(&mut below)?;
+    reached.extend_from_slice(found)?;
+    Ok(true)
+}
+
 /// Looks at one group of a test: puts the groups below it behind the others, and the sets that it reaches. False where
 /// fields of one key do not say the same, or the steps are used up.
 fn look_at(
@@ -117,16 +149,16 @@ fn look_at(
     ensures left { IfOk result (λ passed. IsTrue passed → left.new < left.old) }
 {
     let found = reached_sets(tables.alloc, tables.spreads, &groups[place])?;
-    let members = gathered(tables.alloc, tables.rows, &found)?;
-    if !spend(left, found.len(), members.len()) {
-        return Ok(false);
+    match found.as_slice() {
+        [one] => {
+            let members = own_members(tables.rows, *one);
+            look_at_members(tables, place, &found, members, groups, reached, left)
+        }
+        _ => {
+            let members = gathered(tables.alloc, tables.rows, &found)?;
+            look_at_members(tables, place, &found, &members, groups, reached, left)
+        }
     }
-    let Some(mut below) = groups_below(tables, &members)? else {
-        return Ok(false);
-    };
-    groups.append(&mut below)?;
-    reached.extend_from_slice(&found)?;
-    Ok(true)
 }
 
 /// The same, but passes over a group that is known.

@@ -18,10 +18,3 @@ mod sets;
 
 pub use faults::put_merging_faults;
 pub use purpose::Purpose;
-
-#[cfg(test)]
-mod tests_arguments;
-#[cfg(test)]
-mod tests_groups;
-#[cfg(test)]
-mod tests_merging;

@@ -64,6 +64,14 @@ pub(crate) fn gathered<'a>(
     Ok(members)
 }
 
+/// The fields that stand in the set with that number itself.
+pub(crate) fn own_members<'r, 'a>(rows: &'r [Row<'a>], number: usize) -> &'r [Member<'a>]
+    requires { number < length rows.now }
+    ensures { members_view result.now ≡ members_at (rows_view rows.now) number }
+{
+    rows[number].members.as_slice()
+}
+
 fn put_members<'a>(
     rows: &[Row<'a>],
     number: usize,

@@ -1,10 +1,10 @@
 //! A row for each selection set that stands in the project.
-ghost use Rattle.std.specs.Prelude.{◌≡◌, ◌++◌, ◌∷◌, [], IfOk, OnOk, length, map};
+ghost use Rattle.std.specs.Prelude.{◌≡◌, IfOk, OnOk};
 ghost use Rattle.gq_tree.specs.Views.{sels_view};
 ghost use Rattle.gq_types.specs.Look.{types_view, text_of};
 ghost use Rattle.gq_document.specs.Executable.{executable_view};
-ghost use Rattle.gq_merging.specs.SetTables.{AreRows, first_sets, field_sets, numbered_from, own_fields, own_spreads, names_of};
-ghost use Rattle.gq_merging.specs.Views.{fields_at, set_at, sets_at, members_view, rows_view};
+ghost use Rattle.gq_merging.specs.SetTables.{AreRows, AreNumbered, IsEmptyAt, IsPut, first_sets, own_fields, own_spreads, names_of};
+ghost use Rattle.gq_merging.specs.Views.{field_at, fields_at, set_at, sets_at, members_view, rows_view};
 
 use crate::sets::{
     StandingField, StandingSet, field_set, fragment_set, operation_set, put_fields, put_spreads,
@@ -48,23 +48,45 @@ fn first_sets<'a>(
     Ok(sets)
 }
 
+/// Puts the selection set of a field behind the others, and answers its number. Fields without selections share one, whose
+/// number is noted.
+fn put_set<'a>(
+    types: &'a Types,
+    field: StandingField<'a>,
+    empty: &mut Option<usize>,
+    sets: &mut Vec<StandingSet<'a>>,
+) -> Result<usize, NoMemory>
+    requires empty { IsEmptyAt (sets_at sets.old.items) empty.old }
+    ensures empty { OnOk result (IsEmptyAt (sets_at sets.new.items) empty.new) }
+    ensures put { IfOk result (λ number. IsPut (types_view types.now) (field_at field.entry) (sets_at sets.old.items) (sets_at sets.new.items) number) }
+{
+    let number = sets.len();
+    if field.below.is_empty() {
+        if let Some(shared) = *empty {
+            return Ok(shared);
+        }
+        *empty = Some(number);
+    }
+    sets.push(field_set(types, field))?;
+    Ok(number)
+}
+
 /// The fields with the numbers of their selection sets, which are put behind the others.
 fn numbered<'a>(
     alloc: Global,
     types: &'a Types,
     fields: &[StandingField<'a>],
+    empty: &mut Option<usize>,
     sets: &mut Vec<StandingSet<'a>>,
 ) -> Result<Vec<Member<'a>>, NoMemory>
-    ensures sets { OnOk result (sets_at sets.new.items ≡ sets_at sets.old.items ++ field_sets (types_view types.now) (fields_at fields.now)) }
-    ensures members { IfOk result (λ members. members_view members.items ≡ numbered_from (length sets.old.items) (fields_at fields.now)) }
+    requires empty { IsEmptyAt (sets_at sets.old.items) empty.old }
+    ensures empty { OnOk result (IsEmptyAt (sets_at sets.new.items) empty.new) }
+    ensures members { IfOk result (λ members. AreNumbered (types_view types.now) (fields_at fields.now) (sets_at sets.old.items) (sets_at sets.new.items) (members_view members.items)) }
 {
-    let mut members = Vec::new(alloc);
+    let mut members = Vec::with_capacity(alloc, fields.len())?;
     for field in fields {
-        members.push(Member {
-            it: *field,
-            below: sets.len(),
-        })?;
-        sets.push(field_set(types, *field))?;
+        let below = put_set(types, *field, empty, sets)?;
+        members.push(Member { it: *field, below })?;
     }
     Ok(members)
 }
@@ -75,18 +97,20 @@ fn row_of<'a>(
     types: &'a Types,
     names: &FragmentNames,
     set: StandingSet<'a>,
+    empty: &mut Option<usize>,
     sets: &mut Vec<StandingSet<'a>>,
 ) -> Result<Row<'a>, NoMemory>
-    ensures sets { OnOk result (sets_at sets.new.items ≡ sets_at sets.old.items ++ field_sets (types_view types.now) (own_fields set.entry.file (text_of set.entry.parent) (sels_view set.entry.selections.now))) }
+    requires empty { IsEmptyAt (sets_at sets.old.items) empty.old }
+    ensures empty { OnOk result (IsEmptyAt (sets_at sets.new.items) empty.new) }
     ensures set { IfOk result (λ row. row.set ≡ set.entry) }
-    ensures members { IfOk result (λ row. members_view row.members.items ≡ numbered_from (length sets.old.items) (own_fields set.entry.file (text_of set.entry.parent) (sels_view set.entry.selections.now))) }
+    ensures members { IfOk result (λ row. AreNumbered (types_view types.now) (own_fields set.entry.file (text_of set.entry.parent) (sels_view set.entry.selections.now)) (sets_at sets.old.items) (sets_at sets.new.items) (members_view row.members.items)) }
     ensures spreads { IfOk result (λ row. row.spreads.items ≡ own_spreads names.now.names.items (sels_view set.entry.selections.now)) }
 {
     let mut spreads = Vec::new(alloc);
     put_spreads(names, set.selections, &mut spreads)?;
     let mut fields = Vec::new(alloc);
     put_fields(set.file, set.parent, set.selections, &mut fields)?;
-    let members = numbered(alloc, types, &fields, sets)?;
+    let members = numbered(alloc, types, &fields, empty, sets)?;
     Ok(Row {
         set,
         members,
@@ -104,9 +128,10 @@ pub(crate) fn all_rows<'a>(
     let names = FragmentNames::of(alloc, executable.fragments)?;
     let mut sets = first_sets(alloc, executable)?;
     let mut rows = Vec::new(alloc);
+    let mut empty = None;
     while rows.len() < sets.len() {
         let set = sets[rows.len()];
-        let row = row_of(alloc, executable.types, &names, set, &mut sets)?;
+        let row = row_of(alloc, executable.types, &names, set, &mut empty, &mut sets)?;
         rows.push(row)?;
     }
     Ok(rows)

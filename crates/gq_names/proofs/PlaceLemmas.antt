@@ -1,8 +1,8 @@
 -- First places in a list that grows at its end.
-use Rattle.std.proofs.Common.{◌≡◌, ℕ, ◌≤◌, Bool, true, false, cond, ◌||◌, List, [], ◌∷◌, ◌++◌, length, Some, None, is_some, String, refl, sym, ◌∙◌, ap, subst, arith}
+use Rattle.std.proofs.Common.{◌≡◌, ℕ, ◌≤◌, Bool, true, false, cond, ◌||◌, List, [], ◌∷◌, ◌++◌, length, Some, None, is_some, refl, sym, ◌∙◌, ap, subst, arith}
 use Rattle.std.specs.Bool.{nat_lt}
 use Rattle.std.specs.Cmp.Lexicographic.{bytes_decides, nat_list_eq_equiv}
-use Rattle.std.specs.HashMap.{HashMap, get_by_text}
+use Rattle.indexmap.specs.IndexMap.{IndexMap, get_by}
 use Rattle.std.specs.List.{list_any, position, position_or_len}
 use Rattle.std.specs.Map.{update}
 use Rattle.std.specs.Str.{bytes_eq}
@@ -71,13 +71,17 @@ module _ (names : List (List ℕ)) (name : List ℕ) where
       by_same true same = rw (nat_list_eq_equiv.symm name q, same) (position_push_here (bytes_eq q) names name (subst (λ t. list_any (bytes_eq t) names ≡ false) (sym ((bytes_decides q name).0 same)) new) same)
       by_same false other = rw (nat_list_eq_equiv.symm name q, other) (other_place_stays q other)
 
-module _ {A S : Type 0} where
+module _ {S : Type 0} where
   -- the map stays right where a name that stands in the list comes again
-  pub finds_after_repeat : (places : HashMap (String A) ℕ S) (names : List (List ℕ)) (name : List ℕ) → FindsFirstPlaces places names → list_any (bytes_eq name) names ≡ true → FindsFirstPlaces places (names ++ name ∷ [])
+  pub finds_after_repeat : (places : IndexMap (List ℕ) ℕ S) (names : List (List ℕ)) (name : List ℕ) → FindsFirstPlaces places names → list_any (bytes_eq name) names ≡ true → FindsFirstPlaces places (names ++ name ∷ [])
   finds_after_repeat places names name finds stands q = finds q ∙ sym (first_places_stay names name stands q)
 
   -- the map with a new name at the end of the list
-  pub finds_after_first : (old new : HashMap (String A) ℕ S) (names : List (List ℕ)) (name : List ℕ) → FindsFirstPlaces old names → list_any (bytes_eq name) names ≡ false
-      → ((q : List ℕ) → get_by_text new q ≡ update bytes_eq (get_by_text old) name (Some (length names)) q) → FindsFirstPlaces new (names ++ name ∷ [])
+  pub finds_after_first : (old new : IndexMap (List ℕ) ℕ S) (names : List (List ℕ)) (name : List ℕ) → FindsFirstPlaces old names → list_any (bytes_eq name) names ≡ false
+      → ((q : List ℕ) → get_by (bytes_eq q) new ≡ update bytes_eq (λ t. get_by (bytes_eq t) old) name (Some (length names)) q) → FindsFirstPlaces new (names ++ name ∷ [])
   finds_after_first old new names name finds stands sets q =
       sets q ∙ ap (λ o. cond (bytes_eq name q) (Some (length names)) o) (finds q) ∙ sym (first_places_more names name stands q)
+
+  -- a name has a place in the map where it stands in the list
+  pub is_known : (places : IndexMap (List ℕ) ℕ S) (names : List (List ℕ)) (name : List ℕ) → FindsFirstPlaces places names → is_some (get_by (bytes_eq name) places) ≡ list_any (bytes_eq name) names
+  is_known places names name finds = ap is_some (finds name) ∙ is_some_position (bytes_eq name) names

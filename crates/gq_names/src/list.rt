@@ -1,30 +1,72 @@
 //! Lists of names, in which a name is found by its text.
-ghost use Rattle.std.specs.Prelude.{◌≡◌, ◌<◌, ◌++◌, ◌∷◌, [], length, not, slice_index_or, position, IfOk, OnOk, OnErr};
+ghost use Rattle.std.specs.Prelude.{◌≡◌, ◌<◌, ◌≤◌, ◌++◌, ◌∷◌, [], List, ℕ, length, not, slice_index_or, position, IfOk, OnOk, OnErr};
 ghost use Rattle.std.specs.List.{list_any};
 ghost use Rattle.std.specs.Str.{bytes_eq};
+ghost use Rattle.gq_names.specs.Places.{FindsFirstPlaces};
 
-use gq_text::{NoMemory, OwnedText};
+use gq_text::{NoMemory, SmallText};
+use indexmap::IndexMap;
 use std::alloc::Global;
-use std::collections::HashMap;
 use std::marker::Model;
+
+/// The most names that get no table. To go over so few takes less time than to make one.
+const FEW: usize = 8;
+
+/// The first places of names, once there are more than a few.
+type FirstPlaces = IndexMap<SmallText, usize>;
 
 /// Names in the order in which they were put. A name may come more than once; it is found at its first place.
 #[derive(Drop)]
 pub struct NameList {
     alloc: Global,
-    names: Vec<OwnedText>,
-    first_places: HashMap<String, usize>,
+    names: Vec<SmallText>,
+    first_places: FirstPlaces,
 }
 
 impl Model for NameList {
-    ghost use Rattle.std.specs.Prelude.{List, ℕ};
+    ghost use Rattle.std.specs.Prelude.{List, ℕ, ◌<◌, length};
     ghost use Rattle.gq_names.specs.Places.{FindsFirstPlaces};
 
     ghost Value = { List (List ℕ) };
 
     ghost view = { λ n. n.names.items };
 
-    ghost invariant = { λ n. FindsFirstPlaces n.first_places n.names.items };
+    ghost invariant = { λ n. 8 < length n.names.items → FindsFirstPlaces n.first_places n.names.items };
+}
+
+/// The first place of that name, found by going over the names.
+fn place_among(names: &[SmallText], name: &str) -> Option<usize>
+    ensures { result ≡ position (bytes_eq name.now) names.now }
+{
+    names.iter().position(|one| name == one.as_str())
+}
+
+/// Puts the place of a name behind those of the names before it, unless it is one of them.
+fn put_place(
+    alloc: Global,
+    name: &str,
+    place: usize,
+    first_places: &mut FirstPlaces,
+) -> Result<(), NoMemory>
+    ensures ok { OnOk result ((names : List (List ℕ)) → length names ≡ place → FindsFirstPlaces first_places.old names → FindsFirstPlaces first_places.new (names ++ name.now ∷ [])) }
+    ensures err { OnErr result ((names : List (List ℕ)) → FindsFirstPlaces first_places.old names → FindsFirstPlaces first_places.new names) }
+{
+    if !first_places.contains_key(name) {
+        let key = SmallText::from_str(alloc, name)?;
+        first_places.insert(key, place)?;
+    }
+    Ok(())
+}
+
+/// The first places of these names.
+fn table_of(alloc: Global, names: &[SmallText]) -> Result<FirstPlaces, NoMemory>
+    ensures { IfOk result (λ first_places. FindsFirstPlaces first_places names.now) }
+{
+    let mut first_places = IndexMap::new(alloc);
+    for (place, name) in names.iter().enumerate() {
+        put_place(alloc, name.as_str(), place, &mut first_places)?;
+    }
+    Ok(first_places)
 }
 
 impl NameList {
@@ -35,7 +77,7 @@ impl NameList {
         NameList {
             alloc,
             names: Vec::new(alloc),
-            first_places: HashMap::new(alloc),
+            first_places: IndexMap::new(alloc),
         }
     }
 
@@ -53,12 +95,14 @@ impl NameList {
         ensures err { OnErr result (self.new ≡ self.old) }
     {
         let is_first = !self.contains(name);
-        let place = self.len();
-        let text = OwnedText::from_str(self.alloc, name)?;
+        let text = SmallText::from_str(self.alloc, name)?;
         self.names.reserve(1)?;
-        if is_first {
-            let key = String::from_str(self.alloc, name)?;
-            self.first_places.insert(key, place)?;
+        let place = self.len();
+        if place == FEW {
+            self.first_places = table_of(self.alloc, &self.names)?;
+        }
+        if place >= FEW {
+            put_place(self.alloc, name, place, &mut self.first_places)?;
         }
         self.names.push_reserved(text);
         Ok(is_first)
@@ -68,14 +112,18 @@ impl NameList {
     pub fn place(&self, name: &str) -> Option<usize>
         ensures { result ≡ position (bytes_eq name.now) self.now }
     {
-        self.first_places.get(name).copied()
+        if self.len() > FEW {
+            self.first_places.get(name).copied()
+        } else {
+            place_among(&self.names, name)
+        }
     }
 
     /// Whether that name was put. It takes no memory.
     pub fn contains(&self, name: &str) -> bool
         ensures { result ≡ list_any (bytes_eq name.now) self.now }
     {
-        self.first_places.contains_key(name)
+        self.place(name).is_some()
     }
 
     /// The name at that place, counted from 0.

@@ -34,10 +34,3 @@ pub use gq_tree::{
     TypeSystemDefinition, Value, Variable, VariableDefinition,
 };
 pub use parser::parse;
-
-#[cfg(test)]
-mod printed;
-#[cfg(test)]
-mod tests;
-#[cfg(test)]
-mod tests_first_fault;

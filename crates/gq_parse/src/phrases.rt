@@ -10,7 +10,7 @@ ghost use Rattle.gq_parse.specs.From.{from};
 ghost use Rattle.gq_parse.specs.Phrases.{Lacks};
 
 use gq_lex::{Kind, Token};
-use gq_text::{OwnedText, Span};
+use gq_text::{SmallText, Span};
 use gq_tree::{Literal, Name, OperationKind};
 use std::alloc::Global;
 
@@ -86,7 +86,7 @@ fn copied(alloc: Global, token: Token<'_>) -> Result<Literal, Miss>
     ensures ok { IfOk result (λ n. (n.text ≡ token.entry.text.now) × (n.span ≡ token.entry.span)) }
     ensures err { IfErr result (λ e. e ≡ Miss.NoMemory) }
 {
-    match OwnedText::from_str(alloc, token.text) {
+    match SmallText::from_str(alloc, token.text) {
         Ok(text) => Ok(Literal {
             text,
             span: token.span,

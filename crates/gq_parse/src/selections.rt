@@ -77,6 +77,7 @@ fn selections(
     let mut at = start;
     loop {
         if let Some(end) = punctuator(Kind::BraceClose, tokens, at) {
+            items.shrink_to_fit();
             return Ok((items, end));
         }
         let (one, behind) = selection(alloc, tokens, at)?;

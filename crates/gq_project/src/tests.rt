@@ -1,78 +1,117 @@
 use crate::document::{Doc, DocChange};
 use crate::project::Project;
-use gq_text::{NoMemory, OwnedText};
+use gq_text::OwnedText;
 use std::alloc::Global;
+use std::process::Abort;
 use std::test::Fail;
 
-fn doc(alloc: Global, key: &str, version: i64, text: &str) -> Result<Doc, NoMemory> {
+/// The document of these words: its key, its version and its text.
+fn doc(alloc: Global, words: &str) -> Result<Doc, Fail> {
+    let (key, rest) = words.split_once(' ').ok_or("no version")?;
+    let (version, text) = rest.split_once(' ').ok_or("no text")?;
     Ok(Doc {
         key: OwnedText::from_str(alloc, key)?,
         uri: OwnedText::from_str(alloc, key)?,
-        version,
+        version: version.parse()?,
         text: OwnedText::from_str(alloc, text)?,
     })
 }
 
-/// The documents' keys, versions and texts, a document a line.
+/// The document's words in brackets, or `none`.
+fn shown(alloc: Global, doc: Option<&Doc>) -> Result<String, Fail> {
+    match doc {
+        Some(doc) => {
+            let (key, text) = (doc.key.as_str(), doc.text.as_str());
+            Ok(format!(in alloc; "({key} {} {text})", doc.version)?)
+        }
+        None => Ok(String::from_str(alloc, "none")?),
+    }
+}
+
+/// The words of all documents, each in brackets.
 fn listing(alloc: Global, project: &Project) -> Result<String, Fail> {
     let mut all = String::new(alloc);
     for doc in project.documents() {
-        let key = doc.key.as_str();
-        let text = doc.text.as_str();
-        let version = doc.version;
-        let line = format!(in alloc; "{key} {version} {text}\n")?;
-        all.push_str(line.as_str())?;
+        all.push_str(shown(alloc, Some(doc))?.as_str())?;
     }
     Ok(all)
 }
 
-#[test]
-fn documents_are_in_order_of_keys(rt: HostRuntime) -> Result<(), Fail> {
-    let alloc = rt.alloc();
-    let mut project = Project::new(alloc);
-    for key in ["b", "a%20", "c", "a", "B"] {
-        project.put(doc(alloc, key, 1, "{x}")?)?;
+/// Does one step, and shows the document that it finds, or all documents after it.
+fn step(alloc: Global, project: &mut Project, words: &str) -> Result<String, Fail> {
+    let (name, rest) = words.split_once(' ').unwrap_or((words, ""));
+    match name {
+        "put" => project.put(doc(alloc, rest)?)?,
+        "change" => project.change(DocChange::Put(doc(alloc, rest)?))?,
+        "close" => project.change(DocChange::Close(OwnedText::from_str(alloc, rest)?))?,
+        "get" => return shown(alloc, project.get(rest)),
+        "take" => {
+            let taken = project.take(rest);
+            return shown(alloc, taken.as_ref());
+        }
+        _ => {}
     }
-    let all = listing(alloc, &project)?;
-    assert_eq!(rt;
-        all.as_str(),
-        "B 1 {x}\na 1 {x}\na%20 1 {x}\nb 1 {x}\nc 1 {x}\n"
-    );
+    listing(alloc, project)
+}
+
+/// Each row is a step and, behind `=>`, what it shows.
+fn assert_steps(
+    alloc: Global,
+    rt: &impl Abort,
+    project: &mut Project,
+    rows: &str,
+) -> Result<(), Fail> {
+    for row in rows.trim().lines() {
+        let (words, want) = row.split_once("=>").unwrap_or((row, "no arrow"));
+        let told = step(alloc, project, words.trim())?;
+        assert_eq!(rt; told.as_str(), want.trim(), "{row}");
+    }
     Ok(())
 }
 
 #[test]
+fn documents_are_in_order_of_keys(rt: HostRuntime) -> Result<(), Fail> {
+    let mut project = Project::new(rt.alloc());
+    let rows = "
+        put b 1 {x} => (b 1 {x})
+        put a%20 1 {x} => (a%20 1 {x})(b 1 {x})
+        put c 1 {x} => (a%20 1 {x})(b 1 {x})(c 1 {x})
+        put a 1 {x} => (a 1 {x})(a%20 1 {x})(b 1 {x})(c 1 {x})
+        put B 1 {x} => (B 1 {x})(a 1 {x})(a%20 1 {x})(b 1 {x})(c 1 {x})
+    ";
+    assert_steps(rt.alloc(), &rt, &mut project, rows)
+}
+
+#[test]
 fn a_document_is_replaced_and_taken(rt: HostRuntime) -> Result<(), Fail> {
-    let alloc = rt.alloc();
-    let mut project = Project::new(alloc);
-    project.put(doc(alloc, "q", 1, "{x}")?)?;
-    project.put(doc(alloc, "s", 1, "type Query{x:Int}")?)?;
-    project.put(doc(alloc, "q", 2, "{x x}")?)?;
-    assert_eq!(rt; project.documents().len(), 2);
-    let found = project.get("q").ok_or("no q")?;
-    assert_eq!(rt; found.version, 2);
-    assert_eq!(rt; found.text.as_str(), "{x x}");
-    let taken = project.take("q").ok_or("no q")?;
-    assert_eq!(rt; taken.version, 2);
-    assert!(rt; project.take("q").is_none());
-    assert!(rt; project.get("q").is_none());
-    let all = listing(alloc, &project)?;
-    assert_eq!(rt; all.as_str(), "s 1 type Query{x:Int}\n");
-    Ok(())
+    let mut project = Project::new(rt.alloc());
+    let rows = "
+        put q 1 {x} => (q 1 {x})
+        put s 1 type Query{x:Int} => (q 1 {x})(s 1 type Query{x:Int})
+        put q 2 {x x} => (q 2 {x x})(s 1 type Query{x:Int})
+        get q => (q 2 {x x})
+        take q => (q 2 {x x})
+        take q => none
+        get q => none
+        list => (s 1 type Query{x:Int})
+    ";
+    assert_steps(rt.alloc(), &rt, &mut project, rows)
 }
 
 #[test]
 fn changes_put_and_close(rt: HostRuntime) -> Result<(), Fail> {
     let alloc = rt.alloc();
     let mut project = Project::new(alloc);
-    project.change(DocChange::Put(doc(alloc, "q", 1, "{x}")?))?;
-    project.change(DocChange::Put(doc(alloc, "f", -7, "{y}")?))?;
-    let copy = project.copied(alloc)?;
-    project.change(DocChange::Close(OwnedText::from_str(alloc, "q")?))?;
-    project.change(DocChange::Close(OwnedText::from_str(alloc, "none")?))?;
-    let left = listing(alloc, &project)?;
-    assert_eq!(rt; left.as_str(), "f -7 {y}\n");
-    let all = listing(alloc, &copy)?;
-    assert_eq!(rt; all.as_str(), "f -7 {y}\nq 1 {x}\n");
-    Ok(())
+    let opened = "
+        change q 1 {x} => (q 1 {x})
+        change f -7 {y} => (f -7 {y})(q 1 {x})
+    ";
+    assert_steps(alloc, &rt, &mut project, opened)?;
+    let mut copy = project.copied(alloc)?;
+    let closed = "
+        close q => (f -7 {y})
+        close none => (f -7 {y})
+    ";
+    assert_steps(alloc, &rt, &mut project, closed)?;
+    assert_steps(alloc, &rt, &mut copy, "list => (f -7 {y})(q 1 {x})")
 }

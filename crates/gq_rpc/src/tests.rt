@@ -10,16 +10,25 @@ use gq_text::{Items, OwnedText, Position, Range};
 use std::alloc::Global;
 use std::io;
 use std::io::{ErrorKind, Read, Write};
+use std::process::Abort;
 use std::test::Fail;
 
-/// The bodies that stand in a stream that comes in pieces of `size` bytes, each ended by `|`, and the first fault.
-fn cut(alloc: Global, stream: &[u8], size: usize) -> Result<(Vec<u8>, Result<(), FrameFault>), Fail>
+/// The text with a carriage return for `␍`, a line feed for `␊` and a tabulator for `␉`.
+fn without_signs(alloc: Global, text: &str) -> Result<String, Fail> {
+    let text = text.replace(alloc, "␍", "\r")?;
+    let text = text.as_str().replace(alloc, "␊", "\n")?;
+    Ok(text.as_str().replace(alloc, "␉", "\t")?)
+}
+
+/// The bodies that stand in a stream that comes in pieces of `size` bytes, each ended by `|`, and the answer to its end or
+/// the first fault.
+fn cut(alloc: Global, stream: &str, size: usize) -> Result<String, Fail>
     requires { 0 < size }
 {
     let mut framer = Framer::new(alloc);
     let mut bodies = Vec::new(alloc);
     let mut answer = Ok(());
-    for piece in stream.chunks(size) {
+    for piece in stream.as_bytes().chunks(size) {
         if answer.is_ok() {
             answer = framer.feed(alloc, piece, &mut bodies);
         }
@@ -32,92 +41,68 @@ fn cut(alloc: Global, stream: &[u8], size: usize) -> Result<(Vec<u8>, Result<(),
         joined.extend_from_slice(body)?;
         joined.push(b'|')?;
     }
-    Ok((joined, answer))
+    Ok(format!(in alloc; "{}{answer:?}", String::from_utf8(joined)?)?)
 }
 
-/// Streams of whole frames, and their bodies.
-fn whole_streams() -> [(&'static str, &'static str); 3] {
-    [
-        (
-            "Content-Length: 2\r\n\r\n{}content-length:3 \r\nX-A: b\r\nX-C: \r\r\n\r\n[1]",
-            "{}|[1]|",
-        ),
-        ("", ""),
-        ("Content-Length: 0\r\n\r\n", "|"),
-    ]
-}
-
-/// Streams that cannot be read to their end, the bodies before the fault, and the fault.
-fn broken_streams() -> [(&'static str, &'static str, FrameFault); 12] {
-    let bad = FrameFault::BadHeader;
-    [
-        (
-            "Content-Length: 2\r\n\r\n{}Content-Length: 1\r\n\r\n",
-            "{}|",
-            FrameFault::Truncated,
-        ),
-        ("Content-Length: 2\r\n\r\n{}C", "{}|", FrameFault::Truncated),
-        (
-            "Content-Length: 2\r\n\r\n{}X-A: b\r\n\r\n",
-            "{}|",
-            FrameFault::NoLength,
-        ),
-        ("Content-Length : 2\r\n\r\n{}", "", FrameFault::NoLength),
-        ("Content-Length: 16777217\r\n\r\n", "", FrameFault::TooLong),
-        ("Content-Length: 2\r\nContent-Length: 2\r\n\r\n{}", "", bad),
-        ("Content-Length: 2\n\r\n{}", "", bad),
-        ("Content-Length: 2\r\n\n{}", "", bad),
-        ("Content-Length: +2\r\n\r\n{}", "", bad),
-        ("Content-Length: \r\n\r\n", "", bad),
-        ("Content-Length: 2\t\r\n\r\n{}", "", bad),
-        ("Content-Length: 2\r\nX-A\r\n\r\n{}", "", bad),
-    ]
+/// Each row is a stream and, behind `=>`, what it is cut into, whatever pieces it comes in.
+fn assert_cut(alloc: Global, rt: &impl Abort, rows: &str) -> Result<(), Fail> {
+    for row in rows.trim().lines() {
+        let (stream, want) = row.split_once("=>").unwrap_or((row, "no arrow"));
+        let stream = without_signs(alloc, stream.trim())?;
+        for size in [1, 7, 100] {
+            let told = cut(alloc, stream.as_str(), size)?;
+            assert_eq!(rt; told.as_str(), want.trim(), "{row} by {size}");
+        }
+    }
+    Ok(())
 }
 
 #[test]
 fn streams_are_cut_however_they_come(rt: HostRuntime) -> Result<(), Fail> {
-    for (stream, bodies) in whole_streams() {
-        for size in [1, 7, 100] {
-            let (joined, told) = cut(rt.alloc(), stream.as_bytes(), size)?;
-            assert_eq!(rt;
-                joined.as_slice(),
-                bodies.as_bytes(),
-                "{stream:?} by {size}"
-            );
-            assert_eq!(rt; told, Ok(()), "{stream:?} by {size}");
-        }
-    }
-    Ok(())
+    let rows = "
+        Content-Length: 2␍␊␍␊{}content-length:3 ␍␊X-A: b␍␊X-C: ␍␍␊␍␊[1] => {}|[1]|Ok(())
+        => Ok(())
+        Content-Length: 0␍␊␍␊ => |Ok(())
+    ";
+    assert_cut(rt.alloc(), &rt, rows)
 }
 
 #[test]
 fn faults_are_told_however_they_come(rt: HostRuntime) -> Result<(), Fail> {
-    for (stream, bodies, fault) in broken_streams() {
-        for size in [1, 7, 100] {
-            let (joined, told) = cut(rt.alloc(), stream.as_bytes(), size)?;
-            assert_eq!(rt;
-                joined.as_slice(),
-                bodies.as_bytes(),
-                "{stream:?} by {size}"
-            );
-            assert_eq!(rt; told, Err(fault), "{stream:?} by {size}");
-        }
-    }
-    Ok(())
+    let rows = "
+        Content-Length: 2␍␊␍␊{}Content-Length: 1␍␊␍␊ => {}|Err(Truncated)
+        Content-Length: 2␍␊␍␊{}C => {}|Err(Truncated)
+        Content-Length: 2␍␊␍␊{}X-A: b␍␊␍␊ => {}|Err(NoLength)
+        Content-Length : 2␍␊␍␊{} => Err(NoLength)
+        Content-Length: 16777217␍␊␍␊ => Err(TooLong)
+        Content-Length: 2␍␊Content-Length: 2␍␊␍␊{} => Err(BadHeader)
+        Content-Length: 2␊␍␊{} => Err(BadHeader)
+        Content-Length: 2␍␊␊{} => Err(BadHeader)
+        Content-Length: +2␍␊␍␊{} => Err(BadHeader)
+        Content-Length: ␍␊␍␊ => Err(BadHeader)
+        Content-Length: 2␉␍␊␍␊{} => Err(BadHeader)
+        Content-Length: 2␍␊X-A␍␊␍␊{} => Err(BadHeader)
+    ";
+    assert_cut(rt.alloc(), &rt, rows)
+}
+
+/// What the frame of an empty body is cut into, with so many bytes in a field of its header part.
+fn cut_filled(alloc: Global, filler: usize) -> Result<String, Fail> {
+    let filled = "x".repeat(alloc, filler)?;
+    let stream = format!(in alloc; "Content-Length: 0\r\nX:{filled}\r\n\r\n")?;
+    cut(alloc, stream.as_str(), 512)
 }
 
 #[test]
 fn header_parts_have_at_most_4096_bytes(rt: HostRuntime) -> Result<(), Fail> {
     let alloc = rt.alloc();
-    for (filler, answer) in [(4071, Ok(())), (4072, Err(FrameFault::BadHeader))] {
-        let filled = "x".repeat(alloc, filler)?;
-        let stream = format!(in alloc; "Content-Length: 0\r\nX:{filled}\r\n\r\n")?;
-        let (_, told) = cut(alloc, stream.as_bytes(), 512)?;
-        assert_eq!(rt; told, answer, "{filler}");
-    }
-    let endless = "x".repeat(alloc, 4097)?;
-    let (_, told) = cut(alloc, endless.as_bytes(), 5000)?;
-    assert_eq!(rt; told, Err(FrameFault::BadHeader));
+    let most = cut_filled(alloc, 4071)?;
+    let more = cut_filled(alloc, 4072)?;
+    let endless = cut(alloc, "x".repeat(alloc, 4097)?.as_str(), 5000)?;
+    assert_eq!(rt;
+        [most.as_str(), more.as_str(), endless.as_str()],
+        ["|Ok(())", "Err(BadHeader)", "Err(BadHeader)"]
+    );
     Ok(())
 }
 
@@ -127,17 +112,12 @@ fn after_a_fault_a_framer_has_failed(rt: HostRuntime) -> Result<(), Fail> {
     let mut framer = Framer::new(alloc);
     let mut bodies = Vec::new(alloc);
     let stream = b"Content-Length: 2\r\n\r\n{}\r\n";
-    assert_eq!(rt;
-        framer.feed(alloc, stream, &mut bodies),
-        Err(FrameFault::NoLength)
-    );
-    assert_eq!(rt; bodies.len(), 1);
-    assert_eq!(rt;
-        framer.feed(alloc, stream, &mut bodies),
-        Err(FrameFault::Failed)
-    );
-    assert_eq!(rt; bodies.len(), 1);
-    assert_eq!(rt; framer.end(), Err(FrameFault::Failed));
+    let first = framer.feed(alloc, stream, &mut bodies);
+    let count = bodies.len();
+    let second = framer.feed(alloc, stream, &mut bodies);
+    let told = (first, count, second, bodies.len(), framer.end());
+    let failed = Err(FrameFault::Failed);
+    assert_eq!(rt; told, (Err(FrameFault::NoLength), 1, failed, 1, failed));
     let printed = format!(in alloc; "{} {}", FrameFault::TooLong, SinkFailed)?;
     assert_eq!(rt; printed.as_str(), "TooLong Device");
     Ok(())
@@ -171,7 +151,7 @@ fn show_request(alloc: Global, request: &Request) -> Result<String, Fail> {
 fn show_notification(alloc: Global, notification: &Notification) -> Result<String, Fail> {
     match notification {
         Notification::DidOpen(d) => Ok(format!(in alloc;
-            "open {} {} {} {}",
+            "open {} {} {} '{}'",
             d.key.as_str(),
             d.uri.as_str(),
             d.version,
@@ -199,103 +179,51 @@ fn show(alloc: Global, message: &Incoming) -> Result<String, Fail> {
     }
 }
 
-/// Bodies that are requests or no messages, and how they are shown.
-fn requests() -> [(&'static str, &'static str); 16] {
-    [
-        (
-            r#"{"jsonrpc":"2.0","id":1,"method":"initialize","params":{"processId":null,"rootUri":null,"capabilities":{"workspace":{"workspaceEdit":{"documentChanges":true}}}}}"#,
-            "1 initialize true",
-        ),
-        (
-            r#"{"id":"1","method":"initialize","params":null}"#,
-            "'1' initialize false",
-        ),
-        (
-            r#"{"id":-5,"method":"initialize","params":{"capabilities":{"workspace":{"workspaceEdit":{"documentChanges":1}}}}}"#,
-            "-5 initialize false",
-        ),
-        (
-            r#"{"jsonrpc":"2.0","id":2,"method":"textDocument/rename","params":{"textDocument":{"uri":"file:///q.graphql"},"position":{"line":0,"character":11},"newName":"B"}}"#,
-            "2 rename file:///q.graphql 0:11 B",
-        ),
-        (
-            r#"{"id":2,"method":"textDocument/rename","params":{"textDocument":{"uri":"file:///q"},"position":{"line":2147483647,"character":2147483648},"newName":"B"}}"#,
-            "2 invalid",
-        ),
-        (
-            r#"{"id":2,"method":"textDocument/rename","params":{"textDocument":{"uri":"file:///q"},"position":{"line":0,"character":-1},"newName":"B"}}"#,
-            "2 invalid",
-        ),
-        (
-            r#"{"id":2,"method":"textDocument/rename","params":{"textDocument":{"uri":"file:///q"},"position":{"line":0,"character":1}}}"#,
-            "2 invalid",
-        ),
-        (
-            r#"{"id":2,"method":"textDocument/rename","params":{"textDocument":{"uri":"q"},"position":{"line":0,"character":1},"newName":"B"}}"#,
-            "2 invalid",
-        ),
-        (r#"{"id":2,"method":"textDocument/rename"}"#, "2 invalid"),
-        (
-            r#"{"jsonrpc":"2.0","id":3,"method":"shutdown"}"#,
-            "3 shutdown",
-        ),
-        (
-            r#"{"id":9223372036854775807,"method":"exit"}"#,
-            "9223372036854775807 unknown",
-        ),
-        (
-            r#"{"id":9223372036854775808,"method":"shutdown"}"#,
-            "invalid null",
-        ),
-        (r#"{"id":1.0,"method":"shutdown"}"#, "invalid null"),
-        (r#"{"id":null,"method":"exit"}"#, "invalid null"),
-        (r#"{"id":4,"method":5}"#, "invalid 4"),
-        (r#"{"id":"a"}"#, "invalid 'a'"),
-    ]
-}
-
-/// Bodies that are notifications, answers or no messages, and how they are shown.
-fn notifications() -> [(&'static str, &'static str); 11] {
-    [
-        (
-            r#"{"jsonrpc":"2.0","method":"textDocument/didOpen","params":{"textDocument":{"uri":"file:///s.graphql","languageId":"graphql","version":1,"text":"type Query{x:Int}"}}}"#,
-            "open file:///s.graphql file:///s.graphql 1 type Query{x:Int}",
-        ),
-        (
-            r#"{"method":"textDocument/didOpen","params":{"textDocument":{"uri":"file:///%7es","version":-2,"text":""}}}"#,
-            "open file:///~s file:///%7es -2 ",
-        ),
-        (
-            r#"{"method":"textDocument/didOpen","params":{"textDocument":{"uri":"s","version":1,"text":""}}}"#,
-            "unknown",
-        ),
-        (
-            r#"{"method":"textDocument/didOpen","params":{"textDocument":{"uri":"file:///s","version":1.0,"text":""}}}"#,
-            "unknown",
-        ),
-        (r#"{"jsonrpc":"2.0","method":"exit"}"#, "exit"),
-        (r#"{"method":"shutdown"}"#, "unknown"),
-        (r#"{"id":4,"result":null}"#, "ignored"),
-        (r#"{"error":{}}"#, "ignored"),
-        ("[]", "invalid null"),
-        ("", "not JSON"),
-        ("{\"id\":1}}", "not JSON"),
-    ]
+/// Each row is a body and, behind `=>`, how its message is shown.
+fn assert_shown(alloc: Global, rt: &impl Abort, rows: &str) -> Result<(), Fail> {
+    for row in rows.trim().lines() {
+        let (body, want) = row.split_once("=>").unwrap_or((row, "no arrow"));
+        let message = read_message(alloc, body.trim().as_bytes())?;
+        let told = show(alloc, &message)?;
+        assert_eq!(rt; told.as_str(), want.trim(), "{row}");
+    }
+    Ok(())
 }
 
 #[test]
 fn bodies_are_messages(rt: HostRuntime) -> Result<(), Fail> {
-    for (body, shown) in requests() {
-        let message = read_message(rt.alloc(), body.as_bytes())?;
-        assert_eq!(rt; show(rt.alloc(), &message)?.as_str(), shown, "{body}");
-    }
-    for (body, shown) in notifications() {
-        let message = read_message(rt.alloc(), body.as_bytes())?;
-        assert_eq!(rt; show(rt.alloc(), &message)?.as_str(), shown, "{body}");
-    }
-    let message = read_message(rt.alloc(), b"\"\xff\"")?;
-    assert_eq!(rt; show(rt.alloc(), &message)?.as_str(), "not JSON");
-    Ok(())
+    let rows = r#"
+        {"jsonrpc":"2.0","id":1,"method":"initialize","params":{"processId":null,"rootUri":null,"capabilities":{"workspace":{"workspaceEdit":{"documentChanges":true}}}}} => 1 initialize true
+        {"id":"1","method":"initialize","params":null} => '1' initialize false
+        {"id":-5,"method":"initialize","params":{"capabilities":{"workspace":{"workspaceEdit":{"documentChanges":1}}}}} => -5 initialize false
+        {"jsonrpc":"2.0","id":2,"method":"textDocument/rename","params":{"textDocument":{"uri":"file:///q.graphql"},"position":{"line":0,"character":11},"newName":"B"}} => 2 rename file:///q.graphql 0:11 B
+        {"id":2,"method":"textDocument/rename","params":{"textDocument":{"uri":"file:///q"},"position":{"line":2147483647,"character":2147483648},"newName":"B"}} => 2 invalid
+        {"id":2,"method":"textDocument/rename","params":{"textDocument":{"uri":"file:///q"},"position":{"line":0,"character":-1},"newName":"B"}} => 2 invalid
+        {"id":2,"method":"textDocument/rename","params":{"textDocument":{"uri":"file:///q"},"position":{"line":0,"character":1}}} => 2 invalid
+        {"id":2,"method":"textDocument/rename","params":{"textDocument":{"uri":"q"},"position":{"line":0,"character":1},"newName":"B"}} => 2 invalid
+        {"id":2,"method":"textDocument/rename"} => 2 invalid
+        {"jsonrpc":"2.0","id":3,"method":"shutdown"} => 3 shutdown
+        {"id":9223372036854775807,"method":"exit"} => 9223372036854775807 unknown
+        {"id":9223372036854775808,"method":"shutdown"} => invalid null
+        {"id":1.0,"method":"shutdown"} => invalid null
+        {"id":null,"method":"exit"} => invalid null
+        {"id":4,"method":5} => invalid 4
+        {"id":"a"} => invalid 'a'
+        {"jsonrpc":"2.0","method":"textDocument/didOpen","params":{"textDocument":{"uri":"file:///s.graphql","languageId":"graphql","version":1,"text":"type Query{x:Int}"}}} => open file:///s.graphql file:///s.graphql 1 'type Query{x:Int}'
+        {"method":"textDocument/didOpen","params":{"textDocument":{"uri":"file:///%7es","version":-2,"text":""}}} => open file:///~s file:///%7es -2 ''
+        {"method":"textDocument/didOpen","params":{"textDocument":{"uri":"s","version":1,"text":""}}} => unknown
+        {"method":"textDocument/didOpen","params":{"textDocument":{"uri":"file:///s","version":1.0,"text":""}}} => unknown
+        {"jsonrpc":"2.0","method":"exit"} => exit
+        {"method":"shutdown"} => unknown
+        {"id":4,"result":null} => ignored
+        {"error":{}} => ignored
+        [] => invalid null
+        => not JSON
+        {"id":1}} => not JSON
+    "#;
+    let no_text = read_message(rt.alloc(), b"\"\xff\"")?;
+    assert_eq!(rt; show(rt.alloc(), &no_text)?.as_str(), "not JSON");
+    assert_shown(rt.alloc(), &rt, rows)
 }
 
 fn edit_at(alloc: Global, start: u32, end: u32) -> Result<TextEdit, Fail> {
@@ -328,75 +256,80 @@ fn renamed(alloc: Global) -> Result<WorkspaceEdit, Fail> {
     Ok(WorkspaceEdit { document_changes })
 }
 
-/// What is written for the messages of `messages`, in order.
-fn frames() -> [&'static str; 7] {
-    [
-        "Content-Length: 152\r\n\r\n{\"id\":1,\"jsonrpc\":\"2.0\",\"result\":{\"capabilities\":{\"renameProvider\":true,\"textDocumentSync\":{\"change\":2,\"openClose\":true}},\"serverInfo\":{\"name\":\"gqls\"}}}",
-        "Content-Length: 131\r\n\r\n{\"id\":-1,\"jsonrpc\":\"2.0\",\"result\":{\"capabilities\":{\"textDocumentSync\":{\"change\":2,\"openClose\":true}},\"serverInfo\":{\"name\":\"gqls\"}}}",
-        "Content-Length: 306\r\n\r\n{\"id\":2,\"jsonrpc\":\"2.0\",\"result\":{\"documentChanges\":[{\"edits\":[{\"newText\":\"B\",\"range\":{\"end\":{\"character\":12,\"line\":0},\"start\":{\"character\":11,\"line\":0}}},{\"newText\":\"B\",\"range\":{\"end\":{\"character\":24,\"line\":0},\"start\":{\"character\":23,\"line\":0}}}],\"textDocument\":{\"uri\":\"file:///q.graphql\",\"version\":1}}]}}",
-        "Content-Length: 38\r\n\r\n{\"id\":3,\"jsonrpc\":\"2.0\",\"result\":null}",
-        "Content-Length: 72\r\n\r\n{\"error\":{\"code\":-32803,\"message\":\"5 NameTaken\"},\"id\":2,\"jsonrpc\":\"2.0\"}",
-        "Content-Length: 79\r\n\r\n{\"error\":{\"code\":-32600,\"message\":\"invalid request\"},\"id\":null,\"jsonrpc\":\"2.0\"}",
-        "Content-Length: 75\r\n\r\n{\"error\":{\"code\":-32700,\"message\":\"parse error\"},\"id\":null,\"jsonrpc\":\"2.0\"}",
-    ]
-}
-
-fn messages(alloc: Global) -> Result<Vec<Outgoing>, Fail> {
+/// The message of that name.
+fn outgoing(alloc: Global, name: &str) -> Result<Outgoing, Fail> {
     let offered = ServerCapabilities {
         rename_provider: true,
     };
     let withheld = ServerCapabilities {
         rename_provider: false,
     };
-    let taken = OwnedText::from_str(alloc, "5 NameTaken")?;
-    let mut all = Vec::new(alloc);
-    all.push(Outgoing::Initialized(Id::Number(1), offered))?;
-    all.push(Outgoing::Initialized(Id::Number(-1), withheld))?;
-    all.push(Outgoing::Renamed(Id::Number(2), renamed(alloc)?))?;
-    all.push(Outgoing::ShutDown(Id::Number(3)))?;
-    all.push(Outgoing::Error(Some(Id::Number(2)), ResponseError::RequestFailed(taken)))?;
-    all.push(Outgoing::Error(None, ResponseError::InvalidRequest))?;
-    all.push(Outgoing::Error(None, ResponseError::ParseError))?;
-    Ok(all)
+    let taken = ResponseError::RequestFailed(OwnedText::from_str(alloc, "5 NameTaken")?);
+    Ok(match name {
+        "offered" => Outgoing::Initialized(Id::Number(1), offered),
+        "withheld" => Outgoing::Initialized(Id::Number(-1), withheld),
+        "renamed" => Outgoing::Renamed(Id::Number(2), renamed(alloc)?),
+        "shut down" => Outgoing::ShutDown(Id::Number(3)),
+        "name taken" => Outgoing::Error(Some(Id::Number(2)), taken),
+        "invalid request" => Outgoing::Error(None, ResponseError::InvalidRequest),
+        _ => Outgoing::Error(None, ResponseError::ParseError),
+    })
+}
+
+/// Each row is the name of a message and, behind `=>`, its frame.
+fn assert_written(alloc: Global, rt: &impl Abort, rows: &str) -> Result<(), Fail> {
+    for row in rows.trim().lines() {
+        let (name, want) = row.split_once("=>").unwrap_or((row, "no arrow"));
+        let written = encode(alloc, &outgoing(alloc, name.trim())?)?;
+        let frame = without_signs(alloc, want.trim())?;
+        assert_eq!(rt; written.as_slice(), frame.as_str().as_bytes(), "{row}");
+    }
+    Ok(())
 }
 
 #[test]
 fn messages_are_written_byte_for_byte(rt: HostRuntime) -> Result<(), Fail> {
-    let all = messages(rt.alloc())?;
-    assert_eq!(rt; all.len(), 7);
-    for (message, frame) in all.iter().zip(frames()) {
-        let bytes = encode(rt.alloc(), message)?;
-        assert_eq!(rt; bytes.as_slice(), frame.as_bytes(), "{frame}");
-    }
-    Ok(())
+    let rows = r#"
+        offered => Content-Length: 152␍␊␍␊{"id":1,"jsonrpc":"2.0","result":{"capabilities":{"renameProvider":true,"textDocumentSync":{"change":2,"openClose":true}},"serverInfo":{"name":"gqls"}}}
+        withheld => Content-Length: 131␍␊␍␊{"id":-1,"jsonrpc":"2.0","result":{"capabilities":{"textDocumentSync":{"change":2,"openClose":true}},"serverInfo":{"name":"gqls"}}}
+        renamed => Content-Length: 306␍␊␍␊{"id":2,"jsonrpc":"2.0","result":{"documentChanges":[{"edits":[{"newText":"B","range":{"end":{"character":12,"line":0},"start":{"character":11,"line":0}}},{"newText":"B","range":{"end":{"character":24,"line":0},"start":{"character":23,"line":0}}}],"textDocument":{"uri":"file:///q.graphql","version":1}}]}}
+        shut down => Content-Length: 38␍␊␍␊{"id":3,"jsonrpc":"2.0","result":null}
+        name taken => Content-Length: 72␍␊␍␊{"error":{"code":-32803,"message":"5 NameTaken"},"id":2,"jsonrpc":"2.0"}
+        invalid request => Content-Length: 79␍␊␍␊{"error":{"code":-32600,"message":"invalid request"},"id":null,"jsonrpc":"2.0"}
+        parse error => Content-Length: 75␍␊␍␊{"error":{"code":-32700,"message":"parse error"},"id":null,"jsonrpc":"2.0"}
+    "#;
+    assert_written(rt.alloc(), &rt, rows)
 }
 
-/// URIs, and their keys.
-fn uris() -> [(&'static str, Option<&'static str>); 13] {
-    [
-        ("file:///q.graphql", Some("file:///q.graphql")),
-        ("FILE:///a%2fb/c", Some("file:///a%2Fb/c")),
-        ("file:///a b", Some("file:///a%20b")),
-        ("file:///%61%20b", Some("file:///a%20b")),
-        ("file:///~a-b_c.d/%7e", Some("file:///~a-b_c.d/~")),
-        ("file:///a+b,(c)@d", Some("file:///a%2Bb%2C%28c%29%40d")),
-        ("file:///\u{e9}", Some("file:///%C3%A9")),
-        ("file:///%c3%a9", Some("file:///%C3%A9")),
-        ("file:///100%", Some("file:///100%25")),
-        ("http://h/a%3fb?c%3d#d", Some("http://h/a%3Fb?c%3d#d")),
-        ("untitled:Untitled-1", Some("untitled:Untitled-1")),
-        ("q.graphql", None),
-        ("", None),
-    ]
+/// Each row is a URI and, behind `=>`, its key, or `none`.
+fn assert_keys(alloc: Global, rt: &impl Abort, rows: &str) -> Result<(), Fail> {
+    for row in rows.trim().lines() {
+        let (uri, want) = row.split_once("=>").unwrap_or((row, "no arrow"));
+        let key = key_of(alloc, uri.trim())?;
+        let told = key.as_ref().map(|text| text.as_str()).unwrap_or("none");
+        assert_eq!(rt; told, want.trim(), "{row}");
+    }
+    Ok(())
 }
 
 #[test]
 fn ways_to_write_a_uri_have_one_key(rt: HostRuntime) -> Result<(), Fail> {
-    for (uri, key) in uris() {
-        let found = key_of(rt.alloc(), uri)?;
-        assert_eq!(rt; found.as_ref().map(|text| text.as_str()), key, "{uri}");
-    }
-    Ok(())
+    let rows = "
+        file:///q.graphql => file:///q.graphql
+        FILE:///a%2fb/c => file:///a%2Fb/c
+        file:///a b => file:///a%20b
+        file:///%61%20b => file:///a%20b
+        file:///~a-b_c.d/%7e => file:///~a-b_c.d/~
+        file:///a+b,(c)@d => file:///a%2Bb%2C%28c%29%40d
+        file:///é => file:///%C3%A9
+        file:///%c3%a9 => file:///%C3%A9
+        file:///100% => file:///100%25
+        http://h/a%3fb?c%3d#d => http://h/a%3Fb?c%3d#d
+        untitled:Untitled-1 => untitled:Untitled-1
+        q.graphql => none
+        => none
+    ";
+    assert_keys(rt.alloc(), &rt, rows)
 }
 
 /// A reader and a writer of one byte a call, whose calls are interrupted in turn until they fail.
@@ -450,6 +383,17 @@ impl Write for Halting {
     }
 }
 
+/// What four reads give, each with the first byte of the buffer after it.
+fn read_four(alloc: Global, input: &mut Flagged<Halting>) -> Result<String, Fail> {
+    let mut buffer = [0u8; 4];
+    let mut told = String::new(alloc);
+    for _ in 0..4 {
+        let reading = input.read(&mut buffer);
+        write!(told, " {reading:?} {}", char::from(buffer[0]))?;
+    }
+    Ok(told)
+}
+
 #[test]
 fn interrupted_calls_are_done_again(rt: HostRuntime) -> Result<(), Fail> {
     let alloc = rt.alloc();
@@ -458,21 +402,20 @@ fn interrupted_calls_are_done_again(rt: HostRuntime) -> Result<(), Fail> {
         calls_left: 6,
     });
     assert_eq!(rt; send(&mut output, b"abc"), Ok(()));
-    assert_eq!(rt; output.inner.held.as_slice(), b"abc".as_slice());
-    assert_eq!(rt; send(&mut output, b"d"), Err(SinkFailed));
-    assert!(rt; output.failed);
+    let held = format!(in alloc; "{:?}", output.inner.held)?;
+    let more = send(&mut output, b"d");
+    let failed = output.failed;
     let mut input = Flagged::new(output.inner);
     let mut buffer = [0u8; 4];
-    assert_eq!(rt; input.read(&mut buffer), Reading::Failed);
+    let early = input.read(&mut buffer);
     input.inner.calls_left = 8;
-    let mut got = Vec::new(alloc);
-    for _ in 0..3 {
-        assert_eq!(rt; input.read(&mut buffer), Reading::Bytes(1));
-        got.push(buffer[0])?;
-    }
-    assert_eq!(rt; got.as_slice(), b"cba".as_slice());
-    assert_eq!(rt; input.read(&mut buffer), Reading::End);
-    assert!(rt; input.ended);
+    let read = read_four(alloc, &mut input)?;
+    let ended = input.ended;
+    let told = format!(in alloc; "{held} {more:?} {failed} {early:?}{read} {ended}")?;
+    assert_eq!(rt;
+        told.as_str(),
+        "[97, 98, 99] Err(SinkFailed) true Failed Bytes(1) c Bytes(1) b Bytes(1) a End a true"
+    );
     Ok(())
 }
 
@@ -480,8 +423,7 @@ fn interrupted_calls_are_done_again(rt: HostRuntime) -> Result<(), Fail> {
 fn a_write_of_nothing_is_a_failure(rt: HostRuntime) -> Result<(), Fail> {
     let mut room = [0u8; 2];
     let mut output = Flagged::new(room.as_mut_slice());
-    assert_eq!(rt; output.write(b"ab"), Some(2));
-    assert_eq!(rt; output.write(b"c"), None);
-    assert!(rt; output.failed);
+    let told = (output.write(b"ab"), output.write(b"c"), output.failed);
+    assert_eq!(rt; told, (Some(2), None, true));
     Ok(())
 }

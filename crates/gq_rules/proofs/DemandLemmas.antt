@@ -1,5 +1,5 @@
 -- All items together are what is demanded.
-use Rattle.std.proofs.Common.{◌≡◌, ◌↔◌, List, [], ◌∷◌, ◌++◌, Contains, refl, sym, subst, ap, ◌∙◌, ⊎_elim, inl, inr}
+use Rattle.std.proofs.Common.{◌≡◌, ◌↔◌, List, [], ◌∷◌, ◌++◌, Contains, refl, sym, subst, ap, ◌∙◌, ⊎_elim}
 use Rattle.std.proofs.lemmas.List.Elements.{Contains-append_left, Contains-append_right, Contains-append_cases}
 use Rattle.gq_names.proofs.RepeatLemmas.{contains_none, contains_first}
 use Rattle.gq_found.specs.declared.item.Item.{Item}
@@ -14,6 +14,7 @@ use Rattle.gq_rules.specs.RuleFaults.{IsRuleFault}
 use Rattle.gq_rules.specs.Demands.{IsToldFirst, unread, mixed, type_system, IsDemanded}
 use Rattle.gq_rules.specs.Demands as demand
 use Rattle.gq_rules.specs.Places.{unread_at, mixed_at, each_from}
+use Rattle.gq_rules.specs.Wrongs.{PutsWrong}
 use Rattle.gq_rules.proofs.ItemLemmas.{unread_are, mixed_are}
 
 module _ (readings : List Reading) (schema : List Item) (are : (item : Item) → Contains schema item ↔ IsSchemaFault (type_system_of readings) item) where
@@ -95,3 +96,32 @@ executable_is readings es os fs a b c =
     ap (λ e. record { entries = e; operations = os; fragments = fs }) a
     ∙ ap (λ o. record { entries = type_system_of readings; operations = o; fragments = fs }) b
     ∙ ap (λ f. record { entries = type_system_of readings; operations = operations_of readings; fragments = f }) c
+
+is_one : (x : Item) (xs : List Item) → x ∷ xs ≡ [] → ⊥
+is_one x xs e = cc
+
+-- all that is put, one after the other
+pub all_are : (readings : List Reading) (x : ExecutableOf) → x ≡ executable_of readings → (start unread_too mixed_too final : List Item) →
+    start ≡ [] → unread_too ≡ start ++ each_from unread_at 0 readings → mixed_too ≡ unread_too ++ each_from mixed_at 0 readings →
+    PutsWrong x mixed_too final → (item : Item) → Contains final item ↔ IsDemanded readings item
+all_are readings x same start unread_too mixed_too final empty one two w item = cases (mixed_too ++ w.schema) refl
+  where
+    cases : (xs : List Item) → mixed_too ++ w.schema ≡ xs → Contains final item ↔ IsDemanded readings item
+    cases [] e = rules_too readings x.entries (ap (λ y. y.entries) same) w.schema w.exact start unread_too mixed_too (mixed_too ++ w.schema)
+        empty one two refl x same e final (w.rules e) item
+    cases (y ∷ ys) e = subst (λ zs. Contains zs item ↔ IsDemanded readings item) (sym (w.alone some))
+        (first_alone readings x.entries (ap (λ z. z.entries) same) w.schema w.exact start unread_too mixed_too (mixed_too ++ w.schema)
+        empty one two refl some item)
+      where
+        some : mixed_too ++ w.schema ≡ [] → ⊥
+        some n = is_one y ys (sym e ∙ n)
+
+-- what the rules tell is put where nothing stands yet
+pub rules_put : (x : ExecutableOf) (old schema all final : List Item) → ((item : Item) → Contains schema item ↔ IsSchemaFault x.entries item) →
+    all ≡ old ++ schema → all ≡ [] → Puts (IsRuleFault x) all final → PutsWrong x old final
+rules_put x old schema all final exact is empty p = record {
+  schema = schema;
+  exact = exact;
+  alone = λ n. absurd (n (sym is ∙ empty));
+  rules = λ _. subst (λ xs. Puts (IsRuleFault x) xs final) is p;
+}

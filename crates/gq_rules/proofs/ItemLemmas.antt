@@ -1,10 +1,10 @@
 -- What is told of each reading is told of one.
-use Rattle.std.proofs.Common.{◌≡◌, ◌↔◌, ℕ, zero, suc, ◌+◌, Bool, true, false, List, [], ◌∷◌, ◌++◌, Option, Some, None, Contains, refl, sym, subst, arith, ⊎_elim, inl, inr, slice_get, if◌then◌else◌}
+use Rattle.std.proofs.Common.{◌≡◌, ◌↔◌, ℕ, zero, suc, ◌+◌, Bool, true, false, List, [], ◌∷◌, Option, Some, None, Contains, refl, sym, subst, arith, ⊎_elim, inl, inr, slice_get, if◌then◌else◌}
 use Rattle.std.proofs.lemmas.List.Elements.{Contains-append_left, Contains-append_right, Contains-append_cases}
 use Rattle.std.specs.List.{list_any}
 use Rattle.gq_text.specs.declared.place.Span.{Span}
-use Rattle.gq_tree.specs.Plain.{Def, TypeSystemOf}
-use Rattle.gq_names.proofs.RepeatLemmas.{contains_none, contains_later, contains_first, contains_cases}
+use Rattle.gq_tree.specs.Plain.{TypeSystemOf}
+use Rattle.gq_names.proofs.RepeatLemmas.{contains_none, contains_first, contains_cases}
 use Rattle.gq_found.specs.declared.item.Item.{Item}
 use Rattle.gq_read.specs.declared.reader.Reading.{Reading}
 use Rattle.gq_read.specs.declared.reader.Reading.TheVariants as reading
@@ -12,7 +12,7 @@ use Rattle.gq_document.specs.Definitions.{definitions_read}
 use Rattle.gq_rules.specs.Unread.{IsUnread}
 use Rattle.gq_rules.specs.Unread as unread
 use Rattle.gq_rules.specs.ExecutableDefinitions.{is_executable, first_of_type_system, IsMixed}
-use Rattle.gq_rules.specs.Places.{unread_at, mixed_item, mixed_in, mixed_at, each_from}
+use Rattle.gq_rules.specs.Places.{unread_at, mixed_item, mixed_at, each_from}
 
 -- where it stands
 pub from_each : (f : ℕ → Reading → List Item) (k : ℕ) (rs : List Reading) (item : Item) → Contains (each_from f k rs) item →

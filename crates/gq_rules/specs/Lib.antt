@@ -4,6 +4,7 @@ pub mod ExecutableDefinitions
 pub mod RuleFaults
 pub mod Demands
 pub mod Places
+pub mod Wrongs
 pub mod Validity
 pub mod ValidityViews
 pub mod Reported

@@ -10,6 +10,3 @@ pub mod valid;
 
 pub use report::{Report, validate};
 pub use valid::{Invalid, Valid, Why};
-
-#[cfg(test)]
-mod tests;

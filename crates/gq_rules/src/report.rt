@@ -1,11 +1,13 @@
 //! What is told of a project.
-ghost use Rattle.std.specs.Prelude.{◌≡◌, ◌↔◌, [], Contains, IfOk, OnOk, List};
+ghost use Rattle.std.specs.Prelude.{◌↔◌, Contains, IfOk, OnOk};
 ghost use Rattle.std.specs.List.Sorted.{IsStrictlySortedBy};
 ghost use Rattle.gq_found.specs.declared.item.Item.{Item};
 ghost use Rattle.gq_found.specs.Order.{item_cmp};
-ghost use Rattle.gq_found.specs.Puts.{Puts};
-ghost use Rattle.gq_rules.specs.Demands.{IsToldFirst, IsDemanded};
+ghost use Rattle.gq_document.specs.Executable.{executable_view};
+ghost use Rattle.gq_rules.specs.Demands.{IsDemanded};
+ghost use Rattle.gq_rules.specs.Project.{defined_in};
 ghost use Rattle.gq_rules.specs.Validity.{IsReportOf};
+ghost use Rattle.gq_rules.specs.Wrongs.{PutsWrong};
 
 use crate::executable_definitions::put_mixed;
 use crate::rule_faults::put_rule_faults;
@@ -54,22 +56,37 @@ fn all_items(alloc: Global, readings: Vec<Reading>) -> Result<Vec<Item>, NoMemor
     let mut items = Vec::new(alloc);
     put_unread(&readings, &mut items)?;
     put_mixed(&readings, &mut items)?;
-    let Definitions {
-        entries,
-        operations,
-        fragments,
-    } = Definitions::of(alloc, readings)?;
-    let types = Types::of(alloc, entries)?;
-    let mut wrong_types = schema_faults(alloc, &types)?;
+    let definitions = Definitions::of(alloc, readings)?;
+    put_wrong(alloc, definitions, &mut items)?;
+    Ok(items)
+}
+
+/// Puts what is wrong with the type system that is defined and, where nothing is told by then, what the rules tell of the
+/// operations and fragments.
+fn put_wrong(alloc: Global, definitions: Definitions, items: &mut Vec<Item>) -> Result<(), NoMemory>
+    ensures { OnOk result (PutsWrong (defined_in definitions.entries.items definitions.operations.items definitions.fragments.items) items.old.items items.new.items) }
+{
+    let types = Types::of(alloc, definitions.entries)?;
+    let executable = Executable {
+        types: &types,
+        operations: &definitions.operations,
+        fragments: &definitions.fragments,
+    };
+    put_wrong_in(alloc, &executable, items)
+}
+
+/// The same for the types that are looked up.
+fn put_wrong_in(
+    alloc: Global,
+    executable: &Executable<'_>,
+    items: &mut Vec<Item>,
+) -> Result<(), NoMemory>
+    ensures { OnOk result (PutsWrong (executable_view executable.now) items.old.items items.new.items) }
+{
+    let mut wrong_types = schema_faults(alloc, executable.types)?;
     items.append(&mut wrong_types)?;
     if items.is_empty() {
-        let executable = Executable {
-            types: &types,
-            operations: &operations,
-            fragments: &fragments,
-        };
-        put_rule_faults(alloc, &executable, &mut items)?;
-        return Ok(items);
+        return put_rule_faults(alloc, executable, items);
     }
-    Ok(items)
+    Ok(())
 }

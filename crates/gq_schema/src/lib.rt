@@ -5,6 +5,3 @@ pub mod laws;
 pub mod schema;
 
 pub use schema::{Schema, SchemaFault};
-
-#[cfg(test)]
-mod tests;

@@ -10,13 +10,13 @@ ghost use Rattle.gq_spreads.specs.Spreads.{places_from};
 
 use gq_document::FragmentEntry;
 use gq_names::NameList;
-use gq_text::{NoMemory, OwnedText};
+use gq_text::{NoMemory, SmallText};
 use std::alloc::Global;
 
 /// The names of fragments in their order. A name may stand there more than once.
 #[derive(Drop)]
 pub struct FragmentNames {
-    pub names: Vec<OwnedText>,
+    pub names: Vec<SmallText>,
     first_places: NameList,
     rows: Vec<Vec<usize>>,
     ghost same: { first_places ≡ names.items },
@@ -83,7 +83,7 @@ fn row_at(rows: &[Vec<usize>], place: usize) -> &[usize]
 fn put_name(
     alloc: Global,
     name: &str,
-    names: &mut Vec<OwnedText>,
+    names: &mut Vec<SmallText>,
     first_places: &mut NameList,
     rows: &mut Vec<Vec<usize>>,
 ) -> Result<(), NoMemory>
@@ -94,7 +94,7 @@ fn put_name(
     ensures found { OnOk result (FindsNumbers names.new.items rows.new.items) }
 {
     let number = names.len();
-    names.push(OwnedText::from_str(alloc, name)?)?;
+    names.push(SmallText::from_str(alloc, name)?)?;
     let _ = first_places.push(name)?;
     rows.push(Vec::new(alloc))?;
     match first_places.place(name) {

@@ -12,6 +12,3 @@ pub mod spreads;
 pub use faults::put_spread_faults;
 pub use fragment_names::FragmentNames;
 pub use spreads::{Spreads, reached_fragments};
-
-#[cfg(test)]
-mod tests;

@@ -4,3 +4,4 @@ pub mod Change
 pub mod Cut
 pub mod Replaced
 pub mod Order
+pub mod Small

@@ -8,6 +8,7 @@ pub mod owned;
 pub mod place;
 pub mod replacement;
 pub mod scan;
+pub mod small;
 pub mod text;
 
 pub use buffer::{Buffer, NoMemory, VecBuffer};
@@ -16,6 +17,7 @@ pub use owned::{Items, OwnedText};
 pub use place::{Position, Span};
 pub use replacement::Replacement;
 pub use scan::{offset_in, position_in, positions_in};
+pub use small::SmallText;
 pub use text::{Change, Range, Text, TextError, TooLarge};
 
 #[cfg(test)]

@@ -3,39 +3,56 @@ use crate::bytes::Bytes;
 use crate::owned::{Items, OwnedText};
 use crate::place::{Position, Span};
 use crate::scan::{offset_in, position_in, positions_in};
+use crate::small::SmallText;
 use crate::text::{Change, Range, Text, TextError, TooLarge};
+use indexmap::IndexMap;
 use std::alloc::Global;
+use std::process::Abort;
 use std::test::Fail;
 
 fn at(line: u32, character: u32) -> Position {
     Position { line, character }
 }
 
-#[test]
-fn lines_end_at_lf_crlf_and_cr(rt: HostRuntime) -> Result<(), Fail> {
-    let text: Text<VecBuffer> = Text::from_str(rt.alloc(), "a\r\nb\rc\nd")?;
-    assert_eq!(rt; text.offset_of(at(1, 5)), 4);
-    assert_eq!(rt; text.offset_of(at(9, 0)), 8);
-    assert_eq!(rt; text.offset_of(at(0, 9)), 1);
-    assert_eq!(rt; text.offset_of(at(3, 0)), 7);
-    assert_eq!(rt; text.offset_of(at(4, 0)), 8);
-    let end = text.offset_of(at(9, 0));
-    assert_eq!(rt; text.position_of(end), at(3, 1));
-    let third = text.offset_of(at(2, 0));
-    assert_eq!(rt; text.position_of(third), at(2, 0));
+/// The position that a word such as `1:5` says.
+fn position(word: &str) -> Result<Position, Fail> {
+    let (line, character) = word.split_once(':').ok_or("no colon")?;
+    Ok(at(line.parse()?, character.parse()?))
+}
+
+/// Each row is a position and, behind `=>`, its offset in the text and the position of that offset.
+fn assert_places(alloc: Global, rt: &impl Abort, text: &str, rows: &str) -> Result<(), Fail> {
+    let text: Text<VecBuffer> = Text::from_str(alloc, text)?;
+    for row in rows.trim().lines() {
+        let (place, want) = row.split_once("=>").unwrap_or((row, "no arrow"));
+        let offset = text.offset_of(position(place.trim())?);
+        let Position { line, character } = text.position_of(offset);
+        let told = format!(in alloc; "{offset} {line}:{character}")?;
+        assert_eq!(rt; told.as_str(), want.trim(), "{row}");
+    }
     Ok(())
 }
 
 #[test]
+fn lines_end_at_lf_crlf_and_cr(rt: HostRuntime) -> Result<(), Fail> {
+    let rows = "
+        1:5 => 4 1:1
+        9:0 => 8 3:1
+        0:9 => 1 0:1
+        3:0 => 7 3:0
+        4:0 => 8 3:1
+        2:0 => 5 2:0
+    ";
+    assert_places(rt.alloc(), &rt, "a\r\nb\rc\nd", rows)
+}
+
+#[test]
 fn a_place_inside_a_pair_means_its_start(rt: HostRuntime) -> Result<(), Fail> {
-    let text: Text<VecBuffer> = Text::from_str(rt.alloc(), "{f(s:\"😀\")...F}")?;
-    let inside = text.offset_of(at(0, 7));
-    assert_eq!(rt; inside, 6);
-    assert_eq!(rt; text.position_of(inside), at(0, 6));
-    let after = text.offset_of(at(0, 13));
-    assert_eq!(rt; after, 15);
-    assert_eq!(rt; text.position_of(after), at(0, 13));
-    Ok(())
+    let rows = "
+        0:7 => 6 0:6
+        0:13 => 15 0:13
+    ";
+    assert_places(rt.alloc(), &rt, "{f(s:\"😀\")...F}", rows)
 }
 
 #[test]
@@ -44,49 +61,62 @@ fn positions_are_found_together(rt: HostRuntime) -> Result<(), Fail> {
     let content_end = offset_in(text, at(0, 9));
     let second_end = offset_in(text, at(1, 5));
     let text_end = offset_in(text, at(9, 0));
-    assert_eq!(rt; content_end, 1);
-    assert_eq!(rt; second_end, 4);
-    assert_eq!(rt; text_end, 8);
-    assert_eq!(rt; position_in(text, second_end), at(1, 1));
+    assert!(rt; content_end == 1 && second_end == 4 && text_end == 8);
     let offsets = [content_end, content_end, second_end, text_end];
-    let expected = [at(0, 1), at(0, 1), at(1, 1), at(3, 1)];
-    let found = positions_in(rt.alloc(), text, &offsets)?;
-    assert_eq!(rt; found.as_slice(), expected.as_slice());
     let kept: Text<VecBuffer> = Text::from_str(rt.alloc(), text)?;
-    let found = kept.positions_of(rt.alloc(), &offsets)?;
-    assert_eq!(rt; found.as_slice(), expected.as_slice());
+    let alone = position_in(text, second_end);
+    let found = positions_in(rt.alloc(), text, &offsets)?;
+    let again = kept.positions_of(rt.alloc(), &offsets)?;
+    let all = [at(0, 1), at(0, 1), at(1, 1), at(3, 1)];
+    assert_eq!(rt;
+        (alone, found.as_slice(), again.as_slice()),
+        (at(1, 1), all.as_slice(), all.as_slice())
+    );
     Ok(())
 }
 
-fn changed<B: Buffer>(alloc: Global, before: &str, changes: &[Change]) -> Result<String, Fail> {
+/// The change that a word says: `0:2-0:4=X` puts `X` into that range, and a word without `=` is the whole text.
+fn change(alloc: Global, word: &str) -> Result<Change, Fail> {
+    let Some((range, text)) = word.split_once('=') else {
+        return Ok(Change::Whole(OwnedText::from_str(alloc, word)?));
+    };
+    let (start, end) = range.split_once('-').ok_or("no range")?;
+    let range = Range {
+        start: position(start)?,
+        end: position(end)?,
+    };
+    Ok(Change::Part(range, OwnedText::from_str(alloc, text)?))
+}
+
+fn changed<B: Buffer>(alloc: Global, before: &str, words: &str) -> Result<String, Fail> {
+    let mut changes = Vec::new(alloc);
+    for word in words.split_whitespace() {
+        changes.push(change(alloc, word)?)?;
+    }
     let mut text: Text<B> = Text::from_str(alloc, before)?;
-    text.apply_changes(alloc, changes)?;
+    text.apply_changes(alloc, &changes)?;
     Ok(text.to_string(alloc)?)
+}
+
+/// Each row is a text, behind `|` its changes, and behind `=>` the changed text.
+fn assert_changed(alloc: Global, rt: &impl Abort, rows: &str) -> Result<(), Fail> {
+    for row in rows.trim().lines() {
+        let (changes, want) = row.split_once("=>").unwrap_or((row, "no arrow"));
+        let (before, words) = changes.split_once('|').unwrap_or((changes, ""));
+        let told = changed::<VecBuffer>(alloc, before.trim(), words)?;
+        assert_eq!(rt; told.as_str(), want.trim(), "{row}");
+    }
+    Ok(())
 }
 
 #[test]
 fn changes_are_made_in_order(rt: HostRuntime) -> Result<(), Fail> {
-    let alloc = rt.alloc();
-    let first = Range {
-        start: at(0, 2),
-        end: at(0, 4),
-    };
-    let second = Range {
-        start: at(0, 9),
-        end: at(0, 3),
-    };
-    let changes = [
-        Change::Part(first, OwnedText::from_str(alloc, "X")?),
-        Change::Part(second, OwnedText::from_str(alloc, "!")?),
-    ];
-    let after = changed::<VecBuffer>(alloc, "ab😀c", &changes)?;
-    assert_eq!(rt; after.as_str(), "abX!");
-    let whole = [Change::Whole(OwnedText::from_str(alloc, "new")?)];
-    let after = changed::<VecBuffer>(alloc, "old text", &whole)?;
-    assert_eq!(rt; after.as_str(), "new");
-    let after = changed::<VecBuffer>(alloc, "old text", &[])?;
-    assert_eq!(rt; after.as_str(), "old text");
-    Ok(())
+    let rows = "
+        ab😀c | 0:2-0:4=X 0:9-0:3=! => abX!
+        old text | new => new
+        old text | => old text
+    ";
+    assert_changed(rt.alloc(), &rt, rows)
 }
 
 #[test]
@@ -94,39 +124,117 @@ fn a_text_has_at_most_4_mib(rt: HostRuntime) -> Result<(), Fail> {
     let alloc = rt.alloc();
     let most = OwnedText::from_string("x".repeat(alloc, 4_194_304)?);
     let more = OwnedText::from_string("x".repeat(alloc, 4_194_305)?);
-    let mut text = Text::from_owned(most)?;
-    let start = text.offset_of(at(0, 0));
-    let span = Span { start, end: start };
-    assert_eq!(rt; text.splice(span, "y"), Err(TextError::TooLarge));
     let changes = [
         Change::Whole(OwnedText::from_str(alloc, "z")?),
         Change::Whole(more.copied(alloc)?),
     ];
+    let mut text = Text::from_owned(most)?;
+    let start = text.offset_of(at(0, 0));
+    let spliced = text.splice(Span { start, end: start }, "y");
+    let whole = text.apply_changes(alloc, &changes);
+    let made = Text::from_owned(more).err();
+    let refused = Err(TextError::TooLarge);
     assert_eq!(rt;
-        text.apply_changes(alloc, &changes),
-        Err(TextError::TooLarge)
+        (spliced, whole, text.len(), made),
+        (refused, refused, 4_194_304, Some(TooLarge))
     );
-    assert_eq!(rt; text.len(), 4_194_304);
-    assert_eq!(rt; Text::from_owned(more).err(), Some(TooLarge));
+    Ok(())
+}
+
+/// A text as it is printed, whether its copy is the other text, and whether it comes before that.
+fn compared(alloc: Global, text: &str, other: &str) -> Result<String, Fail> {
+    let text = OwnedText::from_str(alloc, text)?;
+    let copy = text.copied(alloc)?;
+    let other = OwnedText::from_str(alloc, other)?;
+    let (same, before) = (copy == other, text < other);
+    Ok(format!(in alloc; "{text:?} {same} {before}")?)
+}
+
+/// Of a list to which the text is added: whether it was empty, how many texts it has then, whether it is a list of the other
+/// text, and its texts.
+fn listed(alloc: Global, text: &str, other: &str) -> Result<String, Fail> {
+    let mut names = Items::new(alloc);
+    let was_empty = names.is_empty();
+    names.push(OwnedText::from_str(alloc, text)?)?;
+    let others = Items::from_vec(vec![in alloc; OwnedText::from_str(alloc, other)?]?);
+    let (count, same) = (names.len(), names == others);
+    Ok(format!(in alloc; "{was_empty} {count} {same} {:?}", names.into_vec())?)
+}
+
+/// Each row is the name of a function above, two texts and, behind `=>`, what it tells of them.
+fn assert_told(alloc: Global, rt: &impl Abort, rows: &str) -> Result<(), Fail> {
+    for row in rows.trim().lines() {
+        let (call, want) = row.split_once("=>").unwrap_or((row, "no arrow"));
+        let (name, texts) = call.trim().split_once(' ').unwrap_or((call, ""));
+        let (text, other) = texts.split_once(' ').unwrap_or((texts, ""));
+        let told = match name {
+            "compared" => compared(alloc, text, other)?,
+            _ => listed(alloc, text, other)?,
+        };
+        assert_eq!(rt; told.as_str(), want.trim(), "{row}");
+    }
     Ok(())
 }
 
 #[test]
 fn owned_texts_are_their_bytes(rt: HostRuntime) -> Result<(), Fail> {
+    let rows = r#"
+        compared Query Query => "Query" true false
+        compared Query QueryRoot => "Query" false true
+        listed Query QueryRoot => true 1 false ["Query"]
+    "#;
+    assert_told(rt.alloc(), &rt, rows)
+}
+
+/// Each row is a text and, behind `=>`, the text as it is kept, its copy, and whether both are found equal.
+fn assert_kept_twice(alloc: Global, rt: &impl Abort, rows: &str) -> Result<(), Fail> {
+    for row in rows.trim().lines() {
+        let (text, want) = row.split_once("=>").unwrap_or((row, "no arrow"));
+        let kept = SmallText::from_str(alloc, text.trim())?;
+        let copy = kept.copied(alloc)?;
+        let same = kept == copy;
+        let told = format!(in alloc; "{}|{}|{same}", kept.as_str(), copy.as_str())?;
+        assert_eq!(rt; told.as_str(), want.trim(), "{row}");
+    }
+    Ok(())
+}
+
+#[test]
+fn small_texts_are_their_bytes(rt: HostRuntime) -> Result<(), Fail> {
+    let rows = "
+        => ||true
+        id => id|id|true
+        sixteen_in_all_x => sixteen_in_all_x|sixteen_in_all_x|true
+        seventeen_in_all_ => seventeen_in_all_|seventeen_in_all_|true
+        é€😀 => é€😀|é€😀|true
+    ";
+    assert_kept_twice(rt.alloc(), &rt, rows)
+}
+
+/// The places of the asked texts among the keys.
+fn places(alloc: Global, keys: &[&str], asked: &[&str]) -> Result<String, Fail> {
+    let mut map = IndexMap::new(alloc);
+    for key in keys {
+        let place: usize = map.len();
+        let _ = map.insert(SmallText::from_str(alloc, key)?, place)?;
+    }
+    let mut told = String::new(alloc);
+    for text in asked {
+        write!(told, "{:?} ", map.get(*text).copied())?;
+    }
+    Ok(told)
+}
+
+#[test]
+fn small_texts_are_keys(rt: HostRuntime) -> Result<(), Fail> {
     let alloc = rt.alloc();
-    let name = OwnedText::from_str(alloc, "Query")?;
-    let same = name.copied(alloc)?;
-    let longer = OwnedText::from_str(alloc, "QueryRoot")?;
-    assert_eq!(rt; name, same);
-    assert_ne!(rt; name, longer);
-    assert!(rt; name < longer);
-    assert_eq!(rt; format!(in alloc; "{name:?}")?.as_str(), "\"Query\"");
-    let mut names = Items::new(alloc);
-    assert!(rt; names.is_empty());
-    names.push(name)?;
-    assert_eq!(rt; names.len(), 1);
-    assert_ne!(rt; names, Items::from_vec(vec![in alloc; longer]?));
-    assert_eq!(rt; names.into_vec().as_slice(), [same].as_slice());
+    let keys = ["id", "seventeen_in_all_", "name"];
+    let asked = ["seventeen_in_all_", "name", "seventeen_in_all"];
+    let found = places(alloc, &keys, &asked)?;
+    let id = SmallText::from_str(alloc, "id")?;
+    let same = id == SmallText::from_str(alloc, "ids")?;
+    let told = format!(in alloc; "{}{id:?} {same}", found.as_str())?;
+    assert_eq!(rt; told.as_str(), "Some(1) Some(2) None \"id\" false");
     Ok(())
 }
 

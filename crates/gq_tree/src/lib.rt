@@ -28,6 +28,3 @@ pub use type_system::{
 };
 pub use types::TypeRef;
 pub use value::{Argument, Directive, Literal, ObjectField, Value, Variable};
-
-#[cfg(test)]
-mod tests;

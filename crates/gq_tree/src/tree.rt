@@ -3,12 +3,12 @@
 use crate::type_system::TypeSystemDefinition;
 use crate::types::TypeRef;
 use crate::value::{Argument, Directive, Value, Variable};
-use gq_text::{OwnedText, Span};
+use gq_text::{SmallText, Span};
 
 /// A name, with the place of its token (section 2.1.9).
 #[derive(Drop)]
 pub struct Name {
-    pub text: OwnedText,
+    pub text: SmallText,
     pub span: Span,
 }
 

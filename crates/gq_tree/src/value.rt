@@ -2,12 +2,12 @@
 //! the text.
 
 use crate::tree::Name;
-use gq_text::{OwnedText, Span};
+use gq_text::{SmallText, Span};
 
 /// The spelling of a number or of a string, its quotes included, and its place.
 #[derive(Drop)]
 pub struct Literal {
-    pub text: OwnedText,
+    pub text: SmallText,
     pub span: Span,
 }
 

@@ -230,8 +230,8 @@ fn breaks_own_field(
     if !is_covered(types, &own.type_ref, &wanted.type_ref) {
         return Ok(true);
     }
-    let wanted_arguments = Arguments::of(alloc, &wanted.arguments)?;
-    let own_arguments = Arguments::of(alloc, &own.arguments)?;
+    let wanted_arguments = Arguments::of(alloc, &wanted.arguments, own.arguments.len())?;
+    let own_arguments = Arguments::of(alloc, &own.arguments, wanted.arguments.len())?;
     if breaks_arguments(&wanted_arguments, &own_arguments) {
         return Ok(true);
     }

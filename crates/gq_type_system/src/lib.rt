@@ -25,14 +25,3 @@ mod wrong_kind;
 
 pub use defined_twice::definition_place;
 pub use faults::schema_faults;
-
-#[cfg(test)]
-mod tests_directives_and_defaults;
-#[cfg(test)]
-mod tests_endless_inputs;
-#[cfg(test)]
-mod tests_faults;
-#[cfg(test)]
-mod tests_implementations;
-#[cfg(test)]
-mod tests_plain_rules;

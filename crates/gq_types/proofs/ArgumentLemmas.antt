@@ -18,6 +18,9 @@ any-map : {X Y : Type 0} (f : X → Y) (p : Y → Bool) (xs : List X) → list_a
 any-map f p [] = refl
 any-map f p (x ∷ xs) = ap (λ b. p (f x) || b) (any-map f p xs)
 
+pub position-map : {X Y : Type 0} (f : X → Y) (p : Y → Bool) (xs : List X) → position p (map f xs) ≡ position (λ x. p (f x)) xs
+position-map f p xs = rw (position_or_len-map f p xs, length-map xs f) refl
+
 found_none : {X : Type 0} (p : X → Bool) (xs : List X) → list_any p xs ≡ false → find p xs ≡ None
 found_none p [] h = refl
 found_none p (x ∷ xs) h = by_test (p x) h (λ d. found_none p xs d)

@@ -9,7 +9,7 @@ ghost use Rattle.gq_types.specs.Entries.{entry_view, entries_view};
 ghost use Rattle.gq_types.specs.BuiltIn.{nowhere, name, scalar, argument, directive, no_longer_supported, built_in};
 
 use crate::entry::Entry;
-use gq_text::{NoMemory, OwnedText, Span};
+use gq_text::{NoMemory, SmallText, Span};
 use gq_tree::{
     DirectiveDefinition, DirectiveLocation, InputValueDefinition, Literal, Name, TypeBody,
     TypeDefinition, TypeRef, TypeSystemDefinition, Value,
@@ -51,7 +51,7 @@ fn nowhere() -> Span
 fn name(alloc: Global, text: &str) -> Result<Name, NoMemory>
     ensures { IfOk result (λ n. name_of n ≡ name text.now) }
 {
-    let text = OwnedText::from_str(alloc, text)?;
+    let text = SmallText::from_str(alloc, text)?;
     Ok(Name {
         text,
         span: nowhere(),
@@ -163,7 +163,7 @@ fn deprecated(alloc: Global) -> Result<Entry, NoMemory>
 fn no_longer_supported(alloc: Global) -> Result<Value, NoMemory>
     ensures { IfOk result (λ v. value_view v ≡ no_longer_supported) }
 {
-    let text = OwnedText::from_str(alloc, "\"No longer supported\"")?;
+    let text = SmallText::from_str(alloc, "\"No longer supported\"")?;
     let span = nowhere();
     Ok(Value::String(Literal { text, span }))
 }

@@ -22,6 +22,3 @@ pub mod types;
 pub use arguments::Arguments;
 pub use entry::{Entry, TypeKind};
 pub use types::Types;
-
-#[cfg(test)]
-mod tests;

@@ -27,8 +27,8 @@ use std::marker::Model;
 /// The definitions and extensions of a type system, those that are built in first. Each name means what is first
 /// defined under it.
 ///
-/// Contracts see it as the list of its definitions and extensions (`types_view`). A look-up searches no list of types or of fields,
-/// and takes no memory.
+/// Contracts see it as the list of its definitions and extensions (`types_view`). A look-up goes over at most eight types or
+/// fields, more are in tables, and takes no memory.
 #[derive(Drop)]
 pub struct Types {
     definitions: Definitions,

@@ -5,6 +5,7 @@ use Rattle.std.specs.Option.{option_map_or}
 use Rattle.std.specs.List.{list_any}
 use Rattle.std.specs.Str.{bytes_eq}
 use Rattle.std.specs.Cmp.Lexicographic.{bytes_decides}
+use Rattle.std.proofs.lemmas.Bool.{false≢true}
 use Rattle.std.proofs.lemmas.List.Elements.{Contains-append_left, Contains-append_right, Contains-append_cases}
 use Rattle.gq_text.specs.declared.place.Span.{Span}
 use Rattle.gq_tree.specs.Plain.{NameOf, Val, InputOf}
@@ -18,9 +19,13 @@ use Rattle.gq_values.specs.Items.{item_at}
 use Rattle.gq_values.specs.LiteralFaults.{HasNone, is_required}
 use Rattle.gq_values.specs.LiteralPlaces.{texts}
 use Rattle.gq_values.specs.ArgumentFaults.{argument_names, argument_at, IsArgumentFault, unknown_argument, argument_not_unique, argument_missing, fault_in_value}
-use Rattle.gq_values.specs.ArgumentPlaces.{repeated_arguments, unknown_argument_at, unknown_arguments, is_missing_argument, missing_argument_at, missing_among, known_faults, value_faults_under, value_faults_of, argument_value_faults, argument_faults}
-use Rattle.gq_values.proofs.FoundLemmas.{only, from_if, to_if, from_find, from_flat, to_flat, from_map, to_map}
+use Rattle.gq_values.specs.ArgumentPlaces.{repeated_arguments, unknown_argument_at, unknown_arguments, is_missing_argument, is_missing_by, missing_among, known_faults, value_faults_under, value_faults_of, argument_value_faults, argument_faults}
+use Rattle.gq_values.proofs.FoundLemmas.{only, from_if, to_if, from_find, from_any, to_any, from_flat, to_flat, from_map, to_map}
 use Rattle.gq_values.proofs.LiteralRules.{none_given, not_given, literal_faults_are}
+
+second_holds : (a b : Bool) → (a && b) ≡ true → b ≡ true
+second_holds true b holds = holds
+second_holds false b holds = absurd (false≢true holds)
 
 -- a required argument that is not given
 from_missing : (known : List (InputOf Span)) (text : Text) (names : List (NameOf Span)) → is_missing_argument known (texts names) text ≡ true →
@@ -57,18 +62,19 @@ module _ (es : List EntryOf) (file : ℕ) (name : NameOf Span) (arguments : List
       by_input argument stands None not_known told = unknown_argument is stands not_known (only (item_at file UnknownArgument argument) item told)
       by_input argument stands (Some i) not_known told = absurd (contains_none item told)
 
-  missing_is : (definitions : Option (List (InputOf Span))) (known : List (InputOf Span)) → definitions ≡ Some known → Contains (missing_among file known (texts (argument_names arguments)) name known) item →
+  missing_is : (definitions : Option (List (InputOf Span))) (known : List (InputOf Span)) → definitions ≡ Some known → Contains (missing_among file known (texts (argument_names arguments)) name) item →
       IsArgumentFault es file definitions name arguments item
   missing_is definitions known is found =
-      let one = from_flat (missing_argument_at file known (texts (argument_names arguments)) name) known item found in
-      let told = from_if (is_missing_argument known (texts (argument_names arguments)) one.0.name.text) (item_at file ArgumentMissing name) item one.2 in
-      let input = from_missing known one.0.name.text (argument_names arguments) told.0 in
+      let told = from_if (list_any (is_missing_by known (texts (argument_names arguments))) known) (item_at file ArgumentMissing name) item found in
+      let one = from_any (is_missing_by known (texts (argument_names arguments))) known told.0 in
+      let missing = second_holds (is_required one.0) (is_missing_argument known (texts (argument_names arguments)) one.0.name.text) one.2 in
+      let input = from_missing known one.0.name.text (argument_names arguments) missing in
       argument_missing is input.1 input.2 input.3 told.1
 
   known_is : (definitions : Option (List (InputOf Span))) → Contains (known_faults file definitions name (argument_names arguments)) item → IsArgumentFault es file definitions name arguments item
   known_is None found = absurd (contains_none item found)
   known_is (Some known) found =
-      elim (Contains-append_cases (unknown_arguments file known (argument_names arguments)) (missing_among file known (texts (argument_names arguments)) name known) item found) [
+      elim (Contains-append_cases (unknown_arguments file known (argument_names arguments)) (missing_among file known (texts (argument_names arguments)) name) item found) [
         | inl unknown ↦ unknown_is (Some known) known refl unknown
         | inr missing ↦ missing_is (Some known) known refl missing
       ]
@@ -105,7 +111,7 @@ module _ (es : List EntryOf) (file : ℕ) (name : NameOf Span) (arguments : List
       let one = subst (λ o. Contains (option_map_or (λ (i : InputOf Span). []) o (item_at file UnknownArgument argument ∷ [])) item) (sym not_known) (contains_first (item_at file UnknownArgument argument) [] item (sym told)) in
       let all = to_flat (unknown_argument_at file known) (argument_names arguments) argument item stands one in
       in_known definitions (subst (λ o. Contains (known_faults file o name (argument_names arguments)) item) (sym is)
-      (Contains-append_left (unknown_arguments file known (argument_names arguments)) (missing_among file known (texts (argument_names arguments)) name known) item all))
+      (Contains-append_left (unknown_arguments file known (argument_names arguments)) (missing_among file known (texts (argument_names arguments)) name) item all))
   to_arguments {definitions} (argument_not_unique {argument} again told) =
       let found = to_map (item_at file ArgumentNotUnique) (repeated (λ n. n.text) (argument_names arguments)) argument item ((repeated_is (λ n. n.text) (argument_names arguments) argument).1 again) told in
       Contains-append_left (repeated_arguments file [] (argument_names arguments)) (known_faults file definitions name (argument_names arguments) ++ argument_value_faults es file definitions arguments) item found
@@ -113,10 +119,10 @@ module _ (es : List EntryOf) (file : ℕ) (name : NameOf Span) (arguments : List
       let at = from_find (λ (a : InputOf Span). bytes_eq text a.name.text) known i defined in
       let same = (bytes_decides text i.name.text).0 at.1 in
       let missing = ap (is_missing_argument known (texts (argument_names arguments))) (sym same) ∙ to_missing known text (argument_names arguments) i defined required absent in
-      let one = to_if (is_missing_argument known (texts (argument_names arguments)) i.name.text) (item_at file ArgumentMissing name) item missing told in
-      let all = to_flat (missing_argument_at file known (texts (argument_names arguments)) name) known i item at.0 one in
+      let by : is_missing_by known (texts (argument_names arguments)) i ≡ true = ap (λ b. b && is_missing_argument known (texts (argument_names arguments)) i.name.text) required ∙ missing in
+      let all = to_if (list_any (is_missing_by known (texts (argument_names arguments))) known) (item_at file ArgumentMissing name) item (to_any (is_missing_by known (texts (argument_names arguments))) known i at.0 by) told in
       in_known definitions (subst (λ o. Contains (known_faults file o name (argument_names arguments)) item) (sym is)
-      (Contains-append_right (unknown_arguments file known (argument_names arguments)) (missing_among file known (texts (argument_names arguments)) name known) item all))
+      (Contains-append_right (unknown_arguments file known (argument_names arguments)) (missing_among file known (texts (argument_names arguments)) name) item all))
   to_arguments {definitions} (fault_in_value {argument} {key} stands is fault) =
       let one = subst (λ o. Contains (value_faults_under es file definitions argument o) item) (sym is) ((literal_faults_are es file item (argument_at definitions key.text) argument).1 fault) in
       let all = to_flat (value_faults_of es file definitions) arguments argument item stands one in

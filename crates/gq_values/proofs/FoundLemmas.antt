@@ -1,6 +1,7 @@
 -- What lists made of other lists hold.
-use Rattle.std.proofs.Common.{◌≡◌, Bool, true, false, if◌then◌else◌, List, [], ◌∷◌, inl, inr, Contains, map, refl, sym, ap, ◌∙◌, Some}
-use Rattle.std.specs.List.{flat_map, filter, find}
+use Rattle.std.proofs.Common.{◌≡◌, Bool, true, false, ◌||◌, if◌then◌else◌, List, [], ◌∷◌, inl, inr, Contains, map, refl, sym, ap, ◌∙◌, Some}
+use Rattle.std.specs.List.{flat_map, filter, find, list_any}
+use Rattle.std.proofs.lemmas.Bool.{false≢true}
 use Rattle.std.proofs.lemmas.List.Elements.{Contains-append_left, Contains-append_right, Contains-append_cases}
 use Rattle.std.proofs.lemmas.Option.{none-some, same_Some}
 use Rattle.gq_names.proofs.RepeatLemmas.{contains_none, contains_later, contains_first, contains_cases}
@@ -27,6 +28,26 @@ module _ {A : Type 0} where
       by_test true holds same rest = (contains_first y ys x (same_Some y x same), ap test (sym (same_Some y x same)) ∙ holds)
       by_test false holds same rest = (contains_later y ys x (rest same).0, (rest same).1)
 
+  -- an item of which a test holds
+  pub from_any : (test : A → Bool) (xs : List A) → list_any test xs ≡ true → (x : A) × Contains xs x × (test x ≡ true)
+  from_any test [] holds = absurd (false≢true holds)
+  from_any test (y ∷ ys) holds = by_test (test y) refl holds (from_any test ys)
+    where
+      by_test : (b : Bool) → test y ≡ b → (b || list_any test ys) ≡ true → (list_any test ys ≡ true → (x : A) × Contains ys x × (test x ≡ true)) → (x : A) × Contains (y ∷ ys) x × (test x ≡ true)
+      by_test true here found rest = (y, contains_first y ys y refl, here)
+      by_test false here found rest = (let later = rest found in (later.0, contains_later y ys later.0 later.1, later.2))
+
+  pub to_any : (test : A → Bool) (xs : List A) (x : A) → Contains xs x → test x ≡ true → list_any test xs ≡ true
+  to_any test [] x stands holds = absurd (contains_none x stands)
+  to_any test (y ∷ ys) x stands holds = elim (contains_cases y ys x stands) [
+    | inl is ↦ rw (ap test is ∙ holds) refl
+    | inr later ↦ by_test (test y) (to_any test ys x later holds)
+  ]
+    where
+      by_test : (b : Bool) → list_any test ys ≡ true → (b || list_any test ys) ≡ true
+      by_test true rest = refl
+      by_test false rest = rest
+
   -- what a filter keeps
   pub from_filter : (test : A → Bool) (xs : List A) (x : A) → Contains (filter test xs) x → Contains xs x
   from_filter test [] x found = absurd (contains_none x found)
@@ -35,6 +56,10 @@ module _ {A : Type 0} where
       by_test : (b : Bool) → Contains (if b then y ∷ filter test ys else filter test ys) x → (Contains (filter test ys) x → Contains ys x) → Contains (y ∷ ys) x
       by_test true kept rest = elim (contains_cases y (filter test ys) x kept) [ inl is ↦ contains_first y ys x is | inr later ↦ contains_later y ys x (rest later) ]
       by_test false kept rest = contains_later y ys x (rest kept)
+
+pub any_map : {X Y : Type 0} (f : X → Y) (test : Y → Bool) (xs : List X) → list_any test (map f xs) ≡ list_any (λ x. test (f x)) xs
+any_map f test [] = refl
+any_map f test (x ∷ xs) = ap (λ b. test (f x) || b) (any_map f test xs)
 
 module _ {X A : Type 0} (f : X → List A) where
   pub from_flat : (xs : List X) (z : A) → Contains (flat_map f xs) z → (x : X) × Contains xs x × Contains (f x) z

@@ -3,6 +3,5 @@ pub mod Steps
 pub mod FoundLemmas
 pub mod LiteralLemmas
 pub mod LiteralRules
-pub mod ArgumentLemmas
 pub mod ArgumentRules
 pub mod DirectiveRules

@@ -22,9 +22,6 @@ use Rattle.gq_values.specs.ArgumentFaults.{argument_names, argument_at}
 abbrev pub definitions_view : Option (Bor (List InputValueDefinition)) → Option (List (InputOf Span))
 definitions_view o = option_map (λ r. map input_view r.now) o
 
-abbrev pub definition_names : List InputValueDefinition → List Text
-definition_names definitions = map (λ d. d.name.text) definitions
-
 abbrev pub repeated_arguments : ℕ → List Text → List (NameOf Span) → List Item
 repeated_arguments file before names = map (item_at file ArgumentNotUnique) (repeated_after (λ n. n.text) before names)
 
@@ -37,15 +34,16 @@ unknown_arguments file known names = flat_map (unknown_argument_at file known) n
 abbrev pub is_missing_argument : List (InputOf Span) → List Text → Text → Bool
 is_missing_argument known given text = option_map_or is_required (argument_named known text) false && not (list_any (bytes_eq text) given)
 
-abbrev pub missing_argument_at : ℕ → List (InputOf Span) → List Text → NameOf Span → InputOf Span → List Item
-missing_argument_at file known given name i = if is_missing_argument known given i.name.text then item_at file ArgumentMissing name ∷ [] else []
+abbrev pub is_missing_by : List (InputOf Span) → List Text → InputOf Span → Bool
+is_missing_by known given i = is_required i && is_missing_argument known given i.name.text
 
-abbrev pub missing_among : ℕ → List (InputOf Span) → List Text → NameOf Span → List (InputOf Span) → List Item
-missing_among file known given name definitions = flat_map (missing_argument_at file known given name) definitions
+-- one item, where any is missing
+abbrev pub missing_among : ℕ → List (InputOf Span) → List Text → NameOf Span → List Item
+missing_among file known given name = if list_any (is_missing_by known given) known then item_at file ArgumentMissing name ∷ [] else []
 
 abbrev pub known_faults : ℕ → Option (List (InputOf Span)) → NameOf Span → List (NameOf Span) → List Item
 known_faults file None name names = []
-known_faults file (Some known) name names = unknown_arguments file known names ++ missing_among file known (texts names) name known
+known_faults file (Some known) name names = unknown_arguments file known names ++ missing_among file known (texts names) name
 
 abbrev pub value_faults_under : List EntryOf → ℕ → Option (List (InputOf Span)) → Val Span → Option (NameOf Span) → List Item
 value_faults_under es file definitions argument None = []

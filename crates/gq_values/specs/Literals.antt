@@ -1,8 +1,8 @@
 -- Literals read at types: values of correct type (section 5.6.1), with the coercion of literals of sections 3.5, 3.9 to 3.12.
-use Rattle.std.specs.Prelude.{◌≡◌, ◌≢◌, ℕ, ◌+◌, ◌*◌, ◌-◌, ◌^◌, Bool, true, false, List, [], ◌∷◌, Option, Some, None, codes, Contains, nat_eq, nat_le, nat_lt, bytes_eq, if◌then◌else◌, is_some, is_none, ◌||◌, ◌&&◌}
+use Rattle.std.specs.Prelude.{ℕ, ◌+◌, ◌*◌, ◌-◌, ◌^◌, Bool, true, false, List, [], ◌∷◌, Option, Some, None, codes, nat_eq, nat_le, nat_lt, bytes_eq, if◌then◌else◌, ◌||◌, ◌&&◌}
 use Rattle.std.specs.List.{list_any}
 use Rattle.gq_text.specs.declared.place.Span.{Span}
-use Rattle.gq_tree.specs.Forest.{Forest, Tree, none, more}
+use Rattle.gq_tree.specs.Forest.{none, more}
 use Rattle.gq_tree.specs.Plain.{NameOf, Says, Part, Val, Vals, TypeOf, named, list_of, non_null, InputOf, variable, int, float, string, boolean, null, enum, list, object}
 use Rattle.gq_types.specs.declared.entry.TypeKind.{TypeKind}
 use Rattle.gq_types.specs.declared.entry.TypeKind.TheVariants as kind

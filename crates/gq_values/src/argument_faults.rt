@@ -1,11 +1,14 @@
 //! Faults of arguments (GraphQL, October 2021, section 5.4).
-ghost use Rattle.std.specs.Prelude.{◌≡◌, ◌++◌, OnOk, map, Some, None};
+ghost use Rattle.std.specs.Prelude.{◌≡◌, ◌++◌, OnOk, map, Some, None, false};
+ghost use Rattle.std.specs.List.{list_any};
+ghost use Rattle.std.specs.Option.{option_map_or};
 ghost use Rattle.gq_tree.specs.Views.{name_of, input_view, argument_view};
-ghost use Rattle.gq_types.specs.Look.{types_view, input_of};
+ghost use Rattle.gq_types.specs.Look.{types_view};
 ghost use Rattle.gq_types.specs.Names.{argument_named};
+ghost use Rattle.gq_values.specs.LiteralFaults.{is_required};
 ghost use Rattle.gq_values.specs.LiteralPlaces.{texts};
 ghost use Rattle.gq_values.specs.ArgumentFaults.{argument_names};
-ghost use Rattle.gq_values.specs.ArgumentPlaces.{definitions_view, definition_names, repeated_arguments, unknown_arguments, is_missing_argument, missing_among, value_faults_of, argument_value_faults, argument_faults};
+ghost use Rattle.gq_values.specs.ArgumentPlaces.{definitions_view, repeated_arguments, unknown_arguments, is_missing_by, missing_among, known_faults, value_faults_of, argument_value_faults, argument_faults};
 
 use crate::inputs::is_required;
 use crate::items::{item_at, put};
@@ -15,7 +18,7 @@ use gq_found::{Code, Item};
 use gq_names::NameList;
 use gq_text::NoMemory;
 use gq_tree::{Argument, InputValueDefinition, Name};
-use gq_types::Types;
+use gq_types::{Arguments, Types};
 use std::alloc::Global;
 
 #[tactic(auto, using(gq_tree::proofs::Trees::gathers))]
@@ -40,80 +43,75 @@ fn put_repeated_arguments(
 }
 
 #[tactic(auto, using(gq_tree::proofs::Trees::gathers))]
-fn put_names(definitions: &[InputValueDefinition], names: &mut NameList) -> Result<(), NoMemory>
-    ensures { OnOk result (names.new ≡ names.old ++ definition_names definitions.now) }
-{
-    for definition in definitions {
-        names.push(definition.name.text.as_str())?;
-    }
-    Ok(())
-}
-
-/// The definition of the argument of that name. It searches no list.
-fn argument_named<'a>(
-    definitions: &'a [InputValueDefinition],
-    known: &NameList,
-    name: &str,
-) -> Option<&'a InputValueDefinition>
-    requires { known.now ≡ definition_names definitions.now }
-    ensures { input_of result ≡ argument_named (map input_view definitions.now) name.now }
-{
-    match known.place(name) {
-        Some(place) => definitions.get(place),
-        None => None,
-    }
-}
-
-#[tactic(auto, using(gq_tree::proofs::Trees::gathers))]
 fn put_unknown_arguments(
     file: usize,
-    definitions: &[InputValueDefinition],
-    known: &NameList,
+    known: &Arguments<'_>,
     arguments: &[Argument],
     items: &mut Vec<Item>,
 ) -> Result<(), NoMemory>
-    requires { known.now ≡ definition_names definitions.now }
-    ensures { OnOk result (items.new.items ≡ items.old.items ++ unknown_arguments file (map input_view definitions.now) (argument_names (map argument_view arguments.now))) }
+    ensures { OnOk result (items.new.items ≡ items.old.items ++ unknown_arguments file (map input_view known.now.all.now) (argument_names (map argument_view arguments.now))) }
 {
     for argument in arguments {
-        if argument_named(definitions, known, argument.name.text.as_str()).is_none() {
+        if known.named(argument.name.text.as_str()).is_none() {
             put(item_at(file, Code::UnknownArgument, &argument.name), items)?;
         }
     }
     Ok(())
 }
 
-fn is_missing(
-    definitions: &[InputValueDefinition],
-    known: &NameList,
-    given: &NameList,
-    name: &str,
-) -> bool
-    requires { known.now ≡ definition_names definitions.now }
-    ensures { result ≡ is_missing_argument (map input_view definitions.now) given.now name.now }
+/// Whether the argument of that name is required.
+fn is_required_named(known: &Arguments<'_>, name: &str) -> bool
+    ensures { result ≡ option_map_or is_required (argument_named (map input_view known.now.all.now) name.now) false }
 {
-    match argument_named(definitions, known, name) {
-        Some(definition) => is_required(definition) && !given.contains(name),
+    match known.named(name) {
+        Some(definition) => is_required(definition),
         None => false,
     }
 }
 
-#[tactic(auto, using(gq_tree::proofs::Trees::gathers))]
+/// Whether an argument of this definition is required and not given. Of doubles the first is meant.
+fn is_missing(known: &Arguments<'_>, given: &NameList, definition: &InputValueDefinition) -> bool
+    ensures { result ≡ is_missing_by (map input_view known.now.all.now) given.now (input_view definition.now) }
+{
+    let name = definition.name.text.as_str();
+    is_required(definition) && !given.contains(name) && is_required_named(known, name)
+}
+
+/// Whether an argument of any of these definitions is missing.
+fn is_missing_among(
+    known: &Arguments<'_>,
+    given: &NameList,
+    definitions: &[InputValueDefinition],
+) -> bool
+    ensures { result ≡ list_any (λ d. is_missing_by (map input_view known.now.all.now) given.now (input_view d)) definitions.now }
+{
+    for definition in definitions {
+        if is_missing(known, given, definition) {
+            return true;
+        }
+    }
+    false
+}
+
+/// Whether any argument that is required is not given.
+fn is_any_missing(known: &Arguments<'_>, given: &NameList) -> bool
+    ensures { result ≡ list_any (is_missing_by (map input_view known.now.all.now) given.now) (map input_view known.now.all.now) }
+{
+    is_missing_among(known, given, known.all())
+}
+
+/// Puts an item at the name of a field or directive, if an argument is missing.
 fn put_missing_arguments(
     file: usize,
-    definitions: &[InputValueDefinition],
-    known: &NameList,
+    known: &Arguments<'_>,
     given: &NameList,
     name: &Name,
     items: &mut Vec<Item>,
 ) -> Result<(), NoMemory>
-    requires { known.now ≡ definition_names definitions.now }
-    ensures { OnOk result (items.new.items ≡ items.old.items ++ missing_among file (map input_view definitions.now) given.now (name_of name.now) (map input_view definitions.now)) }
+    ensures { OnOk result (items.new.items ≡ items.old.items ++ missing_among file (map input_view known.now.all.now) given.now (name_of name.now)) }
 {
-    for definition in definitions {
-        if is_missing(definitions, known, given, definition.name.text.as_str()) {
-            put(item_at(file, Code::ArgumentMissing, name), items)?;
-        }
+    if is_any_missing(known, given) {
+        put(item_at(file, Code::ArgumentMissing, name), items)?;
     }
     Ok(())
 }
@@ -122,15 +120,13 @@ fn put_faults_of_known_value(
     alloc: Global,
     types: &Types,
     file: usize,
-    definitions: &[InputValueDefinition],
-    known: &NameList,
+    known: &Arguments<'_>,
     argument: &Argument,
     items: &mut Vec<Item>,
 ) -> Result<(), NoMemory>
-    requires { known.now ≡ definition_names definitions.now }
-    ensures { OnOk result (items.new.items ≡ items.old.items ++ value_faults_of (types_view types.now) file (Some (map input_view definitions.now)) (argument_view argument.now)) }
+    ensures { OnOk result (items.new.items ≡ items.old.items ++ value_faults_of (types_view types.now) file (Some (map input_view known.now.all.now)) (argument_view argument.now)) }
 {
-    let reading = match argument_named(definitions, known, argument.name.text.as_str()) {
+    let reading = match known.named(argument.name.text.as_str()) {
         Some(definition) => Read::AtType(&definition.type_ref),
         None => Read::AtAny,
     };
@@ -142,18 +138,37 @@ fn put_faults_of_known_values(
     alloc: Global,
     types: &Types,
     file: usize,
-    definitions: &[InputValueDefinition],
-    known: &NameList,
+    known: &Arguments<'_>,
     arguments: &[Argument],
     items: &mut Vec<Item>,
 ) -> Result<(), NoMemory>
-    requires { known.now ≡ definition_names definitions.now }
-    ensures { OnOk result (items.new.items ≡ items.old.items ++ argument_value_faults (types_view types.now) file (Some (map input_view definitions.now)) (map argument_view arguments.now)) }
+    ensures { OnOk result (items.new.items ≡ items.old.items ++ argument_value_faults (types_view types.now) file (Some (map input_view known.now.all.now)) (map argument_view arguments.now)) }
 {
     for argument in arguments {
-        put_faults_of_known_value(alloc, types, file, definitions, known, argument, items)?;
+        put_faults_of_known_value(alloc, types, file, known, argument, items)?;
     }
     Ok(())
+}
+
+/// Puts what is wrong with arguments whose definitions are known.
+fn put_known_faults(
+    alloc: Global,
+    types: &Types,
+    file: usize,
+    definitions: &[InputValueDefinition],
+    given: &NameList,
+    name: &Name,
+    arguments: &[Argument],
+    items: &mut Vec<Item>,
+) -> Result<(), NoMemory>
+    requires { given.now ≡ texts (argument_names (map argument_view arguments.now)) }
+    ensures { OnOk result (items.new.items ≡ items.old.items ++ (known_faults file (Some (map input_view definitions.now)) (name_of name.now) (argument_names (map argument_view arguments.now))
+        ++ argument_value_faults (types_view types.now) file (Some (map input_view definitions.now)) (map argument_view arguments.now))) }
+{
+    let known = Arguments::of(alloc, definitions, arguments.len())?;
+    put_unknown_arguments(file, &known, arguments, items)?;
+    put_missing_arguments(file, &known, given, name, items)?;
+    put_faults_of_known_values(alloc, types, file, &known, arguments, items)
 }
 
 fn put_faults_of_value(
@@ -203,11 +218,16 @@ pub fn put_argument_faults(
     put_repeated_arguments(file, arguments, &mut given, items)?;
     match definitions {
         Some(definitions) => {
-            let mut known = NameList::new(alloc);
-            put_names(definitions, &mut known)?;
-            put_unknown_arguments(file, definitions, &known, arguments, items)?;
-            put_missing_arguments(file, definitions, &known, &given, name, items)?;
-            put_faults_of_known_values(alloc, types, file, definitions, &known, arguments, items)
+            put_known_faults(
+                alloc,
+                types,
+                file,
+                definitions,
+                &given,
+                name,
+                arguments,
+                items,
+            )
         }
         None => put_faults_of_values(alloc, types, file, arguments, items),
     }

@@ -16,6 +16,3 @@ pub use directive_faults::put_directive_faults;
 pub use fitting::fits;
 pub use literal_faults::put_literal_faults;
 pub use reading::Read;
-
-#[cfg(test)]
-mod tests;

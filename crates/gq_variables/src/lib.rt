@@ -17,10 +17,3 @@ mod variables;
 mod variables_are_input_types;
 
 pub use faults::put_variable_faults;
-
-#[cfg(test)]
-mod tests;
-#[cfg(test)]
-mod tests_allowed;
-#[cfg(test)]
-mod tests_uses;

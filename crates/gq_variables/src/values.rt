@@ -141,7 +141,7 @@ pub(crate) fn put_uses_of_arguments<'a>(
     }
     match definitions {
         Some(definitions) => {
-            let known = Arguments::of(alloc, definitions)?;
+            let known = Arguments::of(alloc, definitions, arguments.len())?;
             put_uses_of_each_argument(types, file, Some(&known), arguments, uses)
         }
         None => put_uses_of_each_argument(types, file, None, arguments, uses),

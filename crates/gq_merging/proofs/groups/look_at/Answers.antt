@@ -1,14 +1,12 @@
-use Rattle.std.proofs.Common.{rules, ◌≡◌, ◌++◌, ◌<◌, ◌∙◌, Some, All, length, sym, ap, subst, arith}
-use Rattle.std.specs.List.{slice_get, flat_map}
-use Rattle.std.proofs.lemmas.List.{map-append, length-map}
-use Rattle.gq_types.specs.Look.{types_view}
-use Rattle.gq_merging.specs.GroupTables.{AreBelow, AreSettled}
+use Rattle.std.proofs.Common.{◌≡◌, ◌<◌, ◌∙◌, Some, All, length, sym, ap, subst, arith}
+use Rattle.std.specs.List.{flat_map}
+use Rattle.std.proofs.lemmas.Option.{same_Some}
+use Rattle.gq_reach.specs.Reach.{row}
+use Rattle.gq_merging.specs.GroupTables.{AreReached}
 use Rattle.gq_merging.specs.SetTables.{members_at}
-use Rattle.gq_merging.specs.Views.{members_view, rows_view}
-use Rattle.gq_merging.specs.GroupViews.{groups_view}
+use Rattle.gq_merging.specs.Views.{rows_view}
 use Rattle.gq_merging.proofs.ClassLemmas.{group_at, group_in_range}
-use Rattle.gq_merging.proofs.GroupLemmas.{test_goes_on}
-use Rattle.gq_merging.proofs.MemberSteps.{count_alike}
+use Rattle.gq_merging.proofs.MemberSteps.{count_alike, lone_members}
 use Rattle.gq_merging.proofs.groups.look_at.Goals as goal
 
 pub reached_sets-requires-clause-starts : goal.reached_sets-requires-clause-starts
@@ -18,20 +16,18 @@ reached_sets-requires-clause-starts c =
     subst (λ ns. All (λ n. n < length c.args.tables.spreads.now) ns) (sym c.deref.ensures.value)
     (subst (λ k. All (λ n. n < k) c.index.result.now.items) (sym (count_alike c.args.tables.rows.now c.args.tables.spreads.now c.requires.spreads)) range)
 
-pub returns-clause-test : goal.returns-clause-test
-returns-clause-test c =
-    let at : slice_get (groups_view c.args.groups.now.items) c.args.place ≡ Some c.deref.result.now =
-    group_at c.args.groups.now.items c.args.place c.index.result.now c.requires.place c.index.ensures ∙ ap Some (sym c.deref.ensures.value) in
-    let within : c.args.place < length (groups_view c.args.groups.now.items) = omega (arith, c.requires.place, length-map c.args.groups.now.items (λ v. v.items)) in
-    let pushed : c.append.new.self.items ≡ c.args.groups.now.items ++ c.in-Some.below.items = search rules in
-    let is_new : groups_view c.append.new.self.items ≡ groups_view c.args.groups.now.items ++ groups_view c.in-Some.below.items =
-    ap groups_view pushed ∙ map-append (λ v. v.items) c.args.groups.now.items c.in-Some.below.items in
-    let all : c.extend_from_slice.new.self.items ≡ c.args.reached.now.items ++ c.in_ok-found.found.items = search rules in
-    let is : members_view c.deref-3.result.now ≡ flat_map (members_at (rows_view c.args.tables.rows.now)) c.in_ok-found.found.items =
-    ap members_view c.deref-3.ensures.value ∙ c.in_ok-members.ensures ∙ ap (flat_map (members_at (rows_view c.args.tables.rows.now))) c.deref-2.ensures.value in
-    let range : AreBelow (rows_view c.args.tables.rows.now) (groups_view c.in-Some.below.items) = search rules in
-    let settled : AreSettled (types_view c.args.tables.types.now) (rows_view c.args.tables.rows.now) (groups_view c.in-Some.below.items) (members_view c.deref-3.result.now) = search rules in
-    λ t. test_goes_on (types_view c.args.tables.types.now) c.args.tables.rows.now c.args.tables.spreads.now c.requires.spreads
-    (groups_view c.args.groups.now.items) (groups_view c.in-Some.below.items) (groups_view c.append.new.self.items) c.args.place c.args.reached.now.items c.extend_from_slice.new.self.items
-    c.deref.result.now c.in_ok-found.found.items (members_view c.deref-3.result.now) c.requires.test at within is_new
-    c.in_ok-found.ensures.sound c.in_ok-found.ensures.complete c.in_ok-found.ensures.within is range settled all
+pub look_at_members-requires-clause-members : goal.look_at_members-requires-clause-members
+look_at_members-requires-clause-members c =
+    let rows = c.args.tables.rows.now in
+    let found = c.as_slice.result.now in
+    let one : length found ≡ 1 = omega (arith, c.in-len1.len_at_least, c.in-len1.len_below) in
+    let same : found ≡ c.deref-in-len1.result.now = c.as_slice.ensures.value ∙ sym c.deref-in-len1.ensures.value in
+    c.own_members-members.ensures ∙ lone_members (rows_view rows) found one ∙ ap (flat_map (members_at (rows_view rows))) same
+
+pub look_at_members-requires-in_default-clause-reached : goal.look_at_members-requires-in_default-clause-reached
+look_at_members-requires-in_default-clause-reached c group at =
+    let next = row c.args.tables.spreads.now in
+    let group_is : group ≡ c.deref.result.now =
+    same_Some group c.deref.result.now (sym at ∙ group_at c.args.groups.now.items c.args.place c.index.result.now c.requires.place c.index.ensures ∙ ap Some (sym c.deref.ensures.value)) in
+    subst (λ g. AreReached next g c.deref-in_default-2.result.now) (sym group_is)
+    (subst (λ f. AreReached next c.deref.result.now f) (sym c.deref-in_default-2.ensures.value) record { sound = c.in_ok-found.ensures.sound; complete = c.in_ok-found.ensures.complete })

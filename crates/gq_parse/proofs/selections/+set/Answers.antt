@@ -44,7 +44,9 @@ selections-loop-end-preserved t c = record {
 }
 
 pub selections-returns-in-Some-clause-found : goal.selections-returns-in-Some-clause-found
-selections-returns-in-Some-clause-found t c = front_closed c.loop-end.invariant.front c.in-Some.ensures.found
+selections-returns-in-Some-clause-found t c =
+    let closed = front_closed c.loop-end.invariant.front c.in-Some.ensures.found in
+    rw c.shrink_to_fit.ensures.items closed
 
 pub selections-returns-in_err-one-clause-none : goal.selections-returns-in_err-one-clause-none
 selections-returns-in_err-one-clause-none t c =

@@ -6,4 +6,4 @@ use Rattle.gq_values.proofs.argument_faults.put_faults_of_known_values.Given as 
 
 abbrev pub invariant-loop-argument : goal.invariant-loop-argument
 invariant-loop-argument l =
-    l.items.items ++ argument_value_faults (types_view l.types) l.file (Some (map input_view l.definitions)) (map argument_view (drop l.argument-index l.arguments)) ≡ l.initial.items.items ++ argument_value_faults (types_view l.types) l.file (Some (map input_view l.definitions)) (map argument_view l.arguments)
+    l.items.items ++ argument_value_faults (types_view l.types) l.file (Some (map input_view l.known.all.now)) (map argument_view (drop l.argument-index l.arguments)) ≡ l.initial.items.items ++ argument_value_faults (types_view l.types) l.file (Some (map input_view l.known.all.now)) (map argument_view l.arguments)

@@ -6,4 +6,4 @@ use Rattle.gq_values.proofs.argument_faults.put_unknown_arguments.Given as goal
 
 abbrev pub invariant-loop-argument : goal.invariant-loop-argument
 invariant-loop-argument l =
-    l.items.items ++ unknown_arguments l.file (map input_view l.definitions) (argument_names (map argument_view (drop l.argument-index l.arguments))) ≡ l.initial.items.items ++ unknown_arguments l.file (map input_view l.definitions) (argument_names (map argument_view l.arguments))
+    l.items.items ++ unknown_arguments l.file (map input_view l.known.all.now) (argument_names (map argument_view (drop l.argument-index l.arguments))) ≡ l.initial.items.items ++ unknown_arguments l.file (map input_view l.known.all.now) (argument_names (map argument_view l.arguments))

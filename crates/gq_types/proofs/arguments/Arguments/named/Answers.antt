@@ -1,16 +1,12 @@
-use Rattle.std.proofs.Common.{sym, ◌∙◌, ap}
-use Rattle.std.specs.Prelude.{position}
-use Rattle.std.specs.Str.{bytes_eq}
+use Rattle.std.proofs.Common.{sym}
 use Rattle.gq_tree.specs.Views.{input_view}
 use Rattle.gq_types.proofs.ArgumentLemmas.{found_place, found_nowhere}
 use Rattle.gq_types.proofs.arguments.Arguments.named.Goals as goal
 
 pub returns-in-Some : goal.returns-in-Some
 returns-in-Some c =
-    sym (found_place input_view (λ a. a.name.text) c.args.name.now c.args.self.now.all.now c.in-Some.place c.index-self-place.result
-    (ap (position (bytes_eq c.args.name.now)) (sym c.args.self.now.are_named) ∙ sym c.in-Some.ensures))
+    sym (found_place input_view (λ a. a.name.text) c.args.name.now c.args.self.now.all.now c.in-Some.place c.index-self-place.result (sym c.in-Some.ensures))
 
 pub returns-in-None : goal.returns-in-None
 returns-in-None c =
-    sym (found_nowhere input_view (λ a. a.name.text) c.args.name.now c.args.self.now.all.now
-    (ap (position (bytes_eq c.args.name.now)) (sym c.args.self.now.are_named) ∙ sym c.in-None.ensures))
+    sym (found_nowhere input_view (λ a. a.name.text) c.args.name.now c.args.self.now.all.now (sym c.in-None.ensures))

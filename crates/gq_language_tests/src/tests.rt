@@ -1,0 +1,4 @@
+mod parsing;
+mod printed;
+mod trees;
+mod types;

@@ -1,0 +1,266 @@
+//! The check of files: what is written, and the status.
+ghost use Rattle.std.specs.Prelude.{◌≡◌, false};
+
+use gq_check::{File, check};
+use gq_rpc::Sink;
+use gq_text::OwnedText;
+use std::alloc::Global;
+use std::process::Abort;
+use std::test::Fail;
+
+const S: &str = "type Query{x:Int f(a:Int):Int}";
+
+/// So many writes as each sink needs.
+const ENOUGH: (usize, usize) = (1_000, 1_000);
+
+/// A sink that takes at most `most` bytes a write, and fails after `writes` of them.
+#[derive(Drop)]
+struct Narrow {
+    bytes: Vec<u8>,
+    most: usize,
+    writes: usize,
+    failed: bool,
+}
+
+impl Sink for Narrow {
+    ghost use Rattle.std.specs.Prelude.{None};
+
+    ghost held = { λ _. None };
+
+    ghost failed = { λ s. s.failed };
+
+    fn write(&mut self, bytes: &[u8]) -> Option<usize> {
+        let count = self.most.min(bytes.len());
+        if count > 0 && self.writes > 0 && self.bytes.extend_from_slice(&bytes[..count]).is_ok() {
+            self.writes -= 1;
+            return Some(count);
+        }
+        self.failed = true;
+        None
+    }
+}
+
+/// A sink that takes so many writes of 6 bytes.
+fn sink_of(alloc: Global, writes: usize) -> Narrow
+    ensures { result.failed ≡ false }
+{
+    Narrow {
+        bytes: Vec::new(alloc),
+        most: 6,
+        writes,
+        failed: false,
+    }
+}
+
+/// The bytes that a row writes so: `⏎`, `␍` and `␉` stand for LF, CR and a tab, and behind `▯` stands how many bytes 0xff follow.
+fn bytes(alloc: Global, text: &str) -> Result<Vec<u8>, Fail> {
+    let (text, count) = text.split_once("▯").unwrap_or((text, "0"));
+    let text = text.replace(alloc, "⏎", "\n")?;
+    let text = text.replace(alloc, "␍", "\r")?;
+    let text = text.replace(alloc, "␉", "\t")?;
+    let mut rest = Vec::new(alloc);
+    rest.resize(count.parse()?, 0xff)?;
+    let mut bytes = Vec::from_slice(alloc, text.as_bytes())?;
+    bytes.extend_from_slice(&rest)?;
+    Ok(bytes)
+}
+
+fn file(alloc: Global, name: &str, text: &str) -> Result<File, Fail> {
+    Ok(File {
+        name: OwnedText::from_str(alloc, name)?,
+        bytes: Some(bytes(alloc, text)?),
+    })
+}
+
+fn absent(alloc: Global, name: &str) -> Result<File, Fail> {
+    Ok(File {
+        name: OwnedText::from_str(alloc, name)?,
+        bytes: None,
+    })
+}
+
+/// The files of a row, parted by ` ;; `: the name of each and, behind `: `, its text. One with no `: ` is absent.
+fn files(alloc: Global, row: &str) -> Result<Vec<File>, Fail> {
+    let mut all = Vec::new(alloc);
+    for one in row.split(" ;; ") {
+        match one.split_once(": ") {
+            Some((name, text)) => all.push(file(alloc, name, text)?)?,
+            None => all.push(absent(alloc, one)?)?,
+        }
+    }
+    Ok(all)
+}
+
+/// What is written of files to a sink that takes `writes.0` writes, then to one that takes `writes.1`, and the status.
+fn written(alloc: Global, files: &[File], writes: (usize, usize)) -> Result<String, Fail> {
+    let mut out = sink_of(alloc, writes.0);
+    let mut err = sink_of(alloc, writes.1);
+    let status = check(alloc, files, &mut out, &mut err);
+    let mut all = String::from_utf8(out.bytes).map_err(|_| "no text")?;
+    all.push_str(str::from_utf8(&err.bytes).map_err(|_| "no text")?)?;
+    write!(all, "{status}")?;
+    Ok(all)
+}
+
+/// Each row is files and, behind `=>`, what is written of them to sinks that take so many writes. A `⏎` stands for the end of a line.
+fn assert_written(
+    alloc: Global,
+    rt: &impl Abort,
+    writes: (usize, usize),
+    rows: &str,
+) -> Result<(), Fail> {
+    for row in rows.trim().lines() {
+        let (given, want) = row.split_once("=>").unwrap_or((row, "no arrow"));
+        let files = files(alloc, given.trim())?;
+        let all = written(alloc, &files, writes)?;
+        let want = want.trim().replace(alloc, "⏎", "\n")?;
+        assert_eq!(rt; all.as_str(), want.as_str(), "{row}");
+    }
+    Ok(())
+}
+
+/// Each row is the text of `q.graphql` and, behind `=>`, what is written of it and that type system. A `⏎` stands for the end of a line.
+fn assert_told(alloc: Global, rt: &impl Abort, s: &str, rows: &str) -> Result<(), Fail> {
+    for row in rows.trim().lines() {
+        let (q, want) = row.split_once("=>").unwrap_or((row, "no arrow"));
+        let files = [
+            file(alloc, "s.graphql", s)?,
+            file(alloc, "q.graphql", q.trim())?,
+        ];
+        let all = written(alloc, &files, ENOUGH)?;
+        let want = want.trim().replace(alloc, "⏎", "\n")?;
+        assert_eq!(rt; all.as_str(), want.as_str(), "{row}");
+    }
+    Ok(())
+}
+
+#[test]
+fn each_fault_is_a_line(rt: HostRuntime) -> Result<(), Fail> {
+    let rows = "
+        query A{x y} query A{x(k:1)} => \
+            q.graphql:1:11: V4 unknown field⏎\
+            q.graphql:1:20: V2 operation name not unique⏎\
+            q.graphql:1:24: V7 unknown argument⏎1
+    ";
+    assert_told(rt.alloc(), &rt, S, rows)
+}
+
+#[test]
+fn a_fault_of_syntax_stands_alone(rt: HostRuntime) -> Result<(), Fail> {
+    assert_told(rt.alloc(), &rt, S, "{x => q.graphql:1:3: T1 syntax⏎1")
+}
+
+#[test]
+fn a_fragment_that_is_not_used_is_told(rt: HostRuntime) -> Result<(), Fail> {
+    let rows = "{x} fragment A on Query{x} => q.graphql:1:14: V13 fragment not used⏎1";
+    assert_told(rt.alloc(), &rt, "type Query{x:Int}", rows)
+}
+
+#[test]
+fn a_valid_project_is_ok(rt: HostRuntime) -> Result<(), Fail> {
+    let rows = "
+        => ok⏎0
+        #c => ok⏎0
+        {x} => ok⏎0
+    ";
+    assert_told(rt.alloc(), &rt, "type Query{x:Int}", rows)
+}
+
+#[test]
+fn no_documents_are_invalid_with_nothing_to_tell(rt: HostRuntime) -> Result<(), Fail> {
+    let all = written(rt.alloc(), &[], ENOUGH)?;
+    assert_eq!(rt; all.as_str(), "1");
+    Ok(())
+}
+
+#[test]
+fn lines_and_columns_are_those_of_the_protocol(rt: HostRuntime) -> Result<(), Fail> {
+    let rows = r#"
+        #a␍⏎#b␍{f(a:"😀") y} => q.graphql:3:12: V4 unknown field⏎1
+        #é⏎⏎{ x⏎␉y z } => q.graphql:4:2: V4 unknown field⏎q.graphql:4:4: V4 unknown field⏎1
+    "#;
+    assert_told(rt.alloc(), &rt, "type Query{x:Int f(a:String):Int}", rows)
+}
+
+#[test]
+fn each_document_has_its_own_lines_in_the_order_of_names(rt: HostRuntime) -> Result<(), Fail> {
+    let rows = "
+        c.graphql: ⏎ query C{x z} ;; s.graphql: type Query{x:Int f(a:Int):Int} ;; a.graphql: query A{y} => \
+            a.graphql:1:9: V4 unknown field⏎\
+            c.graphql:2:12: V4 unknown field⏎1
+    ";
+    assert_written(rt.alloc(), &rt, ENOUGH, rows)
+}
+
+#[test]
+fn a_name_that_is_given_twice_is_one_document(rt: HostRuntime) -> Result<(), Fail> {
+    let rows = "
+        q.graphql: query A{x} ;; s.graphql: type Query{x:Int f(a:Int):Int} ;; \
+            q.graphql ;; s.graphql: { => ok⏎0
+    ";
+    assert_written(rt.alloc(), &rt, ENOUGH, rows)
+}
+
+#[test]
+fn a_file_that_cannot_be_read_refuses_all(rt: HostRuntime) -> Result<(), Fail> {
+    let rows = "
+        s.graphql: { ;; q.graphql => gqls: Device⏎3
+        s.graphql: { ;; q.graphql: #▯1 => gqls: Device⏎3
+    ";
+    assert_written(rt.alloc(), &rt, ENOUGH, rows)
+}
+
+/// A file may have 4 MiB, which are 4194304 bytes.
+#[test]
+fn size_comes_before_text_and_files_in_their_order(rt: HostRuntime) -> Result<(), Fail> {
+    let rows = "
+        q.graphql: ▯4194304 => gqls: Device⏎3
+        q.graphql: ▯4194305 => gqls: TooLarge⏎3
+        q.graphql: ▯4194305 ;; a.graphql => gqls: TooLarge⏎3
+        z.graphql ;; q.graphql: ▯4194305 => gqls: Device⏎3
+    ";
+    assert_written(rt.alloc(), &rt, ENOUGH, rows)
+}
+
+/// So many files, as a row writes them: the type system, and then documents with nothing to tell.
+fn many_files(alloc: Global, count: usize) -> Result<String, Fail> {
+    let mut files = format!(in alloc; "s.graphql: {S}")?;
+    for number in 1..count {
+        let one = format!(in alloc; " ;; q{number}.graphql: #")?;
+        files.push_str(one.as_str())?;
+    }
+    Ok(files)
+}
+
+#[test]
+fn too_many_names_come_before_all_else(rt: HostRuntime) -> Result<(), Fail> {
+    let alloc = rt.alloc();
+    let many = many_files(alloc, 4_096)?;
+    let rows = format!(in alloc;
+        "{} ;; q1.graphql => ok⏎0\n{} ;; q1.graphql ;; q4096.graphql => gqls: TooMany⏎3",
+        many.as_str(),
+        many.as_str()
+    )?;
+    assert_written(alloc, &rt, ENOUGH, rows.as_str())
+}
+
+#[test]
+fn a_sink_that_fails_is_told_on_the_other(rt: HostRuntime) -> Result<(), Fail> {
+    let alloc = rt.alloc();
+    let out_fails = "
+        s.graphql: type Query{x:Int f(a:Int):Int} ;; q.graphql: {y} => q.graphql:1:gqls: Device⏎3
+    ";
+    assert_written(alloc, &rt, (2, 9), out_fails)?;
+    let both_fail = "
+        s.graphql: type Query{x:Int f(a:Int):Int} ;; q.graphql: {y} => gqls: 3
+    ";
+    assert_written(alloc, &rt, (0, 1), both_fail)?;
+    let err_fails = "q.graphql => 3";
+    assert_written(alloc, &rt, (9, 0), err_fails)
+}
+
+#[test]
+fn fields_that_do_not_merge_are_told(rt: HostRuntime) -> Result<(), Fail> {
+    let rows = "{k:f(a:1) k:f(a:2)} => q.graphql:1:13: V5 fields do not merge⏎1";
+    assert_told(rt.alloc(), &rt, S, rows)
+}
