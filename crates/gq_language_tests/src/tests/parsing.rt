@@ -235,6 +235,8 @@ fn a_hundred_brackets_may_be_open(rt: HostRuntime) -> Result<(), Fail> {
     let rows = "
         100*{a 100*} => none
         101*{a 101*} => limit 200
+        300*{a => limit 200
+        300*{a ) => limit 200
         {a(v: 99*[ 99*] )} => none
         {a(v: 100*[ 100*] )} => limit 104
         {a(v: 99*{b: 1 99*} )} => none

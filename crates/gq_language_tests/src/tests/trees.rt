@@ -138,23 +138,24 @@ fn values_of_two_kinds_differ(rt: HostRuntime) -> Result<(), Fail> {
     Ok(())
 }
 
+/// The names of fragments in a document, each copied, with their places.
+fn copied_names(alloc: Global, document: &Document) -> Result<String, Fail> {
+    let mut told = String::new(alloc);
+    for name in &fragment_names(alloc, document)? {
+        let name = name.copied(alloc)?;
+        put_word(&mut told, "", name.text.as_str(), name.span)?;
+    }
+    Ok(told)
+}
+
 #[test]
 fn a_copy_is_the_same(rt: HostRuntime) -> Result<(), Fail> {
     let original = parse(rt.alloc(), QUERY)?;
     let copy = original.copied(rt.alloc())?;
-    let names = names(rt.alloc(), &copy)?;
+    let names = copied_names(rt.alloc(), &copy)?;
     let told = (are_same_documents(&original, &copy), names.as_str());
     assert_eq!(rt; told, (true, "F[41,42]J[56,57]H[70,71]"));
     Ok(())
-}
-
-/// Whether selections are the same as their copies, and the same as none.
-fn copied_signs(alloc: Global, items: &[Selection]) -> Result<(bool, bool), Fail> {
-    let copies = copied_selections(alloc, items)?;
-    Ok((
-        are_same_selections(items, &copies),
-        are_same_selections(items, &[]),
-    ))
 }
 
 /// The operation with which a document begins.
@@ -165,14 +166,32 @@ fn operation(document: &Document) -> Option<&Operation> {
     }
 }
 
+/// The selections of a definition; none of one of the type system.
+fn selections(definition: &Definition) -> &[Selection] {
+    match definition {
+        Definition::Operation(operation) => &operation.set.items,
+        Definition::Fragment(fragment) => &fragment.set.items,
+        Definition::TypeSystem(_) => &[],
+    }
+}
+
+/// For each definition, whether its selections are the same as their copies, and the same as none.
+fn copied_signs(alloc: Global, document: &Document) -> Result<String, Fail> {
+    let mut signs = String::new(alloc);
+    for definition in &document.definitions {
+        let items = selections(definition);
+        let copies = copied_selections(alloc, items)?;
+        signs.push_str(sign(are_same_selections(items, &copies)))?;
+        signs.push_str(sign(are_same_selections(items, &[])))?;
+    }
+    Ok(signs)
+}
+
 #[test]
 fn selections_are_copied_in_order(rt: HostRuntime) -> Result<(), Fail> {
     let document = parse(rt.alloc(), QUERY)?;
-    let items = match operation(&document) {
-        Some(operation) => operation.set.items.as_slice(),
-        None => &[],
-    };
-    assert_eq!(rt; copied_signs(rt.alloc(), items)?, (true, false));
+    let signs = copied_signs(rt.alloc(), &document)?;
+    assert_eq!(rt; signs.as_str(), "+-+-");
     Ok(())
 }
 
@@ -279,6 +298,25 @@ fn type_systems_are_copied(rt: HostRuntime) -> Result<(), Fail> {
     let names = names(rt.alloc(), &copy)?;
     let told = (are_same_documents(&original, &copy), names.as_str());
     assert_eq!(rt; told, (true, ""));
+    Ok(())
+}
+
+/// The definitions of a type system, each copied by itself.
+fn copied_definitions(alloc: Global, document: &Document) -> Result<Document, Fail> {
+    let mut definitions = Vec::new(alloc);
+    for definition in &document.definitions {
+        if let Definition::TypeSystem(one) = definition {
+            definitions.push(Definition::TypeSystem(one.copied(alloc)?))?;
+        }
+    }
+    Ok(Document { definitions })
+}
+
+#[test]
+fn definitions_of_a_type_system_are_copied(rt: HostRuntime) -> Result<(), Fail> {
+    let original = parse(rt.alloc(), SCHEMA)?;
+    let copies = copied_definitions(rt.alloc(), &original)?;
+    assert!(rt; are_same_documents(&original, &copies));
     Ok(())
 }
 
