@@ -8,19 +8,26 @@ use crate::files::File;
 use crate::judging::judge;
 use gq_rpc::{Sink, send};
 use std::alloc::Global;
+use std::thread::Threads;
 
 /// The status of a check that a fault ended.
 const FAULT_STATUS: u8 = 3;
 
 /// Checks the project of these files: tells what was found on `out` and what is at fault on `err`, and answers the status
 /// of the process. All that goes to `out` is made before any of it is written.
-pub fn check<O: Sink, E: Sink>(alloc: Global, files: &[File], out: &mut O, err: &mut E) -> u8
+pub fn check<R: Threads + Sync, O: Sink, E: Sink>(
+    rt: &R,
+    alloc: Global,
+    files: &[File],
+    out: &mut O,
+    err: &mut E,
+) -> u8
     requires out_works { O.failed out.old ≡ false }
     requires err_works { E.failed err.old ≡ false }
     ensures { Checks files.now (O.held out.old) (record { held = O.held out.new; failed = O.failed out.new })
         (E.held err.old) (record { held = E.held err.new; failed = E.failed err.new }) result }
 {
-    match judge(alloc, files) {
+    match judge(rt, alloc, files) {
         Ok(verdict) => match send(out, verdict.text.as_str().as_bytes()) {
             Ok(()) => verdict.status,
             Err(_) => tell(CheckFault::Device, err),

@@ -10,6 +10,7 @@ use crate::lines::write_lines;
 use gq_rules::{Valid, Why};
 use gq_text::OwnedText;
 use std::alloc::Global;
+use std::thread::Threads;
 
 /// The status where the project is valid.
 const VALID_STATUS: u8 = 0;
@@ -25,12 +26,16 @@ pub struct Verdict {
 }
 
 /// Reads the files and validates their project.
-pub(crate) fn judge(alloc: Global, files: &[File]) -> Result<Verdict, CheckFault>
+pub(crate) fn judge<R: Threads + Sync>(
+    rt: &R,
+    alloc: Global,
+    files: &[File],
+) -> Result<Verdict, CheckFault>
     ensures ok { IfOk result (IsVerdict files.now) }
     ensures err { IfErr result (IsFaultOr (files_fault files.now)) }
 {
     let project = read_project(alloc, files)?;
-    match Valid::new(alloc, project) {
+    match Valid::new(rt, alloc, project) {
         Ok(_) => Ok(Verdict {
             text: OwnedText::from_str(alloc, "ok\n")?,
             status: VALID_STATUS,

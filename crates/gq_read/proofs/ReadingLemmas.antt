@@ -16,3 +16,14 @@ pub one_more : (documents : List Doc) (readings : List Reading) (i : ℕ) (docum
     AreReadings (take i documents) readings → IsReading document.text one → AreReadings (take (i + 1) documents) (readings ++ one ∷ [])
 one_more documents readings i document one longer before is =
     subst (λ ds. AreReadings ds (readings ++ one ∷ [])) (sym longer) (put_behind (take i documents) readings document one before is)
+
+-- the readings of two parts, one behind the other
+pub both_read : (documents front back : List Doc) (a b : List Reading) → documents ≡ front ++ back →
+    AreReadings front a → AreReadings back b → AreReadings documents (a ++ b)
+both_read documents front back a b is f g = subst (λ ds. AreReadings ds (a ++ b)) (sym is) (behind front a f)
+  where
+    behind : (ds : List Doc) (rs : List Reading) → AreReadings ds rs → AreReadings (ds ++ back) (rs ++ b)
+    behind [] [] none = g
+    behind [] (r ∷ rs) before = elim before [ ]
+    behind (d ∷ ds) [] before = elim before [ ]
+    behind (d ∷ ds) (r ∷ rs) (more here rest) = more here (behind ds rs rest)

@@ -3,7 +3,7 @@
 
 pub mod reader;
 
-pub use reader::{Reading, read};
+pub use reader::{Reading, read, read_by_threads};
 
 #[cfg(test)]
 mod tests;

@@ -1,5 +1,5 @@
 -- All items together are what is demanded.
-use Rattle.std.proofs.Common.{◌≡◌, ◌↔◌, List, [], ◌∷◌, ◌++◌, Contains, refl, sym, subst, ap, ◌∙◌, ⊎_elim}
+use Rattle.std.proofs.Common.{◌≡◌, ◌↔◌, List, [], ◌∷◌, ◌++◌, Contains, refl, sym, subst, ap, ◌∙◌, ⊎_elim, append-nil}
 use Rattle.std.proofs.lemmas.List.Elements.{Contains-append_left, Contains-append_right, Contains-append_cases}
 use Rattle.gq_names.proofs.RepeatLemmas.{contains_none, contains_first}
 use Rattle.gq_found.specs.declared.item.Item.{Item}
@@ -116,12 +116,15 @@ all_are readings x same start unread_too mixed_too final empty one two w item = 
         some : mixed_too ++ w.schema ≡ [] → ⊥
         some n = is_one y ys (sym e ∙ n)
 
--- what the rules tell is put where nothing stands yet
-pub rules_put : (x : ExecutableOf) (old schema all final : List Item) → ((item : Item) → Contains schema item ↔ IsSchemaFault x.entries item) →
-    all ≡ old ++ schema → all ≡ [] → Puts (IsRuleFault x) all final → PutsWrong x old final
-rules_put x old schema all final exact is empty p = record {
-  schema = schema;
-  exact = exact;
-  alone = λ n. absurd (n (sym is ∙ empty));
-  rules = λ _. subst (λ xs. Puts (IsRuleFault x) xs final) is p;
+-- what the rules tell is put where nothing stands yet and nothing is wrong with the type system
+pub rules_put : (x : ExecutableOf) (old final : List Item) → old ≡ [] → ((item : Item) → IsSchemaFault x.entries item → ⊥) →
+    Puts (IsRuleFault x) old final → PutsWrong x old final
+rules_put x old final empty none p = record {
+  schema = [];
+  exact = λ item. ((λ c. absurd (contains_none item c)), (λ f. absurd (none item f)));
+  alone = λ some. absurd (some (nothing ∙ empty));
+  rules = λ _. subst (λ xs. Puts (IsRuleFault x) xs final) (sym nothing) p;
 }
+  where
+    nothing : old ++ [] ≡ old
+    nothing = append-nil old

@@ -4,3 +4,4 @@ pub mod ValidityLemmas
 pub mod RuleLemmas
 pub mod OneReading
 pub mod OneReport
+pub mod Crossing

@@ -2,6 +2,7 @@ pub mod Project
 pub mod Unread
 pub mod ExecutableDefinitions
 pub mod RuleFaults
+pub mod RuleGroups
 pub mod Demands
 pub mod Places
 pub mod Wrongs

@@ -1,5 +1,5 @@
 -- Why a project is refused.
-use Rattle.std.specs.Prelude.{◌≡◌, List}
+use Rattle.std.specs.Prelude.{List}
 use Rattle.gq_project.specs.declared.document.Doc.{Doc}
 use Rattle.gq_rules.specs.declared.valid.Why.{Why}
 use Rattle.gq_rules.specs.declared.valid.Why.TheVariants as why

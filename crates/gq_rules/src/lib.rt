@@ -7,6 +7,7 @@ pub mod report;
 mod rule_faults;
 mod unread;
 pub mod valid;
+mod wrong;
 
 pub use report::{Report, validate};
 pub use valid::{Invalid, Valid, Why};

@@ -6,10 +6,11 @@ ghost use Rattle.gq_rules.specs.Reported.{IsReported};
 use crate::report::{Report, demanded};
 use gq_found::found_at;
 use gq_project::Project;
-use gq_read::read;
+use gq_read::read_by_threads;
 use gq_text::NoMemory;
 use std::alloc::Global;
 use std::marker::Model;
+use std::thread::Threads;
 
 /// A valid project (section 5): all its texts parse, and no rule is broken.
 ///
@@ -51,13 +52,13 @@ impl Valid {
     ghost use Rattle.gq_rules.specs.ValidityViews.{IsWhy};
 
     /// The project, if nothing is wrong with it; else it is handed back with all that is.
-    pub fn new(alloc: Global, project: Project) -> Result<Valid, Invalid>
+    pub fn new<R: Threads + Sync>(rt: &R, alloc: Global, project: Project) -> Result<Valid, Invalid>
         ensures same { IfOk result (λ valid. valid ≡ project) }
         ensures valid { IfOk result (λ valid. ∥ IsValid valid ∥₁) }
         ensures handed_back { IfErr result (λ invalid. invalid.project ≡ project) }
         ensures why { IfErr result (λ invalid. IsWhy project invalid.why) }
     {
-        match why_not(alloc, &project) {
+        match why_not(rt, alloc, &project) {
             Ok(None) => Ok(Valid { project }),
             Ok(Some(report)) => Err(Invalid {
                 project,
@@ -80,11 +81,15 @@ impl Valid {
 }
 
 /// The report on a project, if something is told of it.
-fn why_not(alloc: Global, project: &Project) -> Result<Option<Report>, NoMemory>
+fn why_not<R: Threads + Sync>(
+    rt: &R,
+    alloc: Global,
+    project: &Project,
+) -> Result<Option<Report>, NoMemory>
     ensures { IfOk result (λ report. IsReported project.now report) }
 {
-    let readings = read(alloc, project.documents())?;
-    let items = demanded(alloc, readings)?;
+    let readings = read_by_threads(rt, alloc, project.documents())?;
+    let items = demanded(rt, alloc, readings)?;
     if items.is_empty() {
         return Ok(None);
     }

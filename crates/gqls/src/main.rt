@@ -14,6 +14,7 @@ use std::alloc::{AllocError, Global};
 use std::collections::HashSet;
 use std::io::Read;
 use std::process::ExitCode;
+use std::thread::Threads;
 use std::{fs, io};
 
 /// The status where the words of the command line are no command.
@@ -156,20 +157,22 @@ fn read_files(rt: &HostRuntime, names: &[&str]) -> Result<Vec<File>, NoMemory> {
     Ok(files)
 }
 
-/// Checks the files of these names.
-fn check_files(rt: &HostRuntime, names: &[&str]) -> u8 {
+/// Checks the files of these names, by threads.
+fn check_files<R: Threads + Sync>(threads: &R, rt: &HostRuntime, names: &[&str]) -> u8 {
     let Ok(files) = read_files(rt, names) else {
         return tell_fault(rt, RunFault::NoMemory);
     };
     let mut output = Flagged::new(rt.stdout());
     let mut errors = Flagged::new(rt.stderr());
-    check(rt.alloc(), &files, &mut output, &mut errors)
+    check(threads, rt.alloc(), &files, &mut output, &mut errors)
 }
 
 /// Does what the words say, and answers the status.
-fn run(rt: &HostRuntime, matches: &ArgMatches<'_>) -> u8 {
+fn run<R: Threads + Sync>(threads: &R, rt: &HostRuntime, matches: &ArgMatches<'_>) -> u8 {
     match matches.subcommand() {
-        Some(("check", words)) => check_files(rt, words.get_raw("files").unwrap_or(&[])),
+        Some(("check", words)) => {
+            check_files(threads, rt, words.get_raw("files").unwrap_or(&[]))
+        }
         _ => serve(rt),
     }
 }
@@ -182,7 +185,7 @@ fn read_words(rt: &HostRuntime) -> io::Result<Vec<String>> {
 fn main(rt: HostRuntime) -> ExitCode {
     let status = match read_words(&rt) {
         Ok(words) => match parse_words(rt.alloc(), words.as_slice()) {
-            Ok(matches) => run(&rt, &matches),
+            Ok(matches) => run(&rt, &rt, &matches),
             Err(error) => explain(&rt, &error),
         },
         Err(_) => tell_fault(&rt, RunFault::NoMemory),

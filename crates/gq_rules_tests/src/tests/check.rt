@@ -7,6 +7,7 @@ use gq_text::OwnedText;
 use std::alloc::Global;
 use std::process::Abort;
 use std::test::Fail;
+use std::thread::Threads;
 
 const S: &str = "type Query{x:Int f(a:Int):Int}";
 
@@ -92,10 +93,15 @@ fn files(alloc: Global, row: &str) -> Result<Vec<File>, Fail> {
 }
 
 /// What is written of files to a sink that takes `writes.0` writes, then to one that takes `writes.1`, and the status.
-fn written(alloc: Global, files: &[File], writes: (usize, usize)) -> Result<String, Fail> {
+fn written(
+    alloc: Global,
+    rt: &(impl Threads + Sync),
+    files: &[File],
+    writes: (usize, usize),
+) -> Result<String, Fail> {
     let mut out = sink_of(alloc, writes.0);
     let mut err = sink_of(alloc, writes.1);
-    let status = check(alloc, files, &mut out, &mut err);
+    let status = check(rt, alloc, files, &mut out, &mut err);
     let mut all = String::from_utf8(out.bytes).map_err(|_| "no text")?;
     all.push_str(str::from_utf8(&err.bytes).map_err(|_| "no text")?)?;
     write!(all, "{status}")?;
@@ -105,14 +111,14 @@ fn written(alloc: Global, files: &[File], writes: (usize, usize)) -> Result<Stri
 /// Each row is files and, behind `=>`, what is written of them to sinks that take so many writes. A `⏎` stands for the end of a line.
 fn assert_written(
     alloc: Global,
-    rt: &impl Abort,
+    rt: &(impl Abort + Threads + Sync),
     writes: (usize, usize),
     rows: &str,
 ) -> Result<(), Fail> {
     for row in rows.trim().lines() {
         let (given, want) = row.split_once("=>").unwrap_or((row, "no arrow"));
         let files = files(alloc, given.trim())?;
-        let all = written(alloc, &files, writes)?;
+        let all = written(alloc, rt, &files, writes)?;
         let want = want.trim().replace(alloc, "⏎", "\n")?;
         assert_eq!(rt; all.as_str(), want.as_str(), "{row}");
     }
@@ -120,14 +126,19 @@ fn assert_written(
 }
 
 /// Each row is the text of `q.graphql` and, behind `=>`, what is written of it and that type system. A `⏎` stands for the end of a line.
-fn assert_told(alloc: Global, rt: &impl Abort, s: &str, rows: &str) -> Result<(), Fail> {
+fn assert_told(
+    alloc: Global,
+    rt: &(impl Abort + Threads + Sync),
+    s: &str,
+    rows: &str,
+) -> Result<(), Fail> {
     for row in rows.trim().lines() {
         let (q, want) = row.split_once("=>").unwrap_or((row, "no arrow"));
         let files = [
             file(alloc, "s.graphql", s)?,
             file(alloc, "q.graphql", q.trim())?,
         ];
-        let all = written(alloc, &files, ENOUGH)?;
+        let all = written(alloc, rt, &files, ENOUGH)?;
         let want = want.trim().replace(alloc, "⏎", "\n")?;
         assert_eq!(rt; all.as_str(), want.as_str(), "{row}");
     }
@@ -168,7 +179,7 @@ fn a_valid_project_is_ok(rt: HostRuntime) -> Result<(), Fail> {
 
 #[test]
 fn no_documents_are_invalid_with_nothing_to_tell(rt: HostRuntime) -> Result<(), Fail> {
-    let all = written(rt.alloc(), &[], ENOUGH)?;
+    let all = written(rt.alloc(), &rt, &[], ENOUGH)?;
     assert_eq!(rt; all.as_str(), "1");
     Ok(())
 }

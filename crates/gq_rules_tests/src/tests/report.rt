@@ -6,6 +6,7 @@ use gq_text::OwnedText;
 use std::alloc::Global;
 use std::process::Abort;
 use std::test::Fail;
+use std::thread::Threads;
 
 fn put(alloc: Global, project: &mut Project, key: &str, text: &str) -> Result<(), Fail> {
     project.put(Doc {
@@ -42,17 +43,27 @@ fn lines(alloc: Global, found: &[Found]) -> Result<String, Fail> {
 }
 
 /// What is told of the two documents.
-fn told(alloc: Global, schema: &str, operations: &str) -> Result<String, Fail> {
+fn told(
+    alloc: Global,
+    rt: &(impl Threads + Sync),
+    schema: &str,
+    operations: &str,
+) -> Result<String, Fail> {
     let project = project(alloc, schema, operations)?;
-    let report = validate(alloc, &project)?;
+    let report = validate(rt, alloc, &project)?;
     lines(alloc, &report.found)
 }
 
 /// Each row is the text of `q` and, behind `=>`, what is told of it beside that type system. A `⏎` stands for the end of a line.
-fn assert_told(alloc: Global, rt: &impl Abort, schema: &str, rows: &str) -> Result<(), Fail> {
+fn assert_told(
+    alloc: Global,
+    rt: &(impl Abort + Threads + Sync),
+    schema: &str,
+    rows: &str,
+) -> Result<(), Fail> {
     for row in rows.trim().lines() {
         let (operations, want) = row.split_once("=>").unwrap_or((row, "no arrow"));
-        let told = told(alloc, schema, operations.trim())?;
+        let told = told(alloc, rt, schema, operations.trim())?;
         let want = want.trim().replace(alloc, "⏎", "\n")?;
         assert_eq!(rt; told.as_str(), want.as_str(), "{row}");
     }
@@ -154,9 +165,14 @@ fn reason(alloc: Global, why: &Why) -> Result<String, Fail> {
 }
 
 /// Whether the project of the two documents is valid; else how many of them are handed back, and why.
-fn outcome(alloc: Global, schema: &str, operations: &str) -> Result<String, Fail> {
+fn outcome(
+    alloc: Global,
+    rt: &(impl Threads + Sync),
+    schema: &str,
+    operations: &str,
+) -> Result<String, Fail> {
     let project = project(alloc, schema, operations)?;
-    match Valid::new(alloc, project) {
+    match Valid::new(rt, alloc, project) {
         Ok(valid) => {
             let count = valid.project().documents().len();
             Ok(format!(in alloc; "{count} valid")?)
@@ -170,10 +186,15 @@ fn outcome(alloc: Global, schema: &str, operations: &str) -> Result<String, Fail
 }
 
 /// Each row is the text of `q` and, behind `=>`, the outcome of it beside that type system. A `⏎` stands for the end of a line.
-fn assert_outcome(alloc: Global, rt: &impl Abort, schema: &str, rows: &str) -> Result<(), Fail> {
+fn assert_outcome(
+    alloc: Global,
+    rt: &(impl Abort + Threads + Sync),
+    schema: &str,
+    rows: &str,
+) -> Result<(), Fail> {
     for row in rows.trim().lines() {
         let (operations, want) = row.split_once("=>").unwrap_or((row, "no arrow"));
-        let outcome = outcome(alloc, schema, operations.trim())?;
+        let outcome = outcome(alloc, rt, schema, operations.trim())?;
         let want = want.trim().replace(alloc, "⏎", "\n")?;
         assert_eq!(rt; outcome.as_str(), want.as_str(), "{row}");
     }

@@ -6,7 +6,7 @@ use Rattle.gq_rules.proofs.DemandLemmas.{all_are, executable_is}
 use Rattle.gq_rules.proofs.report.all_items.Goals as goal
 
 pub returns : goal.returns
-returns c =
+returns g c =
     all_are c.args.readings.items
     (defined_in c.in_ok-definitions.definitions.entries.items c.in_ok-definitions.definitions.operations.items c.in_ok-definitions.definitions.fragments.items)
     (executable_is c.args.readings.items _ _ _ (ap (λ es. built_in ++ es) c.in_ok-definitions.ensures.entries) c.in_ok-definitions.ensures.operations

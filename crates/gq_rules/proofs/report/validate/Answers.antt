@@ -4,7 +4,7 @@ use Rattle.gq_read.specs.Readings.{AreReadings}
 use Rattle.gq_rules.proofs.report.validate.Goals as goal
 
 pub returns : goal.returns
-returns c = record {
+returns g c = record {
   readings = c.in_ok-readings.readings.items;
   are_readings = subst (λ ds. AreReadings ds c.in_ok-readings.readings.items) c.documents.ensures.all c.in_ok-readings.ensures;
   items = c.in_ok-items.items.items;

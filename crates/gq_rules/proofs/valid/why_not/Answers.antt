@@ -7,12 +7,12 @@ use Rattle.gq_rules.proofs.ValidityLemmas.{valid, invalid}
 use Rattle.gq_rules.proofs.valid.why_not.Goals as goal
 
 pub returns-then-is_empty : goal.returns-then-is_empty
-returns-then-is_empty c =
+returns-then-is_empty g c =
     valid c.args.project.now c.in_ok-readings.readings.items (subst (λ ds. AreReadings ds c.in_ok-readings.readings.items) c.documents.ensures.all c.in_ok-readings.ensures)
     c.in_ok-items.items.items c.in_ok-items.ensures.exact (nil_from_length _ (grind (arith, nat_tests)))
 
 pub returns : goal.returns
-returns c =
+returns g c =
     let are = subst (λ ds. AreReadings ds c.in_ok-readings.readings.items) c.documents.ensures.all c.in_ok-readings.ensures in (
       record {
         readings = c.in_ok-readings.readings.items;

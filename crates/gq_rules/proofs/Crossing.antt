@@ -1,0 +1,51 @@
+-- What the rules read may be lent to several threads: types and definitions are `Sync`, shown from their parts.
+use denote.Ref.{NamedLft}
+use denote.Param.Send.{IsSync, sendable}
+use Rattle.std.proofs.Crossing.{crosses}
+use Rattle.gq_read.proofs.Crossing.{Operation-field_sync, Fragment-field_sync, TypeSystemDefinition-field_sync}
+use Rattle.gq_document.specs.contracts.executable.Executable as Executable
+use Rattle.gq_document.specs.contracts.definitions.OperationEntry as OperationEntry
+use Rattle.gq_document.specs.contracts.definitions.FragmentEntry as FragmentEntry
+use Rattle.gq_types.specs.contracts.entry.Entry as Entry
+use Rattle.gq_types.specs.contracts.definitions.Definitions as Definitions
+use Rattle.gq_types.specs.contracts.types.Types as Types
+use Rattle.gq_types.proofs.table.Table.TheSendSync as Table
+use Rattle.gq_types.proofs.parts.Parts.TheSendSync as Parts
+use Rattle.gq_types.specs.contracts.declarers.Declarers as Declarers
+use Rattle.gq_names.proofs.list.NameList.TheSendSync as NameList
+
+Entry-field_sync : IsSync (Entry.the_field).row
+Entry-field_sync = search (sendable, crosses, TypeSystemDefinition-field_sync) depth 12
+
+Entry-sync : IsSync Entry.the_row
+Entry-sync = search (sendable, crosses, Entry-field_sync) depth 12
+
+Definitions-field_sync : IsSync (Definitions.the_field).row
+Definitions-field_sync = search (sendable, crosses, Entry-sync, Table.the_field_sync) depth 12
+
+Declarers-field_sync : IsSync (Declarers.the_field).row
+Declarers-field_sync = search (sendable, crosses, NameList.the_sync) depth 12
+
+Types-field_sync : IsSync (Types.the_field).row
+Types-field_sync = search (sendable, crosses, Definitions-field_sync, Parts.the_sync, Declarers-field_sync) depth 12
+
+Types-sync : IsSync Types.the_row
+Types-sync = search (sendable, crosses, Types-field_sync) depth 12
+
+OperationEntry-field_sync : IsSync (OperationEntry.the_field).row
+OperationEntry-field_sync = search (sendable, crosses, Operation-field_sync) depth 12
+
+OperationEntry-sync : IsSync OperationEntry.the_row
+OperationEntry-sync = search (sendable, crosses, OperationEntry-field_sync) depth 12
+
+FragmentEntry-field_sync : IsSync (FragmentEntry.the_field).row
+FragmentEntry-field_sync = search (sendable, crosses, Fragment-field_sync) depth 12
+
+FragmentEntry-sync : IsSync FragmentEntry.the_row
+FragmentEntry-sync = search (sendable, crosses, FragmentEntry-field_sync) depth 12
+
+Executable-field_sync : (ℓ : NamedLft) → IsSync (Executable.the_field ℓ).row
+Executable-field_sync ℓ = search (sendable, crosses, Types-sync, OperationEntry-sync, FragmentEntry-sync) depth 12
+
+pub Executable-sync : (ℓ : NamedLft) → IsSync (Executable.the_row ℓ)
+Executable-sync ℓ = search (sendable, crosses, Executable-field_sync) depth 12

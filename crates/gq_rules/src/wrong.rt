@@ -1,0 +1,104 @@
+//! What is wrong with a type system and, where nothing is, with the operations and fragments over it.
+ghost use Rattle.std.specs.Prelude.{◌≡◌, [], IfOk, OnOk};
+ghost use Rattle.std.specs.Thread.{IsSync};
+ghost use Rattle.gq_document.specs.Executable.{executable_view};
+ghost use Rattle.gq_found.specs.Puts.{Puts};
+ghost use Rattle.gq_merging.specs.FieldsMerge.{IsMergingFault};
+ghost use Rattle.gq_rules.specs.Project.{defined_in};
+ghost use Rattle.gq_rules.specs.Wrongs.{IsWrong, PutsWrong};
+
+use crate::rule_faults::{merging_faults, other_faults};
+use gq_document::{Definitions, Executable};
+use gq_found::Item;
+use gq_text::NoMemory;
+use gq_type_system::schema_faults;
+use gq_types::Types;
+use std::alloc::Global;
+use std::thread::{Threads, join};
+
+/// What is wrong with a type system or, where nothing is, what the rules tell but for fields that merge.
+#[derive(Drop)]
+enum Wrong {
+    TypeSystem(Vec<Item>),
+    Rules(Vec<Item>),
+}
+
+/// Puts what is wrong with the type system that is defined and, where nothing is told by then, what the rules tell of the
+/// operations and fragments.
+pub fn put_wrong<R: Threads + Sync>(
+    rt: &R,
+    alloc: Global,
+    definitions: Definitions,
+    items: &mut Vec<Item>,
+) -> Result<(), NoMemory>
+    ensures { OnOk result (PutsWrong (defined_in definitions.entries.items definitions.operations.items definitions.fragments.items) items.old.items items.new.items) }
+{
+    let types = Types::of(alloc, definitions.entries)?;
+    let executable = Executable {
+        types: &types,
+        operations: &definitions.operations,
+        fragments: &definitions.fragments,
+    };
+    put_wrong_in(rt, alloc, &executable, items)
+}
+
+/// The same for the types that are looked up.
+fn put_wrong_in<R: Threads + Sync>(
+    rt: &R,
+    alloc: Global,
+    executable: &Executable<'_>,
+    items: &mut Vec<Item>,
+) -> Result<(), NoMemory>
+    ensures { OnOk result (PutsWrong (executable_view executable.now) items.old.items items.new.items) }
+{
+    if items.is_empty() {
+        return put_first_wrong(rt, alloc, executable, items);
+    }
+    let mut wrong = schema_faults(alloc, executable.types)?;
+    items.append(&mut wrong)?;
+    Ok(())
+}
+
+/// The same where nothing is told by then. Fields that merge take longest, so a thread of their own looks at them from the
+/// start: for nothing, where something is wrong with the type system.
+fn put_first_wrong<R: Threads + Sync>(
+    rt: &R,
+    alloc: Global,
+    executable: &Executable<'_>,
+    items: &mut Vec<Item>,
+) -> Result<(), NoMemory>
+    requires { items.old.items ≡ [] }
+    ensures { OnOk result (PutsWrong (executable_view executable.now) items.old.items items.new.items) }
+{
+    let of_merging = || -> Result<Vec<Item>, NoMemory>
+        ensures { IfOk result (λ items. Puts (IsMergingFault (executable_view executable.entry.now)) [] items.items) }
+    { merging_faults(alloc, executable) };
+    let of_others = || -> Result<Wrong, NoMemory>
+        requires { IsSync R.row }
+        ensures { IfOk result (IsWrong (executable_view executable.entry.now)) }
+    { wrong_but_merging(rt, alloc, executable) };
+    let (merging, wrong) = join(rt, of_merging, of_others);
+    match wrong? {
+        Wrong::TypeSystem(mut wrong) => items.append(&mut wrong)?,
+        Wrong::Rules(mut others) => {
+            items.append(&mut merging?)?;
+            items.append(&mut others)?;
+        }
+    }
+    Ok(())
+}
+
+/// What is wrong but for fields that merge.
+fn wrong_but_merging<R: Threads + Sync>(
+    rt: &R,
+    alloc: Global,
+    executable: &Executable<'_>,
+) -> Result<Wrong, NoMemory>
+    ensures { IfOk result (IsWrong (executable_view executable.now)) }
+{
+    let wrong = schema_faults(alloc, executable.types)?;
+    if wrong.is_empty() {
+        return Ok(Wrong::Rules(other_faults(rt, alloc, executable)?));
+    }
+    Ok(Wrong::TypeSystem(wrong))
+}
