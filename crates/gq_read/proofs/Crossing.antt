@@ -190,17 +190,8 @@ Definition-field_send = search (sendable, crosses, Operation-field_send, Fragmen
 Definition-send : IsSend DefinitionType.the_row
 Definition-send = search (sendable, crosses, Definition-field_send) depth 12
 
-Definition-field_sync : IsSync (DefinitionType.the_field).row
-Definition-field_sync = search (sendable, crosses, Operation-field_sync, Fragment-field_sync, TypeSystemDefinition-field_sync) depth 12
-
-Definition-sync : IsSync DefinitionType.the_row
-Definition-sync = search (sendable, crosses, Definition-field_sync) depth 12
-
 Document-field_send : IsSend (DocumentType.the_field).row
 Document-field_send = search (sendable, crosses, Definition-send) depth 12
-
-pub Document-field_sync : IsSync (DocumentType.the_field).row
-Document-field_sync = search (sendable, crosses, Definition-sync) depth 12
 
 pub Reading-send : IsSend ReadingType.the_row
 Reading-send = search (sendable, crosses, Document-field_send) depth 12

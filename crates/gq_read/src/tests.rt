@@ -1,4 +1,4 @@
-use crate::reader::{Reading, read};
+use crate::reader::{Reading, read, read_by_threads};
 use gq_project::Doc;
 use gq_text::{NoMemory, OwnedText};
 use std::alloc::Global;
@@ -25,9 +25,17 @@ fn told(alloc: Global, reading: &Reading) -> Result<String, Fail> {
     }
 }
 
-#[test]
-fn each_document_is_read_in_its_order(rt: HostRuntime) -> Result<(), Fail> {
-    let alloc = rt.alloc();
+/// The readings as lines.
+fn all_told(alloc: Global, readings: &[Reading]) -> Result<String, Fail> {
+    let mut all = String::new(alloc);
+    for reading in readings {
+        all.push_str(told(alloc, reading)?.as_str())?;
+    }
+    Ok(all)
+}
+
+/// Documents of each sort of reading.
+fn documents(alloc: Global) -> Result<Vec<Doc>, NoMemory> {
     let mut deep = String::new(alloc);
     for _ in 0..101 {
         deep.push_str("{a")?;
@@ -38,13 +46,35 @@ fn each_document_is_read_in_its_order(rt: HostRuntime) -> Result<(), Fail> {
     documents.push(doc(alloc, "c", "#c")?)?;
     documents.push(doc(alloc, "d", deep.as_str())?)?;
     documents.push(doc(alloc, "e", "{x(")?)?;
-    let mut all = String::new(alloc);
-    for reading in &read(alloc, &documents)? {
-        all.push_str(told(alloc, reading)?.as_str())?;
-    }
-    assert_eq!(rt;
-        all.as_str(),
-        "2 definitions\nsyntax at 2\n0 definitions\nlimit at 200\nsyntax at 3\n"
-    );
+    Ok(documents)
+}
+
+const READINGS: &str = "2 definitions\nsyntax at 2\n0 definitions\nlimit at 200\nsyntax at 3\n";
+
+#[test]
+fn each_document_is_read_in_its_order(rt: HostRuntime) -> Result<(), Fail> {
+    let alloc = rt.alloc();
+    let readings = read(alloc, &documents(alloc)?)?;
+    assert_eq!(rt; all_told(alloc, &readings)?.as_str(), READINGS);
+    Ok(())
+}
+
+#[test]
+fn threads_read_each_document_in_its_order(rt: HostRuntime) -> Result<(), Fail> {
+    let alloc = rt.alloc();
+    let readings = read_by_threads(&rt, alloc, &documents(alloc)?)?;
+    assert_eq!(rt; all_told(alloc, &readings)?.as_str(), READINGS);
+    Ok(())
+}
+
+#[test]
+fn threads_read_no_document_and_one(rt: HostRuntime) -> Result<(), Fail> {
+    let alloc = rt.alloc();
+    let mut documents = Vec::new(alloc);
+    let none = read_by_threads(&rt, alloc, &documents)?;
+    assert_eq!(rt; all_told(alloc, &none)?.as_str(), "");
+    documents.push(doc(alloc, "a", "{x")?)?;
+    let one = read_by_threads(&rt, alloc, &documents)?;
+    assert_eq!(rt; all_told(alloc, &one)?.as_str(), "syntax at 2\n");
     Ok(())
 }

@@ -40,7 +40,7 @@ pub fn validate<R: Threads + Sync>(
 }
 
 /// The items of what is told of documents that are read so, in order, each once.
-pub fn demanded<R: Threads + Sync>(
+pub(crate) fn demanded<R: Threads + Sync>(
     rt: &R,
     alloc: Global,
     readings: Vec<Reading>,
