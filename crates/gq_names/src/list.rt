@@ -10,7 +10,7 @@ use std::alloc::Global;
 use std::marker::Model;
 
 /// The most names that get no table. To go over so few takes less time than to make one.
-const FEW: usize = 8;
+const FEW: usize = 16;
 
 /// The first places of names, once there are more than a few.
 type FirstPlaces = IndexMap<SmallText, usize>;
@@ -31,7 +31,7 @@ impl Model for NameList {
 
     ghost view = { λ n. n.names.items };
 
-    ghost invariant = { λ n. 8 < length n.names.items → FindsFirstPlaces n.first_places n.names.items };
+    ghost invariant = { λ n. 16 < length n.names.items → FindsFirstPlaces n.first_places n.names.items };
 }
 
 /// The first place of that name, found by going over the names.

@@ -111,12 +111,21 @@ fn names_are_found_where_few_become_many(rt: HostRuntime) -> Result<(), Fail> {
         put e => true Some(0) None
         put f => true Some(0) None
         put g => true Some(0) None
-        put b => false Some(0) None
         put h => true Some(0) None
+        put j => true Some(0) None
+        put k => true Some(0) None
+        put l => true Some(0) None
+        put m => true Some(0) None
+        put n => true Some(0) None
+        put o => true Some(0) None
+        put p => true Some(0) None
+        put b => false Some(0) None
+        put q => true Some(0) None
         put a => false Some(0) None
         place b => Some(1)
         place g => Some(7)
-        place h => Some(9)
+        place p => Some(15)
+        place q => Some(17)
     ";
     assert_told(rt.alloc(), &rt, rows)
 }

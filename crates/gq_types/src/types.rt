@@ -27,7 +27,7 @@ use std::marker::Model;
 /// The definitions and extensions of a type system, those that are built in first. Each name means what is first
 /// defined under it.
 ///
-/// Contracts see it as the list of its definitions and extensions (`types_view`). A look-up goes over at most eight types or
+/// Contracts see it as the list of its definitions and extensions (`types_view`). A look-up goes over at most sixteen types or
 /// fields, more are in tables, and takes no memory.
 #[derive(Drop)]
 pub struct Types {
