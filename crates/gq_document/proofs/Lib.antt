@@ -1,1 +1,2 @@
 pub mod SelectionLemmas
+pub mod Crossing

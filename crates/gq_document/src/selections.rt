@@ -15,6 +15,9 @@ use gq_tree::Selection;
 use gq_types::Types;
 use std::alloc::Global;
 
+/// How many selections there is room for at first. Most operations and fragments have fewer.
+const ROOM: usize = 16;
+
 /// A selection, the number of its document, and the name of the type of its parent where that is known.
 #[derive(Clone, Copy)]
 pub struct Selected<'a> {
@@ -93,7 +96,7 @@ pub fn operation_selections<'a>(
 ) -> Result<Vec<Selected<'a>>, NoMemory>
     ensures { IfOk result (λ all. selections_view all.items ≡ operation_selections (types_view types.now) (operation_view operation.now)) }
 {
-    let mut selections = Vec::new(alloc);
+    let mut selections = Vec::with_capacity(alloc, ROOM)?;
     let parent = types.root(operation.definition.kind);
     let all = &operation.definition.set.items;
     put_selections(types, operation.file, parent, all, &mut selections)?;
@@ -108,7 +111,7 @@ pub fn fragment_selections<'a>(
 ) -> Result<Vec<Selected<'a>>, NoMemory>
     ensures { IfOk result (λ all. selections_view all.items ≡ fragment_selections (types_view types.now) (fragment_view fragment.now)) }
 {
-    let mut selections = Vec::new(alloc);
+    let mut selections = Vec::with_capacity(alloc, ROOM)?;
     let parent = Some(fragment.definition.on.text.as_str());
     let all = &fragment.definition.set.items;
     put_selections(types, fragment.file, parent, all, &mut selections)?;

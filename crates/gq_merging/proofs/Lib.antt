@@ -17,3 +17,5 @@ pub mod IdentityLemmas
 pub mod SamenessLemmas
 pub mod ClassLemmas
 pub mod GroupLemmas
+pub mod ThreadLemmas
+pub mod Crossing

@@ -96,7 +96,7 @@ fn put_number(rows: &[Row<'_>], number: usize, group: &mut Vec<usize>) -> Result
 }
 
 /// The most fields that get no table of their keys. To go over so few takes less time than to make one.
-const FEW: usize = 8;
+const FEW: usize = 16;
 
 /// Fields by their keys: the keys in a table, where there are many fields, the first field of each key, and the sets in the
 /// braces of all that have it.

@@ -22,6 +22,7 @@ use gq_found::{Code, Item};
 use gq_text::{NoMemory, Span};
 use indexmap::IndexSet;
 use std::alloc::Global;
+use std::thread::Threads;
 
 /// The item of the second of two fields that meet, if they differ and the first one stands no later.
 fn put_fault_of(look: Look<'_>, one: &Met<'_>, items: &mut Vec<Item>) -> Result<(), NoMemory>
@@ -159,8 +160,9 @@ fn put_faults_for(look: Look<'_>, passed: &[bool], items: &mut Vec<Item>) -> Res
 /// Pairs of fields are looked at only under selection sets of which it is not known that all fields under them merge, and
 /// each pair of sets once: it takes time for the pairs of fields in them, and memory for the pairs of sets. Past 2^64 pairs
 /// of sets in the project it answers `NoMemory`. Identical arguments in one order take linear time, others time for each
-/// pair of values in them.
-pub fn put_merging_faults(
+/// pair of values in them. What is known of the sets is found by two threads.
+pub fn put_merging_faults<R: Threads + Sync>(
+    rt: &R,
     alloc: Global,
     executable: &Executable<'_>,
     items: &mut Vec<Item>,
@@ -170,7 +172,7 @@ pub fn put_merging_faults(
     let rows = all_rows(alloc, executable)?;
     let spreads = all_spreads(alloc, &rows)?;
     let string_type = typename_type(alloc)?;
-    let marks = merged_rows(alloc, executable, &string_type, &rows, &spreads)?;
+    let marks = merged_rows(rt, alloc, executable, &string_type, &rows, &spreads)?;
     let passed = passed_rows(alloc, &spreads, &marks)?;
     let Some(size) = rows.len().checked_mul(rows.len()) else {
         return Err(NoMemory);

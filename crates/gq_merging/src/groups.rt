@@ -5,7 +5,7 @@
 //! of one key have to say the same, and the sets in their braces are a group again. A test begins with one set alone. Where
 //! all groups pass, the fields under each set that one of them reaches merge, so a chain of fragments is tested once. A group
 //! is passed over if it was there already, or if it is one set of which this is known.
-ghost use Rattle.std.specs.Prelude.{◌≡◌, ◌<◌, ◌+◌, ℕ, List, All, Some, IsTrue, IfOk, OnOk, length, map, slice_get};
+ghost use Rattle.std.specs.Prelude.{◌≡◌, ◌<◌, ◌+◌, ◌⊎◌, ℕ, List, All, Some, IsTrue, IfOk, OnOk, true, false, length, map, slice_get, slice_index_or};
 ghost use Rattle.std.specs.List.{flat_map};
 ghost use Rattle.gq_reach.specs.Reach.{InRange, row};
 ghost use Rattle.gq_tree.specs.Views.{type_view};
@@ -25,6 +25,7 @@ use gq_document::Executable;
 use gq_text::NoMemory;
 use gq_tree::TypeRef;
 use std::alloc::Global;
+use std::thread::{Threads, join};
 
 /// What the tests keep for each other, that they take few steps: the place of the last group that began with each set, and
 /// how many steps are left for all of them.
@@ -297,11 +298,98 @@ fn all_steps(rows: &[Row<'_>]) -> usize {
     steps
 }
 
+/// The numbers below the count that are not marked.
+fn unmarked_below(alloc: Global, marks: &[bool], count: usize) -> Result<Vec<usize>, NoMemory>
+    ensures { IfOk result (λ numbers. All (λ n. n < length marks.now) numbers.items) }
+{
+    let mut numbers = Vec::new(alloc);
+    for number in 0..marks.len().min(count) {
+        if !marks[number] {
+            numbers.push(number)?;
+        }
+    }
+    Ok(numbers)
+}
+
+/// Notes of no test.
+fn no_notes(alloc: Global, rows: &[Row<'_>]) -> Result<Notes, NoMemory> {
+    Ok(Notes {
+        places: vec![in alloc; 0; rows.len()]?,
+        left: all_steps(rows),
+    })
+}
+
+/// The marks that tests leave which begin with these sets, in order.
+fn marks_from(tables: Tables<'_>, starts: &[usize]) -> Result<Vec<bool>, NoMemory>
+    requires typename { type_view tables.typename_type.now ≡ typename_field.type_ref }
+    requires range { InRange tables.spreads.now }
+    requires spreads { map (λ v. v.items) tables.spreads.now ≡ map (λ r. r.spreads.items) tables.rows.now }
+    requires starts { All (λ n. n < length tables.rows.now) starts.now }
+    ensures { IfOk result (λ marks. AreTested (types_view tables.entry.types.now) (rows_view tables.entry.rows.now) marks.items) }
+{
+    let mut marks = vec![in tables.alloc; false; tables.rows.len()]?;
+    let mut notes = no_notes(tables.alloc, tables.rows)?;
+    let mut groups = Vec::new(tables.alloc);
+    for number in starts {
+        mark_from(tables, *number, &mut marks, &mut groups, &mut notes)?;
+    }
+    Ok(marks)
+}
+
+/// Sets each mark that is set among the others.
+fn put_marks(marks: &mut Vec<bool>, others: &[bool])
+    requires { length others.now ≡ length marks.old.items }
+    ensures count { length marks.new.items ≡ length marks.old.items }
+    ensures marked { (n : ℕ) → slice_index_or marks.new.items n false ≡ true → (slice_index_or marks.old.items n false ≡ true) ⊎ (slice_index_or others.now n false ≡ true) }
+{
+    for number in 0..others.len() {
+        if others[number] {
+            marks[number] = true;
+        }
+    }
+}
+
+/// The same, by two threads: each tests half of the sets.
+fn marks_by_threads<R: Threads + Sync>(
+    rt: &R,
+    tables: Tables<'_>,
+    starts: &[usize],
+) -> Result<Vec<bool>, NoMemory>
+    requires typename { type_view tables.typename_type.now ≡ typename_field.type_ref }
+    requires range { InRange tables.spreads.now }
+    requires spreads { map (λ v. v.items) tables.spreads.now ≡ map (λ r. r.spreads.items) tables.rows.now }
+    requires starts { All (λ n. n < length tables.rows.now) starts.now }
+    ensures { IfOk result (λ marks. AreTested (types_view tables.entry.types.now) (rows_view tables.entry.rows.now) marks.items) }
+{
+    let (front, back) = starts.split_at(starts.len() / 2);
+    let of_front = || -> Result<Vec<bool>, NoMemory>
+        requires typename { type_view tables.typename_type.now ≡ typename_field.type_ref }
+        requires range { InRange tables.spreads.now }
+        requires spreads { map (λ v. v.items) tables.spreads.now ≡ map (λ r. r.spreads.items) tables.rows.now }
+        requires starts { All (λ n. n < length tables.rows.now) front.now }
+        ensures { IfOk result (λ marks. AreTested (types_view tables.entry.types.now) (rows_view tables.entry.rows.now) marks.items) }
+    { marks_from(tables, front) };
+    let of_back = || -> Result<Vec<bool>, NoMemory>
+        requires typename { type_view tables.typename_type.now ≡ typename_field.type_ref }
+        requires range { InRange tables.spreads.now }
+        requires spreads { map (λ v. v.items) tables.spreads.now ≡ map (λ r. r.spreads.items) tables.rows.now }
+        requires starts { All (λ n. n < length tables.rows.now) back.now }
+        ensures { IfOk result (λ marks. AreTested (types_view tables.entry.types.now) (rows_view tables.entry.rows.now) marks.items) }
+    { marks_from(tables, back) };
+    let (front, back) = join(rt, of_front, of_back);
+    let mut marks = front?;
+    put_marks(&mut marks, &back?);
+    Ok(marks)
+}
+
 /// A mark at each row of whose set it is known that the fields under it merge.
 ///
-/// First the sets that no spread names are tested, since they reach the others. What is not marked may merge as well: the
-/// test asks for more than the rule, and it takes no more steps than in proportion to the rows and what stands in them.
-pub(crate) fn merged_rows(
+/// First those of operations are tested, and of fragments that no spread names, since they reach the others: two threads take
+/// half of them each. Then what they left is tested, a set that no spread names before the others. What is not marked may
+/// merge as well: the test asks for more than the rule, and it takes no more steps than in proportion to the rows and what
+/// stands in them.
+pub(crate) fn merged_rows<R: Threads + Sync>(
+    rt: &R,
     alloc: Global,
     executable: &Executable<'_>,
     typename_type: &TypeRef,
@@ -322,11 +410,13 @@ pub(crate) fn merged_rows(
         spreads,
     };
     let named = named_sets(alloc, spreads)?;
-    let mut marks = vec![in alloc; false; rows.len()]?;
-    let mut notes = Notes {
-        places: vec![in alloc; 0; rows.len()]?,
-        left: all_steps(rows),
-    };
+    let firsts = executable
+        .fragments
+        .len()
+        .saturating_add(executable.operations.len());
+    let starts = unmarked_below(alloc, &named, firsts)?;
+    let mut marks = marks_by_threads(rt, tables, &starts)?;
+    let mut notes = no_notes(alloc, rows)?;
     let mut groups = Vec::new(alloc);
     mark_those(tables, &named, false, &mut marks, &mut groups, &mut notes)?;
     mark_those(tables, &named, true, &mut marks, &mut groups, &mut notes)?;

@@ -91,12 +91,14 @@ fn numbered<'a>(
     Ok(members)
 }
 
-/// The row of a selection set. The sets of its fields are put behind the others.
+/// The row of a selection set. The sets of its fields are put behind the others. The fields are gathered in a list whose room
+/// is used again.
 fn row_of<'a>(
     alloc: Global,
     types: &'a Types,
     names: &FragmentNames,
     set: StandingSet<'a>,
+    fields: &mut Vec<StandingField<'a>>,
     empty: &mut Option<usize>,
     sets: &mut Vec<StandingSet<'a>>,
 ) -> Result<Row<'a>, NoMemory>
@@ -108,9 +110,9 @@ fn row_of<'a>(
 {
     let mut spreads = Vec::new(alloc);
     put_spreads(names, set.selections, &mut spreads)?;
-    let mut fields = Vec::new(alloc);
-    put_fields(set.file, set.parent, set.selections, &mut fields)?;
-    let members = numbered(alloc, types, &fields, empty, sets)?;
+    fields.clear();
+    put_fields(set.file, set.parent, set.selections, fields)?;
+    let members = numbered(alloc, types, fields, empty, sets)?;
     Ok(Row {
         set,
         members,
@@ -128,10 +130,19 @@ pub(crate) fn all_rows<'a>(
     let names = FragmentNames::of(alloc, executable.fragments)?;
     let mut sets = first_sets(alloc, executable)?;
     let mut rows = Vec::new(alloc);
+    let mut fields = Vec::new(alloc);
     let mut empty = None;
     while rows.len() < sets.len() {
         let set = sets[rows.len()];
-        let row = row_of(alloc, executable.types, &names, set, &mut empty, &mut sets)?;
+        let row = row_of(
+            alloc,
+            executable.types,
+            &names,
+            set,
+            &mut fields,
+            &mut empty,
+            &mut sets,
+        )?;
         rows.push(row)?;
     }
     Ok(rows)

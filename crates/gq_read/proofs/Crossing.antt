@@ -11,13 +11,14 @@ use Rattle.gq_tree.proofs.value.Literal.TheSendSync as Literal
 use Rattle.gq_tree.proofs.value.Variable.TheSendSync as Variable
 use Rattle.gq_tree.proofs.types.TypeRef.TheLaws.TheKnot.{send-TypeRef, sync-TypeRef}
 use Rattle.gq_tree.proofs.value.Value.TheLaws.TheKnot.{send-Value, sync-Value}
-use Rattle.gq_tree.proofs.tree.Selection.TheLaws.TheKnot.{send-SelectionSet, sync-SelectionSet}
+use Rattle.gq_tree.proofs.tree.Selection.TheLaws.TheKnot.{send-SelectionSet, sync-SelectionSet, sync-Selection}
 use Rattle.gq_read.specs.contracts.reader.Reading as ReadingType
 use Rattle.gq_tree.specs.contracts.types.TypeRef as TypeRefType
 use Rattle.gq_tree.specs.contracts.value.Value as ValueType
 use Rattle.gq_tree.specs.contracts.value.Argument as ArgumentType
 use Rattle.gq_tree.specs.contracts.value.Directive as DirectiveType
 use Rattle.gq_tree.specs.contracts.tree.Spread as SpreadType
+use Rattle.gq_tree.specs.contracts.tree.Selection as SelectionType
 use Rattle.gq_tree.specs.contracts.tree.SelectionSet as SelectionSetType
 use Rattle.gq_tree.specs.contracts.tree.VariableDefinition as VariableDefinitionType
 use Rattle.gq_tree.specs.contracts.tree.Operation as OperationType
@@ -40,6 +41,9 @@ TypeRef-field_send = search (sendable, crosses, send-TypeRef, Name.the_field_sen
 TypeRef-field_sync : IsSync (TypeRefType.the_field).row
 TypeRef-field_sync = search (sendable, crosses, sync-TypeRef, Name.the_field_sync) depth 12
 
+pub TypeRef-sync : IsSync TypeRefType.the_row
+TypeRef-sync = search (sendable, crosses, TypeRef-field_sync) depth 12
+
 Value-field_send : IsSend (ValueType.the_field).row
 Value-field_send = search (sendable, crosses, send-Value, Variable.the_field_send, Literal.the_field_send, Name.the_field_send, Span.the_field_send) depth 12
 
@@ -61,7 +65,7 @@ Argument-send = search (sendable, crosses, Argument-field_send) depth 12
 Argument-field_sync : IsSync (ArgumentType.the_field).row
 Argument-field_sync = search (sendable, crosses, Name.the_field_sync, Value-field_sync) depth 12
 
-Argument-sync : IsSync ArgumentType.the_row
+pub Argument-sync : IsSync ArgumentType.the_row
 Argument-sync = search (sendable, crosses, Argument-field_sync) depth 12
 
 Directive-field_send : IsSend (DirectiveType.the_field).row
@@ -82,6 +86,9 @@ Spread-field_send = search (sendable, crosses, Name.the_field_send, Directive-se
 Spread-field_sync : IsSync (SpreadType.the_field).row
 Spread-field_sync = search (sendable, crosses, Name.the_field_sync, Directive-sync, Span.the_field_sync) depth 12
 
+pub Selection-sync : IsSync SelectionType.the_row
+Selection-sync = search (sendable, crosses, sync-Selection, Name.the_field_sync, Name.the_sync, Argument-sync, Directive-sync, Spread-field_sync, Span.the_field_sync) depth 12
+
 SelectionSet-field_send : IsSend (SelectionSetType.the_field).row
 SelectionSet-field_send = search (sendable, crosses, send-SelectionSet, Name.the_field_send, Name.the_send, Argument-send, Directive-send, Spread-field_send, Span.the_field_send) depth 12
 
@@ -100,13 +107,13 @@ VariableDefinition-field_sync = search (sendable, crosses, Variable.the_field_sy
 VariableDefinition-sync : IsSync VariableDefinitionType.the_row
 VariableDefinition-sync = search (sendable, crosses, VariableDefinition-field_sync) depth 12
 
-Operation-field_send : IsSend (OperationType.the_field).row
+pub Operation-field_send : IsSend (OperationType.the_field).row
 Operation-field_send = search (sendable, crosses, OperationKind.the_field_send, Name.the_send, VariableDefinition-send, Directive-send, SelectionSet-field_send, Span.the_field_send) depth 12
 
 pub Operation-field_sync : IsSync (OperationType.the_field).row
 Operation-field_sync = search (sendable, crosses, OperationKind.the_field_sync, Name.the_sync, VariableDefinition-sync, Directive-sync, SelectionSet-field_sync, Span.the_field_sync) depth 12
 
-Fragment-field_send : IsSend (FragmentType.the_field).row
+pub Fragment-field_send : IsSend (FragmentType.the_field).row
 Fragment-field_send = search (sendable, crosses, Name.the_field_send, Directive-send, SelectionSet-field_send, Span.the_field_send) depth 12
 
 pub Fragment-field_sync : IsSync (FragmentType.the_field).row

@@ -4,4 +4,3 @@ pub mod ValidityLemmas
 pub mod RuleLemmas
 pub mod OneReading
 pub mod OneReport
-pub mod Crossing

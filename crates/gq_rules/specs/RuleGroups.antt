@@ -5,8 +5,13 @@ use Rattle.gq_document.specs.Executable.{ExecutableOf}
 use Rattle.gq_fragments.specs.OperationFaults.{IsOperationFault}
 use Rattle.gq_fragments.specs.FragmentFaults.{IsFragmentFault}
 use Rattle.gq_fields.specs.FieldFaults.{IsFieldFault}
+use Rattle.gq_merging.specs.FieldsMerge.{IsMergingFault}
 use Rattle.gq_spreads.specs.SpreadFaults.{IsSpreadFault}
 use Rattle.gq_variables.specs.VariableFaults.{IsVariableFault}
+
+-- of fields, each by itself and where they do not merge
+abbrev pub IsFieldOrMergingFault : ExecutableOf → Item → Type 0
+IsFieldOrMergingFault x item = IsFieldFault x item ⊎ IsMergingFault x item
 
 -- of operations and fragments as such
 abbrev pub IsDefinitionFault : ExecutableOf → Item → Type 0
@@ -16,6 +21,6 @@ IsDefinitionFault x item = IsOperationFault x item ⊎ IsFragmentFault x item
 abbrev pub IsReachFault : ExecutableOf → Item → Type 0
 IsReachFault x item = IsSpreadFault x item ⊎ IsVariableFault x item
 
--- of all but the fields that merge
+-- of all but fields
 abbrev pub IsOtherFault : ExecutableOf → Item → Type 0
-IsOtherFault x item = IsFieldFault x item ⊎ (IsDefinitionFault x item ⊎ IsReachFault x item)
+IsOtherFault x item = IsDefinitionFault x item ⊎ IsReachFault x item

@@ -6,7 +6,6 @@ use Rattle.gq_found.specs.Puts.{Puts}
 use Rattle.gq_document.specs.Executable.{ExecutableOf}
 use Rattle.gq_type_system.specs.SchemaFaults.{IsSchemaFault}
 use Rattle.gq_rules.specs.RuleFaults.{IsRuleFault}
-use Rattle.gq_rules.specs.RuleGroups.{IsOtherFault}
 use Rattle.gq_rules.specs.declared.wrong.Wrong.{Wrong}
 use Rattle.gq_rules.specs.declared.wrong.Wrong.TheVariants as wrong
 
@@ -16,7 +15,7 @@ pub record PutsWrong (x : ExecutableOf) (old new : List Item) : Type 0 where
   pub alone : (old ++ schema ≡ [] → ⊥) → new ≡ old ++ schema
   pub rules : old ++ schema ≡ [] → Puts (IsRuleFault x) (old ++ schema) new
 
--- the faults of the type system, if there are any; else those of the rules, but for fields that merge
-abbrev pub IsWrong : ExecutableOf → Wrong → Type 0
-IsWrong x (wrong.TypeSystem schema) = (schema.items ≡ [] → ⊥) × ((item : Item) → Contains schema.items item ↔ IsSchemaFault x.entries item)
-IsWrong x (wrong.Rules others) = ((item : Item) → IsSchemaFault x.entries item → ⊥) × Puts (IsOtherFault x) [] others.items
+-- the faults of the type system, if there are any; else what some of the rules tell
+abbrev pub IsWrong : (ExecutableOf → Item → Type 0) → ExecutableOf → Wrong → Type 0
+IsWrong Is x (wrong.TypeSystem schema) = (schema.items ≡ [] → ⊥) × ((item : Item) → Contains schema.items item ↔ IsSchemaFault x.entries item)
+IsWrong Is x (wrong.Rules others) = ((item : Item) → IsSchemaFault x.entries item → ⊥) × Puts (Is x) [] others.items

@@ -2,6 +2,7 @@
 #![tactic(auto)]
 
 mod executable_definitions;
+mod giving_back;
 pub mod laws;
 pub mod report;
 mod rule_faults;

@@ -1,10 +1,11 @@
 //! The rules on executable definitions (GraphQL, October 2021, section 5), looked for in several threads.
-ghost use Rattle.std.specs.Prelude.{◌⊎◌, [], IfOk};
+ghost use Rattle.std.specs.Prelude.{[], IfOk};
+ghost use Rattle.std.specs.Thread.{IsSync};
 ghost use Rattle.gq_document.specs.Executable.{executable_view};
 ghost use Rattle.gq_fields.specs.FieldFaults.{IsFieldFault};
 ghost use Rattle.gq_found.specs.Puts.{Puts};
 ghost use Rattle.gq_merging.specs.FieldsMerge.{IsMergingFault};
-ghost use Rattle.gq_rules.specs.RuleGroups.{IsDefinitionFault, IsReachFault, IsOtherFault};
+ghost use Rattle.gq_rules.specs.RuleGroups.{IsFieldOrMergingFault, IsDefinitionFault, IsReachFault};
 
 use gq_document::Executable;
 use gq_fields::put_field_faults;
@@ -18,11 +19,15 @@ use std::alloc::Global;
 use std::thread::{Threads, join};
 
 /// The fields that do not merge (section 5.3.2).
-pub fn merging_faults(alloc: Global, executable: &Executable<'_>) -> Result<Vec<Item>, NoMemory>
+fn merging_faults<R: Threads + Sync>(
+    rt: &R,
+    alloc: Global,
+    executable: &Executable<'_>,
+) -> Result<Vec<Item>, NoMemory>
     ensures { IfOk result (λ items. Puts (IsMergingFault (executable_view executable.now)) [] items.items) }
 {
     let mut items = Vec::new(alloc);
-    put_merging_faults(alloc, executable, &mut items)?;
+    put_merging_faults(rt, alloc, executable, &mut items)?;
     Ok(items)
 }
 
@@ -35,8 +40,29 @@ fn field_faults(alloc: Global, executable: &Executable<'_>) -> Result<Vec<Item>,
     Ok(items)
 }
 
+/// What is wrong with fields each by itself, and with those that do not merge, in two threads.
+pub fn field_and_merging_faults<R: Threads + Sync>(
+    rt: &R,
+    alloc: Global,
+    executable: &Executable<'_>,
+) -> Result<Vec<Item>, NoMemory>
+    ensures { IfOk result (λ items. Puts (IsFieldOrMergingFault (executable_view executable.now)) [] items.items) }
+{
+    let of_fields = || -> Result<Vec<Item>, NoMemory>
+        ensures { IfOk result (λ items. Puts (IsFieldFault (executable_view executable.entry.now)) [] items.items) }
+    { field_faults(alloc, executable) };
+    let of_merging = || -> Result<Vec<Item>, NoMemory>
+        requires { IsSync R.row }
+        ensures { IfOk result (λ items. Puts (IsMergingFault (executable_view executable.entry.now)) [] items.items) }
+    { merging_faults(rt, alloc, executable) };
+    let (fields, merging) = join(rt, of_fields, of_merging);
+    let mut items = fields?;
+    items.append(&mut merging?)?;
+    Ok(items)
+}
+
 /// What is wrong with operations and fragments as such.
-fn definition_faults(alloc: Global, executable: &Executable<'_>) -> Result<Vec<Item>, NoMemory>
+pub fn definition_faults(alloc: Global, executable: &Executable<'_>) -> Result<Vec<Item>, NoMemory>
     ensures { IfOk result (λ items. Puts (IsDefinitionFault (executable_view executable.now)) [] items.items) }
 {
     let mut items = Vec::new(alloc);
@@ -46,52 +72,12 @@ fn definition_faults(alloc: Global, executable: &Executable<'_>) -> Result<Vec<I
 }
 
 /// What is wrong with spreads, and with variables, whose uses stand in the fragments that an operation reaches by them.
-fn reach_faults(alloc: Global, executable: &Executable<'_>) -> Result<Vec<Item>, NoMemory>
+pub fn reach_faults(alloc: Global, executable: &Executable<'_>) -> Result<Vec<Item>, NoMemory>
     ensures { IfOk result (λ items. Puts (IsReachFault (executable_view executable.now)) [] items.items) }
 {
     let mut items = Vec::new(alloc);
     let spreads = Spreads::of(alloc, executable)?;
     put_spread_faults(alloc, executable, &spreads, &mut items)?;
     put_variable_faults(alloc, executable, &spreads, &mut items)?;
-    Ok(items)
-}
-
-/// What is wrong with definitions as such and by what they reach, in two threads.
-fn definition_and_reach_faults<R: Threads>(
-    rt: &R,
-    alloc: Global,
-    executable: &Executable<'_>,
-) -> Result<Vec<Item>, NoMemory>
-    ensures { IfOk result (λ items. Puts (λ item. IsDefinitionFault (executable_view executable.now) item ⊎ IsReachFault (executable_view executable.now) item) [] items.items) }
-{
-    let of_definitions = || -> Result<Vec<Item>, NoMemory>
-        ensures { IfOk result (λ items. Puts (IsDefinitionFault (executable_view executable.entry.now)) [] items.items) }
-    { definition_faults(alloc, executable) };
-    let of_reach = || -> Result<Vec<Item>, NoMemory>
-        ensures { IfOk result (λ items. Puts (IsReachFault (executable_view executable.entry.now)) [] items.items) }
-    { reach_faults(alloc, executable) };
-    let (definitions, reach) = join(rt, of_definitions, of_reach);
-    let mut items = definitions?;
-    items.append(&mut reach?)?;
-    Ok(items)
-}
-
-/// What the rules tell but for fields that merge, in three threads.
-pub fn other_faults<R: Threads + Sync>(
-    rt: &R,
-    alloc: Global,
-    executable: &Executable<'_>,
-) -> Result<Vec<Item>, NoMemory>
-    ensures { IfOk result (λ items. Puts (IsOtherFault (executable_view executable.now)) [] items.items) }
-{
-    let of_fields = || -> Result<Vec<Item>, NoMemory>
-        ensures { IfOk result (λ items. Puts (IsFieldFault (executable_view executable.entry.now)) [] items.items) }
-    { field_faults(alloc, executable) };
-    let of_others = || -> Result<Vec<Item>, NoMemory>
-        ensures { IfOk result (λ items. Puts (λ item. IsDefinitionFault (executable_view executable.entry.now) item ⊎ IsReachFault (executable_view executable.entry.now) item) [] items.items) }
-    { definition_and_reach_faults(rt, alloc, executable) };
-    let (fields, others) = join(rt, of_fields, of_others);
-    let mut items = fields?;
-    items.append(&mut others?)?;
     Ok(items)
 }

@@ -3,11 +3,12 @@ ghost use Rattle.std.specs.Prelude.{◌≡◌, [], IfOk, OnOk};
 ghost use Rattle.std.specs.Thread.{IsSync};
 ghost use Rattle.gq_document.specs.Executable.{executable_view};
 ghost use Rattle.gq_found.specs.Puts.{Puts};
-ghost use Rattle.gq_merging.specs.FieldsMerge.{IsMergingFault};
 ghost use Rattle.gq_rules.specs.Project.{defined_in};
+ghost use Rattle.gq_rules.specs.RuleGroups.{IsFieldOrMergingFault, IsDefinitionFault, IsReachFault, IsOtherFault};
 ghost use Rattle.gq_rules.specs.Wrongs.{IsWrong, PutsWrong};
 
-use crate::rule_faults::{merging_faults, other_faults};
+use crate::giving_back::give_back;
+use crate::rule_faults::{definition_faults, field_and_merging_faults, reach_faults};
 use gq_document::{Definitions, Executable};
 use gq_found::Item;
 use gq_text::NoMemory;
@@ -16,7 +17,7 @@ use gq_types::Types;
 use std::alloc::Global;
 use std::thread::{Threads, join};
 
-/// What is wrong with a type system or, where nothing is, what the rules tell but for fields that merge.
+/// What is wrong with a type system or, where nothing is, what some of the rules tell.
 #[derive(Drop)]
 enum Wrong {
     TypeSystem(Vec<Item>),
@@ -39,7 +40,9 @@ pub fn put_wrong<R: Threads + Sync>(
         operations: &definitions.operations,
         fragments: &definitions.fragments,
     };
-    put_wrong_in(rt, alloc, &executable, items)
+    put_wrong_in(rt, alloc, &executable, items)?;
+    give_back(rt, definitions.operations, definitions.fragments);
+    Ok(())
 }
 
 /// The same for the types that are looked up.
@@ -59,8 +62,8 @@ fn put_wrong_in<R: Threads + Sync>(
     Ok(())
 }
 
-/// The same where nothing is told by then. Fields that merge take longest, so a thread of their own looks at them from the
-/// start: for nothing, where something is wrong with the type system.
+/// The same where nothing is told by then. It is looked at in four threads from the start: for nothing, but for one of them,
+/// where something is wrong with the type system.
 fn put_first_wrong<R: Threads + Sync>(
     rt: &R,
     alloc: Global,
@@ -70,35 +73,55 @@ fn put_first_wrong<R: Threads + Sync>(
     requires { items.old.items ≡ [] }
     ensures { OnOk result (PutsWrong (executable_view executable.now) items.old.items items.new.items) }
 {
-    let of_merging = || -> Result<Vec<Item>, NoMemory>
-        ensures { IfOk result (λ items. Puts (IsMergingFault (executable_view executable.entry.now)) [] items.items) }
-    { merging_faults(alloc, executable) };
-    let of_others = || -> Result<Wrong, NoMemory>
+    let of_fields = || -> Result<Vec<Item>, NoMemory>
         requires { IsSync R.row }
-        ensures { IfOk result (IsWrong (executable_view executable.entry.now)) }
-    { wrong_but_merging(rt, alloc, executable) };
-    let (merging, wrong) = join(rt, of_merging, of_others);
+        ensures { IfOk result (λ items. Puts (IsFieldOrMergingFault (executable_view executable.entry.now)) [] items.items) }
+    { field_and_merging_faults(rt, alloc, executable) };
+    let of_others = || -> Result<Wrong, NoMemory>
+        ensures { IfOk result (IsWrong IsOtherFault (executable_view executable.entry.now)) }
+    { wrong_but_fields(rt, alloc, executable) };
+    let (fields, wrong) = join(rt, of_fields, of_others);
     match wrong? {
         Wrong::TypeSystem(mut wrong) => items.append(&mut wrong)?,
         Wrong::Rules(mut others) => {
-            items.append(&mut merging?)?;
+            items.append(&mut fields?)?;
             items.append(&mut others)?;
         }
     }
     Ok(())
 }
 
-/// What is wrong but for fields that merge.
-fn wrong_but_merging<R: Threads + Sync>(
+/// What is wrong but for fields: spreads and variables are looked at in a thread of their own.
+fn wrong_but_fields<R: Threads>(
     rt: &R,
     alloc: Global,
     executable: &Executable<'_>,
 ) -> Result<Wrong, NoMemory>
-    ensures { IfOk result (IsWrong (executable_view executable.now)) }
+    ensures { IfOk result (IsWrong IsOtherFault (executable_view executable.now)) }
+{
+    let of_reach = || -> Result<Vec<Item>, NoMemory>
+        ensures { IfOk result (λ items. Puts (IsReachFault (executable_view executable.entry.now)) [] items.items) }
+    { reach_faults(alloc, executable) };
+    let of_definitions = || -> Result<Wrong, NoMemory>
+        ensures { IfOk result (IsWrong IsDefinitionFault (executable_view executable.entry.now)) }
+    { wrong_definitions(alloc, executable) };
+    let (reach, wrong) = join(rt, of_reach, of_definitions);
+    match wrong? {
+        Wrong::TypeSystem(wrong) => Ok(Wrong::TypeSystem(wrong)),
+        Wrong::Rules(mut items) => {
+            items.append(&mut reach?)?;
+            Ok(Wrong::Rules(items))
+        }
+    }
+}
+
+/// What is wrong with the type system or, where nothing is, with operations and fragments as such.
+fn wrong_definitions(alloc: Global, executable: &Executable<'_>) -> Result<Wrong, NoMemory>
+    ensures { IfOk result (IsWrong IsDefinitionFault (executable_view executable.now)) }
 {
     let wrong = schema_faults(alloc, executable.types)?;
     if wrong.is_empty() {
-        return Ok(Wrong::Rules(other_faults(rt, alloc, executable)?));
+        return Ok(Wrong::Rules(definition_faults(alloc, executable)?));
     }
     Ok(Wrong::TypeSystem(wrong))
 }

@@ -9,24 +9,39 @@ use gq_text::NoMemory;
 use std::alloc::Global;
 use std::process::Abort;
 use std::test::Fail;
+use std::thread::Threads;
 
-fn items(alloc: Global, documents: &Documents) -> Result<Vec<Item>, NoMemory> {
+fn items(
+    alloc: Global,
+    rt: &(impl Threads + Sync),
+    documents: &Documents,
+) -> Result<Vec<Item>, NoMemory> {
     let mut items = Vec::new(alloc);
-    put_merging_faults(alloc, &documents.executable(), &mut items)?;
+    put_merging_faults(rt, alloc, &documents.executable(), &mut items)?;
     Ok(items)
 }
 
 /// The fields that do not merge, in order, each item as its document, its code and its bytes.
-fn found(alloc: Global, schema: &str, texts: &str) -> Result<String, Fail> {
+fn found(
+    alloc: Global,
+    rt: &(impl Threads + Sync),
+    schema: &str,
+    texts: &str,
+) -> Result<String, Fail> {
     let documents = read_over(alloc, schema, texts)?;
-    placed(alloc, items(alloc, &documents)?)
+    placed(alloc, items(alloc, rt, &documents)?)
 }
 
 /// Each row is documents, parted by ` ;; `, and, behind `=>`, the fields that do not merge over that type system.
-fn assert_found(alloc: Global, rt: &impl Abort, schema: &str, rows: &str) -> Result<(), Fail> {
+fn assert_found(
+    alloc: Global,
+    rt: &(impl Abort + Threads + Sync),
+    schema: &str,
+    rows: &str,
+) -> Result<(), Fail> {
     for row in rows.trim().lines() {
         let (texts, want) = row.split_once("=>").unwrap_or((row, "no arrow"));
-        let told = found(alloc, schema, texts.trim())?;
+        let told = found(alloc, rt, schema, texts.trim())?;
         assert_eq!(rt; told.as_str(), want.trim(), "{row}");
     }
     Ok(())

@@ -10,32 +10,32 @@ use Rattle.gq_merging.proofs.FaultLemmas.{puts_all}
 use Rattle.gq_merging.proofs.faults.put_merging_faults.Goals as goal
 
 pub merged_rows-requires-clause-range : goal.merged_rows-requires-clause-range
-merged_rows-requires-clause-range c =
+merged_rows-requires-clause-range g c κs within =
     spreads_seen_in_range (executable_view c.args.executable.now) c.in_ok-rows.rows.items c.deref.result.now c.in_ok-spreads.spreads.items c.deref-3.result.now
     c.in_ok-rows.ensures c.in_ok-spreads.ensures c.deref.ensures.value c.deref-3.ensures.value
 
 pub passed_rows-requires-clause-range : goal.passed_rows-requires-clause-range
-passed_rows-requires-clause-range c =
+passed_rows-requires-clause-range g c =
     spreads_seen_in_range (executable_view c.args.executable.now) c.in_ok-rows.rows.items c.deref.result.now c.in_ok-spreads.spreads.items c.deref-4.result.now
     c.in_ok-rows.ensures c.in_ok-spreads.ensures c.deref.ensures.value c.deref-4.ensures.value
 
 pub passed_rows-requires-clause-count : goal.passed_rows-requires-clause-count
-passed_rows-requires-clause-count c =
+passed_rows-requires-clause-count g c =
     ap length c.deref-5.ensures.value ∙ c.in_ok-marks.ensures.count ∙ ap (λ rs. length (rows_view rs)) (c.deref-2.ensures.value ∙ sym c.deref.ensures.value)
     ∙ sym (count_alike c.deref.result.now c.in_ok-spreads.spreads.items c.in_ok-spreads.ensures) ∙ sym (ap length c.deref-4.ensures.value)
 
 pub put_faults_for-requires-clause-range : goal.put_faults_for-requires-clause-range
-put_faults_for-requires-clause-range c =
+put_faults_for-requires-clause-range g c =
     spreads_seen_in_range (executable_view c.args.executable.now) c.in_ok-rows.rows.items c.deref.result.now c.in_ok-spreads.spreads.items c.deref-7.result.now
     c.in_ok-rows.ensures c.in_ok-spreads.ensures c.deref.ensures.value c.deref-7.ensures.value
 
 pub put_faults_for-requires-2-clause-range : goal.put_faults_for-requires-2-clause-range
-put_faults_for-requires-2-clause-range c =
+put_faults_for-requires-2-clause-range g c =
     spreads_seen_in_range (executable_view c.args.executable.now) c.in_ok-rows.rows.items c.deref.result.now c.in_ok-spreads.spreads.items c.deref-7.result.now
     c.in_ok-rows.ensures c.in_ok-spreads.ensures c.deref.ensures.value c.deref-7.ensures.value
 
 pub returns : goal.returns
-returns c =
+returns g c =
     let rows = c.deref-6.result.now in
     let square : c.in-Some.size ≡ length c.deref-6.result.now * length c.deref-6.result.now = search rules in
     let passes : Passes (row c.in_ok-spreads.spreads.items) c.in_ok-marks.marks.items c.in_ok-passed.passed.items =

@@ -3,21 +3,22 @@ use super::{assert_found, found};
 use std::alloc::Global;
 use std::process::Abort;
 use std::test::Fail;
+use std::thread::Threads;
 
 const CALLS: &str = "type Query{f:Int}";
 
 /// Whether two calls with these arguments merge.
-fn merge(alloc: Global, left: &str, right: &str) -> Result<bool, Fail> {
+fn merge(alloc: Global, rt: &(impl Threads + Sync), left: &str, right: &str) -> Result<bool, Fail> {
     let text = format!(in alloc; "{{k:f({left}) k:f({right})}}")?;
-    Ok(found(alloc, CALLS, text.as_str())?.is_empty())
+    Ok(found(alloc, rt, CALLS, text.as_str())?.is_empty())
 }
 
 /// Each row is the arguments of two calls, parted by `;;`, and, behind `=>`, whether these merge.
-fn assert_merge(alloc: Global, rt: &impl Abort, rows: &str) -> Result<(), Fail> {
+fn assert_merge(alloc: Global, rt: &(impl Abort + Threads + Sync), rows: &str) -> Result<(), Fail> {
     for row in rows.trim().lines() {
         let (calls, want) = row.split_once("=>").unwrap_or((row, "no arrow"));
         let (left, right) = calls.split_once(";;").unwrap_or((calls, "one call"));
-        let merges = merge(alloc, left.trim(), right.trim())?;
+        let merges = merge(alloc, rt, left.trim(), right.trim())?;
         let told = if merges { "true" } else { "false" };
         assert_eq!(rt; told, want.trim(), "{row}");
     }

@@ -1,8 +1,8 @@
--- What the rules read may be lent to several threads: types and definitions are `Sync`, shown from their parts.
+-- Types and definitions may be lent to several threads, and definitions given to one: shown from their parts.
 use denote.Ref.{NamedLft}
-use denote.Param.Send.{IsSync, sendable}
+use denote.Param.Send.{IsSend, IsSync, sendable}
 use Rattle.std.proofs.Crossing.{crosses}
-use Rattle.gq_read.proofs.Crossing.{Operation-field_sync, Fragment-field_sync, TypeSystemDefinition-field_sync}
+use Rattle.gq_read.proofs.Crossing.{Operation-field_send, Operation-field_sync, Fragment-field_send, Fragment-field_sync, TypeSystemDefinition-field_sync}
 use Rattle.gq_document.specs.contracts.executable.Executable as Executable
 use Rattle.gq_document.specs.contracts.definitions.OperationEntry as OperationEntry
 use Rattle.gq_document.specs.contracts.definitions.FragmentEntry as FragmentEntry
@@ -29,14 +29,26 @@ Declarers-field_sync = search (sendable, crosses, NameList.the_sync) depth 12
 Types-field_sync : IsSync (Types.the_field).row
 Types-field_sync = search (sendable, crosses, Definitions-field_sync, Parts.the_sync, Declarers-field_sync) depth 12
 
-Types-sync : IsSync Types.the_row
+pub Types-sync : IsSync Types.the_row
 Types-sync = search (sendable, crosses, Types-field_sync) depth 12
+
+OperationEntry-field_send : IsSend (OperationEntry.the_field).row
+OperationEntry-field_send = search (sendable, crosses, Operation-field_send) depth 12
+
+pub OperationEntry-send : IsSend OperationEntry.the_row
+OperationEntry-send = search (sendable, crosses, OperationEntry-field_send) depth 12
 
 OperationEntry-field_sync : IsSync (OperationEntry.the_field).row
 OperationEntry-field_sync = search (sendable, crosses, Operation-field_sync) depth 12
 
 OperationEntry-sync : IsSync OperationEntry.the_row
 OperationEntry-sync = search (sendable, crosses, OperationEntry-field_sync) depth 12
+
+FragmentEntry-field_send : IsSend (FragmentEntry.the_field).row
+FragmentEntry-field_send = search (sendable, crosses, Fragment-field_send) depth 12
+
+pub FragmentEntry-send : IsSend FragmentEntry.the_row
+FragmentEntry-send = search (sendable, crosses, FragmentEntry-field_send) depth 12
 
 FragmentEntry-field_sync : IsSync (FragmentEntry.the_field).row
 FragmentEntry-field_sync = search (sendable, crosses, Fragment-field_sync) depth 12
