@@ -12,6 +12,7 @@ use gq_text::text::TEXT_MAX;
 use gq_text::{NoMemory, OwnedText};
 use std::alloc::{AllocError, Global};
 use std::collections::HashSet;
+use std::fs::OpenFile;
 use std::io::Read;
 use std::process::ExitCode;
 use std::thread::Threads;
@@ -112,11 +113,14 @@ fn serve(rt: &HostRuntime) -> u8 {
     }
 }
 
-/// Up to one byte more of a file than a text may have.
+/// Up to one byte more of a file than a text may have. There is room for all of them, and for one more at which the end is
+/// seen, before they are read.
 fn read_front(rt: &HostRuntime, name: &str) -> io::Result<Vec<u8>> {
     let limit = TEXT_MAX as u64 + 1;
-    let mut bytes = Vec::new(rt.alloc());
-    fs::open(rt, name)?.take(limit).read_to_end(&mut bytes)?;
+    let file = fs::open(rt, name)?;
+    let room = file.metadata()?.len().min(limit) as usize + 1;
+    let mut bytes = Vec::with_capacity(rt.alloc(), room)?;
+    file.take(limit).read_to_end(&mut bytes)?;
     Ok(bytes)
 }
 
