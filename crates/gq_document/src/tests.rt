@@ -1,4 +1,4 @@
-use crate::definitions::Definitions;
+use crate::definitions::{Definitions, FragmentEntry, OperationEntry};
 use crate::selections::{Selected, fragment_selections, operation_selections};
 use gq_parse::parse;
 use gq_read::Reading;
@@ -38,19 +38,30 @@ fn all_told(alloc: Global, selections: &[Selected<'_>]) -> Result<String, NoMemo
     Ok(all)
 }
 
-/// The selections of all operations and then of all fragments of these documents.
+/// The selections of all operations and then of all fragments.
+fn selected_among(
+    alloc: Global,
+    types: &Types,
+    operations: &[OperationEntry],
+    fragments: &[FragmentEntry],
+) -> Result<String, NoMemory> {
+    let mut told = String::new(alloc);
+    for operation in operations {
+        let selections = operation_selections(alloc, types, operation)?;
+        told.push_str(all_told(alloc, &selections)?.as_str())?;
+    }
+    for fragment in fragments {
+        let selections = fragment_selections(alloc, types, fragment)?;
+        told.push_str(all_told(alloc, &selections)?.as_str())?;
+    }
+    Ok(told)
+}
+
+/// The same of these documents.
 fn selected(alloc: Global, texts: &[&str]) -> Result<String, Fail> {
     let all = definitions(alloc, texts)?;
     let types = Types::of(alloc, all.entries)?;
-    let mut told = String::new(alloc);
-    for operation in &all.operations {
-        let selections = operation_selections(alloc, &types, operation)?;
-        told.push_str(all_told(alloc, &selections)?.as_str())?;
-    }
-    for fragment in &all.fragments {
-        let selections = fragment_selections(alloc, &types, fragment)?;
-        told.push_str(all_told(alloc, &selections)?.as_str())?;
-    }
+    let told = selected_among(alloc, &types, &all.operations, &all.fragments)?;
     Ok(told)
 }
 
