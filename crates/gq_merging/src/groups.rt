@@ -341,6 +341,8 @@ fn put_marks(marks: &mut Vec<bool>, others: &[bool])
     requires { length others.now ≡ length marks.old.items }
     ensures count { length marks.new.items ≡ length marks.old.items }
     ensures marked { (n : ℕ) → slice_index_or marks.new.items n false ≡ true → (slice_index_or marks.old.items n false ≡ true) ⊎ (slice_index_or others.now n false ≡ true) }
+    ensures kept { (n : ℕ) → slice_index_or marks.old.items n false ≡ true → slice_index_or marks.new.items n false ≡ true }
+    ensures put { (n : ℕ) → slice_index_or others.now n false ≡ true → slice_index_or marks.new.items n false ≡ true }
 {
     for number in 0..others.len() {
         if others[number] {

@@ -5,7 +5,7 @@ use Rattle.gq_found.specs.Puts.{Puts}
 use Rattle.gq_found.proofs.PutLemmas.{puts_both, puts_as}
 use Rattle.gq_document.specs.Executable.{ExecutableOf}
 use Rattle.gq_rules.specs.RuleFaults.{IsRuleFault, of_operations, of_fields, of_fragments, of_spreads, of_variables, of_merging}
-use Rattle.gq_rules.specs.RuleGroups.{IsFieldOrMergingFault, IsOtherFault}
+use Rattle.gq_rules.specs.RuleGroups.{IsDefinitionOrMergingFault, IsOtherFault}
 
 -- what was found apart, behind others
 puts_found : (Is : Item → Type 0) (old found new : List Item) → Puts Is [] found → new ≡ old ++ found → Puts Is old new
@@ -16,22 +16,22 @@ pub puts_then_found : (A B : Item → Type 0) (old middle found new : List Item)
 puts_then_found A B old middle found new a b e = puts_both A B old middle new a (puts_found B middle found new b e)
 
 module _ (x : ExecutableOf) where
-  told_are : (item : Item) → (IsFieldOrMergingFault x item ⊎ IsOtherFault x item) ↔ IsRuleFault x item
+  told_are : (item : Item) → (IsDefinitionOrMergingFault x item ⊎ IsOtherFault x item) ↔ IsRuleFault x item
   told_are item = (
-    ⊎_elim (⊎_elim of_fields of_merging) (⊎_elim (⊎_elim of_operations of_fragments) (⊎_elim of_spreads of_variables)),
+    ⊎_elim (⊎_elim (⊎_elim of_operations of_fragments) of_merging) (⊎_elim of_fields (⊎_elim of_spreads of_variables)),
     back,
   )
     where
-      back : IsRuleFault x item → IsFieldOrMergingFault x item ⊎ IsOtherFault x item
-      back (of_fields f) = inl (inl f)
+      back : IsRuleFault x item → IsDefinitionOrMergingFault x item ⊎ IsOtherFault x item
+      back (of_operations f) = inl (inl (inl f))
+      back (of_fragments f) = inl (inl (inr f))
       back (of_merging f) = inl (inr f)
-      back (of_operations f) = inr (inl (inl f))
-      back (of_fragments f) = inr (inl (inr f))
+      back (of_fields f) = inr (inl f)
       back (of_spreads f) = inr (inr (inl f))
       back (of_variables f) = inr (inr (inr f))
 
   -- both parts put behind the others
-  pub puts_rules : (old middle fields others new : List Item) → Puts (IsFieldOrMergingFault x) [] fields → Puts (IsOtherFault x) [] others →
-      middle ≡ old ++ fields → new ≡ middle ++ others → Puts (IsRuleFault x) old new
-  puts_rules old middle fields others new m o e f = puts_as _ (IsRuleFault x) old new told_are
-      (puts_then_found (IsFieldOrMergingFault x) (IsOtherFault x) old middle others new (puts_found (IsFieldOrMergingFault x) old fields middle m e) o f)
+  pub puts_rules : (old middle definitions others new : List Item) → Puts (IsDefinitionOrMergingFault x) [] definitions → Puts (IsOtherFault x) [] others →
+      middle ≡ old ++ definitions → new ≡ middle ++ others → Puts (IsRuleFault x) old new
+  puts_rules old middle definitions others new m o e f = puts_as _ (IsRuleFault x) old new told_are
+      (puts_then_found (IsDefinitionOrMergingFault x) (IsOtherFault x) old middle others new (puts_found (IsDefinitionOrMergingFault x) old definitions middle m e) o f)

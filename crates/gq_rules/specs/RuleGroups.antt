@@ -9,10 +9,6 @@ use Rattle.gq_merging.specs.FieldsMerge.{IsMergingFault}
 use Rattle.gq_spreads.specs.SpreadFaults.{IsSpreadFault}
 use Rattle.gq_variables.specs.VariableFaults.{IsVariableFault}
 
--- of fields, each by itself and where they do not merge
-abbrev pub IsFieldOrMergingFault : ExecutableOf → Item → Type 0
-IsFieldOrMergingFault x item = IsFieldFault x item ⊎ IsMergingFault x item
-
 -- of operations and fragments as such
 abbrev pub IsDefinitionFault : ExecutableOf → Item → Type 0
 IsDefinitionFault x item = IsOperationFault x item ⊎ IsFragmentFault x item
@@ -21,6 +17,10 @@ IsDefinitionFault x item = IsOperationFault x item ⊎ IsFragmentFault x item
 abbrev pub IsReachFault : ExecutableOf → Item → Type 0
 IsReachFault x item = IsSpreadFault x item ⊎ IsVariableFault x item
 
--- of all but fields
+-- of operations and fragments as such, and of fields that do not merge
+abbrev pub IsDefinitionOrMergingFault : ExecutableOf → Item → Type 0
+IsDefinitionOrMergingFault x item = IsDefinitionFault x item ⊎ IsMergingFault x item
+
+-- of fields each by itself, spreads and variables
 abbrev pub IsOtherFault : ExecutableOf → Item → Type 0
-IsOtherFault x item = IsDefinitionFault x item ⊎ IsReachFault x item
+IsOtherFault x item = IsFieldFault x item ⊎ IsReachFault x item

@@ -5,7 +5,7 @@ ghost use Rattle.gq_document.specs.Executable.{executable_view};
 ghost use Rattle.gq_fields.specs.FieldFaults.{IsFieldFault};
 ghost use Rattle.gq_found.specs.Puts.{Puts};
 ghost use Rattle.gq_merging.specs.FieldsMerge.{IsMergingFault};
-ghost use Rattle.gq_rules.specs.RuleGroups.{IsFieldOrMergingFault, IsDefinitionFault, IsReachFault};
+ghost use Rattle.gq_rules.specs.RuleGroups.{IsDefinitionOrMergingFault, IsDefinitionFault, IsReachFault};
 
 use gq_document::Executable;
 use gq_fields::put_field_faults;
@@ -32,7 +32,7 @@ fn merging_faults<R: Threads + Sync>(
 }
 
 /// What is wrong with fields, arguments, directives and values.
-fn field_faults(alloc: Global, executable: &Executable<'_>) -> Result<Vec<Item>, NoMemory>
+pub fn field_faults(alloc: Global, executable: &Executable<'_>) -> Result<Vec<Item>, NoMemory>
     ensures { IfOk result (λ items. Puts (IsFieldFault (executable_view executable.now)) [] items.items) }
 {
     let mut items = Vec::new(alloc);
@@ -40,29 +40,29 @@ fn field_faults(alloc: Global, executable: &Executable<'_>) -> Result<Vec<Item>,
     Ok(items)
 }
 
-/// What is wrong with fields each by itself, and with those that do not merge, in two threads.
-pub fn field_and_merging_faults<R: Threads + Sync>(
+/// What is wrong with operations and fragments as such, and the fields that do not merge, in two threads.
+pub fn definition_and_merging_faults<R: Threads + Sync>(
     rt: &R,
     alloc: Global,
     executable: &Executable<'_>,
 ) -> Result<Vec<Item>, NoMemory>
-    ensures { IfOk result (λ items. Puts (IsFieldOrMergingFault (executable_view executable.now)) [] items.items) }
+    ensures { IfOk result (λ items. Puts (IsDefinitionOrMergingFault (executable_view executable.now)) [] items.items) }
 {
-    let of_fields = || -> Result<Vec<Item>, NoMemory>
-        ensures { IfOk result (λ items. Puts (IsFieldFault (executable_view executable.entry.now)) [] items.items) }
-    { field_faults(alloc, executable) };
+    let of_definitions = || -> Result<Vec<Item>, NoMemory>
+        ensures { IfOk result (λ items. Puts (IsDefinitionFault (executable_view executable.entry.now)) [] items.items) }
+    { definition_faults(alloc, executable) };
     let of_merging = || -> Result<Vec<Item>, NoMemory>
         requires { IsSync R.row }
         ensures { IfOk result (λ items. Puts (IsMergingFault (executable_view executable.entry.now)) [] items.items) }
     { merging_faults(rt, alloc, executable) };
-    let (fields, merging) = join(rt, of_fields, of_merging);
-    let mut items = fields?;
+    let (definitions, merging) = join(rt, of_definitions, of_merging);
+    let mut items = definitions?;
     items.append(&mut merging?)?;
     Ok(items)
 }
 
 /// What is wrong with operations and fragments as such.
-pub fn definition_faults(alloc: Global, executable: &Executable<'_>) -> Result<Vec<Item>, NoMemory>
+fn definition_faults(alloc: Global, executable: &Executable<'_>) -> Result<Vec<Item>, NoMemory>
     ensures { IfOk result (λ items. Puts (IsDefinitionFault (executable_view executable.now)) [] items.items) }
 {
     let mut items = Vec::new(alloc);

@@ -2,13 +2,14 @@
 ghost use Rattle.std.specs.Prelude.{◌≡◌, [], IfOk, OnOk};
 ghost use Rattle.std.specs.Thread.{IsSync};
 ghost use Rattle.gq_document.specs.Executable.{executable_view};
+ghost use Rattle.gq_fields.specs.FieldFaults.{IsFieldFault};
 ghost use Rattle.gq_found.specs.Puts.{Puts};
 ghost use Rattle.gq_rules.specs.Project.{defined_in};
-ghost use Rattle.gq_rules.specs.RuleGroups.{IsFieldOrMergingFault, IsDefinitionFault, IsReachFault, IsOtherFault};
+ghost use Rattle.gq_rules.specs.RuleGroups.{IsDefinitionOrMergingFault, IsReachFault, IsOtherFault};
 ghost use Rattle.gq_rules.specs.Wrongs.{IsWrong, PutsWrong};
 
 use crate::giving_back::give_back;
-use crate::rule_faults::{definition_faults, field_and_merging_faults, reach_faults};
+use crate::rule_faults::{definition_and_merging_faults, field_faults, reach_faults};
 use gq_document::{Definitions, Executable};
 use gq_found::Item;
 use gq_text::NoMemory;
@@ -63,7 +64,8 @@ fn put_wrong_in<R: Threads + Sync>(
 }
 
 /// The same where nothing is told by then. It is looked at in four threads from the start: for nothing, but for one of them,
-/// where something is wrong with the type system.
+/// where something is wrong with the type system. Fields each by itself wait for that one, since a literal can cost much where
+/// an input object has a field twice.
 fn put_first_wrong<R: Threads + Sync>(
     rt: &R,
     alloc: Global,
@@ -73,26 +75,27 @@ fn put_first_wrong<R: Threads + Sync>(
     requires { items.old.items ≡ [] }
     ensures { OnOk result (PutsWrong (executable_view executable.now) items.old.items items.new.items) }
 {
-    let of_fields = || -> Result<Vec<Item>, NoMemory>
+    let of_definitions = || -> Result<Vec<Item>, NoMemory>
         requires { IsSync R.row }
-        ensures { IfOk result (λ items. Puts (IsFieldOrMergingFault (executable_view executable.entry.now)) [] items.items) }
-    { field_and_merging_faults(rt, alloc, executable) };
+        ensures { IfOk result (λ items. Puts (IsDefinitionOrMergingFault (executable_view executable.entry.now)) [] items.items) }
+    { definition_and_merging_faults(rt, alloc, executable) };
     let of_others = || -> Result<Wrong, NoMemory>
         ensures { IfOk result (IsWrong IsOtherFault (executable_view executable.entry.now)) }
-    { wrong_but_fields(rt, alloc, executable) };
-    let (fields, wrong) = join(rt, of_fields, of_others);
+    { wrong_fields_and_reach(rt, alloc, executable) };
+    let (definitions, wrong) = join(rt, of_definitions, of_others);
     match wrong? {
         Wrong::TypeSystem(mut wrong) => items.append(&mut wrong)?,
         Wrong::Rules(mut others) => {
-            items.append(&mut fields?)?;
+            items.append(&mut definitions?)?;
             items.append(&mut others)?;
         }
     }
     Ok(())
 }
 
-/// What is wrong but for fields: spreads and variables are looked at in a thread of their own.
-fn wrong_but_fields<R: Threads>(
+/// What is wrong with the type system or, where nothing is, with fields, spreads and variables: these two are looked at in a
+/// thread of their own.
+fn wrong_fields_and_reach<R: Threads>(
     rt: &R,
     alloc: Global,
     executable: &Executable<'_>,
@@ -102,10 +105,10 @@ fn wrong_but_fields<R: Threads>(
     let of_reach = || -> Result<Vec<Item>, NoMemory>
         ensures { IfOk result (λ items. Puts (IsReachFault (executable_view executable.entry.now)) [] items.items) }
     { reach_faults(alloc, executable) };
-    let of_definitions = || -> Result<Wrong, NoMemory>
-        ensures { IfOk result (IsWrong IsDefinitionFault (executable_view executable.entry.now)) }
-    { wrong_definitions(alloc, executable) };
-    let (reach, wrong) = join(rt, of_reach, of_definitions);
+    let of_fields = || -> Result<Wrong, NoMemory>
+        ensures { IfOk result (IsWrong IsFieldFault (executable_view executable.entry.now)) }
+    { wrong_fields(alloc, executable) };
+    let (reach, wrong) = join(rt, of_reach, of_fields);
     match wrong? {
         Wrong::TypeSystem(wrong) => Ok(Wrong::TypeSystem(wrong)),
         Wrong::Rules(mut items) => {
@@ -115,13 +118,13 @@ fn wrong_but_fields<R: Threads>(
     }
 }
 
-/// What is wrong with the type system or, where nothing is, with operations and fragments as such.
-fn wrong_definitions(alloc: Global, executable: &Executable<'_>) -> Result<Wrong, NoMemory>
-    ensures { IfOk result (IsWrong IsDefinitionFault (executable_view executable.now)) }
+/// What is wrong with the type system or, where nothing is, with fields each by itself.
+fn wrong_fields(alloc: Global, executable: &Executable<'_>) -> Result<Wrong, NoMemory>
+    ensures { IfOk result (IsWrong IsFieldFault (executable_view executable.now)) }
 {
     let wrong = schema_faults(alloc, executable.types)?;
     if wrong.is_empty() {
-        return Ok(Wrong::Rules(definition_faults(alloc, executable)?));
+        return Ok(Wrong::Rules(field_faults(alloc, executable)?));
     }
     Ok(Wrong::TypeSystem(wrong))
 }

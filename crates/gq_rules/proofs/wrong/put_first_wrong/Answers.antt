@@ -4,21 +4,21 @@ use Rattle.std.proofs.Crossing.{send, sync}
 use Rattle.gq_document.specs.Executable.{executable_view}
 use Rattle.gq_document.proofs.Crossing.{Executable-sync}
 use Rattle.gq_found.specs.Puts.{Puts}
-use Rattle.gq_rules.specs.RuleGroups.{IsFieldOrMergingFault, IsOtherFault}
+use Rattle.gq_rules.specs.RuleGroups.{IsDefinitionOrMergingFault, IsOtherFault}
 use Rattle.gq_rules.specs.Wrongs.{IsWrong}
 use Rattle.gq_rules.proofs.DemandLemmas.{rules_put}
 use Rattle.gq_rules.proofs.RuleLemmas.{puts_rules}
 use Rattle.gq_rules.proofs.wrong.put_first_wrong.Goals as goal
 
-pub join-fields-requires-send-F : goal.join-fields-requires-send-F
-join-fields-requires-send-F g c κs within = search (sendable, send, sync, Executable-sync) depth 12
+pub join-definitions-requires-send-F : goal.join-definitions-requires-send-F
+join-definitions-requires-send-F g c κs within = search (sendable, send, sync, Executable-sync) depth 12
 
 -- where nothing is wrong with the type system
 pub returns-in_ok-append-in-Rules-2 : goal.returns-in_ok-append-in-Rules-2
 returns-in_ok-append-in-Rules-2 g c =
     let x = executable_view c.args.executable.now in
-    let wrong = subst (IsWrong IsOtherFault x) c.in-Rules.is (subst (λ r. IfOk r (IsWrong IsOtherFault x)) c.in_ok-wrong.was c.join-fields.ensures.second) in
-    let fields = subst (λ r. IfOk r (λ items. Puts (IsFieldOrMergingFault x) [] items.items)) c.in_ok-fields-in-Rules.was c.join-fields.ensures.first in
+    let wrong = subst (IsWrong IsOtherFault x) c.in-Rules.is (subst (λ r. IfOk r (IsWrong IsOtherFault x)) c.in_ok-wrong.was c.join-definitions.ensures.second) in
+    let definitions = subst (λ r. IfOk r (λ items. Puts (IsDefinitionOrMergingFault x) [] items.items)) c.in_ok-definitions-in-Rules.was c.join-definitions.ensures.first in
     rules_put x c.args.items.now.items c.append-in-Rules-2.new.self.items c.requires wrong.0
-    (puts_rules x c.args.items.now.items c.append-in-Rules.new.self.items c.in_ok-fields-in-Rules.field-0.items c.in-Rules.others.items
-    c.append-in-Rules-2.new.self.items fields wrong.1 c.in_ok-append-in-Rules.ensures.items c.in_ok-append-in-Rules-2.ensures.items)
+    (puts_rules x c.args.items.now.items c.append-in-Rules.new.self.items c.in_ok-definitions-in-Rules.field-0.items c.in-Rules.others.items
+    c.append-in-Rules-2.new.self.items definitions wrong.1 c.in_ok-append-in-Rules.ensures.items c.in_ok-append-in-Rules-2.ensures.items)
