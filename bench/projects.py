@@ -120,6 +120,40 @@ def large(files, bytes_each, is_formatted):
         yield "q%d.graphql" % f, "\n".join(rows)
 
 
+def wide_inputs(count):
+    """An input object with so many fields that may be left out, and a literal of it for each of a quarter as many uses."""
+    yield "s.graphql", "type Query{f(i:In):Int}input In{a:In %s}" % " ".join("b%d:Int" % i for i in range(count))
+    yield "q.graphql", "{%s}" % " ".join("k%d:f(i:{a:{a:{a:{}}}})" % i for i in range(count // 4))
+
+
+def wide_arguments(count):
+    """A field with so many arguments, used as often with one of them each."""
+    yield "s.graphql", "type Query{f(%s):Int}" % " ".join("b%d:Int" % i for i in range(count))
+    yield "q.graphql", "{%s}" % " ".join("k%d:f(b%d:1)" % (i, i) for i in range(count))
+
+
+def many_locations(count):
+    """A directive whose locations are written very often, and uses of it."""
+    yield "s.graphql", "directive @d repeatable on %s|FIELD type Query{a:Int}" % "|".join(["QUERY"] * count)
+    yield "q.graphql", "{%s}" % " ".join("k%d:a@d" % i for i in range(count // 2))
+
+
+def many_schema_extensions(count):
+    """Extensions of a schema that give no roots, and operations that have none."""
+    rows = ["directive @d repeatable on SCHEMA schema{query:Query}type Query{a:Int}"] + ["extend schema@d"] * count
+    yield "s.graphql", "\n".join(rows)
+    yield "q.graphql", "\n".join("mutation M%d{a}" % i for i in range(count // 2))
+
+
+def many_conditions(objects, interfaces):
+    """An interface of many objects, and inline fragments on other interfaces below it."""
+    rows = ["type Query{i:I}interface I{a:Int}"]
+    rows += ["type T%d implements I{a:Int}" % i for i in range(objects)]
+    rows += ["interface J%d{a:Int}" % i for i in range(interfaces)]
+    yield "s.graphql", "\n".join(rows)
+    yield "q.graphql", "{i{%s}}" % "".join("...on J%d{a}" % i for i in range(interfaces))
+
+
 PROJECTS = {
     "chain": lambda: chain(8000),
     "cycle": lambda: cycle(8000),
@@ -128,6 +162,11 @@ PROJECTS = {
     "spreads": lambda: spreads(2000),
     "doubling": lambda: doubling(30),
     "interfaces": lambda: interfaces(64),
+    "wide_inputs": lambda: wide_inputs(20_000),
+    "wide_arguments": lambda: wide_arguments(20_000),
+    "many_locations": lambda: many_locations(80_000),
+    "many_schema_extensions": lambda: many_schema_extensions(40_000),
+    "many_conditions": lambda: many_conditions(20_000, 5000),
     "types": lambda: types(5000),
     "large": lambda: large(200, 20_000, True),
     "dense": lambda: large(200, 20_000, False),

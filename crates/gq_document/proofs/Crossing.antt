@@ -10,6 +10,7 @@ use Rattle.gq_types.specs.contracts.entry.Entry as Entry
 use Rattle.gq_types.specs.contracts.definitions.Definitions as Definitions
 use Rattle.gq_types.specs.contracts.types.Types as Types
 use Rattle.gq_types.proofs.table.Table.TheSendSync as Table
+use Rattle.gq_types.proofs.uses.Uses.TheSendSync as Uses
 use Rattle.gq_types.proofs.parts.Parts.TheSendSync as Parts
 use Rattle.gq_types.specs.contracts.declarers.Declarers as Declarers
 use Rattle.gq_names.proofs.list.NameList.TheSendSync as NameList
@@ -27,7 +28,7 @@ Declarers-field_sync : IsSync (Declarers.the_field).row
 Declarers-field_sync = search (sendable, crosses, NameList.the_sync) depth 12
 
 Types-field_sync : IsSync (Types.the_field).row
-Types-field_sync = search (sendable, crosses, Definitions-field_sync, Parts.the_sync, Declarers-field_sync) depth 12
+Types-field_sync = search (sendable, crosses, Definitions-field_sync, Parts.the_sync, Declarers-field_sync, Uses.the_sync, Uses.the_field_sync) depth 16
 
 pub Types-sync : IsSync Types.the_row
 Types-sync = search (sendable, crosses, Types-field_sync) depth 12

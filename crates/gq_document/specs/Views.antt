@@ -11,7 +11,7 @@ use Rattle.gq_document.specs.declared.selections.Selected.{Selected}
 
 abbrev pub field_view : SelectedField → FieldOf
 field_view field.Typename = typename_field
-field_view (field.Defined f) = record { type_ref = type_view f.now.type_ref; arguments = map input_view f.now.arguments.items }
+field_view (field.Defined f) = record { type_ref = type_view f.definition.now.type_ref; arguments = map input_view f.arguments.all.now }
 
 abbrev pub selected_field_view : Option SelectedField → Option FieldOf
 selected_field_view o = option_map field_view o

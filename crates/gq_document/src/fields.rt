@@ -6,24 +6,24 @@ ghost use Rattle.gq_types.specs.Look.{types_view, text_of};
 ghost use Rattle.gq_document.specs.Selections.{is_composite_named, field_on, selected_field, base_name};
 ghost use Rattle.gq_document.specs.Views.{field_view, selected_field_view};
 
-use gq_tree::{FieldDefinition, InputValueDefinition, TypeRef};
-use gq_types::Types;
+use gq_tree::TypeRef;
+use gq_types::{Arguments, DefinedField, Types};
 
 /// The field that a selection names: one of a type's definition, or `__typename`, which every composite type has.
 #[derive(Clone, Copy)]
 pub enum SelectedField<'a> {
     Typename,
-    Defined(&'a FieldDefinition),
+    Defined(DefinedField<'a>),
 }
 
 impl<'a> SelectedField<'a> {
     /// The arguments that its definition has.
-    pub fn arguments(self) -> &'a [InputValueDefinition]
-        ensures { map input_view result.now ≡ (field_view self.entry).arguments }
+    pub fn arguments(self) -> Arguments<'a>
+        ensures { map input_view result.all.now ≡ (field_view self.entry).arguments }
     {
         match self {
-            SelectedField::Typename => &[],
-            SelectedField::Defined(field) => &field.arguments,
+            SelectedField::Typename => Arguments::over(&[]),
+            SelectedField::Defined(field) => field.arguments,
         }
     }
 
@@ -33,7 +33,7 @@ impl<'a> SelectedField<'a> {
     {
         match self {
             SelectedField::Typename => "String",
-            SelectedField::Defined(field) => base_name(&field.type_ref),
+            SelectedField::Defined(field) => base_name(&field.definition.type_ref),
         }
     }
 }
@@ -70,10 +70,9 @@ pub fn field_on<'a>(types: &'a Types, type_name: &str, name: &str) -> Option<Sel
         }
         return None;
     }
-    match types.field(type_name, name) {
-        Some(field) => Some(SelectedField::Defined(field)),
-        None => None,
-    }
+    let number = types.type_number(type_name)?;
+    let field = types.defined_field(number, name)?;
+    Some(SelectedField::Defined(field))
 }
 
 /// The field that a selection names, where the type of its parent is known.

@@ -9,8 +9,8 @@ ghost use Rattle.gq_document.specs.Views.{selected_field_view};
 use gq_document::SelectedField;
 use gq_found::Item;
 use gq_text::NoMemory;
-use gq_tree::{Argument, InputValueDefinition, Name};
-use gq_types::Types;
+use gq_tree::{Argument, Name};
+use gq_types::{Arguments, Types};
 use gq_values::put_argument_faults;
 use std::alloc::Global;
 
@@ -19,14 +19,14 @@ fn put_faults_at(
     alloc: Global,
     types: &Types,
     file: usize,
-    definitions: &[InputValueDefinition],
+    definitions: Arguments<'_>,
     name: &Name,
     arguments: &[Argument],
     items: &mut Vec<Item>,
 ) -> Result<(), NoMemory>
-    ensures { OnOk result (items.new.items ≡ items.old.items ++ argument_faults (types_view types.now) file (Some (map input_view definitions.now)) (name_of name.now) (map argument_view arguments.now)) }
+    ensures { OnOk result (items.new.items ≡ items.old.items ++ argument_faults (types_view types.now) file (Some (map input_view definitions.entry.all.now)) (name_of name.now) (map argument_view arguments.now)) }
 {
-    if definitions.is_empty() && arguments.is_empty() {
+    if definitions.all().is_empty() && arguments.is_empty() {
         return Ok(());
     }
     put_argument_faults(

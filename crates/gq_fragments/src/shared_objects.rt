@@ -100,15 +100,34 @@ fn is_one_possible(types: &Types, condition: &str, objects: &[&str]) -> bool
     false
 }
 
-/// Whether the types have a possible object type in common. It goes over the possible objects of one of them, which are
-/// listed more easily for a union than for an interface.
+/// Whether the types have a possible object type in common. It goes over the possible objects of that one of them which
+/// has fewer names to go over.
 fn share_object(alloc: Global, types: &Types, one: &str, other: &str) -> Result<bool, NoMemory>
     ensures { IfOk result (λ is_shared. is_shared ≡ share_object (types_view types.now) one.now other.now) }
 {
-    if types.has_kind(other, TypeKind::Union) {
+    if extent(types, other) < extent(types, one) {
         let objects = types.possible(alloc, other)?;
         return Ok(is_one_possible(types, one, &objects));
     }
     let objects = types.possible(alloc, one)?;
     Ok(is_one_possible(types, other, &objects))
+}
+
+/// How many names are gone over to list the possible objects of a union or an interface.
+fn extent(types: &Types, name: &str) -> usize {
+    match types.type_number(name) {
+        Some(number) if types.has_kind(name, TypeKind::Union) => {
+            member_count(types, types.joined(number))
+        }
+        _ => types.declarers(name).len(),
+    }
+}
+
+/// How many members the definitions and extensions with these numbers have.
+fn member_count(types: &Types, parts: &[usize]) -> usize {
+    let mut count: usize = 0;
+    for part in parts {
+        count = count.saturating_add(types.members_at(*part).len());
+    }
+    count
 }

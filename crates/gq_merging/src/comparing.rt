@@ -106,7 +106,7 @@ pub(crate) fn known_type<'a>(
 {
     let type_ref = match selected_field(types, field.parent, field.name.text.as_str())? {
         SelectedField::Typename => typename_type,
-        SelectedField::Defined(definition) => &definition.type_ref,
+        SelectedField::Defined(field) => &field.definition.type_ref,
     };
     if types.kind(base_name(type_ref)).is_some() {
         Some(type_ref)

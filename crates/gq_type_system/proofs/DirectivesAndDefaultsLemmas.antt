@@ -1,5 +1,5 @@
 -- What is told of directives and default values in a type system is what the relation says.
-use Rattle.std.proofs.Common.{◌≡◌, ℕ, ◌+◌, ◌<◌, ◌≤◌, Bool, true, false, if◌then◌else◌, List, [], ◌∷◌, ◌++◌, Option, Some, None, inl, inr, ◌↔◌, Contains, map, flat_map, filter, length, position, nat_eq, nat_lt, not, refl, sym, ap, ◌∙◌, subst, arith, append-nil, append_assoc, eqb-true}
+use Rattle.std.proofs.Common.{◌≡◌, ℕ, ◌+◌, ◌<◌, ◌≤◌, Bool, true, false, if◌then◌else◌, List, [], ◌∷◌, ◌++◌, Option, Some, None, inl, inr, ◌↔◌, Contains, flat_map, filter, length, position, nat_eq, nat_lt, not, refl, sym, ap, ◌∙◌, subst, arith, append-nil, append_assoc, eqb-true}
 use Rattle.std.specs.Prelude.{unwrap_or}
 use Rattle.std.specs.Option.{option_map_or}
 use Rattle.std.proofs.lemmas.Bool.{ltb-true, ltb-false}
@@ -22,7 +22,7 @@ use Rattle.gq_values.proofs.LiteralRules.{literal_faults_are}
 use Rattle.gq_values.proofs.DirectiveRules.{directive_faults_are}
 use Rattle.gq_type_system.specs.Walk.{at_each_number}
 use Rattle.gq_type_system.specs.DirectivesAndDefaults.{Site, sites_in, own_site, own_names, all_inputs, told, IsBadDirectiveOrDefault, in_site, in_entry, in_default}
-use Rattle.gq_type_system.specs.DirectivesAndDefaultsPlaces.{site_fault, site_faults, default_fault, default_faults, inner_faults_at, inner_faults, faults_at_own, own_faults, group_faults, itself, group_of, group_faults_of, outer_faults, all_faults, bad_directives_and_defaults}
+use Rattle.gq_type_system.specs.DirectivesAndDefaultsPlaces.{site_fault, site_faults, default_fault, default_faults, inner_faults_at, inner_faults, faults_at_own, own_faults, group_faults, itself, group_faults_of, outer_faults, all_faults, bad_directives_and_defaults}
 use Rattle.gq_type_system.proofs.Gather.{from_flat, to_flat, from_map, to_map, from_filter}
 use Rattle.gq_type_system.proofs.NumberLemmas.{stands_at_number}
 use Rattle.gq_type_system.proofs.WalkLemmas.{from_numbers, to_numbers}

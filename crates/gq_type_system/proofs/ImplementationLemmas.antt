@@ -1,14 +1,13 @@
 -- What is told of implementations is what the relation says.
-use Rattle.std.proofs.Common.{◌≡◌, ◌≢◌, ℕ, Bool, true, false, List, [], ◌∷◌, refl, sym, ap, ◌∙◌, subst, Contains, flat_map, ◌⊎◌, ⊎_elim, inl, inr, ◌↔◌, Option, Some, None}
+use Rattle.std.proofs.Common.{◌≡◌, ℕ, Bool, true, false, List, [], ◌∷◌, refl, sym, ap, ◌∙◌, subst, Contains, ◌⊎◌, ⊎_elim, inl, inr, ◌↔◌, Option, Some, None}
 use Rattle.std.specs.Prelude.{◌||◌, ◌&&◌, not, is_none, find, if◌then◌else◌}
-use Rattle.std.specs.List.{list_any}
-use Rattle.std.specs.Option.{option_map, option_map_or}
+use Rattle.std.specs.Option.{option_map_or}
 use Rattle.std.specs.Str.{bytes_eq}
 use Rattle.std.specs.Cmp.Lexicographic.{bytes_decides}
 use Rattle.gq_text.specs.declared.place.Span.{Span}
 use Rattle.gq_found.specs.declared.code.Code.TheVariants.{BadImplementation}
 use Rattle.gq_found.specs.declared.item.Item.{Item}
-use Rattle.gq_tree.specs.Plain.{NameOf, DirectiveOf, TypeOf, named, list_of, non_null, InputOf, FieldDefinitionOf, BodyOf, scalar_type, object_type, interface_type, union_type, enum_type, input_type, TypeSystemOf, schema, type_definition, directive_definition, place_type, no_place}
+use Rattle.gq_tree.specs.Plain.{NameOf, DirectiveOf, TypeOf, named, list_of, non_null, InputOf, FieldDefinitionOf, BodyOf, scalar_type, object_type, interface_type, union_type, enum_type, input_type, TypeSystemOf, schema, type_definition, directive_definition}
 use Rattle.gq_tree.specs.Same.{same_types}
 use Rattle.gq_tree.proofs.Sameness.{types_decide}
 use Rattle.gq_types.specs.declared.entry.TypeKind.TheVariants as kind
@@ -17,11 +16,10 @@ use Rattle.gq_types.specs.Entries.{Text, EntryOf, Numbered, numbered}
 use Rattle.gq_type_system.specs.Implementations.{Implements, Inherits, IsRequired, BreaksField, has_no_subtype, lacks_argument, has_other_type, requires_argument, BreaksImplementation, declares_itself, lacks_interface, lacks_field, breaks_field, IsBadImplementation}
 use Rattle.gq_type_system.specs.ImplementationsPlaces.{is_non_null, is_required, breaks_argument, breaks_argument_named, breaks_arguments, requires_further, breaks_own_field, breaks_inherited, breaks_field_named, breaks_fields, lacks_further, lacks_interfaces, breaks_interface_at, breaks_interface, breaks_implementation, told_of, bad_implementation, bad_implementation_at, bad_implementations}
 use Rattle.gq_type_system.specs.Items.{item_at}
-use Rattle.gq_types.specs.Joined.{In, kind_named, type_number, judged, fields_in_body, interfaces_in_body, fields_of, interfaces_of}
+use Rattle.gq_types.specs.Joined.{In, type_number, judged, fields_in_body, interfaces_in_body, fields_of, interfaces_of}
 use Rattle.gq_types.specs.Kinds.{kind_of}
 use Rattle.gq_types.specs.LookUps.{has_kind, field_in, declares_in}
-use Rattle.gq_types.specs.Names.{field_named, declares, argument_named}
-use Rattle.gq_types.specs.Possible.{Covers}
+use Rattle.gq_types.specs.Names.{field_named, argument_named}
 use Rattle.gq_types.specs.Subtypes.{MayBeSubtypeName}
 use Rattle.gq_types.specs.SubtypesTests.{covers, may_be_subtype_name}
 use Rattle.gq_types.proofs.Gathered.{or_cases, or_left, or_right, and_parts, and_both, not_true, not_false, nothing_in, first, only, from_flat, to_flat, from_filter, to_filter, from_any, to_any, found, mapped, tested}

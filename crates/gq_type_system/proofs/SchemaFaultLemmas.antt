@@ -1,5 +1,5 @@
 -- What the rules put is what is wrong.
-use Rattle.std.proofs.Common.{◌≡◌, List, [], ◌++◌, Contains, subst, sym, ap, ◌∙◌, ⊎_elim, inl, inr, ◌↔◌, ◌⊎◌}
+use Rattle.std.proofs.Common.{◌≡◌, List, ◌++◌, Contains, subst, sym, ap, ◌∙◌, ⊎_elim, inl, inr, ◌↔◌, ◌⊎◌}
 use Rattle.std.proofs.lemmas.List.Elements.{Contains-append_left, Contains-append_right, Contains-append_cases}
 use Rattle.gq_found.specs.declared.item.Item.{Item}
 use Rattle.gq_types.specs.Entries.{EntryOf}

@@ -1,11 +1,11 @@
 -- What is told of directives and default values in a type system. Computed; nothing here must be believed.
 use Rattle.std.specs.Prelude.{ℕ, List, [], ◌∷◌, ◌++◌, Option, Some, None, if◌then◌else◌, map, flat_map, length}
-use Rattle.std.specs.Option.{option_map_or, option_map}
+use Rattle.std.specs.Option.{option_map_or}
 use Rattle.std.specs.Borrow.{Bor}
 use Rattle.gq_text.specs.declared.place.Span.{Span}
 use Rattle.gq_found.specs.declared.item.Item.{Item}
 use Rattle.gq_tree.specs.declared.type_system.InputValueDefinition.{InputValueDefinition}
-use Rattle.gq_tree.specs.Plain.{InputOf, Val}
+use Rattle.gq_tree.specs.Plain.{InputOf}
 use Rattle.gq_tree.specs.Views.{directive_view, input_view}
 use Rattle.gq_types.specs.declared.entry.Entry.{Entry}
 use Rattle.gq_types.specs.Entries.{Text, EntryOf, Numbered, entry_view}

@@ -5,14 +5,14 @@ use Rattle.std.specs.Str.{bytes_eq}
 use Rattle.gq_text.specs.declared.place.Span.{Span}
 use Rattle.gq_found.specs.declared.code.Code.TheVariants.{BadImplementation}
 use Rattle.gq_found.specs.declared.item.Item.{Item}
-use Rattle.gq_tree.specs.Plain.{NameOf, TypeOf, named, list_of, non_null, InputOf, FieldDefinitionOf, BodyOf, scalar_type, object_type, interface_type, union_type, enum_type, input_type, TypeSystemOf, schema, type_definition, directive_definition}
+use Rattle.gq_tree.specs.Plain.{NameOf, TypeOf, named, list_of, non_null, InputOf, FieldDefinitionOf, scalar_type, object_type, interface_type, union_type, enum_type, input_type, TypeSystemOf, schema, type_definition, directive_definition}
 use Rattle.gq_tree.specs.Same.{same_types}
 use Rattle.gq_types.specs.declared.entry.TypeKind.TheVariants as kind
 use Rattle.gq_types.specs.Entries.{Text, EntryOf, Numbered, numbered}
 use Rattle.gq_type_system.specs.Items.{item_at}
 use Rattle.gq_types.specs.Joined.{type_number, fields_in_body, interfaces_in_body}
 use Rattle.gq_types.specs.Look.{joined_numbers}
-use Rattle.gq_types.specs.LookUps.{has_kind, field_in, declares_in, parts_of_entry, any_part}
+use Rattle.gq_types.specs.LookUps.{has_kind, field_in, declares_in, any_part}
 use Rattle.gq_types.specs.Names.{field_named, argument_named}
 use Rattle.gq_types.specs.SubtypesTests.{may_be_subtype_name, covers}
 

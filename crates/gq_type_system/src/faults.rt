@@ -61,7 +61,7 @@ fn put_part_faults(alloc: Global, types: &Types, items: &mut Vec<Item>) -> Resul
 {
     put_wrong_roots(alloc, types, items)?;
     put_empty_or_repeated(alloc, types, items)?;
-    put_bad_implementations(alloc, types, items)?;
+    put_bad_implementations(types, items)?;
     put_no_query_root(alloc, types, items)?;
     put_bad_directives_and_defaults(alloc, types, items)
 }

@@ -1,10 +1,12 @@
 //! How a type implements the interfaces that it declares (GraphQL, October 2021, sections 3.6.1 and 3.7).
-ghost use Rattle.std.specs.Prelude.{◌≡◌, ◌++◌, IfOk, OnOk, map};
+ghost use Rattle.std.specs.Prelude.{◌≡◌, ◌++◌, IfSome, OnOk, map};
 ghost use Rattle.std.specs.List.{list_any};
+ghost use Rattle.std.specs.Option.{option_map};
 ghost use Rattle.gq_tree.specs.Same.{same_types};
 ghost use Rattle.gq_tree.specs.Views.{name_of, type_view, input_view, field_definition_view, type_system_view};
 ghost use Rattle.gq_type_system.specs.ImplementationsPlaces.{is_required, breaks_argument_named, breaks_arguments, requires_further, breaks_own_field, breaks_field_named, breaks_fields, lacks_further, lacks_interfaces, breaks_interface, breaks_implementation, told_of, bad_implementation, bad_implementations};
 ghost use Rattle.gq_types.specs.Look.{types_view};
+ghost use Rattle.gq_types.specs.Names.{field_named};
 ghost use Rattle.gq_types.specs.SubtypesTests.{covers, may_be_subtype_name};
 
 use gq_found::{Code, Item};
@@ -12,27 +14,21 @@ use gq_text::NoMemory;
 use gq_tree::{
     FieldDefinition, InputValueDefinition, Name, TypeBody, TypeRef, TypeSystemDefinition,
 };
-use gq_types::{Arguments, Entry, TypeKind, Types};
-use std::alloc::Global;
+use gq_types::{Arguments, DefinedField, Entry, TypeKind, Types};
 
 /// Each object type and interface that does not implement an interface as it must. The work for a type is the sum over
 /// its interfaces of their fields and interfaces.
-pub fn put_bad_implementations(
-    alloc: Global,
-    types: &Types,
-    items: &mut Vec<Item>,
-) -> Result<(), NoMemory>
+pub fn put_bad_implementations(types: &Types, items: &mut Vec<Item>) -> Result<(), NoMemory>
     ensures { OnOk result (items.new.items ≡ items.old.items ++ bad_implementations (types_view types.now)) }
 {
     let entries = types.entries();
     for number in 0..entries.len() {
-        put_bad_implementation(alloc, types, number, &entries[number], items)?;
+        put_bad_implementation(types, number, &entries[number], items)?;
     }
     Ok(())
 }
 
 fn put_bad_implementation(
-    alloc: Global,
     types: &Types,
     number: usize,
     entry: &Entry,
@@ -48,7 +44,7 @@ fn put_bad_implementation(
     }
     match one.body {
         TypeBody::Object(_) | TypeBody::Interface(_) => {
-            put_if_broken(alloc, types, number, entry.file, &one.name, items)
+            put_if_broken(types, number, entry.file, &one.name, items)
         }
         TypeBody::Scalar | TypeBody::Union(_) | TypeBody::Enum(_) | TypeBody::InputObject(_) => {
             Ok(())
@@ -57,7 +53,6 @@ fn put_bad_implementation(
 }
 
 fn put_if_broken(
-    alloc: Global,
     types: &Types,
     number: usize,
     file: usize,
@@ -66,7 +61,7 @@ fn put_if_broken(
 ) -> Result<(), NoMemory>
     ensures { OnOk result (items.new.items ≡ items.old.items ++ told_of (types_view types.now) number file (name_of name.now)) }
 {
-    if breaks_implementation(alloc, types, number, name.text.as_str())? {
+    if breaks_implementation(types, number, name.text.as_str()) {
         items.push(Item {
             file,
             start: name.span.start,
@@ -77,63 +72,46 @@ fn put_if_broken(
     Ok(())
 }
 
-fn breaks_implementation(
-    alloc: Global,
-    types: &Types,
-    number: usize,
-    name: &str,
-) -> Result<bool, NoMemory>
-    ensures { IfOk result (λ b. b ≡ breaks_implementation (types_view types.now) number name.now) }
+fn breaks_implementation(types: &Types, number: usize, name: &str) -> bool
+    ensures { result ≡ breaks_implementation (types_view types.now) number name.now }
 {
     let parts = types.joined(number);
     for part in parts {
-        if breaks_some_interface(alloc, types, number, name, types.interfaces_at(*part))? {
-            return Ok(true);
+        if breaks_some_interface(types, number, name, types.interfaces_at(*part)) {
+            return true;
         }
     }
-    Ok(false)
+    false
 }
 
-fn breaks_some_interface(
-    alloc: Global,
-    types: &Types,
-    number: usize,
-    name: &str,
-    interfaces: &[Name],
-) -> Result<bool, NoMemory>
-    ensures { IfOk result (λ b. b ≡ list_any (λ i. breaks_interface (types_view types.now) number name.now i.text) (map name_of interfaces.now)) }
+fn breaks_some_interface(types: &Types, number: usize, name: &str, interfaces: &[Name]) -> bool
+    ensures { result ≡ list_any (λ i. breaks_interface (types_view types.now) number name.now i.text) (map name_of interfaces.now) }
 {
     for interface in interfaces {
-        if breaks_interface(alloc, types, number, name, interface.text.as_str())? {
-            return Ok(true);
+        if breaks_interface(types, number, name, interface.text.as_str()) {
+            return true;
         }
     }
-    Ok(false)
+    false
 }
 
-fn breaks_interface(
-    alloc: Global,
-    types: &Types,
-    number: usize,
-    name: &str,
-    interface: &str,
-) -> Result<bool, NoMemory>
-    ensures { IfOk result (λ b. b ≡ breaks_interface (types_view types.now) number name.now interface.now) }
+fn breaks_interface(types: &Types, number: usize, name: &str, interface: &str) -> bool
+    ensures { result ≡ breaks_interface (types_view types.now) number name.now interface.now }
 {
     if interface == name {
-        return Ok(true);
+        return true;
     }
     if !types.has_kind(interface, TypeKind::Interface) {
-        return Ok(false);
+        return false;
     }
     match types.type_number(interface) {
         Some(other) => {
             if lacks_interfaces(types, number, other) {
-                return Ok(true);
+                return true;
             }
-            breaks_fields(alloc, types, number, interface, other)
+            breaks_fields(types, number, interface, other)
         }
-        None => Ok(false),
+        None => false,
     }
 }
 
@@ -166,76 +144,63 @@ fn lacks_further(types: &Types, number: usize, further: &str) -> bool
     types.has_kind(further, TypeKind::Interface) && !types.declares_in(number, further)
 }
 
-fn breaks_fields(
-    alloc: Global,
-    types: &Types,
-    number: usize,
-    interface: &str,
-    other: usize,
-) -> Result<bool, NoMemory>
-    ensures { IfOk result (λ b. b ≡ breaks_fields (types_view types.now) number interface.now other) }
+fn breaks_fields(types: &Types, number: usize, interface: &str, other: usize) -> bool
+    ensures { result ≡ breaks_fields (types_view types.now) number interface.now other }
 {
     let parts = types.joined(other);
     for part in parts {
-        if breaks_some_field(alloc, types, number, interface, types.fields_at(*part))? {
-            return Ok(true);
+        if breaks_some_field(types, number, interface, types.fields_at(*part)) {
+            return true;
         }
     }
-    Ok(false)
+    false
 }
 
 fn breaks_some_field(
-    alloc: Global,
     types: &Types,
     number: usize,
     interface: &str,
     fields: &[FieldDefinition],
-) -> Result<bool, NoMemory>
-    ensures { IfOk result (λ b. b ≡ list_any (λ f. breaks_field_named (types_view types.now) number interface.now f.name.text) (map field_definition_view fields.now)) }
+) -> bool
+    ensures { result ≡ list_any (λ f. breaks_field_named (types_view types.now) number interface.now f.name.text) (map field_definition_view fields.now) }
 {
     for field in fields {
-        if breaks_field_named(alloc, types, number, interface, field.name.text.as_str())? {
-            return Ok(true);
+        if breaks_field_named(types, number, interface, field.name.text.as_str()) {
+            return true;
         }
     }
-    Ok(false)
+    false
 }
 
-fn breaks_field_named(
-    alloc: Global,
-    types: &Types,
-    number: usize,
-    interface: &str,
-    name: &str,
-) -> Result<bool, NoMemory>
-    ensures { IfOk result (λ b. b ≡ breaks_field_named (types_view types.now) number interface.now name.now) }
+fn breaks_field_named(types: &Types, number: usize, interface: &str, name: &str) -> bool
+    ensures { result ≡ breaks_field_named (types_view types.now) number interface.now name.now }
 {
-    match types.field(interface, name) {
-        Some(wanted) => match types.field_in(number, name) {
-            Some(own) => breaks_own_field(alloc, types, wanted, own),
-            None => Ok(true),
+    match field_on(types, interface, name) {
+        Some(wanted) => match types.defined_field(number, name) {
+            Some(own) => breaks_own_field(types, wanted, own),
+            None => true,
         },
-        None => Ok(false),
+        None => false,
     }
 }
 
-fn breaks_own_field(
-    alloc: Global,
-    types: &Types,
-    wanted: &FieldDefinition,
-    own: &FieldDefinition,
-) -> Result<bool, NoMemory>
-    ensures { IfOk result (λ b. b ≡ breaks_own_field (types_view types.now) (field_definition_view wanted.now) (field_definition_view own.now)) }
+/// The field of that name of the type of that name.
+fn field_on<'a>(types: &'a Types, type_name: &str, name: &str) -> Option<DefinedField<'a>>
+    ensures definition { option_map (λ f. field_definition_view f.definition.now) result ≡ field_named (types_view types.now) type_name.now name.now }
+    ensures arguments { IfSome result (λ f. map input_view f.arguments.all.now ≡ (field_definition_view f.definition.now).arguments) }
 {
-    if !is_covered(types, &own.type_ref, &wanted.type_ref) {
-        return Ok(true);
-    }
-    let wanted_arguments = Arguments::of(alloc, &wanted.arguments, own.arguments.len())?;
-    let own_arguments = Arguments::of(alloc, &own.arguments, wanted.arguments.len())?;
-    if breaks_arguments(&wanted_arguments, &own_arguments) {
-        return Ok(true);
-    }
-    Ok(requires_further(&wanted_arguments, &own_arguments))
+    let number = types.type_number(type_name)?;
+    types.defined_field(number, name)
+}
+
+fn breaks_own_field(types: &Types, wanted: DefinedField<'_>, own: DefinedField<'_>) -> bool
+    requires wanted { map input_view wanted.arguments.all.now ≡ (field_definition_view wanted.definition.now).arguments }
+    requires own { map input_view own.arguments.all.now ≡ (field_definition_view own.definition.now).arguments }
+    ensures { result ≡ breaks_own_field (types_view types.now) (field_definition_view wanted.entry.definition.now) (field_definition_view own.entry.definition.now) }
+{
+    !is_covered(types, &own.definition.type_ref, &wanted.definition.type_ref)
+        || breaks_arguments(wanted.arguments, own.arguments)
+        || requires_further(wanted.arguments, own.arguments)
 }
 
 fn is_covered(types: &Types, sub: &TypeRef, super_type: &TypeRef) -> bool
@@ -244,8 +209,8 @@ fn is_covered(types: &Types, sub: &TypeRef, super_type: &TypeRef) -> bool
     types.may_be_subtype(sub, super_type)
 }
 
-fn breaks_arguments(wanted: &Arguments<'_>, own: &Arguments<'_>) -> bool
-    ensures { result ≡ breaks_arguments (map input_view wanted.now.all.now) (map input_view own.now.all.now) (map input_view wanted.now.all.now) }
+fn breaks_arguments(wanted: Arguments<'_>, own: Arguments<'_>) -> bool
+    ensures { result ≡ breaks_arguments (map input_view wanted.entry.all.now) (map input_view own.entry.all.now) (map input_view wanted.entry.all.now) }
 {
     let all = wanted.all();
     for argument in all {
@@ -256,8 +221,8 @@ fn breaks_arguments(wanted: &Arguments<'_>, own: &Arguments<'_>) -> bool
     false
 }
 
-fn breaks_argument_named(wanted: &Arguments<'_>, own: &Arguments<'_>, name: &str) -> bool
-    ensures { result ≡ breaks_argument_named (map input_view wanted.now.all.now) (map input_view own.now.all.now) name.now }
+fn breaks_argument_named(wanted: Arguments<'_>, own: Arguments<'_>, name: &str) -> bool
+    ensures { result ≡ breaks_argument_named (map input_view wanted.entry.all.now) (map input_view own.entry.all.now) name.now }
 {
     match wanted.named(name) {
         Some(wanted_argument) => match own.named(name) {
@@ -268,8 +233,8 @@ fn breaks_argument_named(wanted: &Arguments<'_>, own: &Arguments<'_>, name: &str
     }
 }
 
-fn requires_further(wanted: &Arguments<'_>, own: &Arguments<'_>) -> bool
-    ensures { result ≡ requires_further (map input_view wanted.now.all.now) (map input_view own.now.all.now) }
+fn requires_further(wanted: Arguments<'_>, own: Arguments<'_>) -> bool
+    ensures { result ≡ requires_further (map input_view wanted.entry.all.now) (map input_view own.entry.all.now) }
 {
     let all = own.all();
     for further in all {

@@ -13,3 +13,6 @@ pub mod KindLemmas
 pub mod SubtypeLemmas
 pub mod PossibleLemmas
 pub mod ArgumentLemmas
+pub mod RequiredLemmas
+pub mod ArgumentNameLemmas
+pub mod IndexLemmas

@@ -43,7 +43,7 @@ stand_kept es p (n ∷ ns) stand = stand_by es (p n) n (filter p ns) stand.0 (st
 pub numbered_stand : (es : List EntryOf) → Stand es (numbered es)
 numbered_stand es = stand_from es 0 es (λ i. let e : 0 + i ≡ i = omega arith in ap (λ n. slice_get es n) e)
 
-joined_stand : (es : List EntryOf) (k : ℕ) → Stand es (joined es k)
+pub joined_stand : (es : List EntryOf) (k : ℕ) → Stand es (joined es k)
 joined_stand es k = stand_kept es (λ n. nat_eq (owner es n) k) (numbered es) (numbered_stand es)
 
 -- one list of the parts is gathered from the entries

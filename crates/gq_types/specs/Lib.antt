@@ -15,3 +15,7 @@ pub mod Subtypes
 pub mod SubtypesTests
 pub mod PossiblePlaces
 pub mod Arguments
+pub mod Required
+pub mod RequiredNames
+pub mod Index
+pub mod Directives

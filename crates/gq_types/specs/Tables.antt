@@ -12,7 +12,6 @@ use Rattle.gq_types.specs.Entries.{Text, EntryOf}
 use Rattle.gq_types.specs.Joined.{schema_number, body_in, fields_in_body, interfaces_in_body, members_in_body, values_in_body, inputs_in_body}
 use Rattle.gq_types.specs.Roots.{roots_in}
 use Rattle.gq_types.specs.Look.{joined_numbers}
-use Rattle.gq_types.specs.Declarers.{Declared, declared, declaring_from}
 
 -- the name of the type, and of the directive, that it defines
 abbrev pub type_key : TypeSystemOf Span → Option Text
@@ -119,11 +118,6 @@ EachAt {A} P xs = (i : ℕ) (x : A) → slice_get xs i ≡ Some x → P i x
 pub record AreParts (es : List EntryOf) (parts : List Parts) : Type 0 where
   pub count : length parts ≡ length es
   pub each : EachAt (λ i p. lists_in p ≡ parts_at es (joined_numbers es i)) parts
-
-pub record IsIndex {Z : Type 0} (es : List EntryOf) (joined : List (Vec ℕ Z)) (parts : List Parts) (declarers : Declared) : Type 0 where
-  pub joined_are : AreJoined es (lists_of joined)
-  pub parts_are : AreParts es parts
-  pub declarers_are : (text : Text) → declared declarers text ≡ declaring_from 0 (map (λ p. p.interfaces) parts) text
 
 -- the part at a place
 abbrev pub stands_at : {A : Type 0} → (BodyOf Span → List A) → List EntryOf → Place → Option A

@@ -2,6 +2,7 @@
 //! what is found under each name.
 #![tactic(auto)]
 
+mod argument_names;
 pub mod arguments;
 mod built_in;
 mod declarers;
@@ -11,14 +12,18 @@ pub mod entry_parts;
 pub mod implementers;
 mod joined;
 pub mod laws;
+mod locations;
 mod parts;
 mod places;
 pub mod possible;
+pub mod required;
 mod roots;
 pub mod subtype;
 mod table;
 pub mod types;
+mod uses;
 
 pub use arguments::Arguments;
 pub use entry::{Entry, TypeKind};
-pub use types::Types;
+pub use required::is_required;
+pub use types::{DefinedField, Types};

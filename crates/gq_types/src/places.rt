@@ -27,8 +27,8 @@ pub(crate) fn input_at(entries: &[Entry], place: Place) -> Option<&InputValueDef
     inputs_in(entry).get(place.index)
 }
 
-/// The fields of an input object.
-fn inputs_in(entry: &Entry) -> &[InputValueDefinition]
+/// The fields of an input object; none of any other definition.
+pub(crate) fn inputs_in(entry: &Entry) -> &[InputValueDefinition]
     ensures { map input_view result.now ≡ inputs_in_body (body_in (type_system_view entry.now.definition)) }
 {
     match &entry.definition {

@@ -1,18 +1,75 @@
 //! The entries for root operation types in schema definitions.
-ghost use Rattle.std.specs.Prelude.{◌≡◌, map, find};
+ghost use Rattle.std.specs.Prelude.{◌≡◌, IfOk, map, find};
 ghost use Rattle.std.specs.Option.{option_map};
 ghost use Rattle.gq_tree.specs.Same.{same_kinds};
 ghost use Rattle.gq_tree.specs.Views.{root_view, type_system_view};
 ghost use Rattle.gq_types.specs.Entries.{entries_view};
+ghost use Rattle.gq_types.specs.Index.{root_name, AreRoots};
 ghost use Rattle.gq_types.specs.Look.{text_of};
 ghost use Rattle.gq_types.specs.Roots.{default_name, roots_in};
 ghost use Rattle.gq_types.specs.Tables.{root_at, first_root_at};
 
 use crate::entry::Entry;
+use gq_text::{NoMemory, SmallText};
 use gq_tree::{OperationKind, RootOperationType, TypeSystemDefinition};
+use std::alloc::Global;
+
+/// What the schema definition and its extensions name for each kind of operation.
+#[derive(Drop)]
+pub(crate) struct RootNames {
+    query: Option<SmallText>,
+    mutation: Option<SmallText>,
+    subscription: Option<SmallText>,
+}
+
+impl RootNames {
+    /// What the first entry of each kind names in the schema definitions and extensions with these numbers.
+    pub(crate) fn of(
+        alloc: Global,
+        entries: &[Entry],
+        numbers: &[usize],
+    ) -> Result<RootNames, NoMemory>
+        ensures { IfOk result (AreRoots (entries_view entries.now) numbers.now) }
+    {
+        Ok(RootNames {
+            query: kept_root(alloc, entries, numbers, OperationKind::Query)?,
+            mutation: kept_root(alloc, entries, numbers, OperationKind::Mutation)?,
+            subscription: kept_root(alloc, entries, numbers, OperationKind::Subscription)?,
+        })
+    }
+
+    /// What is named for that kind.
+    pub(crate) fn named(&self, kind: OperationKind) -> Option<&str>
+        ensures { text_of result ≡ root_name self.now kind }
+    {
+        let name = match kind {
+            OperationKind::Query => &self.query,
+            OperationKind::Mutation => &self.mutation,
+            OperationKind::Subscription => &self.subscription,
+        };
+        match name {
+            Some(name) => Some(name.as_str()),
+            None => None,
+        }
+    }
+}
+
+fn kept_root(
+    alloc: Global,
+    entries: &[Entry],
+    numbers: &[usize],
+    kind: OperationKind,
+) -> Result<Option<SmallText>, NoMemory>
+    ensures { IfOk result (λ name. name ≡ first_root_at (entries_view entries.now) kind numbers.now) }
+{
+    match first_root_at(entries, numbers, kind) {
+        Some(name) => Ok(Some(SmallText::from_str(alloc, name)?)),
+        None => Ok(None),
+    }
+}
 
 /// What the first entry of that kind names in the schema definitions and extensions with these numbers.
-pub(crate) fn first_root_at<'a>(
+fn first_root_at<'a>(
     entries: &'a [Entry],
     numbers: &[usize],
     kind: OperationKind,

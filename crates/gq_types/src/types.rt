@@ -1,28 +1,48 @@
 //! The type system of a project.
-ghost use Rattle.std.specs.Prelude.{◌≡◌, ◌++◌, ◌<◌, IfOk, length, slice_get};
+ghost use Rattle.std.specs.Prelude.{◌≡◌, ◌++◌, ◌<◌, [], Some, IfOk, IfSome, length, map, option_and_then, slice_get};
 ghost use Rattle.std.specs.Option.{option_map};
+ghost use Rattle.gq_tree.specs.Views.{input_view, field_definition_view};
+ghost use Rattle.gq_types.specs.Arguments.{directive_arguments};
 ghost use Rattle.gq_types.specs.Entries.{entries_view};
 ghost use Rattle.gq_types.specs.BuiltIn.{built_in};
-ghost use Rattle.gq_types.specs.Joined.{type_number, kind_named, directive_number, schema_number};
+ghost use Rattle.gq_types.specs.Joined.{type_number, kind_named, directive_number, schema_number, fields_in_body, inputs_of};
 ghost use Rattle.gq_types.specs.Look.{types_view, owner_at, text_of, field_of, input_of, joined_numbers, directive_of};
 ghost use Rattle.gq_types.specs.LookUps.{field_in, declares_in};
 ghost use Rattle.gq_types.specs.Names.{field_named, input_named, has_value, has_member, declares, directive_named};
+ghost use Rattle.gq_types.specs.Required.{is_field_missing};
+ghost use Rattle.gq_types.specs.RequiredNames.{required_after};
+ghost use Rattle.gq_types.specs.Index.{arguments_at};
 ghost use Rattle.gq_types.specs.Roots.{root_of, default_root, entry_for, is_object};
 ghost use Rattle.gq_types.specs.Declarers.{declarers};
-ghost use Rattle.gq_types.specs.Tables.{lists_in, parts_at};
+ghost use Rattle.gq_types.specs.Directives.{stands_at_location};
+ghost use Rattle.gq_types.specs.Tables.{lists_in, parts_at, stands_at};
 
+use crate::arguments::Arguments;
 use crate::built_in::built_in;
 use crate::declarers::Declarers;
 use crate::definitions::Definitions;
 use crate::entry::{Entry, TypeKind};
 use crate::joined::joined_numbers;
-use crate::parts::{Parts, all_parts, numbers_at};
+use crate::locations::has_location;
+use crate::parts::{Parts, Place, all_parts, numbers_at};
 use crate::places::{field_at, input_at};
-use crate::roots::{default_name, first_root_at};
+use crate::required::is_any_lacking;
+use crate::roots::default_name;
+use crate::uses::Uses;
+use gq_names::NameList;
 use gq_text::NoMemory;
-use gq_tree::{DirectiveDefinition, FieldDefinition, InputValueDefinition, OperationKind};
+use gq_tree::{
+    DirectiveDefinition, DirectiveLocation, FieldDefinition, InputValueDefinition, OperationKind,
+};
 use std::alloc::Global;
 use std::marker::Model;
+
+/// The definition of a field of an object type or interface (section 3.6), and its arguments.
+#[derive(Clone, Copy)]
+pub struct DefinedField<'a> {
+    pub definition: &'a FieldDefinition,
+    pub arguments: Arguments<'a>,
+}
 
 /// The definitions and extensions of a type system, those that are built in first. Each name means what is first
 /// defined under it.
@@ -35,6 +55,7 @@ pub struct Types {
     joined: Vec<Vec<usize>>,
     parts: Vec<Parts>,
     declarers: Declarers,
+    uses: Uses,
 }
 
 impl Model for Types {
@@ -43,7 +64,7 @@ impl Model for Types {
     ghost use Rattle.gq_types.specs.contracts.entry.Entry as entry;
     ghost use Rattle.gq_types.specs.declared.entry.Entry.{Entry};
     ghost use Rattle.gq_types.specs.Entries.{entries_view};
-    ghost use Rattle.gq_types.specs.Tables.{IsIndex};
+    ghost use Rattle.gq_types.specs.Index.{IsIndex};
 
     ghost Value = { List Entry };
 
@@ -51,7 +72,7 @@ impl Model for Types {
 
     ghost view = { λ t. t.definitions };
 
-    ghost invariant = { λ t. IsIndex (entries_view t.definitions) t.joined.items t.parts.items t.declarers };
+    ghost invariant = { λ t. IsIndex (entries_view t.definitions) t.joined.items t.parts.items t.declarers t.uses };
 }
 
 impl Types {
@@ -65,11 +86,14 @@ impl Types {
         let joined = joined_numbers(alloc, &definitions)?;
         let parts = all_parts(alloc, definitions.entries(), &joined)?;
         let declarers = Declarers::of(alloc, &parts)?;
+        let schema = definitions.schema_number();
+        let uses = Uses::of(alloc, definitions.entries(), &joined, schema)?;
         Ok(Types {
             definitions,
             joined,
             parts,
             declarers,
+            uses,
         })
     }
 
@@ -129,8 +153,22 @@ impl Types {
     pub fn field_in(&self, number: usize, name: &str) -> Option<&FieldDefinition>
         ensures { field_of result ≡ field_in (types_view self.now) number name.now }
     {
-        let place = self.parts_numbered(number)?.fields.get(name)?;
+        let place = self.field_place(number, name)?;
         field_at(self.entries(), place)
+    }
+
+    /// The same with its arguments.
+    pub fn defined_field(&self, number: usize, name: &str) -> Option<DefinedField<'_>>
+        ensures definition { option_map (λ f. field_definition_view f.definition.now) result ≡ field_in (types_view self.now) number name.now }
+        ensures arguments { IfSome result (λ f. map input_view f.arguments.all.now ≡ (field_definition_view f.definition.now).arguments) }
+    {
+        let place = self.field_place(number, name)?;
+        let definition = field_at(self.entries(), place)?;
+        let arguments = self.arguments_at(place, &definition.arguments);
+        Some(DefinedField {
+            definition,
+            arguments,
+        })
     }
 
     /// The input field of that name of an input object (section 3.10).
@@ -139,6 +177,25 @@ impl Types {
     {
         let place = self.parts_named(type_name)?.inputs.get(name)?;
         input_at(self.entries(), place)
+    }
+
+    /// Whether an input field of the input object of that name is required and not among the given names. The work is that
+    /// for the given names.
+    pub fn is_field_missing(&self, type_name: &str, given: &NameList) -> bool
+        ensures { result ≡ is_field_missing (types_view self.now) type_name.now given.now }
+    {
+        match self.required_fields(type_name) {
+            Some(required) => is_any_lacking(required, given),
+            None => false,
+        }
+    }
+
+    /// The names of the required input fields of the input object of that name.
+    fn required_fields(&self, type_name: &str) -> Option<&NameList>
+        ensures { option_map (λ n. n.now) result ≡ option_map (λ number. required_after [] (map (λ i. i.it) (inputs_of (types_view self.now) number))) (type_number (types_view self.now) type_name.now) }
+    {
+        let number = self.type_number(type_name)?;
+        self.uses.required.get(number)
     }
 
     /// Whether the enum of that name has the value (section 3.9).
@@ -196,6 +253,25 @@ impl Types {
         self.definitions.directive(name)
     }
 
+    /// The arguments of the directive of that name.
+    pub fn directive_arguments(&self, name: &str) -> Option<Arguments<'_>>
+        ensures { option_map (λ a. map input_view a.all.now) result ≡ directive_arguments (types_view self.now) name.now }
+    {
+        let entry = self.directive_number(name)?;
+        let definition = self.directive(name)?;
+        Some(self.arguments_at(Place { entry, index: 0 }, &definition.arguments))
+    }
+
+    /// Whether the directive of that name is known and may stand at that location (section 3.13).
+    pub fn stands_at(&self, directive: &str, location: DirectiveLocation) -> bool
+        ensures { result ≡ stands_at_location (types_view self.now) directive.now location }
+    {
+        match self.definitions.directive_number(directive) {
+            Some(number) => has_location(&self.uses.locations[number], location),
+            None => false,
+        }
+    }
+
     /// The root operation type of that kind (section 3.3.1), which is an object type.
     pub fn root(&self, kind: OperationKind) -> Option<&str>
         ensures { text_of result ≡ root_of (types_view self.now) kind }
@@ -227,7 +303,7 @@ impl Types {
     fn entry_for(&self, kind: OperationKind) -> Option<&str>
         ensures { text_of result ≡ entry_for (types_view self.now) kind }
     {
-        first_root_at(self.entries(), self.joined(self.schema_number()), kind)
+        self.uses.roots.named(kind)
     }
 
     /// Whether the name is that of an object type.
@@ -241,10 +317,31 @@ impl Types {
     }
 
     /// The numbers of the entries of the types that declare the interface, in order.
-    pub(crate) fn declarers(&self, interface: &str) -> &[usize]
+    pub fn declarers(&self, interface: &str) -> &[usize]
         ensures { result.now ≡ declarers (types_view self.now) interface.now }
     {
         self.declarers.named(interface)
+    }
+
+    /// The place of the field of that name of the object type or interface with that number.
+    fn field_place(&self, number: usize, name: &str) -> Option<Place>
+        ensures { option_and_then (stands_at fields_in_body (types_view self.now)) result ≡ field_in (types_view self.now) number name.now }
+    {
+        self.parts_numbered(number)?.fields.get(name)
+    }
+
+    /// The arguments that stand at that place.
+    fn arguments_at<'a>(&'a self, place: Place, all: &'a [InputValueDefinition]) -> Arguments<'a>
+        requires { arguments_at (types_view self.now) place ≡ Some (map input_view all.now) }
+        ensures { map input_view result.all.now ≡ map input_view all.now }
+    {
+        let Some(names) = self.uses.arguments.get(place.entry) else {
+            return Arguments::over(all);
+        };
+        match names.get(place.index) {
+            Some(names) => Arguments::by_names(all, names),
+            None => Arguments::over(all),
+        }
     }
 
     /// The parts of the type of that name.

@@ -1,31 +1,32 @@
 -- The items of a literal are the faults of section 5.6 in it.
-use Rattle.std.proofs.Common.{◌≡◌, ℕ, suc, ◌+◌, Bool, true, false, if◌then◌else◌, List, [], ◌∷◌, ◌++◌, inl, inr, ◌↔◌, Contains, refl, sym, ap, subst, ◌∙◌, Option, Some, None, arith}
+use Rattle.std.proofs.Common.{◌≡◌, ℕ, Bool, true, false, if◌then◌else◌, List, [], ◌∷◌, ◌++◌, inl, inr, ◌↔◌, Contains, refl, sym, ap, subst, ◌∙◌, Option, Some, None, map}
 use Rattle.std.specs.Prelude.{not, ◌&&◌, option_and_then}
 use Rattle.std.specs.Option.{option_map, option_map_or}
-use Rattle.std.specs.List.{find, list_any, slice_get}
+use Rattle.std.specs.List.{find, list_any}
 use Rattle.std.specs.Str.{bytes_eq}
 use Rattle.std.specs.Cmp.Lexicographic.{bytes_decides, nat_list_eq_equiv}
 use Rattle.std.proofs.lemmas.List.Elements.{Contains-append_left, Contains-append_right, Contains-append_cases}
 use Rattle.std.proofs.lemmas.Map.Views.{Contains-from_any, list_any-from_Contains}
+use Rattle.std.proofs.lemmas.Bool.{false≢true}
 use Rattle.std.proofs.lemmas.Option.{none-some}
 use Rattle.gq_text.specs.declared.place.Span.{Span}
 use Rattle.gq_tree.specs.Forest.{none, more}
 use Rattle.gq_tree.specs.Plain.{NameOf, Says, Val, Vals, TypeOf, named, list_of, non_null, InputOf, variable, int, float, string, boolean, null, enum, list, object}
 use Rattle.gq_names.specs.Repeats.{repeated}
-use Rattle.gq_names.proofs.RepeatLemmas.{contains_none, contains_first, contains_cases, repeated_is}
+use Rattle.gq_names.proofs.RepeatLemmas.{contains_none, contains_first, repeated_is}
 use Rattle.gq_found.specs.declared.code.Code.TheVariants.{WrongValue, UnknownInputField, InputFieldNotUnique, InputFieldMissing}
 use Rattle.gq_found.specs.declared.item.Item.{Item}
 use Rattle.gq_types.specs.declared.entry.TypeKind.{TypeKind}
 use Rattle.gq_types.specs.declared.entry.TypeKind.TheVariants as kind
-use Rattle.gq_types.specs.Entries.{Text, EntryOf, Numbered, numbered_from, numbered}
-use Rattle.gq_types.specs.Joined.{In, put_in, type_number, kind_named, inputs_in_body, body_in, inputs_of, joined}
-use Rattle.gq_types.specs.Look.{joined_numbers}
-use Rattle.gq_types.specs.Names.{input_named}
+use Rattle.gq_types.specs.Entries.{Text, EntryOf}
+use Rattle.gq_types.specs.Joined.{In, type_number, kind_named, inputs_of}
+use Rattle.gq_types.specs.Names.{input_named, argument_named}
+use Rattle.gq_types.specs.Required.{is_required, is_missing, is_missing_by, is_any_missing, is_field_missing}
 use Rattle.gq_values.specs.Literals.{fits, fits_kind, Reading, at_type, at_any, not_read, part_at, StandsIn, here, within, after, is_input_object, input_object_at}
 use Rattle.gq_values.specs.Items.{item_at, item_over}
-use Rattle.gq_values.specs.LiteralFaults.{entry_names, HasNone, literal_place, first_byte, is_required, is_read, IsFaultOf, wrong_value, unknown_field, field_not_unique, field_missing, IsLiteralFault}
-use Rattle.gq_values.specs.LiteralPlaces.{texts, repeated_fields, unknown_field_at, unknown_fields, is_missing, missing_field_at, missing_among, inputs_at, missing_in, missing_fields, field_faults, object_faults, entry_faults, own_faults, faults_in, literal_faults}
-use Rattle.gq_values.proofs.FoundLemmas.{only, from_if, to_if, from_find, from_filter, from_flat, to_flat, from_map, to_map}
+use Rattle.gq_values.specs.LiteralFaults.{entry_names, HasNone, literal_place, first_byte, is_read, IsFaultOf, wrong_value, unknown_field, field_not_unique, field_missing, IsLiteralFault}
+use Rattle.gq_values.specs.LiteralPlaces.{texts, repeated_fields, unknown_field_at, unknown_fields, missing_fields, field_faults, object_faults, entry_faults, own_faults, faults_in, literal_faults}
+use Rattle.gq_values.proofs.FoundLemmas.{only, from_if, to_if, from_find, from_any, to_any, from_flat, to_flat, from_map, to_map}
 
 -- a name that is not among the texts of names
 pub none_given : (names : List (NameOf Span)) (text : Text) → list_any (bytes_eq text) (texts names) ≡ false → HasNone names text
@@ -42,30 +43,6 @@ not_given names text absent = by_test (list_any (bytes_eq text) (texts names)) r
         let given = from_map (λ (n : NameOf Span). n.text) names text (Contains-from_any (λ s t same. (bytes_decides s t).0 same) text (texts names) is) in
         absurd (absent given.0 given.1 (sym given.2))
 
--- an entry is found at its number
-numbered_at : (es : List EntryOf) (first : ℕ) (n : Numbered) → Contains (numbered_from first es) n → (k : ℕ) × (n.number ≡ first + k) × (slice_get es k ≡ Some n.entry)
-numbered_at [] first n found = absurd (contains_none n found)
-numbered_at (e ∷ es) first n found = elim (contains_cases (record { number = first; entry = e }) (numbered_from (first + 1) es) n found) [
-  | inl is ↦ (let number = ap (λ (m : Numbered). m.number) is in (0, omega (arith, number), ap (λ (m : Numbered). Some m.entry) is))
-  | inr later ↦ (let rest = numbered_at es (first + 1) n later in (suc rest.0, omega (arith, rest.1), rest.2))
-]
-
-entry_at : (es : List EntryOf) (n : Numbered) → Contains (numbered es) n → slice_get es n.number ≡ Some n.entry
-entry_at es n found = let at = numbered_at es 0 n found in let number : n.number ≡ at.0 = omega (arith, at.1) in ap (slice_get es) number ∙ at.2
-
--- the input field of a name stands in an entry that belongs to the input object
-input_stands : (es : List EntryOf) (number : ℕ) (y : In (InputOf Span)) → Contains (inputs_of es number) y → (k : ℕ) × Contains (joined_numbers es number) k × Contains (inputs_at es k) y.it
-input_stands es number y found =
-    let part = from_flat (λ (n : Numbered). put_in n.entry.file (inputs_in_body (body_in n.entry.definition))) (joined es number) y found in
-    let input = from_map (λ (x : InputOf Span). record { file = part.0.entry.file; it = x }) (inputs_in_body (body_in part.0.entry.definition)) y part.2 in
-    let entry = entry_at es part.0 (from_filter _ (numbered es) part.0 part.1) in
-    let stands = ap (λ (e : Option EntryOf). option_map_or (λ (d : EntryOf). inputs_in_body (body_in d.definition)) e []) entry in
-    let it = ap (λ (i : In (InputOf Span)). i.it) input.2 in (
-      part.0.number,
-      to_map (λ (n : Numbered). n.number) (joined es number) part.0 part.0.number part.1 refl,
-      subst (λ (xs : List (InputOf Span)). Contains xs y.it) (sym stands) (subst (λ x. Contains (inputs_in_body (body_in part.0.entry.definition)) x) (sym it) input.1),
-    )
-
 -- an object literal fits where its fields are those of an input object
 object_fits_kind : (es : List EntryOf) (text type_name : Text) (place : Span) (k : Option TypeKind) → (if is_input_object k then Some text else None) ≡ Some type_name → fits_kind es text k (object place) ≡ true
 object_fits_kind es text type_name place (Some kind.InputObject) e = refl
@@ -81,72 +58,82 @@ object_fits es type_name place (named name) e = object_fits_kind es name.text ty
 object_fits es type_name place (list_of item) e = object_fits es type_name place item e
 object_fits es type_name place (non_null inner) e = object_fits es type_name place inner e
 
--- a required field that is not given
-from_missing : (es : List EntryOf) (type_name text : Text) (names : List (NameOf Span)) → is_missing es type_name (texts names) text ≡ true →
-    (i : InputOf Span) × (input_named es type_name text ≡ Some i) × (is_required i ≡ true) × HasNone names text
-from_missing es type_name text names = by_input (input_named es type_name text) refl
+-- one that is required and not given
+from_missing : (known : List (InputOf Span)) (text : Text) (names : List (NameOf Span)) → is_missing known (texts names) text ≡ true →
+    (i : InputOf Span) × (argument_named known text ≡ Some i) × (is_required i ≡ true) × HasNone names text
+from_missing known text names = by_input (argument_named known text) refl
   where
-    by_given : (i : InputOf Span) → input_named es type_name text ≡ Some i → (r b : Bool) → is_required i ≡ r → list_any (bytes_eq text) (texts names) ≡ b → (r && not b) ≡ true →
-        (i : InputOf Span) × (input_named es type_name text ≡ Some i) × (is_required i ≡ true) × HasNone names text
+    by_given : (i : InputOf Span) → argument_named known text ≡ Some i → (r b : Bool) → is_required i ≡ r → list_any (bytes_eq text) (texts names) ≡ b → (r && not b) ≡ true →
+        (i : InputOf Span) × (argument_named known text ≡ Some i) × (is_required i ≡ true) × HasNone names text
     by_given i is true false required absent holds = (i, is, required, none_given names text absent)
     by_given i is true true required absent holds = absurd (cc)
     by_given i is false b required absent holds = absurd (cc)
 
-    by_input : (o : Option (InputOf Span)) → input_named es type_name text ≡ o → (option_map_or is_required o false && not (list_any (bytes_eq text) (texts names))) ≡ true →
-        (i : InputOf Span) × (input_named es type_name text ≡ Some i) × (is_required i ≡ true) × HasNone names text
+    by_input : (o : Option (InputOf Span)) → argument_named known text ≡ o → (option_map_or is_required o false && not (list_any (bytes_eq text) (texts names))) ≡ true →
+        (i : InputOf Span) × (argument_named known text ≡ Some i) × (is_required i ≡ true) × HasNone names text
     by_input None is holds = absurd (cc)
     by_input (Some i) is holds = by_given i is (is_required i) (list_any (bytes_eq text) (texts names)) refl refl holds
 
-to_missing : (es : List EntryOf) (type_name text : Text) (names : List (NameOf Span)) (i : InputOf Span) → input_named es type_name text ≡ Some i → is_required i ≡ true → HasNone names text →
-    is_missing es type_name (texts names) text ≡ true
-to_missing es type_name text names i is required absent =
+to_missing : (known : List (InputOf Span)) (text : Text) (names : List (NameOf Span)) (i : InputOf Span) → argument_named known text ≡ Some i → is_required i ≡ true → HasNone names text →
+    is_missing known (texts names) text ≡ true
+to_missing known text names i is required absent =
     ap (λ (o : Option (InputOf Span)). option_map_or is_required o false && not (list_any (bytes_eq text) (texts names))) is
     ∙ ap (λ (b : Bool). b && not (list_any (bytes_eq text) (texts names))) required
     ∙ ap (λ (b : Bool). not b) (not_given names text absent)
 
--- the missing fields of an object literal
-missing_found : (es : List EntryOf) (file : ℕ) (type_name : Text) (names : List (NameOf Span)) (place : Span) (item : Item) → Contains (missing_fields es file type_name (texts names) place) item →
-    (text : Text) × (is_missing es type_name (texts names) text ≡ true) × (item ≡ item_over file InputFieldMissing (first_byte place))
-missing_found es file type_name names place item = by_number (type_number es type_name)
+second_holds : (a b : Bool) → (a && b) ≡ true → b ≡ true
+second_holds true b holds = holds
+second_holds false b holds = absurd (false≢true holds)
+
+-- any of them that is required and not given
+pub from_any_missing : (known : List (InputOf Span)) (names : List (NameOf Span)) → is_any_missing known (texts names) ≡ true →
+    (text : Text) × (i : InputOf Span) × (argument_named known text ≡ Some i) × (is_required i ≡ true) × HasNone names text
+from_any_missing known names holds =
+    let one = from_any (is_missing_by known (texts names)) known holds in
+    let input = from_missing known one.0.name.text names (second_holds (is_required one.0) (is_missing known (texts names) one.0.name.text) one.2) in
+    (one.0.name.text, input.0, input.1, input.2, input.3)
+
+pub to_any_missing : (known : List (InputOf Span)) (text : Text) (names : List (NameOf Span)) (i : InputOf Span) → argument_named known text ≡ Some i → is_required i ≡ true → HasNone names text →
+    is_any_missing known (texts names) ≡ true
+to_any_missing known text names i is required absent =
+    let at = from_find (λ (a : InputOf Span). bytes_eq text a.name.text) known i is in
+    let same = (bytes_decides text i.name.text).0 at.1 in
+    let missing = ap (is_missing known (texts names)) (sym same) ∙ to_missing known text names i is required absent in
+    let by : is_missing_by known (texts names) i ≡ true = ap (λ b. b && is_missing known (texts names) i.name.text) required ∙ missing in
+    to_any (is_missing_by known (texts names)) known i at.0 by
+
+-- what a name means among what stands in documents
+find_it : {A : Type 0} (p : A → Bool) (xs : List (In A)) → find p (map (λ x. x.it) xs) ≡ option_map (λ x. x.it) (find (λ x. p x.it) xs)
+find_it p [] = refl
+find_it p (x ∷ xs) = by_test (p x.it) (find_it p xs)
   where
-    by_number : (o : Option ℕ) → Contains (option_map_or (λ number. missing_in es file type_name (texts names) place (joined_numbers es number)) o []) item →
-        (text : Text) × (is_missing es type_name (texts names) text ≡ true) × (item ≡ item_over file InputFieldMissing (first_byte place))
-    by_number None found = absurd (contains_none item found)
-    by_number (Some number) found =
-        let entry = from_flat (λ k. missing_among es file type_name (texts names) place (inputs_at es k)) (joined_numbers es number) item found in
-        let input = from_flat (missing_field_at es file type_name (texts names) place) (inputs_at es entry.0) item entry.2 in
-        let one = from_if (is_missing es type_name (texts names) input.0.name.text) (item_over file InputFieldMissing (first_byte place)) item input.2 in
-        (input.0.name.text, one.0, one.1)
+    by_test : (b : Bool) → find p (map (λ x. x.it) xs) ≡ option_map (λ x. x.it) (find (λ x. p x.it) xs)
+        → (if b then Some x.it else find p (map (λ x. x.it) xs)) ≡ option_map (λ x. x.it) (if b then Some x else find (λ x. p x.it) xs)
+    by_test true rest = refl
+    by_test false rest = rest
 
--- where an input field of a name is found
-input_from : (es : List EntryOf) (type_name text : Text) (i : InputOf Span) → input_named es type_name text ≡ Some i →
-    (number : ℕ) × (type_number es type_name ≡ Some number) × (k : ℕ) × Contains (joined_numbers es number) k × (x : InputOf Span) × Contains (inputs_at es k) x × (text ≡ x.name.text)
-input_from es type_name text i = by_number (type_number es type_name) refl
-  where
-    by_field : (number : ℕ) → type_number es type_name ≡ Some number → (o : Option (In (InputOf Span))) → find (λ (j : In (InputOf Span)). bytes_eq text j.it.name.text) (inputs_of es number) ≡ o → option_map (λ (j : In (InputOf Span)). j.it) o ≡ Some i →
-        (number : ℕ) × (type_number es type_name ≡ Some number) × (k : ℕ) × Contains (joined_numbers es number) k × (x : InputOf Span) × Contains (inputs_at es k) x × (text ≡ x.name.text)
-    by_field number at None is same = absurd (none-some i same)
-    by_field number at (Some y) is same =
-        let found = from_find (λ (j : In (InputOf Span)). bytes_eq text j.it.name.text) (inputs_of es number) y is in
-        let stands = input_stands es number y found.0 in
-        (number, at, stands.0, stands.1, y.it, stands.2, (bytes_decides text y.it.name.text).0 found.1)
+-- the same of the input fields of an input object
+module _ (es : List EntryOf) (names : List (NameOf Span)) where
+  abbrev inputs_at : ℕ → List (InputOf Span)
+  inputs_at number = map (λ i. i.it) (inputs_of es number)
 
-    by_number : (o : Option ℕ) → type_number es type_name ≡ o →
-        option_and_then (λ number. option_map (λ (j : In (InputOf Span)). j.it) (find (λ (j : In (InputOf Span)). bytes_eq text j.it.name.text) (inputs_of es number))) o ≡ Some i →
-        (number : ℕ) × (type_number es type_name ≡ Some number) × (k : ℕ) × Contains (joined_numbers es number) k × (x : InputOf Span) × Contains (inputs_at es k) x × (text ≡ x.name.text)
-    by_number None at is = absurd (none-some i is)
-    by_number (Some number) at is = by_field number at (find (λ (j : In (InputOf Span)). bytes_eq text j.it.name.text) (inputs_of es number)) refl is
+  abbrev input_in : Option ℕ → Text → Option (InputOf Span)
+  input_in o text = option_and_then (λ number. option_map (λ i. i.it) (find (λ i. bytes_eq text i.it.name.text) (inputs_of es number))) o
 
-missing_put : (es : List EntryOf) (file : ℕ) (type_name text : Text) (names : List (NameOf Span)) (place : Span) (item : Item) (i : InputOf Span) →
-    input_named es type_name text ≡ Some i → is_required i ≡ true → HasNone names text → item ≡ item_over file InputFieldMissing (first_byte place) →
-    Contains (missing_fields es file type_name (texts names) place) item
-missing_put es file type_name text names place item i is required absent told =
-    let at = input_from es type_name text i is in
-    let missing = to_missing es type_name text names i is required absent in
-    let here = to_if (is_missing es type_name (texts names) at.4.name.text) (item_over file InputFieldMissing (first_byte place)) item (ap (is_missing es type_name (texts names)) (sym at.6) ∙ missing) told in
-    let among = to_flat (missing_field_at es file type_name (texts names) place) (inputs_at es at.2) at.4 item at.5 here in
-    let inside = to_flat (λ k. missing_among es file type_name (texts names) place (inputs_at es k)) (joined_numbers es at.0) at.2 item at.3 among in
-    subst (λ (o : Option ℕ). Contains (option_map_or (λ number. missing_in es file type_name (texts names) place (joined_numbers es number)) o []) item) (sym at.1) inside
+  input_is : (number : ℕ) (text : Text) → argument_named (inputs_at number) text ≡ input_in (Some number) text
+  input_is number text = find_it (λ (i : InputOf Span). bytes_eq text i.name.text) (inputs_of es number)
+
+  from_number : (o : Option ℕ) → option_map_or (λ number. is_any_missing (inputs_at number) (texts names)) o false ≡ true →
+      (text : Text) × (i : InputOf Span) × (input_in o text ≡ Some i) × (is_required i ≡ true) × HasNone names text
+  from_number None holds = absurd (false≢true holds)
+  from_number (Some number) holds =
+      let one = from_any_missing (inputs_at number) names holds in
+      (one.0, one.1, sym (input_is number one.0) ∙ one.2, one.3, one.4)
+
+  to_number : (o : Option ℕ) (text : Text) (i : InputOf Span) → input_in o text ≡ Some i → is_required i ≡ true → HasNone names text →
+      option_map_or (λ number. is_any_missing (inputs_at number) (texts names)) o false ≡ true
+  to_number None text i is required absent = absurd (none-some i is)
+  to_number (Some number) text i is required absent = to_any_missing (inputs_at number) text names i (input_is number text ∙ is) required absent
 
 module _ (es : List EntryOf) (file : ℕ) (item : Item) where
   -- the input object at which the entries of a literal are read, where there is one
@@ -169,9 +156,9 @@ module _ (es : List EntryOf) (file : ℕ) (item : Item) where
   field_is reading w type_name place t read on says found =
       elim (Contains-append_cases (unknown_fields es file type_name (entry_names w.below)) (missing_fields es file type_name (texts (entry_names w.below)) place) item found) [
         | inl unknown ↦ unknown_is reading w type_name place t read on says unknown
-        | inr missing ↦ (let one = missing_found es file type_name (entry_names w.below) place item missing in
-            let input = from_missing es type_name one.0 (entry_names w.below) one.1 in
-            field_missing read on says input.1 input.2 input.3 one.2)
+        | inr missing ↦ (let told = from_if (is_field_missing es type_name (texts (entry_names w.below))) (item_over file InputFieldMissing (first_byte place)) item missing in
+            let one = from_number es (entry_names w.below) (type_number es type_name) told.0 in
+            field_missing read on says one.2 one.3 one.4 told.1)
       ]
 
   object_is : (reading : Reading) (w : Val Span) (place : Span) → is_read es reading w.label.says ≡ true → w.label.says ≡ object place → (on : Option Text) → AreFieldsOf reading on →
@@ -247,7 +234,8 @@ module _ (es : List EntryOf) (file : ℕ) (item : Item) where
   is_own {reading} {w} (field_missing {t} {type_name} {text} {place} {i} read on says is required absent told) =
       of_fields reading w place t type_name read on says
       (Contains-append_right (unknown_fields es file type_name (entry_names w.below)) (missing_fields es file type_name (texts (entry_names w.below)) place) item
-      (missing_put es file type_name text (entry_names w.below) place item i is required absent told))
+      (to_if (is_field_missing es type_name (texts (entry_names w.below))) (item_over file InputFieldMissing (first_byte place)) item
+      (to_number es (entry_names w.below) (type_number es type_name) text i is required absent) told))
 
   -- literals in a row
   abbrev Found : (Option (NameOf Span) → Reading) → Vals Span → Type 0

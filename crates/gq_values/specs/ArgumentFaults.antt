@@ -8,9 +8,10 @@ use Rattle.gq_found.specs.declared.code.Code.TheVariants.{UnknownArgument, Argum
 use Rattle.gq_found.specs.declared.item.Item.{Item}
 use Rattle.gq_types.specs.Entries.{Text, EntryOf}
 use Rattle.gq_types.specs.Names.{argument_named}
+use Rattle.gq_types.specs.Required.{is_required}
 use Rattle.gq_values.specs.Literals.{Reading, at_any, at_input}
 use Rattle.gq_values.specs.Items.{item_at}
-use Rattle.gq_values.specs.LiteralFaults.{entry_names, HasNone, is_required, IsLiteralFault}
+use Rattle.gq_values.specs.LiteralFaults.{entry_names, HasNone, IsLiteralFault}
 
 -- the names of arguments, in order
 abbrev pub argument_names : List (Val Span) → List (NameOf Span)

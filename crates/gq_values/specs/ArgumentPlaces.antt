@@ -1,26 +1,23 @@
 -- The items of arguments, computed. Nothing here must be believed.
-use Rattle.std.specs.Prelude.{ℕ, Bool, false, List, [], ◌∷◌, ◌++◌, Option, Some, None, map, flat_map, if◌then◌else◌, not, ◌&&◌}
+use Rattle.std.specs.Prelude.{ℕ, List, [], ◌∷◌, ◌++◌, Option, Some, None, map, flat_map, if◌then◌else◌}
 use Rattle.std.specs.Option.{option_map, option_map_or}
-use Rattle.std.specs.Borrow.{Bor}
-use Rattle.std.specs.List.{list_any}
-use Rattle.std.specs.Str.{bytes_eq}
 use Rattle.gq_text.specs.declared.place.Span.{Span}
 use Rattle.gq_tree.specs.Plain.{NameOf, Val, InputOf}
 use Rattle.gq_tree.specs.Views.{input_view}
-use Rattle.gq_tree.specs.declared.type_system.InputValueDefinition.{InputValueDefinition}
 use Rattle.gq_names.specs.Repeats.{repeated_after}
 use Rattle.gq_found.specs.declared.code.Code.TheVariants.{UnknownArgument, ArgumentNotUnique, ArgumentMissing}
 use Rattle.gq_found.specs.declared.item.Item.{Item}
+use Rattle.gq_types.specs.declared.arguments.Arguments.{Arguments}
 use Rattle.gq_types.specs.Entries.{Text, EntryOf}
 use Rattle.gq_types.specs.Names.{argument_named}
+use Rattle.gq_types.specs.Required.{is_any_missing}
 use Rattle.gq_values.specs.Items.{item_at}
-use Rattle.gq_values.specs.LiteralFaults.{is_required}
 use Rattle.gq_values.specs.LiteralPlaces.{texts, literal_faults}
 use Rattle.gq_values.specs.ArgumentFaults.{argument_names, argument_at}
 
 -- what the code's definitions of arguments stand for
-abbrev pub definitions_view : Option (Bor (List InputValueDefinition)) → Option (List (InputOf Span))
-definitions_view o = option_map (λ r. map input_view r.now) o
+abbrev pub definitions_view : Option Arguments → Option (List (InputOf Span))
+definitions_view o = option_map (λ a. map input_view a.all.now) o
 
 abbrev pub repeated_arguments : ℕ → List Text → List (NameOf Span) → List Item
 repeated_arguments file before names = map (item_at file ArgumentNotUnique) (repeated_after (λ n. n.text) before names)
@@ -31,15 +28,9 @@ unknown_argument_at file known name = option_map_or (λ i. []) (argument_named k
 abbrev pub unknown_arguments : ℕ → List (InputOf Span) → List (NameOf Span) → List Item
 unknown_arguments file known names = flat_map (unknown_argument_at file known) names
 
-abbrev pub is_missing_argument : List (InputOf Span) → List Text → Text → Bool
-is_missing_argument known given text = option_map_or is_required (argument_named known text) false && not (list_any (bytes_eq text) given)
-
-abbrev pub is_missing_by : List (InputOf Span) → List Text → InputOf Span → Bool
-is_missing_by known given i = is_required i && is_missing_argument known given i.name.text
-
 -- one item, where any is missing
 abbrev pub missing_among : ℕ → List (InputOf Span) → List Text → NameOf Span → List Item
-missing_among file known given name = if list_any (is_missing_by known given) known then item_at file ArgumentMissing name ∷ [] else []
+missing_among file known given name = if is_any_missing known given then item_at file ArgumentMissing name ∷ [] else []
 
 abbrev pub known_faults : ℕ → Option (List (InputOf Span)) → NameOf Span → List (NameOf Span) → List Item
 known_faults file None name names = []

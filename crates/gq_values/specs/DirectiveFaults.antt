@@ -1,38 +1,25 @@
 -- Faults of directives: their names, places and uniqueness, and their arguments (sections 5.4 and 5.7).
-use Rattle.std.specs.Prelude.{◌≡◌, ℕ, Bool, false, List, [], Option, Some, None, Contains}
-use Rattle.std.specs.Option.{option_map}
+use Rattle.std.specs.Prelude.{◌≡◌, ℕ, Bool, false, List, [], Some, None, Contains}
 use Rattle.std.specs.List.{list_any}
 use Rattle.gq_text.specs.declared.place.Span.{Span}
 use Rattle.gq_tree.specs.declared.type_system.DirectiveLocation.{DirectiveLocation}
-use Rattle.gq_tree.specs.Plain.{DirectiveOf, InputOf, TypeSystemOf, schema, type_definition, directive_definition}
+use Rattle.gq_tree.specs.Plain.{DirectiveOf, TypeSystemOf, schema, type_definition, directive_definition}
 use Rattle.gq_tree.specs.Same.{same_locations}
 use Rattle.gq_names.specs.Repeats.{IsRepeatedAfter}
 use Rattle.gq_found.specs.declared.code.Code.TheVariants.{UnknownDirective, DirectiveInWrongPlace, DirectiveRepeated}
 use Rattle.gq_found.specs.declared.item.Item.{Item}
+use Rattle.gq_types.specs.Arguments.{directive_arguments}
+use Rattle.gq_types.specs.Directives.{locations_in}
 use Rattle.gq_types.specs.Entries.{Text, EntryOf}
 use Rattle.gq_types.specs.Names.{directive_named}
 use Rattle.gq_values.specs.Items.{item_at}
 use Rattle.gq_values.specs.ArgumentFaults.{IsArgumentFault}
 
--- the arguments and the locations of the definition of a directive, and whether it is repeatable (section 3.13)
-abbrev pub arguments_in : TypeSystemOf Span → List (InputOf Span)
-arguments_in (schema extends description directives roots place) = []
-arguments_in (type_definition extends description name directives body place) = []
-arguments_in (directive_definition description name arguments repeatable locations place) = arguments
-
-abbrev pub locations_in : TypeSystemOf Span → List DirectiveLocation
-locations_in (schema extends description directives roots place) = []
-locations_in (type_definition extends description name directives body place) = []
-locations_in (directive_definition description name arguments repeatable locations place) = locations
-
+-- whether the definition of a directive is repeatable (section 3.13)
 abbrev pub is_repeatable : TypeSystemOf Span → Bool
 is_repeatable (schema extends description directives roots place) = false
 is_repeatable (type_definition extends description name directives body place) = false
 is_repeatable (directive_definition description name arguments repeatable locations place) = repeatable
-
--- the arguments of the directive of that name, where it is known
-abbrev pub directive_arguments : List EntryOf → Text → Option (List (InputOf Span))
-directive_arguments es text = option_map arguments_in (directive_named es text)
 
 -- What is wrong with the directives at a place. Before them stand directives of the names `before`: those of the definition
 -- where the place is an extension of it.

@@ -9,11 +9,13 @@ use Rattle.gq_tree.specs.Same.{same_locations}
 use Rattle.gq_names.specs.Repeats.{repeated_after}
 use Rattle.gq_found.specs.declared.code.Code.TheVariants.{UnknownDirective, DirectiveInWrongPlace, DirectiveRepeated}
 use Rattle.gq_found.specs.declared.item.Item.{Item}
+use Rattle.gq_types.specs.Arguments.{directive_arguments}
+use Rattle.gq_types.specs.Directives.{locations_in}
 use Rattle.gq_types.specs.Entries.{Text, EntryOf}
 use Rattle.gq_types.specs.Names.{directive_named}
 use Rattle.gq_values.specs.Items.{item_at}
 use Rattle.gq_values.specs.ArgumentPlaces.{argument_faults}
-use Rattle.gq_values.specs.DirectiveFaults.{directive_arguments, locations_in, is_repeatable}
+use Rattle.gq_values.specs.DirectiveFaults.{is_repeatable}
 
 abbrev pub directive_texts : List (DirectiveOf Span) → List Text
 directive_texts directives = map (λ d. d.name.text) directives

@@ -1,13 +1,14 @@
 -- Faults of literals: their types, and the names, the uniqueness and the presence of input fields (section 5.6).
-use Rattle.std.specs.Prelude.{◌≡◌, ◌≢◌, ℕ, ◌+◌, Bool, true, false, List, [], ◌∷◌, ◌++◌, Option, Some, None, Contains, nat_lt, if◌then◌else◌, is_none, ◌&&◌}
+use Rattle.std.specs.Prelude.{◌≡◌, ◌≢◌, ℕ, ◌+◌, Bool, true, false, List, [], ◌∷◌, ◌++◌, Option, Some, None, Contains, nat_lt, if◌then◌else◌}
 use Rattle.gq_text.specs.declared.place.Span.{Span}
 use Rattle.gq_tree.specs.Forest.{none, more}
-use Rattle.gq_tree.specs.Plain.{NameOf, Says, Val, Vals, TypeOf, named, list_of, non_null, InputOf, variable, int, float, string, boolean, null, enum, list, object}
+use Rattle.gq_tree.specs.Plain.{NameOf, Says, Val, Vals, TypeOf, InputOf, variable, int, float, string, boolean, null, enum, list, object}
 use Rattle.gq_names.specs.Repeats.{IsRepeated}
 use Rattle.gq_found.specs.declared.code.Code.TheVariants.{WrongValue, UnknownInputField, InputFieldNotUnique, InputFieldMissing}
 use Rattle.gq_found.specs.declared.item.Item.{Item}
 use Rattle.gq_types.specs.Entries.{Text, EntryOf}
 use Rattle.gq_types.specs.Names.{input_named}
+use Rattle.gq_types.specs.Required.{is_required}
 use Rattle.gq_values.specs.Literals.{fits, Reading, at_type, at_any, not_read, Holds, input_object_at}
 use Rattle.gq_values.specs.Items.{item_at, item_over}
 
@@ -39,15 +40,6 @@ literal_place (object place) = place
 -- the place of its opening brace, which is the first byte of it
 abbrev pub first_byte : Span → Span
 first_byte place = record { start = place.start; end = if nat_lt place.start place.end then place.start + 1 else place.end }
-
-abbrev pub is_non_null : {P : Type 0} → TypeOf P → Bool
-is_non_null (named name) = false
-is_non_null (list_of item) = false
-is_non_null (non_null inner) = true
-
--- an input field or argument is required if its type has no null and it has no default (sections 3.6.1 and 3.10)
-abbrev pub is_required : InputOf Span → Bool
-is_required i = is_non_null i.type_ref && is_none i.default
 
 -- whether the entries of an object literal are looked at: not those of a literal that does not fit, or stands in one
 abbrev pub is_read : List EntryOf → Reading → Says Span → Bool

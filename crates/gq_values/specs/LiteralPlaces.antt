@@ -1,11 +1,9 @@
 -- The items of literals, computed. Nothing here must be believed.
-use Rattle.std.specs.Prelude.{ℕ, Bool, false, List, [], ◌∷◌, ◌++◌, Option, Some, None, map, flat_map, if◌then◌else◌, not, ◌&&◌, ◌||◌, slice_get}
+use Rattle.std.specs.Prelude.{ℕ, Bool, List, [], ◌∷◌, ◌++◌, Option, Some, None, map, flat_map, if◌then◌else◌, ◌||◌}
 use Rattle.std.specs.Option.{option_map_or}
-use Rattle.std.specs.List.{list_any}
-use Rattle.std.specs.Str.{bytes_eq}
 use Rattle.gq_text.specs.declared.place.Span.{Span}
 use Rattle.gq_tree.specs.Forest.{none, more}
-use Rattle.gq_tree.specs.Plain.{NameOf, Says, Val, Vals, InputOf, variable, int, float, string, boolean, null, enum, list, object}
+use Rattle.gq_tree.specs.Plain.{NameOf, Says, Val, Vals, variable, int, float, string, boolean, null, enum, list, object}
 use Rattle.gq_tree.specs.Views.{value_view}
 use Rattle.gq_tree.specs.declared.value.Value.{Value}
 use Rattle.gq_tree.specs.declared.value.ObjectField.{ObjectField}
@@ -13,12 +11,11 @@ use Rattle.gq_names.specs.Repeats.{repeated_after}
 use Rattle.gq_found.specs.declared.code.Code.TheVariants.{WrongValue, UnknownInputField, InputFieldNotUnique, InputFieldMissing}
 use Rattle.gq_found.specs.declared.item.Item.{Item}
 use Rattle.gq_types.specs.Entries.{Text, EntryOf}
-use Rattle.gq_types.specs.Joined.{type_number, inputs_in_body, body_in}
-use Rattle.gq_types.specs.Look.{joined_numbers}
 use Rattle.gq_types.specs.Names.{input_named}
+use Rattle.gq_types.specs.Required.{is_field_missing}
 use Rattle.gq_values.specs.Literals.{is_variable, is_null, is_object_literal, fits, Reading, at_type, at_any, not_read, part_at, field_at, input_object_at}
 use Rattle.gq_values.specs.Items.{item_at, item_over}
-use Rattle.gq_values.specs.LiteralFaults.{entry_names, literal_place, first_byte, is_required}
+use Rattle.gq_values.specs.LiteralFaults.{entry_names, literal_place, first_byte}
 
 abbrev pub texts : List (NameOf Span) → List Text
 texts names = map (λ n. n.text) names
@@ -33,26 +30,9 @@ unknown_field_at es file type_name name = option_map_or (λ i. []) (input_named 
 abbrev pub unknown_fields : List EntryOf → ℕ → Text → List (NameOf Span) → List Item
 unknown_fields es file type_name names = flat_map (unknown_field_at es file type_name) names
 
--- whether it is required, and not among the given names
-abbrev pub is_missing : List EntryOf → Text → List Text → Text → Bool
-is_missing es type_name given text = option_map_or is_required (input_named es type_name text) false && not (list_any (bytes_eq text) given)
-
-abbrev pub missing_field_at : List EntryOf → ℕ → Text → List Text → Span → InputOf Span → List Item
-missing_field_at es file type_name given place i = if is_missing es type_name given i.name.text then item_over file InputFieldMissing (first_byte place) ∷ [] else []
-
-abbrev pub missing_among : List EntryOf → ℕ → Text → List Text → Span → List (InputOf Span) → List Item
-missing_among es file type_name given place inputs = flat_map (missing_field_at es file type_name given place) inputs
-
--- the input fields of the entry with that number
-abbrev pub inputs_at : List EntryOf → ℕ → List (InputOf Span)
-inputs_at es number = option_map_or (λ e. inputs_in_body (body_in e.definition)) (slice_get es number) []
-
-abbrev pub missing_in : List EntryOf → ℕ → Text → List Text → Span → List ℕ → List Item
-missing_in es file type_name given place numbers = flat_map (λ number. missing_among es file type_name given place (inputs_at es number)) numbers
-
+-- one item, where any is missing
 abbrev pub missing_fields : List EntryOf → ℕ → Text → List Text → Span → List Item
-missing_fields es file type_name given place =
-    option_map_or (λ number. missing_in es file type_name given place (joined_numbers es number)) (type_number es type_name) []
+missing_fields es file type_name given place = if is_field_missing es type_name given then item_over file InputFieldMissing (first_byte place) ∷ [] else []
 
 -- what is told of the names of an object literal at an input object
 abbrev pub field_faults : List EntryOf → ℕ → Option Text → Span → List (NameOf Span) → List Item

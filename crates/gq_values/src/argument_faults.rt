@@ -1,23 +1,18 @@
 //! Faults of arguments (GraphQL, October 2021, section 5.4).
-ghost use Rattle.std.specs.Prelude.{◌≡◌, ◌++◌, OnOk, map, Some, None, false};
-ghost use Rattle.std.specs.List.{list_any};
-ghost use Rattle.std.specs.Option.{option_map_or};
+ghost use Rattle.std.specs.Prelude.{◌≡◌, ◌++◌, OnOk, map, Some, None};
 ghost use Rattle.gq_tree.specs.Views.{name_of, input_view, argument_view};
 ghost use Rattle.gq_types.specs.Look.{types_view};
-ghost use Rattle.gq_types.specs.Names.{argument_named};
-ghost use Rattle.gq_values.specs.LiteralFaults.{is_required};
 ghost use Rattle.gq_values.specs.LiteralPlaces.{texts};
 ghost use Rattle.gq_values.specs.ArgumentFaults.{argument_names};
-ghost use Rattle.gq_values.specs.ArgumentPlaces.{definitions_view, repeated_arguments, unknown_arguments, is_missing_by, missing_among, known_faults, value_faults_of, argument_value_faults, argument_faults};
+ghost use Rattle.gq_values.specs.ArgumentPlaces.{definitions_view, repeated_arguments, unknown_arguments, missing_among, known_faults, value_faults_of, argument_value_faults, argument_faults};
 
-use crate::inputs::is_required;
 use crate::items::{item_at, put};
 use crate::literal_faults::put_literal_faults;
 use crate::reading::Read;
 use gq_found::{Code, Item};
 use gq_names::NameList;
 use gq_text::NoMemory;
-use gq_tree::{Argument, InputValueDefinition, Name};
+use gq_tree::{Argument, Name};
 use gq_types::{Arguments, Types};
 use std::alloc::Global;
 
@@ -45,11 +40,11 @@ fn put_repeated_arguments(
 #[tactic(auto, using(gq_tree::proofs::Trees::gathers))]
 fn put_unknown_arguments(
     file: usize,
-    known: &Arguments<'_>,
+    known: Arguments<'_>,
     arguments: &[Argument],
     items: &mut Vec<Item>,
 ) -> Result<(), NoMemory>
-    ensures { OnOk result (items.new.items ≡ items.old.items ++ unknown_arguments file (map input_view known.now.all.now) (argument_names (map argument_view arguments.now))) }
+    ensures { OnOk result (items.new.items ≡ items.old.items ++ unknown_arguments file (map input_view known.entry.all.now) (argument_names (map argument_view arguments.now))) }
 {
     for argument in arguments {
         if known.named(argument.name.text.as_str()).is_none() {
@@ -59,58 +54,17 @@ fn put_unknown_arguments(
     Ok(())
 }
 
-/// Whether the argument of that name is required.
-fn is_required_named(known: &Arguments<'_>, name: &str) -> bool
-    ensures { result ≡ option_map_or is_required (argument_named (map input_view known.now.all.now) name.now) false }
-{
-    match known.named(name) {
-        Some(definition) => is_required(definition),
-        None => false,
-    }
-}
-
-/// Whether an argument of this definition is required and not given. Of doubles the first is meant.
-fn is_missing(known: &Arguments<'_>, given: &NameList, definition: &InputValueDefinition) -> bool
-    ensures { result ≡ is_missing_by (map input_view known.now.all.now) given.now (input_view definition.now) }
-{
-    let name = definition.name.text.as_str();
-    is_required(definition) && !given.contains(name) && is_required_named(known, name)
-}
-
-/// Whether an argument of any of these definitions is missing.
-fn is_missing_among(
-    known: &Arguments<'_>,
-    given: &NameList,
-    definitions: &[InputValueDefinition],
-) -> bool
-    ensures { result ≡ list_any (λ d. is_missing_by (map input_view known.now.all.now) given.now (input_view d)) definitions.now }
-{
-    for definition in definitions {
-        if is_missing(known, given, definition) {
-            return true;
-        }
-    }
-    false
-}
-
-/// Whether any argument that is required is not given.
-fn is_any_missing(known: &Arguments<'_>, given: &NameList) -> bool
-    ensures { result ≡ list_any (is_missing_by (map input_view known.now.all.now) given.now) (map input_view known.now.all.now) }
-{
-    is_missing_among(known, given, known.all())
-}
-
 /// Puts an item at the name of a field or directive, if an argument is missing.
 fn put_missing_arguments(
     file: usize,
-    known: &Arguments<'_>,
+    known: Arguments<'_>,
     given: &NameList,
     name: &Name,
     items: &mut Vec<Item>,
 ) -> Result<(), NoMemory>
-    ensures { OnOk result (items.new.items ≡ items.old.items ++ missing_among file (map input_view known.now.all.now) given.now (name_of name.now)) }
+    ensures { OnOk result (items.new.items ≡ items.old.items ++ missing_among file (map input_view known.entry.all.now) given.now (name_of name.now)) }
 {
-    if is_any_missing(known, given) {
+    if known.is_any_missing(given) {
         put(item_at(file, Code::ArgumentMissing, name), items)?;
     }
     Ok(())
@@ -120,11 +74,11 @@ fn put_faults_of_known_value(
     alloc: Global,
     types: &Types,
     file: usize,
-    known: &Arguments<'_>,
+    known: Arguments<'_>,
     argument: &Argument,
     items: &mut Vec<Item>,
 ) -> Result<(), NoMemory>
-    ensures { OnOk result (items.new.items ≡ items.old.items ++ value_faults_of (types_view types.now) file (Some (map input_view known.now.all.now)) (argument_view argument.now)) }
+    ensures { OnOk result (items.new.items ≡ items.old.items ++ value_faults_of (types_view types.now) file (Some (map input_view known.entry.all.now)) (argument_view argument.now)) }
 {
     let reading = match known.named(argument.name.text.as_str()) {
         Some(definition) => Read::AtType(&definition.type_ref),
@@ -138,11 +92,11 @@ fn put_faults_of_known_values(
     alloc: Global,
     types: &Types,
     file: usize,
-    known: &Arguments<'_>,
+    known: Arguments<'_>,
     arguments: &[Argument],
     items: &mut Vec<Item>,
 ) -> Result<(), NoMemory>
-    ensures { OnOk result (items.new.items ≡ items.old.items ++ argument_value_faults (types_view types.now) file (Some (map input_view known.now.all.now)) (map argument_view arguments.now)) }
+    ensures { OnOk result (items.new.items ≡ items.old.items ++ argument_value_faults (types_view types.now) file (Some (map input_view known.entry.all.now)) (map argument_view arguments.now)) }
 {
     for argument in arguments {
         put_faults_of_known_value(alloc, types, file, known, argument, items)?;
@@ -155,20 +109,19 @@ fn put_known_faults(
     alloc: Global,
     types: &Types,
     file: usize,
-    definitions: &[InputValueDefinition],
+    known: Arguments<'_>,
     given: &NameList,
     name: &Name,
     arguments: &[Argument],
     items: &mut Vec<Item>,
 ) -> Result<(), NoMemory>
     requires { given.now ≡ texts (argument_names (map argument_view arguments.now)) }
-    ensures { OnOk result (items.new.items ≡ items.old.items ++ (known_faults file (Some (map input_view definitions.now)) (name_of name.now) (argument_names (map argument_view arguments.now))
-        ++ argument_value_faults (types_view types.now) file (Some (map input_view definitions.now)) (map argument_view arguments.now))) }
+    ensures { OnOk result (items.new.items ≡ items.old.items ++ (known_faults file (Some (map input_view known.entry.all.now)) (name_of name.now) (argument_names (map argument_view arguments.now))
+        ++ argument_value_faults (types_view types.now) file (Some (map input_view known.entry.all.now)) (map argument_view arguments.now))) }
 {
-    let known = Arguments::of(alloc, definitions, arguments.len())?;
-    put_unknown_arguments(file, &known, arguments, items)?;
-    put_missing_arguments(file, &known, given, name, items)?;
-    put_faults_of_known_values(alloc, types, file, &known, arguments, items)
+    put_unknown_arguments(file, known, arguments, items)?;
+    put_missing_arguments(file, known, given, name, items)?;
+    put_faults_of_known_values(alloc, types, file, known, arguments, items)
 }
 
 fn put_faults_of_value(
@@ -207,7 +160,7 @@ pub fn put_argument_faults(
     alloc: Global,
     types: &Types,
     file: usize,
-    definitions: Option<&[InputValueDefinition]>,
+    definitions: Option<Arguments<'_>>,
     name: &Name,
     arguments: &[Argument],
     items: &mut Vec<Item>,
@@ -217,17 +170,8 @@ pub fn put_argument_faults(
     let mut given = NameList::new(alloc);
     put_repeated_arguments(file, arguments, &mut given, items)?;
     match definitions {
-        Some(definitions) => {
-            put_known_faults(
-                alloc,
-                types,
-                file,
-                definitions,
-                &given,
-                name,
-                arguments,
-                items,
-            )
+        Some(known) => {
+            put_known_faults(alloc, types, file, known, &given, name, arguments, items)
         }
         None => put_faults_of_values(alloc, types, file, arguments, items),
     }

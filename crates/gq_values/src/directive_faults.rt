@@ -1,7 +1,5 @@
 //! Faults of directives (GraphQL, October 2021, section 5.7).
 ghost use Rattle.std.specs.Prelude.{◌≡◌, ◌++◌, OnOk, map};
-ghost use Rattle.std.specs.List.{list_any};
-ghost use Rattle.gq_tree.specs.Same.{location_number, same_locations};
 ghost use Rattle.gq_tree.specs.Views.{directive_view};
 ghost use Rattle.gq_types.specs.Look.{types_view};
 ghost use Rattle.gq_values.specs.DirectivePlaces.{directive_texts, faults_of_directive, faults_of_directives, may_repeat, repetition_at, repetitions, directive_faults};
@@ -14,43 +12,6 @@ use gq_text::NoMemory;
 use gq_tree::{Directive, DirectiveLocation};
 use gq_types::Types;
 use std::alloc::Global;
-
-fn number(location: DirectiveLocation) -> u8
-    ensures { result ≡ location_number location }
-{
-    match location {
-        DirectiveLocation::Query => 0,
-        DirectiveLocation::Mutation => 1,
-        DirectiveLocation::Subscription => 2,
-        DirectiveLocation::Field => 3,
-        DirectiveLocation::FragmentDefinition => 4,
-        DirectiveLocation::FragmentSpread => 5,
-        DirectiveLocation::InlineFragment => 6,
-        DirectiveLocation::VariableDefinition => 7,
-        DirectiveLocation::Schema => 8,
-        DirectiveLocation::Scalar => 9,
-        DirectiveLocation::Object => 10,
-        DirectiveLocation::FieldDefinition => 11,
-        DirectiveLocation::ArgumentDefinition => 12,
-        DirectiveLocation::Interface => 13,
-        DirectiveLocation::Union => 14,
-        DirectiveLocation::Enum => 15,
-        DirectiveLocation::EnumValue => 16,
-        DirectiveLocation::InputObject => 17,
-        DirectiveLocation::InputFieldDefinition => 18,
-    }
-}
-
-fn has_location(locations: &[DirectiveLocation], location: DirectiveLocation) -> bool
-    ensures { result ≡ list_any (same_locations location) locations.now }
-{
-    for one in locations {
-        if number(location) == number(*one) {
-            return true;
-        }
-    }
-    false
-}
 
 #[tactic(auto, using(gq_tree::proofs::Trees::gathers))]
 fn put_faults_of_directive(
@@ -65,11 +26,11 @@ fn put_faults_of_directive(
 {
     let (name, arguments) = (&directive.name, directive.arguments.as_slice());
     match types.directive(name.text.as_str()) {
-        Some(definition) => {
-            if !has_location(&definition.locations, location) {
+        Some(_) => {
+            if !types.stands_at(name.text.as_str(), location) {
                 put(item_at(file, Code::DirectiveInWrongPlace, name), items)?;
             }
-            let definitions = Some(definition.arguments.as_slice());
+            let definitions = types.directive_arguments(name.text.as_str());
             put_argument_faults(alloc, types, file, definitions, name, arguments, items)
         }
         None => {

@@ -5,7 +5,6 @@
 pub mod argument_faults;
 pub mod directive_faults;
 pub mod fitting;
-mod inputs;
 mod items;
 pub mod laws;
 pub mod literal_faults;

@@ -1,19 +1,18 @@
 //! Faults of literals (GraphQL, October 2021, section 5.6).
-ghost use Rattle.std.specs.Prelude.{◌≡◌, ◌++◌, OnOk, map};
-ghost use Rattle.gq_tree.specs.Views.{value_view, entries_view, input_view};
+ghost use Rattle.std.specs.Prelude.{◌≡◌, ◌++◌, OnOk};
+ghost use Rattle.gq_tree.specs.Views.{value_view, entries_view};
 ghost use Rattle.gq_types.specs.Look.{types_view, text_of};
 ghost use Rattle.gq_values.specs.LiteralFaults.{entry_names, literal_place, first_byte};
-ghost use Rattle.gq_values.specs.LiteralPlaces.{texts, repeated_fields, unknown_fields, is_missing, missing_field_at, missing_among, missing_in, inputs_at, missing_fields, object_faults, entry_faults, own_faults, literal_faults, item_faults, faults_of_field, value_faults};
+ghost use Rattle.gq_values.specs.LiteralPlaces.{texts, repeated_fields, unknown_fields, missing_fields, object_faults, entry_faults, own_faults, literal_faults, item_faults, faults_of_field, value_faults};
 ghost use Rattle.gq_values.specs.Readings.{reading_view};
 
 use crate::fitting::fits;
-use crate::inputs::{inputs_in, is_required};
 use crate::items::{item_at, item_over, put};
 use crate::reading::{Read, field_at, input_object_at, items_at};
 use gq_found::{Code, Item};
 use gq_names::NameList;
 use gq_text::{NoMemory, Span};
-use gq_tree::{InputValueDefinition, ObjectField, Value};
+use gq_tree::{ObjectField, Value};
 use gq_types::Types;
 use std::alloc::Global;
 
@@ -87,82 +86,6 @@ fn put_unknown_fields(
     Ok(())
 }
 
-fn is_missing(types: &Types, type_name: &str, given: &NameList, name: &str) -> bool
-    ensures { result ≡ is_missing (types_view types.now) type_name.now given.now name.now }
-{
-    match types.input_field(type_name, name) {
-        Some(input) => is_required(input) && !given.contains(name),
-        None => false,
-    }
-}
-
-fn put_if_missing(
-    types: &Types,
-    file: usize,
-    type_name: &str,
-    given: &NameList,
-    place: Span,
-    input: &InputValueDefinition,
-    items: &mut Vec<Item>,
-) -> Result<(), NoMemory>
-    ensures { OnOk result (items.new.items ≡ items.old.items ++ missing_field_at (types_view types.now) file type_name.now given.now place (input_view input.now)) }
-{
-    if is_missing(types, type_name, given, input.name.text.as_str()) {
-        put(
-            item_over(file, Code::InputFieldMissing, first_byte(place)),
-            items,
-        )?;
-    }
-    Ok(())
-}
-
-#[tactic(auto, using(gq_tree::proofs::Trees::gathers))]
-fn put_missing_among(
-    types: &Types,
-    file: usize,
-    type_name: &str,
-    given: &NameList,
-    place: Span,
-    inputs: &[InputValueDefinition],
-    items: &mut Vec<Item>,
-) -> Result<(), NoMemory>
-    ensures { OnOk result (items.new.items ≡ items.old.items ++ missing_among (types_view types.now) file type_name.now given.now place (map input_view inputs.now)) }
-{
-    for input in inputs {
-        put_if_missing(types, file, type_name, given, place, input, items)?;
-    }
-    Ok(())
-}
-
-/// The input fields that the entry with that number defines.
-fn inputs_at(types: &Types, number: usize) -> &[InputValueDefinition]
-    ensures { map input_view result.now ≡ inputs_at (types_view types.now) number }
-{
-    match types.entries().get(number) {
-        Some(entry) => inputs_in(&entry.definition),
-        None => &[],
-    }
-}
-
-#[tactic(auto, using(gq_tree::proofs::Trees::gathers))]
-fn put_missing_in(
-    types: &Types,
-    file: usize,
-    type_name: &str,
-    given: &NameList,
-    place: Span,
-    numbers: &[usize],
-    items: &mut Vec<Item>,
-) -> Result<(), NoMemory>
-    ensures { OnOk result (items.new.items ≡ items.old.items ++ missing_in (types_view types.now) file type_name.now given.now place numbers.now) }
-{
-    for number in numbers {
-        let inputs = inputs_at(types, *number);
-        put_missing_among(types, file, type_name, given, place, inputs, items)?;
-    }
-    Ok(())
-}
-
 fn put_missing_fields(
     types: &Types,
     file: usize,
@@ -173,13 +96,13 @@ fn put_missing_fields(
 ) -> Result<(), NoMemory>
     ensures { OnOk result (items.new.items ≡ items.old.items ++ missing_fields (types_view types.now) file type_name.now given.now place) }
 {
-    match types.type_number(type_name) {
-        Some(number) => {
-            let numbers = types.joined(number);
-            put_missing_in(types, file, type_name, given, place, numbers, items)
-        }
-        None => Ok(()),
+    if types.is_field_missing(type_name, given) {
+        put(
+            item_over(file, Code::InputFieldMissing, first_byte(place)),
+            items,
+        )?;
     }
+    Ok(())
 }
 
 #[tactic(auto, using(gq_tree::proofs::Trees::gathers))]

@@ -9,7 +9,7 @@ use Rattle.gq_tree.specs.Forest.{none, more}
 use Rattle.gq_tree.specs.Plain.{NameOf, Says, Val, Vals, InputOf, DirectiveOf, VariableOf, Head, field, spread, inline, variable, int, float, string, boolean, null, enum, list, object}
 use Rattle.gq_names.proofs.RepeatLemmas.{contains_none, contains_first}
 use Rattle.gq_types.specs.Entries.{Text, EntryOf}
-use Rattle.gq_values.specs.DirectiveFaults.{directive_arguments}
+use Rattle.gq_types.specs.Arguments.{directive_arguments}
 use Rattle.gq_values.proofs.FoundLemmas.{only, from_flat, to_flat}
 use Rattle.gq_document.specs.Definitions.{OperationOf, FragmentOf}
 use Rattle.gq_document.specs.Selections.{SelectedOf, operation_selections, fragment_selections}

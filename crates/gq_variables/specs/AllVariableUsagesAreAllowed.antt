@@ -7,7 +7,7 @@ use Rattle.gq_found.specs.declared.item.Item.{Item}
 use Rattle.gq_types.specs.Entries.{EntryOf}
 use Rattle.gq_types.specs.Joined.{kind_named}
 use Rattle.gq_values.specs.Literals.{at_type, is_null}
-use Rattle.gq_values.specs.LiteralFaults.{is_non_null}
+use Rattle.gq_types.specs.Required.{is_non_null}
 use Rattle.gq_values.specs.Items.{item_at}
 use Rattle.gq_document.specs.Definitions.{OperationOf}
 use Rattle.gq_document.specs.Selections.{base_name}

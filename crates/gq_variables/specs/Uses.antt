@@ -8,7 +8,7 @@ use Rattle.gq_types.specs.Entries.{Text, EntryOf}
 use Rattle.gq_types.specs.Names.{input_named, argument_named}
 use Rattle.gq_values.specs.Literals.{Reading, at_type, at_any, not_read, items_at, field_at, input_object_at}
 use Rattle.gq_values.specs.ArgumentFaults.{argument_at}
-use Rattle.gq_values.specs.DirectiveFaults.{directive_arguments}
+use Rattle.gq_types.specs.Arguments.{directive_arguments}
 use Rattle.gq_document.specs.Definitions.{OperationOf, FragmentOf}
 use Rattle.gq_document.specs.Selections.{selected_field, SelectedOf, IsOfOperation, IsOfFragment}
 

@@ -8,7 +8,7 @@ use Rattle.gq_tree.specs.Views.{value_view}
 use Rattle.gq_tree.specs.declared.value.Value.{Value}
 use Rattle.gq_tree.specs.declared.value.ObjectField.{ObjectField}
 use Rattle.gq_types.specs.Entries.{Text, EntryOf}
-use Rattle.gq_values.specs.DirectiveFaults.{directive_arguments}
+use Rattle.gq_types.specs.Arguments.{directive_arguments}
 use Rattle.gq_document.specs.Definitions.{OperationOf, FragmentOf}
 use Rattle.gq_document.specs.Selections.{SelectedOf, operation_selections, fragment_selections}
 use Rattle.gq_variables.specs.Uses.{PlaceOf, UseOf, field_place, part_place, argument_place, field_arguments}

@@ -12,7 +12,7 @@ use Rattle.gq_types.specs.Entries.{Text, EntryOf}
 use Rattle.gq_types.specs.Joined.{kind_named}
 use Rattle.gq_types.specs.Kinds.{is_input}
 use Rattle.gq_values.specs.Literals.{Reading, at_type, at_any, not_read}
-use Rattle.gq_values.specs.LiteralFaults.{is_non_null}
+use Rattle.gq_types.specs.Required.{is_non_null}
 use Rattle.gq_values.specs.Items.{item_at}
 use Rattle.gq_document.specs.Definitions.{OperationOf}
 use Rattle.gq_document.specs.Selections.{base_name}

@@ -1,8 +1,7 @@
 //! The places in arguments and in literals (GraphQL, October 2021, sections 5.6 and 5.8.5).
-ghost use Rattle.std.specs.Prelude.{◌≡◌, map};
-ghost use Rattle.std.specs.Option.{option_map};
-ghost use Rattle.gq_tree.specs.Views.{input_view};
+ghost use Rattle.std.specs.Prelude.{◌≡◌};
 ghost use Rattle.gq_types.specs.Look.{types_view, input_of};
+ghost use Rattle.gq_values.specs.ArgumentPlaces.{definitions_view};
 ghost use Rattle.gq_values.specs.Readings.{reading_view};
 ghost use Rattle.gq_variables.specs.Uses.{is_defaulted, input_field_at, items_place, field_place, argument_place};
 ghost use Rattle.gq_variables.specs.Views.{place_view};
@@ -61,8 +60,8 @@ pub(crate) fn field_place<'a>(types: &'a Types, place: Place<'_>, name: &str) ->
 }
 
 /// The place of the argument of that name, where those of its field or directive are known.
-pub(crate) fn argument_place<'a>(known: Option<&Arguments<'a>>, name: &str) -> Place<'a>
-    ensures { place_view result ≡ argument_place (option_map (λ a. map input_view a.now.all.now) known.entry) name.now }
+pub(crate) fn argument_place<'a>(known: Option<Arguments<'a>>, name: &str) -> Place<'a>
+    ensures { place_view result ≡ argument_place (definitions_view known.entry) name.now }
 {
     let Some(known) = known else {
         return Place {

@@ -17,16 +17,12 @@ use gq_document::{
     selected_field,
 };
 use gq_text::NoMemory;
-use gq_tree::{Argument, InputValueDefinition, Selection, VariableDefinition};
-use gq_types::Types;
+use gq_tree::{Argument, Selection, VariableDefinition};
+use gq_types::{Arguments, Types};
 use std::alloc::Global;
 
 /// The definitions of the arguments of the field of that name, where the type of its parent is known and has it.
-fn field_arguments<'a>(
-    types: &'a Types,
-    parent: Option<&str>,
-    name: &str,
-) -> Option<&'a [InputValueDefinition]>
+fn field_arguments<'a>(types: &'a Types, parent: Option<&str>, name: &str) -> Option<Arguments<'a>>
     ensures { definitions_view result ≡ field_arguments (types_view types.now) (text_of parent.entry) name.now }
 {
     match selected_field(types, parent, name) {
@@ -38,7 +34,6 @@ fn field_arguments<'a>(
 /// Puts the uses in the arguments of the field of that name behind the others. Where there are no arguments the field is not
 /// looked up.
 fn put_uses_of_field_arguments<'a>(
-    alloc: Global,
     types: &'a Types,
     file: usize,
     parent: Option<&str>,
@@ -51,13 +46,12 @@ fn put_uses_of_field_arguments<'a>(
     if arguments.is_empty() {
         return Ok(());
     }
-    let definitions = field_arguments(types, parent, name);
-    put_uses_of_arguments(alloc, types, file, definitions, arguments, uses)
+    let known = field_arguments(types, parent, name);
+    put_uses_of_arguments(types, file, known, arguments, uses)
 }
 
 #[tactic(auto, using(gq_tree::proofs::Trees::gathers))]
 fn put_uses_of_selection<'a>(
-    alloc: Global,
     types: &'a Types,
     selected: Selected<'a>,
     uses: &mut Vec<Use<'a>>,
@@ -68,29 +62,20 @@ fn put_uses_of_selection<'a>(
     match selected.selection {
         Selection::Field(field) => {
             let (name, arguments) = (field.name.text.as_str(), &field.arguments);
-            put_uses_of_field_arguments(
-                alloc,
-                types,
-                file,
-                selected.parent,
-                name,
-                arguments,
-                uses,
-            )?;
-            put_uses_of_directives(alloc, types, file, &field.directives, uses)
+            put_uses_of_field_arguments(types, file, selected.parent, name, arguments, uses)?;
+            put_uses_of_directives(types, file, &field.directives, uses)
         }
         Selection::Spread(spread) => {
-            put_uses_of_directives(alloc, types, file, &spread.directives, uses)
+            put_uses_of_directives(types, file, &spread.directives, uses)
         }
         Selection::Inline(inline) => {
-            put_uses_of_directives(alloc, types, file, &inline.directives, uses)
+            put_uses_of_directives(types, file, &inline.directives, uses)
         }
     }
 }
 
 #[tactic(auto, using(gq_tree::proofs::Trees::gathers))]
 fn put_uses_of_selections<'a>(
-    alloc: Global,
     types: &'a Types,
     selections: &[Selected<'a>],
     uses: &mut Vec<Use<'a>>,
@@ -98,14 +83,13 @@ fn put_uses_of_selections<'a>(
     ensures { OnOk result (uses_view uses.new.items ≡ uses_view uses.old.items ++ selection_uses (types_view types.now) (selections_view selections.now)) }
 {
     for selected in selections {
-        put_uses_of_selection(alloc, types, *selected, uses)?;
+        put_uses_of_selection(types, *selected, uses)?;
     }
     Ok(())
 }
 
 #[tactic(auto, using(gq_tree::proofs::Trees::gathers))]
 fn put_uses_of_variables<'a>(
-    alloc: Global,
     types: &'a Types,
     file: usize,
     variables: &'a [VariableDefinition],
@@ -114,7 +98,7 @@ fn put_uses_of_variables<'a>(
     ensures { OnOk result (uses_view uses.new.items ≡ uses_view uses.old.items ++ variable_uses (types_view types.now) file (map variable_view variables.now)) }
 {
     for variable in variables {
-        put_uses_of_directives(alloc, types, file, &variable.directives, uses)?;
+        put_uses_of_directives(types, file, &variable.directives, uses)?;
     }
     Ok(())
 }
@@ -131,9 +115,9 @@ pub(crate) fn put_uses_of_operation<'a>(
 {
     let (file, definition) = (operation.file, &operation.definition);
     let selections = operation_selections(alloc, types, operation)?;
-    put_uses_of_selections(alloc, types, &selections, uses)?;
-    put_uses_of_directives(alloc, types, file, &definition.directives, uses)?;
-    put_uses_of_variables(alloc, types, file, &definition.variables, uses)
+    put_uses_of_selections(types, &selections, uses)?;
+    put_uses_of_directives(types, file, &definition.directives, uses)?;
+    put_uses_of_variables(types, file, &definition.variables, uses)
 }
 
 /// The uses that stand in a fragment, in its selections and its directives.
@@ -147,8 +131,8 @@ pub(crate) fn fragment_uses<'a>(
 {
     let mut uses = Vec::new(alloc);
     let selections = fragment_selections(alloc, types, fragment)?;
-    put_uses_of_selections(alloc, types, &selections, &mut uses)?;
+    put_uses_of_selections(types, &selections, &mut uses)?;
     let directives = &fragment.definition.directives;
-    put_uses_of_directives(alloc, types, fragment.file, directives, &mut uses)?;
+    put_uses_of_directives(types, fragment.file, directives, &mut uses)?;
     Ok(uses)
 }

@@ -1,7 +1,6 @@
 //! The uses of variables in literals, arguments and directives.
 ghost use Rattle.std.specs.Prelude.{◌≡◌, ◌++◌, OnOk, map};
-ghost use Rattle.std.specs.Option.{option_map};
-ghost use Rattle.gq_tree.specs.Views.{value_view, input_view, argument_view, directive_view};
+ghost use Rattle.gq_tree.specs.Views.{value_view, argument_view, directive_view};
 ghost use Rattle.gq_types.specs.Look.{types_view};
 ghost use Rattle.gq_values.specs.ArgumentPlaces.{definitions_view};
 ghost use Rattle.gq_variables.specs.UsesPlaces.{value_uses, item_uses, uses_of_field, field_uses, uses_of_argument, argument_uses, uses_of_directive, directive_uses};
@@ -10,9 +9,8 @@ ghost use Rattle.gq_variables.specs.Views.{place_view, uses_view};
 use crate::places::{argument_place, field_place, items_place};
 use crate::uses::{Place, Use};
 use gq_text::NoMemory;
-use gq_tree::{Argument, Directive, InputValueDefinition, ObjectField, Value};
+use gq_tree::{Argument, Directive, ObjectField, Value};
 use gq_types::{Arguments, Types};
-use std::alloc::Global;
 
 #[cycle(literals)]
 #[tactic(auto, using(gq_tree::proofs::Trees::gathers))]
@@ -98,25 +96,27 @@ fn put_uses_of_field<'a>(
 fn put_uses_of_argument<'a>(
     types: &'a Types,
     file: usize,
-    known: Option<&Arguments<'a>>,
+    known: Option<Arguments<'a>>,
     argument: &'a Argument,
     uses: &mut Vec<Use<'a>>,
 ) -> Result<(), NoMemory>
-    ensures { OnOk result (uses_view uses.new.items ≡ uses_view uses.old.items ++ uses_of_argument (types_view types.now) file (option_map (λ a. map input_view a.now.all.now) known.entry) (argument_view argument.now)) }
+    ensures { OnOk result (uses_view uses.new.items ≡ uses_view uses.old.items ++ uses_of_argument (types_view types.now) file (definitions_view known.entry) (argument_view argument.now)) }
 {
     let place = argument_place(known, argument.name.text.as_str());
     put_uses_of_value(types, file, place, &argument.value, uses)
 }
 
+/// Puts the uses in arguments behind the others. The definitions are those of the arguments of their field or directive,
+/// `None` where it is not known.
 #[tactic(auto, using(gq_tree::proofs::Trees::gathers))]
-fn put_uses_of_each_argument<'a>(
+pub(crate) fn put_uses_of_arguments<'a>(
     types: &'a Types,
     file: usize,
-    known: Option<&Arguments<'a>>,
+    known: Option<Arguments<'a>>,
     arguments: &'a [Argument],
     uses: &mut Vec<Use<'a>>,
 ) -> Result<(), NoMemory>
-    ensures { OnOk result (uses_view uses.new.items ≡ uses_view uses.old.items ++ argument_uses (types_view types.now) file (option_map (λ a. map input_view a.now.all.now) known.entry) (map argument_view arguments.now)) }
+    ensures { OnOk result (uses_view uses.new.items ≡ uses_view uses.old.items ++ argument_uses (types_view types.now) file (definitions_view known.entry) (map argument_view arguments.now)) }
 {
     for argument in arguments {
         put_uses_of_argument(types, file, known, argument, uses)?;
@@ -124,32 +124,7 @@ fn put_uses_of_each_argument<'a>(
     Ok(())
 }
 
-/// Puts the uses in arguments behind the others. The definitions are those of the arguments of their field or directive,
-/// `None` where it is not known.
-pub(crate) fn put_uses_of_arguments<'a>(
-    alloc: Global,
-    types: &'a Types,
-    file: usize,
-    definitions: Option<&'a [InputValueDefinition]>,
-    arguments: &'a [Argument],
-    uses: &mut Vec<Use<'a>>,
-) -> Result<(), NoMemory>
-    ensures { OnOk result (uses_view uses.new.items ≡ uses_view uses.old.items ++ argument_uses (types_view types.now) file (definitions_view definitions.entry) (map argument_view arguments.now)) }
-{
-    if arguments.is_empty() {
-        return Ok(());
-    }
-    match definitions {
-        Some(definitions) => {
-            let known = Arguments::of(alloc, definitions, arguments.len())?;
-            put_uses_of_each_argument(types, file, Some(&known), arguments, uses)
-        }
-        None => put_uses_of_each_argument(types, file, None, arguments, uses),
-    }
-}
-
 fn put_uses_of_directive<'a>(
-    alloc: Global,
     types: &'a Types,
     file: usize,
     directive: &'a Directive,
@@ -157,19 +132,13 @@ fn put_uses_of_directive<'a>(
 ) -> Result<(), NoMemory>
     ensures { OnOk result (uses_view uses.new.items ≡ uses_view uses.old.items ++ uses_of_directive (types_view types.now) file (directive_view directive.now)) }
 {
-    match types.directive(directive.name.text.as_str()) {
-        Some(definition) => {
-            let definitions = Some(definition.arguments.as_slice());
-            put_uses_of_arguments(alloc, types, file, definitions, &directive.arguments, uses)
-        }
-        None => put_uses_of_arguments(alloc, types, file, None, &directive.arguments, uses),
-    }
+    let known = types.directive_arguments(directive.name.text.as_str());
+    put_uses_of_arguments(types, file, known, &directive.arguments, uses)
 }
 
 /// Puts the uses in the arguments of directives behind the others.
 #[tactic(auto, using(gq_tree::proofs::Trees::gathers))]
 pub(crate) fn put_uses_of_directives<'a>(
-    alloc: Global,
     types: &'a Types,
     file: usize,
     directives: &'a [Directive],
@@ -178,7 +147,7 @@ pub(crate) fn put_uses_of_directives<'a>(
     ensures { OnOk result (uses_view uses.new.items ≡ uses_view uses.old.items ++ directive_uses (types_view types.now) file (map directive_view directives.now)) }
 {
     for directive in directives {
-        put_uses_of_directive(alloc, types, file, directive, uses)?;
+        put_uses_of_directive(types, file, directive, uses)?;
     }
     Ok(())
 }

@@ -1,7 +1,10 @@
 //! What is looked up in a type system.
+use gq_names::NameList;
 use gq_parse::{Definition, parse};
 use gq_text::{SmallText, Span};
-use gq_tree::{FieldDefinition, InputValueDefinition, Name, OperationKind, TypeRef};
+use gq_tree::{
+    DirectiveLocation, FieldDefinition, InputValueDefinition, Name, OperationKind, TypeRef,
+};
 use gq_types::{Arguments, Entry, TypeKind, Types};
 use std::alloc::Global;
 use std::process::Abort;
@@ -49,20 +52,6 @@ fn name(alloc: Global, text: &str) -> Result<Name, Fail> {
         text: SmallText::from_str(alloc, text)?,
         span: Span { start: 0, end: 0 },
     })
-}
-
-fn inputs(alloc: Global, words: &str) -> Result<Vec<InputValueDefinition>, Fail> {
-    let mut all = Vec::new(alloc);
-    for word in words.split_whitespace() {
-        all.push(InputValueDefinition {
-            description: None,
-            name: name(alloc, word)?,
-            type_ref: TypeRef::Named(name(alloc, "String")?),
-            default: None,
-            directives: Vec::new(alloc),
-        })?;
-    }
-    Ok(all)
 }
 
 /// The definitions and extensions of a text.
@@ -187,6 +176,7 @@ fn told(alloc: Global, types: &Types, asked: &str) -> Result<String, Fail> {
         "type_number" => format!(in alloc; "{:?}", types.type_number(words)),
         "kind" => format!(in alloc; "{:?}", types.kind(words)),
         "implementers" => format!(in alloc; "{:?}", types.implementers(alloc, words)?),
+        "declarers" => format!(in alloc; "{:?}", types.declarers(words)),
         "possible" => format!(in alloc; "{:?}", types.possible(alloc, words)?),
         "directive" => Ok(directive_named(alloc, types, words)?),
         "at" => Ok(told_at(alloc, types, words)?),
@@ -363,6 +353,8 @@ fn implementers_are_told_by_numbers(rt: HostRuntime) -> Result<(), Fail> {
     let rows = "
         implementers Node => [10, 12]
         implementers Search => []
+        declarers Node => [10, 12, 13]
+        declarers Search => []
     ";
     assert_told(rt.alloc(), &rt, SEARCH, rows)
 }
@@ -449,58 +441,193 @@ fn unknown_names_may_be_subtypes(rt: HostRuntime) -> Result<(), Fail> {
     assert_relates(rt.alloc(), &rt, rows)
 }
 
-/// What a function tells of arguments, asked as `named after`.
-fn told_of(alloc: Global, arguments: &Arguments<'_>, asked: &str) -> Result<String, Fail> {
-    let (function, name) = cut(asked);
+/// Fields with few arguments and with many, names that come twice, and directives.
+const USES: &str = "
+    type Query {
+        few(first: Int! second: Int! = 1 third: Int): Int
+        none: Int
+        sixteen(a: Int! b: Int c: Int d: Int e: Int f: Int g: Int h: Int i: Int j: Int k: Int l: Int m: Int n: Int o: Int p: Int!): Int
+        nullable_first(a: Int a: Int!): Int
+    }
+    extend type Query {
+        seventeen(a: Int! b: Int c: Int d: Int e: Int f: Int g: Int h: Int i: Int j: Int k: Int l: Int m: Int n: Int o: Int p: Int q: Int! = 2 a: Int r: Int!): Int
+        beside(one: Int!): Int
+    }
+    directive @few(first: Int!) on FIELD | QUERY | FIELD
+    directive @many(a: Int b: Int c: Int d: Int e: Int f: Int g: Int h: Int i: Int j: Int k: Int l: Int m: Int n: Int o: Int p: Int q: Int!) on ENUM
+    input Filter { text: String! limit: Int! = 1 page: Int text: Int }
+    extend input Filter { sort: Int! page: Int! }
+    input Alone { filter: Filter! }
+";
+
+/// The arguments of a field of the type `Query`, or of a directive asked as `@few`.
+fn arguments_at<'t>(types: &'t Types, word: &str) -> Option<Arguments<'t>> {
+    match word.strip_prefix("@") {
+        Some(name) => types.directive_arguments(name),
+        None => {
+            let number = types.type_number("Query")?;
+            Some(types.defined_field(number, word)?.arguments)
+        }
+    }
+}
+
+fn names(alloc: Global, words: &str) -> Result<NameList, Fail> {
+    let mut names = NameList::new(alloc);
+    for word in words.split_whitespace() {
+        let _ = names.push(word)?;
+    }
+    Ok(names)
+}
+
+/// What a function tells of arguments, asked as `named after`, or as `missing first second` where these are given.
+fn told_of(alloc: Global, arguments: Arguments<'_>, asked: &str) -> Result<String, Fail> {
+    let (function, words) = cut(asked);
     let told = match function {
         "all" => format!(in alloc; "{}", arguments.all().len()),
-        "named" => String::from_str(alloc, input_name(arguments.named(name))),
+        "named" => String::from_str(alloc, input_name(arguments.named(words))),
+        "missing" => {
+            let given = names(alloc, words)?;
+            String::from_str(alloc, yes_or_no(arguments.is_any_missing(&given)))
+        }
         _ => String::from_str(alloc, "no function"),
     };
     Ok(told?)
 }
 
-/// Each row is a function and, behind `=>`, what it tells of these arguments, of which so many will be looked up.
-fn assert_arguments(
-    alloc: Global,
-    rt: &impl Abort,
-    words: &str,
-    look_ups: usize,
-    rows: &str,
-) -> Result<(), Fail> {
-    let all = inputs(alloc, words)?;
-    let arguments = Arguments::of(alloc, &all, look_ups)?;
+/// What is told of the arguments in each row, asked as `few named first`.
+fn assert_arguments(alloc: Global, rt: &impl Abort, types: &Types, rows: &str) -> Result<(), Fail> {
     for row in rows.trim().lines() {
         let (asked, want) = halves(row);
-        let told = told_of(alloc, &arguments, asked)?;
+        let (place, asked) = cut(asked);
+        let told = match arguments_at(types, place) {
+            Some(arguments) => told_of(alloc, arguments, asked)?,
+            None => String::from_str(alloc, "no arguments")?,
+        };
         assert_eq!(rt; told.as_str(), want, "{row}");
     }
     Ok(())
 }
 
+/// Each row is a field or directive with a function and, behind `=>`, what it tells.
+fn assert_uses(alloc: Global, rt: &impl Abort, rows: &str) -> Result<(), Fail> {
+    let types = types(alloc, USES)?;
+    assert_arguments(alloc, rt, &types, rows)
+}
+
 #[test]
 fn arguments_are_found(rt: HostRuntime) -> Result<(), Fail> {
     let rows = "
-        named after => after
-        named before => none
-        all => 2
+        few named second => second
+        few named fourth => none
+        few all => 3
+        none all => 0
+        ghost all => no arguments
+        beside named one => one
+        @few named first => first
+        @ghost all => no arguments
     ";
-    assert_arguments(rt.alloc(), &rt, "first after", 1, rows)
+    assert_uses(rt.alloc(), &rt, rows)
 }
 
 #[test]
 fn many_arguments_are_found(rt: HostRuntime) -> Result<(), Fail> {
-    let words = "a b c d e f g h i j k";
     let rows = "
-        named k => k
-        named l => none
-        named a => a
-        named A => none
-        named i => i
-        named => none
-        named ab => none
-        named e => e
+        seventeen all => 19
+        seventeen named r => r
+        seventeen named s => none
+        seventeen named A => none
+        seventeen named => none
+        sixteen named p => p
+        sixteen named q => none
+        @many all => 17
+        @many named q => q
+        @many named r => none
     ";
-    assert_arguments(rt.alloc(), &rt, words, 1, rows)?;
-    assert_arguments(rt.alloc(), &rt, words, 9, rows)
+    assert_uses(rt.alloc(), &rt, rows)
+}
+
+#[test]
+fn missing_arguments_are_told(rt: HostRuntime) -> Result<(), Fail> {
+    let rows = "
+        few missing => yes
+        few missing second third => yes
+        few missing first => no
+        none missing => no
+        nullable_first missing => no
+        @few missing => yes
+        @few missing first => no
+    ";
+    assert_uses(rt.alloc(), &rt, rows)
+}
+
+#[test]
+fn missing_arguments_of_many_are_told(rt: HostRuntime) -> Result<(), Fail> {
+    let rows = "
+        sixteen missing a => yes
+        sixteen missing a p => no
+        seventeen missing a => yes
+        seventeen missing r => yes
+        seventeen missing b r a => no
+        @many missing a p => yes
+        @many missing q => no
+    ";
+    assert_uses(rt.alloc(), &rt, rows)
+}
+
+/// Whether an input field is missing, asked as `Filter text`, and whether a directive may stand there, asked as `@few FIELD`.
+fn holds_of(alloc: Global, types: &Types, asked: &str) -> Result<bool, Fail> {
+    let (word, words) = cut(asked);
+    Ok(match word.strip_prefix("@") {
+        Some(name) => match words {
+            "FIELD" => types.stands_at(name, DirectiveLocation::Field),
+            "QUERY" => types.stands_at(name, DirectiveLocation::Query),
+            "ENUM" => types.stands_at(name, DirectiveLocation::Enum),
+            _ => types.stands_at(name, DirectiveLocation::InputFieldDefinition),
+        },
+        None => types.is_field_missing(word, &names(alloc, words)?),
+    })
+}
+
+/// What holds in each row of these types.
+fn assert_every(alloc: Global, rt: &impl Abort, types: &Types, rows: &str) -> Result<(), Fail> {
+    for row in rows.trim().lines() {
+        let (asked, want) = halves(row);
+        let told = yes_or_no(holds_of(alloc, types, asked)?);
+        assert_eq!(rt; told, want, "{row}");
+    }
+    Ok(())
+}
+
+/// Each row asks what holds of an input object or of a directive.
+fn assert_holds(alloc: Global, rt: &impl Abort, rows: &str) -> Result<(), Fail> {
+    let types = types(alloc, USES)?;
+    assert_every(alloc, rt, &types, rows)
+}
+
+#[test]
+fn missing_input_fields_are_told(rt: HostRuntime) -> Result<(), Fail> {
+    let rows = "
+        Filter text => yes
+        Filter text sort => no
+        Filter sort limit page => yes
+        Alone => yes
+        Alone filter => no
+        Query => no
+        Ghost => no
+    ";
+    assert_holds(rt.alloc(), &rt, rows)
+}
+
+#[test]
+fn locations_of_directives_are_told(rt: HostRuntime) -> Result<(), Fail> {
+    let rows = "
+        @few FIELD => yes
+        @few QUERY => yes
+        @few ENUM => no
+        @few INPUT_FIELD_DEFINITION => no
+        @many ENUM => yes
+        @many FIELD => no
+        @ghost FIELD => no
+    ";
+    assert_holds(rt.alloc(), &rt, rows)
 }

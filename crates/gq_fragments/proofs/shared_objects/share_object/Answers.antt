@@ -6,8 +6,8 @@ use Rattle.gq_types.specs.SubtypesTests.{is_possible}
 use Rattle.gq_fragments.proofs.SharedLemmas.{by_first, by_second}
 use Rattle.gq_fragments.proofs.shared_objects.share_object.Goals as goal
 
-pub returns-then-has_kind : goal.returns-then-has_kind
-returns-then-has_kind c =
+pub returns-then-extent : goal.returns-then-extent
+returns-then-extent c =
     let es = types_view c.args.types.now in
     c.is_one_possible.ensures ∙ ap (λ objects. list_any (is_possible es c.args.one.now) (texts_of objects)) c.deref.ensures.value
     ∙ by_second es c.args.one.now c.args.other.now (texts_of c.in_ok-objects.objects.items) c.in_ok-objects.ensures.all

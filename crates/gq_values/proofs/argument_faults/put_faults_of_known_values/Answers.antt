@@ -8,6 +8,6 @@ use Rattle.gq_values.proofs.argument_faults.put_faults_of_known_values.Goals as 
 pub loop-argument-preserved : goal.loop-argument-preserved
 loop-argument-preserved c =
     let es = types_view c.args.types.now in
-    let definitions = Some (map input_view c.args.known.now.all.now) in
+    let definitions = Some (map input_view c.args.known.all.now) in
     turn_seen (value_faults_of es c.args.file definitions) argument_view c.args.arguments.now c.loop-argument.argument-index c.argument-item.result c.loop-argument.items.items c.put_faults_of_known_value.new.items.items
     (c.args.items.now.items ++ argument_value_faults es c.args.file definitions (map argument_view c.args.arguments.now)) c.loop-argument-test.true c.argument-item.is c.loop-argument.invariant c.in_ok-put_faults_of_known_value.ensures

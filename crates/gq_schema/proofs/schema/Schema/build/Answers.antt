@@ -1,6 +1,7 @@
 use Rattle.std.proofs.Common.{ap, subst, ◌∙◌, ◌++◌, length, arith}
 use Rattle.std.proofs.lemmas.List.{nil_from_length}
 use Rattle.std.proofs.lemmas.Bool.Decides.{nat_tests}
+use Rattle.std.proofs.lemmas.Result.{err_from_is_err_and}
 use Rattle.gq_found.specs.Tells.{told}
 use Rattle.gq_read.specs.Readings.{AreReadings}
 use Rattle.gq_types.specs.Look.{types_view}
@@ -23,3 +24,13 @@ returns-clause-faults c =
     c.in_ok-items.ensures.sorted c.in_ok-items.ensures.exact
     (c.in_ok-found_at.ensures ∙ ap (λ ds. told ds c.deref.result.now) c.documents-2.ensures.all ∙ ap (λ xs. told c.args.project.now xs) c.deref.ensures.value)
     (λ e. let l = ap length e in grind (arith, nat_tests))
+
+pub returns-in_err-items-clause-faults : goal.returns-in_err-items-clause-faults
+returns-in_err-items-clause-faults c =
+    let p = err_from_is_err_and c.from_residual-in_err-items.result c.from_residual-in_err-items.ensures.1 in
+    rw (p.1, p.2) tt
+
+pub returns-in_err-found_at-clause-faults : goal.returns-in_err-found_at-clause-faults
+returns-in_err-found_at-clause-faults c =
+    let p = err_from_is_err_and c.from_residual-in_err-found_at.result c.from_residual-in_err-found_at.ensures.1 in
+    rw (p.1, p.2) tt

@@ -5,8 +5,8 @@ use Rattle.gq_types.proofs.arguments.Arguments.named.Goals as goal
 
 pub returns-in-Some : goal.returns-in-Some
 returns-in-Some c =
-    sym (found_place input_view (λ a. a.name.text) c.args.name.now c.args.self.now.all.now c.in-Some.place c.index-self-place.result (sym c.in-Some.ensures))
+    sym (found_place input_view (λ a. a.name.text) c.args.name.now c.args.self.all.now c.in-Some.place c.index-self-place.result (sym c.in-Some.ensures))
 
 pub returns-in-None : goal.returns-in-None
 returns-in-None c =
-    sym (found_nowhere input_view (λ a. a.name.text) c.args.name.now c.args.self.now.all.now (sym c.in-None.ensures))
+    sym (found_nowhere input_view (λ a. a.name.text) c.args.name.now c.args.self.all.now (sym c.in-None.ensures))
