@@ -1,5 +1,5 @@
 -- Classes of fields by their keys.
-use Rattle.std.proofs.Common.{◌≡◌, ◌↔◌, ℕ, zero, suc, ◌+◌, ◌<◌, Bool, true, false, IsTrue, List, [], ◌∷◌, ◌++◌, Option, Some, None, is_some, All, Contains, length, map, set, refl, sym, ◌∙◌, ap, subst, arith, inl, inr, not, get_or, take, Vec, Global}
+use Rattle.std.proofs.Common.{◌≡◌, ◌↔◌, ℕ, zero, suc, ◌+◌, ◌<◌, ◌⊎◌, Bool, true, false, IsTrue, List, [], ◌∷◌, ◌++◌, Option, Some, None, is_some, All, Contains, length, map, set, refl, sym, ◌∙◌, ap, subst, arith, inl, inr, not, get_or, take, Vec, Global}
 use Rattle.std.specs.List.{slice_get, position, position_or_len, list_any}
 use Rattle.std.specs.Option.{option_map, option_map_or, IfSome}
 use Rattle.std.specs.Str.{bytes_eq}
@@ -21,7 +21,7 @@ use Rattle.gq_merging.specs.FieldSets.{FieldAt, key}
 use Rattle.gq_merging.specs.Shapes.{shape_of}
 use Rattle.gq_merging.specs.Comparisons.{known_type, same_shapes}
 use Rattle.gq_merging.specs.SetTables.{MemberOf, RowOf, members_at, spreads_at, IsMember}
-use Rattle.gq_merging.specs.GroupTables.{IsOfGroup, known_shape, SayTheSame, IsUnder, AreBelow, ClassesOf, HasClass, AreClasses, HaveClasses, Takes, AreSettled}
+use Rattle.gq_merging.specs.GroupTables.{IsOfGroup, IsThrough, known_shape, SayTheSame, IsUnder, AreBelow, ClassesOf, HasClass, AreClasses, HaveClasses, Takes, AreSettled}
 use Rattle.gq_merging.specs.Views.{field_at, member_view, members_view, row_view, rows_view}
 use Rattle.gq_merging.specs.GroupViews.{groups_view, classes_view}
 use Rattle.gq_merging.specs.declared.classes.Classes.{Classes}
@@ -85,6 +85,36 @@ nothing_in_row rows n r e none no_way m h =
 pub nothing_past : (rows : List Row) (n : ℕ) → slice_get rows n ≡ None → (m : MemberOf) → IsMember (rows_view rows) n m → ⊥
 nothing_past rows n e m h = nothing_there (rows_view rows) n m (members_past rows n e) (spreads_past rows n e) h
 
+-- what is reached from a set in which the spread of one fragment stands alone is that set, or is reached from the fragment
+on_through : (next : ℕ → List ℕ) (n fragment k : ℕ) → next n ≡ fragment ∷ [] → Reach (n ∷ []) next k → (k ≡ n) ⊎ Reach (fragment ∷ []) next k
+on_through next n fragment k one (start c) = inl (contains_one n k c)
+on_through next n fragment k one (step {m = m} h c) = elim (on_through next n fragment m one h) [
+  | inl at ↦
+      let there : Contains (fragment ∷ []) k = subst (λ ns. Contains ns k) (ap next at ∙ one) c in
+      inr (start there)
+  | inr r ↦ inr (step r c)
+]
+
+-- the fields of such a set are those of the fragment
+pub through_member : (rows : List RowOf) (n fragment : ℕ) → IsThrough rows n fragment → (m : MemberOf) → IsMember rows n m → IsMember rows fragment m
+through_member rows n fragment t m h = elim (on_through (spreads_at rows) n fragment h.reached t.one h.reach) [
+  | inl at ↦ absurd (contains_none m (subst (λ ms. Contains ms m) (ap (members_at rows) at ∙ t.none) h.stands))
+  | inr r ↦ record { reached = h.reached; reach = r; stands = h.stands }
+]
+
+-- the row in which no field stands, and one spread
+pub is_through : (rows : List Row) (n fragment : ℕ) (r : Row) → slice_get rows n ≡ Some r → r.members.items ≡ [] → length r.spreads.items ≡ 1 → fragment ≡ get_or r.spreads.items 0 fragment →
+    IsThrough (rows_view rows) n fragment
+is_through rows n fragment r e none one at = record {
+  none = members_of_row rows n r e ∙ ap members_view none;
+  one = spreads_of_row rows n r e ∙ alone r.spreads.items one at;
+}
+  where
+    alone : (ns : List ℕ) → length ns ≡ 1 → fragment ≡ get_or ns 0 fragment → ns ≡ fragment ∷ []
+    alone [] one at = absurd (omega (arith, one))
+    alone (k ∷ []) one at = ap (λ j. j ∷ []) (sym at)
+    alone (k ∷ j ∷ rest) one at = absurd (omega (arith, one))
+
 -- the fields of a set that stands in a group
 pub under_one : (rows : List RowOf) (n : ℕ) (group : List ℕ) → Contains group n → IsUnder rows n group
 under_one rows n group c = record {
@@ -95,11 +125,12 @@ under_one rows n group c = record {
   };
 }
 
-pub under_pushed : (rows : List RowOf) (n : ℕ) (old new : List ℕ) → new ≡ old ++ n ∷ [] → IsUnder rows n new
-under_pushed rows n old new is = under_one rows n new (subst (λ ns. Contains ns n) (sym is) (Contains-push old n))
+pub under_itself : (rows : List RowOf) (n : ℕ) → IsUnder rows n (n ∷ [])
+under_itself rows n = under_one rows n (n ∷ []) (contains_first n [] n refl)
 
-pub under_none : (rows : List RowOf) (n : ℕ) (group : List ℕ) → ((m : MemberOf) → IsMember rows n m → ⊥) → IsUnder rows n group
-under_none rows n group none = record { each = λ m h. absurd (none m h) }
+-- those of a set in which a spread stands alone are under the fragment
+pub under_fragment : (rows : List RowOf) (n fragment : ℕ) → IsThrough rows n fragment → IsUnder rows n (fragment ∷ [])
+under_fragment rows n fragment t = record { each = λ m h. let g = through_member rows n fragment t m h in record { reached = g.reached; reach = g.reach; stands = g.stands } }
 
 of_more : (rows : List RowOf) (old new : List ℕ) → ((k : ℕ) → Contains old k → Contains new k) → (m : MemberOf) → IsOfGroup rows old m → IsOfGroup rows new m
 of_more rows old new more m h = record {
@@ -111,13 +142,21 @@ of_more rows old new more m h = record {
 under_more : (rows : List RowOf) (n : ℕ) (old new : List ℕ) → ((k : ℕ) → Contains old k → Contains new k) → IsUnder rows n old → IsUnder rows n new
 under_more rows n old new more h = record { each = λ m i. of_more rows old new more m (h.each m i) }
 
+-- those of a set are under a group that has a set with the same fields
+pub under_pushed : (rows : List RowOf) (n same : ℕ) (old new : List ℕ) → IsUnder rows n (same ∷ []) → new ≡ old ++ same ∷ [] → IsUnder rows n new
+under_pushed rows n same old new under is =
+    under_more rows n (same ∷ []) new (λ k c. subst (λ j. Contains new j) (sym (contains_one same k c)) (subst (λ ns. Contains ns same) (sym is) (Contains-push old same))) under
+
+pub under_none : (rows : List RowOf) (n : ℕ) (group : List ℕ) → ((m : MemberOf) → IsMember rows n m → ⊥) → IsUnder rows n group
+under_none rows n group none = record { each = λ m h. absurd (none m h) }
+
 -- places of a list
-get_set_same : {A : Type 0} (xs : List A) (i : ℕ) (y z : A) → slice_get xs i ≡ Some z → slice_get (set xs i y) i ≡ Some y
+pub get_set_same : {A : Type 0} (xs : List A) (i : ℕ) (y z : A) → slice_get xs i ≡ Some z → slice_get (set xs i y) i ≡ Some y
 get_set_same [] i y z e = absurd (none-some z e)
 get_set_same (x ∷ xs) zero y z e = refl
 get_set_same (x ∷ xs) (suc i) y z e = get_set_same xs i y z e
 
-get_set_other : {A : Type 0} (xs : List A) (i j : ℕ) (y : A) → (j ≡ i → ⊥) → slice_get (set xs i y) j ≡ slice_get xs j
+pub get_set_other : {A : Type 0} (xs : List A) (i j : ℕ) (y : A) → (j ≡ i → ⊥) → slice_get (set xs i y) j ≡ slice_get xs j
 get_set_other [] i j y apart = refl
 get_set_other (x ∷ xs) zero zero y apart = absurd (apart refl)
 get_set_other (x ∷ xs) zero (suc j) y apart = refl

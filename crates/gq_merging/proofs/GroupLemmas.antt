@@ -18,11 +18,12 @@ use Rattle.gq_merging.specs.FieldsMerge.{Differ, in_shape, in_call}
 use Rattle.gq_merging.specs.SameArguments.{SameArguments}
 use Rattle.gq_merging.specs.Shapes.{shape_of}
 use Rattle.gq_merging.specs.Groups.{MeetFrom, together, deeper, IsMerged, AreMerged}
-use Rattle.gq_merging.specs.GroupTables.{IsOfGroup, SayTheSame, IsUnder, AreBelow, GoTogether, AreSettled, IsSettled, IsReached, IsTest, ArePassed, IsTested, AreTested, AreMarked, IsKnown, as_empty, as_before, as_marked}
+use Rattle.gq_merging.specs.GroupTables.{IsOfGroup, IsThrough, SayTheSame, IsUnder, AreBelow, GoTogether, AreSettled, IsSettled, IsReached, IsTest, ArePassed, IsTested, AreTested, AreMarked, IsKnown, as_empty, as_before, as_marked}
 use Rattle.gq_merging.specs.SetTables.{MemberOf, RowOf, AreRows, AreAlike, IsMember, members_at, spreads_at}
 use Rattle.gq_merging.specs.Views.{member_view, row_view, rows_view}
 use Rattle.gq_merging.specs.declared.purpose.Purpose.{Purpose}
 use Rattle.gq_merging.specs.declared.rows.Row.{Row}
+use Rattle.gq_merging.proofs.ClassLemmas.{through_member}
 use Rattle.gq_merging.proofs.CompareLemmas.{type_of}
 use Rattle.gq_merging.proofs.MemberLemmas.{alike_in, alike_back, get_contains, get_below, map_get, from_map, to_found, found_member, member_in, row_of_member, members_there}
 use Rattle.gq_merging.proofs.MemberSteps.{reach_alike, alike, count_alike, to_flat}
@@ -271,22 +272,22 @@ none_passed es rows = record {
   from_groups = All-nil (IsReached rows []);
 }
 
--- a test begins with one set
-pub test_begins : (es : List EntryOf) (rows : List RowOf) (groups : List (List ℕ)) (begin : ℕ) → ArePassed es rows groups → begin < length rows →
-    IsTest es rows (groups ++ (begin ∷ []) ∷ []) (length groups) []
+-- a test begins with one group
+pub test_begins : (es : List EntryOf) (rows : List RowOf) (groups : List (List ℕ)) (begin : List ℕ) → ArePassed es rows groups → All (λ n. n < length rows) begin →
+    IsTest es rows (groups ++ begin ∷ []) (length groups) []
 test_begins es rows groups begin h l =
-    let new = groups ++ (begin ∷ []) ∷ [] in
+    let new = groups ++ begin ∷ [] in
     let keeps : (g : List ℕ) → Contains (groups ++ h.known) g → Contains (new ++ h.known) g
     = λ g c. elim (Contains-append_cases groups h.known g c) [
-      | inl d ↦ Contains-append_left new h.known g (Contains-append_left groups ((begin ∷ []) ∷ []) g d)
+      | inl d ↦ Contains-append_left new h.known g (Contains-append_left groups (begin ∷ []) g d)
       | inr d ↦ Contains-append_right new h.known g d
     ] in
     let more = λ (g : List ℕ) (s : IsSettled es rows (groups ++ h.known) g). settled_more es rows (groups ++ h.known) (new ++ h.known) g keeps s in
-    let part : take (length groups) new ≡ take (length groups) groups = take-append-le (length groups) groups ((begin ∷ []) ∷ []) (omega arith) in
+    let part : take (length groups) new ≡ take (length groups) groups = take-append-le (length groups) groups (begin ∷ []) (omega arith) in
     record {
-      range = All-append (λ g. All (λ n. n < length rows) g) groups ((begin ∷ []) ∷ []) h.range
-          (All-cons (λ g. All (λ n. n < length rows) g) (begin ∷ []) [] (All-cons (λ n. n < length rows) begin [] l (All-nil (λ n. n < length rows))) (All-nil (λ g. All (λ n. n < length rows) g)));
-      most = omega (arith, length-append groups ((begin ∷ []) ∷ []));
+      range = All-append (λ g. All (λ n. n < length rows) g) groups (begin ∷ []) h.range
+          (All-cons (λ g. All (λ n. n < length rows) g) begin [] l (All-nil (λ g. All (λ n. n < length rows) g)));
+      most = omega (arith, length-append groups (begin ∷ []));
       known = h.known;
       known_settled = All-weaker (IsSettled es rows (groups ++ h.known)) (IsSettled es rows (new ++ h.known)) more h.known h.known_settled;
       settled = subst (All (IsSettled es rows (new ++ h.known))) (sym part)
@@ -323,6 +324,22 @@ nothing_is_tested es rows n nothing = record {
       (record { each = λ a b ca cb k. absurd (nothing a (record { reached = ca.reached; reach = ca.reach; stands = ca.stands })) }) (All-nil (IsSettled es rows ((n ∷ []) ∷ [])));
   is_reached = record { group = n ∷ []; is_group = contains_first (n ∷ []) [] (n ∷ []) refl; reach = start (contains_first n [] n refl) };
 }
+
+-- nor is more than a fragment tested in a set in which its spread stands alone
+pub through_is_tested : (es : List EntryOf) (rows : List RowOf) (n fragment : ℕ) → IsThrough rows n fragment → IsTested es rows fragment → IsTested es rows n
+through_is_tested es rows n fragment through t =
+    let more = (n ∷ []) ∷ t.groups in
+    let keeps : (g : List ℕ) → Contains t.groups g → Contains more g = λ g c. contains_later (n ∷ []) t.groups g c in
+    let of_fragment : (m : MemberOf) → IsOfGroup rows (n ∷ []) m → IsOfGroup rows (fragment ∷ []) m
+    = λ m h. let g = through_member rows n fragment through m (record { reached = h.reached; reach = h.reach; stands = h.stands }) in record { reached = g.reached; reach = g.reach; stands = g.stands } in
+    let fragment_settled = settled_more es rows t.groups more (fragment ∷ []) keeps (one_settled es rows fragment t) in
+    let here : IsSettled es rows more (n ∷ []) = record { each = λ a b ca cb k. fragment_settled.each a b (of_fragment a ca) (of_fragment b cb) k } in
+    record {
+      groups = more;
+      settled = All-cons (IsSettled es rows more) (n ∷ []) t.groups here
+          (All-weaker (IsSettled es rows t.groups) (IsSettled es rows more) (λ g s. settled_more es rows t.groups more g keeps s) t.groups t.settled);
+      is_reached = record { group = n ∷ []; is_group = contains_first (n ∷ []) t.groups (n ∷ []) refl; reach = start (contains_first n [] n refl) };
+    }
 
 -- one set more is marked
 pub one_more_tested : (es : List EntryOf) (rows : List RowOf) (n : ℕ) (old new : List Bool) → length new ≡ length old → AreMarked (n ∷ []) old new →

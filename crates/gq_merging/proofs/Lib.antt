@@ -16,6 +16,7 @@ pub mod StringLemmas
 pub mod IdentityLemmas
 pub mod SamenessLemmas
 pub mod ClassLemmas
+pub mod KeyLemmas
 pub mod GroupLemmas
 pub mod ThreadLemmas
 pub mod Crossing

@@ -13,6 +13,7 @@ use Rattle.gq_found.proofs.PutLemmas.{puts_both, puts_as}
 use Rattle.gq_merging.specs.FieldSets.{key}
 use Rattle.gq_merging.specs.FieldsMerge.{leads_on}
 use Rattle.gq_merging.specs.SetTables.{MemberOf, IsMember}
+use Rattle.gq_merging.specs.KeyTables.{ByKeyOf, fields_with, AreByKey, AreMetByKey}
 use Rattle.gq_merging.specs.PairTables.{MetOf, LookOf, AreMet, IsMetAt, IsNumber, IsStart, IsBelow, IsGiven, IsFaultOf, Gains, Looked}
 use Rattle.gq_merging.specs.Views.{member_view, members_view}
 use Rattle.gq_merging.specs.declared.rows.Member.{Member}
@@ -207,13 +208,43 @@ look_right_more w left xs i d items middle items' old between new l e a b =
     ))
     (looked_both w (AreMet left front) (AreMet left (member_view d ∷ [])) items middle items' old between new a b))
 
-pub look_left_more : (w : LookOf) (right : List MemberOf) (xs : List Member) (i : ℕ) (d : Member) (items middle items' : List Item) (old between new : List ℕ) → i < length xs → get_or xs i d ≡ d →
-    Looked w (AreMet (members_view (take i xs)) right) items middle old between → Looked w (AreMet (member_view d ∷ []) right) middle items' between new →
-    Looked w (AreMet (members_view (take (i + 1) xs)) right) items items' old new
+-- a field with those of its key
+pub look_keyed : (w : LookOf) (a : MemberOf) (t : ByKeyOf) (those : List MemberOf) (items items' : List Item) (old new : List ℕ) → those ≡ fields_with t (key a.field_at) →
+    Looked w (AreMet (a ∷ []) those) items items' old new → Looked w (AreMetByKey (a ∷ []) t) items items' old new
+look_keyed w a t those items items' old new is l =
+    looked_as w (AreMet (a ∷ []) those) (AreMetByKey (a ∷ []) t) items items' old new
+    (λ p. (
+      (λ h. record {
+        stands_left = h.stands_left;
+        stands_right = subst (λ (b : MemberOf). Contains (fields_with t (key b.field_at)) p.right) (the_one p.left h.stands_left) (subst (λ ms. Contains ms p.right) is h.stands_right);
+        one_key = h.one_key;
+      }),
+      (λ h. record {
+        stands_left = h.stands_left;
+        stands_right = subst (λ ms. Contains ms p.right) (sym is) (subst (λ (b : MemberOf). Contains (fields_with t (key b.field_at)) p.right) (sym (the_one p.left h.stands_left)) h.stands_right);
+        one_key = h.one_key;
+      }),
+    )) l
+  where
+    the_one : (d : MemberOf) → Contains (a ∷ []) d → a ≡ d
+    the_one d h = ⊎_elim (λ e. e) (λ f. absurd (contains_none d f)) (contains_cases a [] d h)
+
+-- a field whose key no other has
+pub look_unkeyed : (w : LookOf) (a : MemberOf) (t : ByKeyOf) (items : List Item) (old : List ℕ) → [] ≡ fields_with t (key a.field_at) → Looked w (AreMetByKey (a ∷ []) t) items items old old
+look_unkeyed w a t items old none =
+    looked_nowhere w (AreMetByKey (a ∷ []) t) items old
+    (λ p h. contains_none p.right (subst (λ ms. Contains ms p.right) (sym none) (subst (λ (b : MemberOf). Contains (fields_with t (key b.field_at)) p.right) (sym (the_one p.left h.stands_left)) h.stands_right)))
+  where
+    the_one : (d : MemberOf) → Contains (a ∷ []) d → a ≡ d
+    the_one d h = ⊎_elim (λ e. e) (λ f. absurd (contains_none d f)) (contains_cases a [] d h)
+
+pub look_left_more : (w : LookOf) (right : ByKeyOf) (xs : List Member) (i : ℕ) (d : Member) (items middle items' : List Item) (old between new : List ℕ) → i < length xs → get_or xs i d ≡ d →
+    Looked w (AreMetByKey (members_view (take i xs)) right) items middle old between → Looked w (AreMetByKey (member_view d ∷ []) right) middle items' between new →
+    Looked w (AreMetByKey (members_view (take (i + 1) xs)) right) items items' old new
 look_left_more w right xs i d items middle items' old between new l e a b =
     let front = members_view (take i xs) in
-    subst (λ ms. Looked w (AreMet ms right) items items' old new) (sym (view_more xs i d l e))
-    (looked_as w (λ p. AreMet front right p ⊎ AreMet (member_view d ∷ []) right p) (AreMet (front ++ member_view d ∷ []) right) items items' old new
+    subst (λ ms. Looked w (AreMetByKey ms right) items items' old new) (sym (view_more xs i d l e))
+    (looked_as w (λ p. AreMetByKey front right p ⊎ AreMetByKey (member_view d ∷ []) right p) (AreMetByKey (front ++ member_view d ∷ []) right) items items' old new
     (λ p. (
       (λ s. ⊎_elim
           (λ h. record { stands_left = Contains-append_left front (member_view d ∷ []) p.left h.stands_left; stands_right = h.stands_right; one_key = h.one_key })
@@ -223,15 +254,15 @@ look_left_more w right xs i d items middle items' old between new l e a b =
           (λ c. inr (record { stands_left = c; stands_right = h.stands_right; one_key = h.one_key }))
           (Contains-append_cases front (member_view d ∷ []) p.left h.stands_left)),
     ))
-    (looked_both w (AreMet front right) (AreMet (member_view d ∷ []) right) items middle items' old between new a b))
+    (looked_both w (AreMetByKey front right) (AreMetByKey (member_view d ∷ []) right) items middle items' old between new a b))
 
 -- the fields of the two sets of a pair
-pub look_pair : (w : LookOf) (number : ℕ) (left right : List MemberOf) (items items' : List Item) (old new : List ℕ) →
-    ((m : MemberOf) → Contains left m ↔ IsMember w.rows (number / w.count) m) → ((m : MemberOf) → Contains right m ↔ IsMember w.rows (number % w.count) m) →
-    Looked w (AreMet left right) items items' old new → Looked w (IsMetAt w number) items items' old new
-look_pair w number left right items items' old new are are' l =
-    looked_as w (AreMet left right) (IsMetAt w number) items items' old new
+pub look_pair : (w : LookOf) (number : ℕ) (left right : List MemberOf) (t : ByKeyOf) (items items' : List Item) (old new : List ℕ) →
+    ((m : MemberOf) → Contains left m ↔ IsMember w.rows (number / w.count) m) → ((m : MemberOf) → Contains right m ↔ IsMember w.rows (number % w.count) m) → AreByKey t right →
+    Looked w (AreMetByKey left t) items items' old new → Looked w (IsMetAt w number) items items' old new
+look_pair w number left right t items items' old new are are' by_key l =
+    looked_as w (AreMetByKey left t) (IsMetAt w number) items items' old new
     (λ p. (
-      (λ h. record { left = (are p.left).0 h.stands_left; right = (are' p.right).0 h.stands_right; one_key = h.one_key }),
-      (λ h. record { stands_left = (are p.left).1 h.left; stands_right = (are' p.right).1 h.right; one_key = h.one_key }),
+      (λ h. record { left = (are p.left).0 h.stands_left; right = (are' p.right).0 ((by_key.each (key p.left.field_at) p.right).0 h.stands_right).0; one_key = h.one_key }),
+      (λ h. record { stands_left = (are p.left).1 h.left; stands_right = (by_key.each (key p.left.field_at) p.right).1 ((are' p.right).1 h.right, sym h.one_key); one_key = h.one_key }),
     )) l

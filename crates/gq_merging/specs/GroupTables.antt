@@ -129,6 +129,17 @@ pub record IsMarkedOne (group : List ℕ) (marks : List Bool) : Type 0 where
   pub is : group ≡ number ∷ []
   pub marked : slice_index_or marks number false ≡ true
 
+-- in the set with that number stands the spread of one fragment, and nothing else
+pub record IsThrough (rows : List RowOf) (number fragment : ℕ) : Type 0 where
+  pub none : members_at rows number ≡ []
+  pub one : spreads_at rows number ≡ fragment ∷ []
+
+-- the same of a fragment that is marked
+pub record IsThroughMarked (rows : List RowOf) (number : ℕ) (marks : List Bool) : Type 0 where
+  pub fragment : ℕ
+  pub through : IsThrough rows number fragment
+  pub marked : slice_index_or marks fragment false ≡ true
+
 -- these are what is reached from the numbers of the group
 pub record AreReached (next : ℕ → List ℕ) (group found : List ℕ) : Type 0 where
   pub sound : All (λ n. Reach group next n) found

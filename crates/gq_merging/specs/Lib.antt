@@ -11,3 +11,4 @@ pub mod StartTables
 pub mod PairTables
 pub mod Views
 pub mod GroupViews
+pub mod KeyTables

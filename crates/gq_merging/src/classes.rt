@@ -6,7 +6,7 @@ ghost use Rattle.gq_types.specs.Look.{types_view, text_of};
 ghost use Rattle.gq_document.specs.Selections.{typename_field};
 ghost use Rattle.gq_merging.specs.SetTables.{MemberOf, IsMember};
 ghost use Rattle.gq_merging.specs.FieldSets.{key};
-ghost use Rattle.gq_merging.specs.GroupTables.{known_shape, SayTheSame, IsUnder, AreBelow, AreClasses, Takes, AreSettled};
+ghost use Rattle.gq_merging.specs.GroupTables.{known_shape, SayTheSame, IsUnder, IsThrough, IsThroughMarked, AreBelow, AreClasses, Takes, AreSettled};
 ghost use Rattle.gq_merging.specs.Views.{field_at, member_view, members_view, rows_view};
 ghost use Rattle.gq_merging.specs.GroupViews.{groups_view, classes_view, AreKeyed};
 
@@ -82,6 +82,42 @@ pub(crate) fn has_selections(rows: &[Row<'_>], number: usize) -> bool
     !row.members.is_empty() || !row.spreads.is_empty()
 }
 
+/// The fragment of the one spread in the set with that number, where nothing else stands in it.
+fn lone_spread(rows: &[Row<'_>], number: usize) -> Option<usize>
+    ensures { IfSome result (λ fragment. IsThrough (rows_view rows.now) number fragment) }
+{
+    if number >= rows.len() {
+        return None;
+    }
+    let row = &rows[number];
+    if !row.members.is_empty() || row.spreads.len() != 1 {
+        return None;
+    }
+    Some(row.spreads[0])
+}
+
+/// Whether one spread stands alone in the set with that number, and its fragment is marked.
+pub(crate) fn is_through(rows: &[Row<'_>], number: usize, marks: &[bool]) -> bool
+    ensures { IsTrue result → IsThroughMarked (rows_view rows.now) number marks.now }
+{
+    match lone_spread(rows, number) {
+        Some(fragment) => fragment < marks.len() && marks[fragment],
+        None => false,
+    }
+}
+
+/// The number of a set with the same fields: that of a fragment, where its spread stands alone in the set.
+fn number_of_same(rows: &[Row<'_>], number: usize) -> usize
+    requires { number < length rows.now }
+    ensures range { result < length rows.now }
+    ensures under { IsUnder (rows_view rows.now) number (result ∷ []) }
+{
+    match lone_spread(rows, number) {
+        Some(fragment) if fragment < rows.len() => fragment,
+        _ => number,
+    }
+}
+
 /// Puts the number of a set into a group, if something stands in the set.
 fn put_number(rows: &[Row<'_>], number: usize, group: &mut Vec<usize>) -> Result<(), NoMemory>
     requires range { All (λ n. n < length (rows_view rows.now)) group.old.items }
@@ -90,7 +126,7 @@ fn put_number(rows: &[Row<'_>], number: usize, group: &mut Vec<usize>) -> Result
     ensures under { OnOk result (IsUnder (rows_view rows.now) number group.new.items) }
 {
     if has_selections(rows, number) {
-        group.push(number)?;
+        group.push(number_of_same(rows, number))?;
     }
     Ok(())
 }

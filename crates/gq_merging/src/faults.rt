@@ -7,9 +7,11 @@ ghost use Rattle.gq_reach.specs.Reach.{InRange};
 ghost use Rattle.gq_document.specs.Selections.{typename_field};
 ghost use Rattle.gq_document.specs.Executable.{executable_view};
 ghost use Rattle.gq_merging.specs.FieldsMerge.{IsMergingFault};
+ghost use Rattle.gq_merging.specs.KeyTables.{AreMetByKey, by_key_view};
 ghost use Rattle.gq_merging.specs.PairTables.{AreMet, IsMetAt, IsMetReached, IsGiven, IsFaultOf, Looked};
 ghost use Rattle.gq_merging.specs.Views.{member_view, members_view, met_view, look_view};
 
+use crate::by_key::FieldsByKey;
 use crate::comparing::{differ, is_no_later, key, typename_type};
 use crate::groups::merged_rows;
 use crate::members::{all_spreads, members_of};
@@ -99,19 +101,36 @@ fn look_with(
     Ok(())
 }
 
-/// Looks at each field of the one list with each of the other.
-fn look_among(
+/// Looks at a field with those of the table that have its key.
+fn look_by_key(
     look: Look<'_>,
-    left: &[Member<'_>],
-    right: &[Member<'_>],
+    left: &Member<'_>,
+    right: &FieldsByKey<'_>,
     items: &mut Vec<Item>,
     found: &mut IndexSet<usize>,
 ) -> Result<(), NoMemory>
     requires { type_view look.typename_type.now ≡ typename_field.type_ref }
-    ensures { OnOk result (Looked (look_view look.entry) (AreMet (members_view left.now) (members_view right.now)) items.old.items items.new.items found.old.keys found.new.keys) }
+    ensures { OnOk result (Looked (look_view look.entry) (AreMetByKey (member_view left.now ∷ []) (by_key_view right.now)) items.old.items items.new.items found.old.keys found.new.keys) }
+{
+    if let Some(those) = right.with_key(key(&left.it)) {
+        look_with(look, left, those, items, found)?;
+    }
+    Ok(())
+}
+
+/// Looks at each field of the list with those of the table that have its key.
+fn look_among(
+    look: Look<'_>,
+    left: &[Member<'_>],
+    right: &FieldsByKey<'_>,
+    items: &mut Vec<Item>,
+    found: &mut IndexSet<usize>,
+) -> Result<(), NoMemory>
+    requires { type_view look.typename_type.now ≡ typename_field.type_ref }
+    ensures { OnOk result (Looked (look_view look.entry) (AreMetByKey (members_view left.now) (by_key_view right.now)) items.old.items items.new.items found.old.keys found.new.keys) }
 {
     for member in left {
-        look_with(look, member, right, items, found)?;
+        look_by_key(look, member, right, items, found)?;
     }
     Ok(())
 }
@@ -132,6 +151,7 @@ fn look_at_pair(
     let count = look.rows.len();
     let left = members_of(look.alloc, look.rows, look.spreads, number / count)?;
     let right = members_of(look.alloc, look.rows, look.spreads, number % count)?;
+    let right = FieldsByKey::of(look.alloc, &right)?;
     look_among(look, &left, &right, items, found)?;
     Ok(())
 }

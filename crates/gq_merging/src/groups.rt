@@ -4,21 +4,26 @@
 //! A group is a list of sets. Its fields are those of the sets, and of the fragments that they reach by spreads. The fields
 //! of one key have to say the same, and the sets in their braces are a group again. A test begins with one set alone. Where
 //! all groups pass, the fields under each set that one of them reaches merge, so a chain of fragments is tested once. A group
-//! is passed over if it was there already, or if it is one set of which this is known.
+//! is passed over if it was there already, or if it is one set of which this is known. A set in which one spread stands alone
+//! has the fields of that fragment, and is known with it.
+//!
+//! Where many sets reach the same fragments, each with fields of its own, their tests take too many steps. Then they are tested
+//! as one group, and where that fails, by halves.
 ghost use Rattle.std.specs.Prelude.{◌≡◌, ◌<◌, ◌+◌, ◌⊎◌, ℕ, List, All, Some, IsTrue, IfOk, OnOk, true, false, length, map, slice_get, slice_index_or};
 ghost use Rattle.std.specs.List.{flat_map};
 ghost use Rattle.gq_reach.specs.Reach.{InRange, row};
 ghost use Rattle.gq_tree.specs.Views.{type_view};
+ghost use Rattle.gq_types.specs.Entries.{EntryOf};
 ghost use Rattle.gq_types.specs.Look.{types_view};
 ghost use Rattle.gq_document.specs.Selections.{typename_field};
 ghost use Rattle.gq_document.specs.Executable.{executable_view};
-ghost use Rattle.gq_merging.specs.SetTables.{AreRows, members_at};
+ghost use Rattle.gq_merging.specs.SetTables.{RowOf, AreRows, members_at};
 ghost use Rattle.gq_merging.specs.Groups.{AreMerged};
 ghost use Rattle.gq_merging.specs.GroupTables.{AreReached, IsTest, IsTested, ArePassed, AreTested, AreMarked, IsKnown, IsMarkedOne};
 ghost use Rattle.gq_merging.specs.Views.{members_view, rows_view};
 ghost use Rattle.gq_merging.specs.GroupViews.{groups_view};
 
-use crate::classes::{Tables, groups_below, has_selections};
+use crate::classes::{Tables, groups_below, has_selections, is_through};
 use crate::members::{gathered, own_members, reached_sets};
 use crate::rows::{Member, Row};
 use gq_document::Executable;
@@ -27,12 +32,37 @@ use gq_tree::TypeRef;
 use std::alloc::Global;
 use std::thread::{Threads, join};
 
+/// How many steps are left for all tests, and how many more groups and numbers in them may be kept.
+#[derive(Clone, Copy)]
+struct Budget {
+    steps: usize,
+    room: usize,
+}
+
 /// What the tests keep for each other, that they take few steps: the place of the last group that began with each set, and
-/// how many steps are left for all of them.
+/// what is left of their budget. Where no group is kept, there is all the room.
 #[derive(Drop)]
 struct Notes {
     places: Vec<usize>,
-    left: usize,
+    left: Budget,
+    room: usize,
+}
+
+/// Keeps no group.
+fn forget(groups: &mut Vec<Vec<usize>>, notes: &mut Notes)
+    ensures { (es : List EntryOf) (rows : List RowOf) → ArePassed es rows (groups_view groups.new.items) }
+{
+    groups.clear();
+    notes.left.room = notes.room;
+}
+
+/// Keeps no group, where less than half of the room is left.
+fn make_room(groups: &mut Vec<Vec<usize>>, notes: &mut Notes)
+    ensures { (es : List EntryOf) (rows : List RowOf) → ArePassed es rows (groups_view groups.old.items) → ArePassed es rows (groups_view groups.new.items) }
+{
+    if notes.left.room < notes.room / 2 {
+        forget(groups, notes);
+    }
 }
 
 /// Takes this many steps, and one more, from what is left. Where there are not so many, nothing is left and it is false.
@@ -101,6 +131,15 @@ fn mark_all(marks: &mut Vec<bool>, numbers: &[usize])
     }
 }
 
+/// How many numbers stand in the groups.
+fn size_of(groups: &[Vec<usize>]) -> usize {
+    let mut size: usize = 0;
+    for group in groups {
+        size = size.saturating_add(group.len());
+    }
+    size
+}
+
 /// Looks at the fields of one group of a test, which reaches these sets.
 fn look_at_members(
     tables: Tables<'_>,
@@ -109,7 +148,7 @@ fn look_at_members(
     members: &[Member<'_>],
     groups: &mut Vec<Vec<usize>>,
     reached: &mut Vec<usize>,
-    left: &mut usize,
+    left: &mut Budget,
 ) -> Result<bool, NoMemory>
     requires typename { type_view tables.typename_type.now ≡ typename_field.type_ref }
     requires spreads { map (λ v. v.items) tables.spreads.now ≡ map (λ r. r.spreads.items) tables.rows.now }
@@ -119,14 +158,17 @@ fn look_at_members(
     requires members { members_view members.now ≡ flat_map (members_at (rows_view tables.rows.now)) found.now }
     requires test { IsTest (types_view tables.types.now) (rows_view tables.rows.now) (groups_view groups.old.items) place reached.old.items }
     ensures test { IfOk result (λ passed. IsTrue passed → IsTest (types_view tables.entry.types.now) (rows_view tables.entry.rows.now) (groups_view groups.new.items) (place + 1) reached.new.items) }
-    ensures left { IfOk result (λ passed. IsTrue passed → left.new < left.old) }
+    ensures left { IfOk result (λ passed. IsTrue passed → left.new.steps < left.old.steps) }
 {
-    if !spend(left, found.len(), members.len()) {
+    if !spend(&mut left.steps, found.len(), members.len()) {
         return Ok(false);
     }
     let Some(mut below) = groups_below(tables, members)? else {
         return Ok(false);
     };
+    if !spend(&mut left.room, below.len(), size_of(&below)) {
+        return Ok(false);
+    }
     groups.append(&mut below)?;
     reached.extend_from_slice(found)?;
     Ok(true)
@@ -139,7 +181,7 @@ fn look_at(
     place: usize,
     groups: &mut Vec<Vec<usize>>,
     reached: &mut Vec<usize>,
-    left: &mut usize,
+    left: &mut Budget,
 ) -> Result<bool, NoMemory>
     requires typename { type_view tables.typename_type.now ≡ typename_field.type_ref }
     requires range { InRange tables.spreads.now }
@@ -147,7 +189,7 @@ fn look_at(
     requires place { place < length groups.old.items }
     requires test { IsTest (types_view tables.types.now) (rows_view tables.rows.now) (groups_view groups.old.items) place reached.old.items }
     ensures test { IfOk result (λ passed. IsTrue passed → IsTest (types_view tables.entry.types.now) (rows_view tables.entry.rows.now) (groups_view groups.new.items) (place + 1) reached.new.items) }
-    ensures left { IfOk result (λ passed. IsTrue passed → left.new < left.old) }
+    ensures left { IfOk result (λ passed. IsTrue passed → left.new.steps < left.old.steps) }
 {
     let found = reached_sets(tables.alloc, tables.spreads, &groups[place])?;
     match found.as_slice() {
@@ -178,20 +220,20 @@ fn pass(
     requires place { place < length groups.old.items }
     requires test { IsTest (types_view tables.types.now) (rows_view tables.rows.now) (groups_view groups.old.items) place reached.old.items }
     ensures test { IfOk result (λ passed. IsTrue passed → IsTest (types_view tables.entry.types.now) (rows_view tables.entry.rows.now) (groups_view groups.new.items) (place + 1) reached.new.items) }
-    ensures left { IfOk result (λ passed. IsTrue passed → notes.new.left < notes.old.left) }
+    ensures left { IfOk result (λ passed. IsTrue passed → notes.new.left.steps < notes.old.left.steps) }
 {
     if is_known(groups, marks, place, &mut notes.places) {
-        return Ok(spend(&mut notes.left, 0, 0));
+        return Ok(spend(&mut notes.left.steps, 0, 0));
     }
     look_at(tables, place, groups, reached, &mut notes.left)
 }
 
-/// All sets that a test reaches which begins with this one, where it passes; otherwise none. The groups of the tests that
-/// passed since one failed are kept.
+/// All sets that a test reaches which begins with these together, where it passes; otherwise none. The groups of the tests
+/// that passed since one failed are kept.
 fn tested_from(
     tables: Tables<'_>,
     marks: &[bool],
-    start: usize,
+    starts: &[usize],
     groups: &mut Vec<Vec<usize>>,
     notes: &mut Notes,
 ) -> Result<Vec<usize>, NoMemory>
@@ -199,18 +241,19 @@ fn tested_from(
     requires range { InRange tables.spreads.now }
     requires spreads { map (λ v. v.items) tables.spreads.now ≡ map (λ r. r.spreads.items) tables.rows.now }
     requires tested { AreTested (types_view tables.types.now) (rows_view tables.rows.now) marks.now }
-    requires start { start < length tables.rows.now }
+    requires starts { All (λ n. n < length tables.rows.now) starts.now }
     requires groups { ArePassed (types_view tables.types.now) (rows_view tables.rows.now) (groups_view groups.old.items) }
     ensures groups { OnOk result (ArePassed (types_view tables.entry.types.now) (rows_view tables.entry.rows.now) (groups_view groups.new.items)) }
     ensures within { IfOk result (λ numbers. All (λ n. n < length tables.entry.rows.now) numbers.items) }
     ensures tested { IfOk result (λ numbers. All (IsTested (types_view tables.entry.types.now) (rows_view tables.entry.rows.now)) numbers.items) }
 {
+    make_room(groups, notes);
     let mut done = groups.len();
-    groups.push(vec![in tables.alloc; start; 1]?)?;
+    groups.push(Vec::from_slice(tables.alloc, starts)?)?;
     let mut reached = Vec::new(tables.alloc);
     while done < groups.len() {
         if !pass(tables, marks, done, groups, &mut reached, notes)? {
-            groups.clear();
+            forget(groups, notes);
             return Ok(Vec::new(tables.alloc));
         }
         done += 1;
@@ -236,16 +279,85 @@ fn mark_from(
     ensures tested { OnOk result (AreTested (types_view tables.entry.types.now) (rows_view tables.entry.rows.now) marks.new.items) }
     ensures groups { OnOk result (ArePassed (types_view tables.entry.types.now) (rows_view tables.entry.rows.now) (groups_view groups.new.items)) }
 {
-    if marks[number] || notes.left == 0 {
+    if marks[number] || notes.left.steps == 0 {
         return Ok(());
     }
     if !has_selections(tables.rows, number) {
         mark_all(marks, &[number]);
         return Ok(());
     }
-    let tested = tested_from(tables, marks, number, groups, notes)?;
+    if is_through(tables.rows, number, marks) {
+        mark_all(marks, &[number]);
+        return Ok(());
+    }
+    let tested = tested_from(tables, marks, &[number], groups, notes)?;
     mark_all(marks, &tested);
     Ok(())
+}
+
+/// Tests these sets together, and where that fails, by halves, as long as steps are left. Marks what the tests find.
+fn mark_together(
+    tables: Tables<'_>,
+    starts: &[usize],
+    marks: &mut Vec<bool>,
+    groups: &mut Vec<Vec<usize>>,
+    notes: &mut Notes,
+) -> Result<(), NoMemory>
+    requires typename { type_view tables.typename_type.now ≡ typename_field.type_ref }
+    requires range { InRange tables.spreads.now }
+    requires spreads { map (λ v. v.items) tables.spreads.now ≡ map (λ r. r.spreads.items) tables.rows.now }
+    requires starts { All (λ n. n < length tables.rows.now) starts.now }
+    requires tested { AreTested (types_view tables.types.now) (rows_view tables.rows.now) marks.old.items }
+    requires groups { ArePassed (types_view tables.types.now) (rows_view tables.rows.now) (groups_view groups.old.items) }
+    ensures tested { OnOk result (AreTested (types_view tables.entry.types.now) (rows_view tables.entry.rows.now) marks.new.items) }
+    ensures groups { OnOk result (ArePassed (types_view tables.entry.types.now) (rows_view tables.entry.rows.now) (groups_view groups.new.items)) }
+{
+    if starts.is_empty() || notes.left.steps == 0 {
+        return Ok(());
+    }
+    let tested = tested_from(tables, marks, starts, groups, notes)?;
+    mark_all(marks, &tested);
+    if starts.len() == 1 || !tested.is_empty() {
+        return Ok(());
+    }
+    let (front, back) = starts.split_at(starts.len() / 2);
+    mark_together(tables, front, marks, groups, notes)?;
+    mark_together(tables, back, marks, groups, notes)
+}
+
+/// Tests the sets that are not marked together.
+fn mark_the_rest(
+    tables: Tables<'_>,
+    starts: &[usize],
+    marks: &mut Vec<bool>,
+    groups: &mut Vec<Vec<usize>>,
+) -> Result<(), NoMemory>
+    requires typename { type_view tables.typename_type.now ≡ typename_field.type_ref }
+    requires range { InRange tables.spreads.now }
+    requires spreads { map (λ v. v.items) tables.spreads.now ≡ map (λ r. r.spreads.items) tables.rows.now }
+    requires starts { All (λ n. n < length tables.rows.now) starts.now }
+    requires tested { AreTested (types_view tables.types.now) (rows_view tables.rows.now) marks.old.items }
+    requires groups { ArePassed (types_view tables.types.now) (rows_view tables.rows.now) (groups_view groups.old.items) }
+    ensures tested { OnOk result (AreTested (types_view tables.entry.types.now) (rows_view tables.entry.rows.now) marks.new.items) }
+    ensures groups { OnOk result (ArePassed (types_view tables.entry.types.now) (rows_view tables.entry.rows.now) (groups_view groups.new.items)) }
+{
+    let rest = unmarked_of(tables.alloc, starts, marks)?;
+    let mut notes = no_notes(tables.alloc, tables.rows, 0)?;
+    mark_together(tables, &rest, marks, groups, &mut notes)
+}
+
+/// Those of the numbers that are not marked.
+fn unmarked_of(alloc: Global, numbers: &[usize], marks: &[bool]) -> Result<Vec<usize>, NoMemory>
+    requires { All (λ n. n < length marks.now) numbers.now }
+    ensures { IfOk result (λ found. All (λ n. n < length marks.now) found.items) }
+{
+    let mut found = Vec::new(alloc);
+    for number in numbers {
+        if !marks[*number] {
+            found.push(*number)?;
+        }
+    }
+    Ok(found)
 }
 
 /// Tests the sets that spreads name, or those that none names, in order.
@@ -286,16 +398,16 @@ fn named_sets(alloc: Global, spreads: &[Vec<usize>]) -> Result<Vec<bool>, NoMemo
     Ok(marks)
 }
 
-/// How many steps all tests may take together: some for each set, field and spread. Fields that double at each level of
-/// fragments would take many more.
-fn all_steps(rows: &[Row<'_>]) -> usize {
-    let mut steps: usize = 1000;
+/// How many groups and numbers in them may be kept: some for each set, field and spread. Fields that double at each level of
+/// fragments would have many more.
+fn all_room(rows: &[Row<'_>]) -> usize {
+    let mut room: usize = 1000;
     for row in rows {
         let size = row.members.len().saturating_add(row.spreads.len());
-        let share = size.saturating_add(1).saturating_mul(64);
-        steps = steps.saturating_add(share);
+        let share = size.saturating_add(1).saturating_mul(16);
+        room = room.saturating_add(share);
     }
-    steps
+    room
 }
 
 /// The numbers below the count that are not marked.
@@ -311,13 +423,22 @@ fn unmarked_below(alloc: Global, marks: &[bool], count: usize) -> Result<Vec<usi
     Ok(numbers)
 }
 
-/// Notes of no test.
-fn no_notes(alloc: Global, rows: &[Row<'_>]) -> Result<Notes, NoMemory> {
+/// Notes of no test. The tests may take four steps for each place of the room, and these more.
+fn no_notes(alloc: Global, rows: &[Row<'_>], more: usize) -> Result<Notes, NoMemory> {
+    let room = all_room(rows);
     Ok(Notes {
         places: vec![in alloc; 0; rows.len()]?,
-        left: all_steps(rows),
+        left: Budget {
+            steps: room.saturating_mul(4).saturating_add(more),
+            room,
+        },
+        room,
     })
 }
+
+/// How many steps the last tests may take beyond those in proportion to the rows. Some thousands of sets that all reach some
+/// thousands of fragments are tested one by one in so many, and they take a fraction of a second.
+const MORE_STEPS: usize = 10_000_000;
 
 /// The marks that tests leave which begin with these sets, in order.
 fn marks_from(tables: Tables<'_>, starts: &[usize]) -> Result<Vec<bool>, NoMemory>
@@ -328,10 +449,13 @@ fn marks_from(tables: Tables<'_>, starts: &[usize]) -> Result<Vec<bool>, NoMemor
     ensures { IfOk result (λ marks. AreTested (types_view tables.entry.types.now) (rows_view tables.entry.rows.now) marks.items) }
 {
     let mut marks = vec![in tables.alloc; false; tables.rows.len()]?;
-    let mut notes = no_notes(tables.alloc, tables.rows)?;
+    let mut notes = no_notes(tables.alloc, tables.rows, 0)?;
     let mut groups = Vec::new(tables.alloc);
     for number in starts {
         mark_from(tables, *number, &mut marks, &mut groups, &mut notes)?;
+    }
+    if notes.left.steps == 0 {
+        mark_the_rest(tables, starts, &mut marks, &mut groups)?;
     }
     Ok(marks)
 }
@@ -418,7 +542,7 @@ pub(crate) fn merged_rows<R: Threads + Sync>(
         .saturating_add(executable.operations.len());
     let starts = unmarked_below(alloc, &named, firsts)?;
     let mut marks = marks_by_threads(rt, tables, &starts)?;
-    let mut notes = no_notes(alloc, rows)?;
+    let mut notes = no_notes(alloc, rows, MORE_STEPS)?;
     let mut groups = Vec::new(alloc);
     mark_those(tables, &named, false, &mut marks, &mut groups, &mut notes)?;
     mark_those(tables, &named, true, &mut marks, &mut groups, &mut notes)?;

@@ -1,6 +1,7 @@
 //! Field selection merging (GraphQL, October 2021, section 5.3.2): fields under one response key that do not merge.
 #![tactic(auto)]
 
+mod by_key;
 mod classes;
 mod comparing;
 mod faults;

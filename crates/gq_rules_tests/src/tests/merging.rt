@@ -1,6 +1,7 @@
 //! Fields that merge (section 5.3.2).
 mod arguments;
 mod groups;
+mod shared;
 
 use super::documents::{Documents, placed, read_over};
 use gq_found::Item;

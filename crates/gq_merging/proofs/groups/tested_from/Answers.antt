@@ -1,31 +1,33 @@
-use Rattle.std.proofs.Common.{rules, ◌≡◌, ◌<◌, ◌≤◌, ◌∷◌, [], ◌++◌, length, arith, ap, sym, ◌∙◌, subst}
+use Rattle.std.proofs.Common.{rules, ◌≡◌, ◌<◌, ◌≤◌, ◌∷◌, [], ◌++◌, All, length, arith, ap, sym, ◌∙◌, subst}
 use Rattle.std.proofs.lemmas.List.{length-map, map-append}
 use Rattle.gq_types.specs.Look.{types_view}
 use Rattle.gq_merging.specs.GroupTables.{IsTest, ArePassed}
 use Rattle.gq_merging.specs.Views.{row_view, rows_view}
 use Rattle.gq_merging.specs.GroupViews.{groups_view}
-use Rattle.gq_merging.proofs.GroupLemmas.{test_begins, test_passed, test_ends, none_passed}
+use Rattle.gq_merging.proofs.GroupLemmas.{test_begins, test_passed, test_ends}
 use Rattle.gq_merging.proofs.groups.tested_from.Goals as goal
 
 pub loop-done-init : goal.loop-done-init
 loop-done-init c =
-    let old = groups_view c.args.groups.now.items in
+    let es = types_view c.args.tables.types.now in
+    let rows = rows_view c.args.tables.rows.now in
+    let kept = c.make_room.new.groups.items in
+    let old = groups_view kept in
+    let passed : ArePassed es rows old = c.make_room.ensures es rows c.requires.groups in
     let none : c.new-reached.result.items ≡ [] = c.new-reached.ensures.items in
-    let start : c.in_ok-vec.field-0.items ≡ c.args.start ∷ [] = search rules in
-    let groups : groups_view c.push.new.self.items ≡ old ++ (c.args.start ∷ []) ∷ [] =
-    ap groups_view c.in_ok-push.ensures.items ∙ map-append (λ v. v.items) c.args.groups.now.items (c.in_ok-vec.field-0 ∷ []) ∙ ap (λ g. old ++ g ∷ []) start in
-    let count : c.len-done.result ≡ length c.args.groups.now.items = search rules in
-    let done : c.len-done.result ≡ length old = omega (arith, count, length-map c.args.groups.now.items (λ v. v.items)) in
-    let in_rows : c.args.start < length (rows_view c.args.tables.rows.now) = omega (arith, c.requires.start, length-map c.args.tables.rows.now row_view) in
-    subst (λ gs. IsTest (types_view c.args.tables.types.now) (rows_view c.args.tables.rows.now) gs c.len-done.result c.new-reached.result.items) (sym groups)
-    (subst (λ ns. IsTest (types_view c.args.tables.types.now) (rows_view c.args.tables.rows.now) (old ++ (c.args.start ∷ []) ∷ []) c.len-done.result ns) (sym none)
-    (subst (λ n. IsTest (types_view c.args.tables.types.now) (rows_view c.args.tables.rows.now) (old ++ (c.args.start ∷ []) ∷ []) n []) (sym done)
-    (test_begins (types_view c.args.tables.types.now) (rows_view c.args.tables.rows.now) old c.args.start c.requires.groups in_rows)))
+    let begin : c.in_ok-from_slice.field-0.items ≡ c.args.starts.now = c.in_ok-from_slice.ensures.items in
+    let groups : groups_view c.push.new.self.items ≡ old ++ c.args.starts.now ∷ [] =
+    ap groups_view c.in_ok-push.ensures.items ∙ map-append (λ v. v.items) kept (c.in_ok-from_slice.field-0 ∷ []) ∙ ap (λ g. old ++ g ∷ []) begin in
+    let count : c.len-done.result ≡ length kept = search rules in
+    let done : c.len-done.result ≡ length old = omega (arith, count, length-map kept (λ v. v.items)) in
+    let in_rows : All (λ n. n < length rows) c.args.starts.now =
+    subst (λ k. All (λ n. n < k) c.args.starts.now) (sym (length-map c.args.tables.rows.now row_view)) c.requires.starts in
+    subst (λ gs. IsTest es rows gs c.len-done.result c.new-reached.result.items) (sym groups)
+    (subst (λ ns. IsTest es rows (old ++ c.args.starts.now ∷ []) c.len-done.result ns) (sym none)
+    (subst (λ n. IsTest es rows (old ++ c.args.starts.now ∷ []) n []) (sym done) (test_begins es rows old c.args.starts.now passed in_rows)))
 
 pub returns-then-not-branch-clause-groups : goal.returns-then-not-branch-clause-groups
-returns-then-not-branch-clause-groups c =
-    let none : groups_view c.clear.new.self.items ≡ [] = ap groups_view c.clear.ensures.items in
-    subst (ArePassed (types_view c.args.tables.types.now) (rows_view c.args.tables.rows.now)) (sym none) (none_passed (types_view c.args.tables.types.now) (rows_view c.args.tables.rows.now))
+returns-then-not-branch-clause-groups c = c.forget.ensures (types_view c.args.tables.types.now) (rows_view c.args.tables.rows.now)
 
 pub returns-clause-groups : goal.returns-clause-groups
 returns-clause-groups c =

@@ -8,4 +8,4 @@ abbrev pub invariant-loop-done : goal.invariant-loop-done
 invariant-loop-done l = IsTest (types_view l.tables.types.now) (rows_view l.tables.rows.now) (groups_view l.groups.items) l.done l.reached.items
 
 abbrev pub decreases-loop-done : goal.decreases-loop-done
-decreases-loop-done l = l.notes.left
+decreases-loop-done l = l.notes.left.steps
