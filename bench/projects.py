@@ -145,6 +145,22 @@ def many_schema_extensions(count):
     yield "q.graphql", "\n".join("mutation M%d{a}" % i for i in range(count // 2))
 
 
+def many_operations(count, keys):
+    """A chain of fragments, and as many operations that spread the first, each beside a field of such a key and call."""
+    yield "s.graphql", SCHEMA
+    rows = ["query Q%d{%s ...F0}" % (i, keys(i)) for i in range(count)]
+    rows += ["fragment F%d on Query{c%d:x ...F%d}" % (i, i, i + 1) for i in range(count - 1)]
+    yield "q.graphql", "\n".join(rows + ["fragment F%d on Query{x}" % (count - 1)])
+
+
+def one_fault(count):
+    """Operations that spread the first of a chain of fragments, the last of which has fields that do not merge."""
+    yield "s.graphql", SCHEMA
+    rows = ["query Q%d{...F0}" % i for i in range(count)]
+    rows += ["fragment F%d on Query{c%d:x ...F%d}" % (i, i, i + 1) for i in range(count - 1)]
+    yield "q.graphql", "\n".join(rows + ["fragment F%d on Query{x x:f}" % (count - 1)])
+
+
 def many_conditions(objects, interfaces):
     """An interface of many objects, and inline fragments on other interfaces below it."""
     rows = ["type Query{i:I}interface I{a:Int}"]
@@ -167,6 +183,10 @@ PROJECTS = {
     "many_locations": lambda: many_locations(80_000),
     "many_schema_extensions": lambda: many_schema_extensions(40_000),
     "many_conditions": lambda: many_conditions(20_000, 5000),
+    "spread_alone": lambda: many_operations(3000, lambda i: ""),
+    "spread_beside_fields": lambda: many_operations(3000, lambda i: "k%d:x" % i),
+    "spread_beside_calls": lambda: many_operations(3000, lambda i: "k:f(a:%d)" % i),
+    "one_fault": lambda: one_fault(600),
     "types": lambda: types(5000),
     "large": lambda: large(200, 20_000, True),
     "dense": lambda: large(200, 20_000, False),

@@ -208,6 +208,24 @@ look_right_more w left xs i d items middle items' old between new l e a b =
     ))
     (looked_both w (AreMet left front) (AreMet left (member_view d ∷ [])) items middle items' old between new a b))
 
+pub look_left_more : (w : LookOf) (right : List MemberOf) (xs : List Member) (i : ℕ) (d : Member) (items middle items' : List Item) (old between new : List ℕ) → i < length xs → get_or xs i d ≡ d →
+    Looked w (AreMet (members_view (take i xs)) right) items middle old between → Looked w (AreMet (member_view d ∷ []) right) middle items' between new →
+    Looked w (AreMet (members_view (take (i + 1) xs)) right) items items' old new
+look_left_more w right xs i d items middle items' old between new l e a b =
+    let front = members_view (take i xs) in
+    subst (λ ms. Looked w (AreMet ms right) items items' old new) (sym (view_more xs i d l e))
+    (looked_as w (λ p. AreMet front right p ⊎ AreMet (member_view d ∷ []) right p) (AreMet (front ++ member_view d ∷ []) right) items items' old new
+    (λ p. (
+      (λ s. ⊎_elim
+          (λ h. record { stands_left = Contains-append_left front (member_view d ∷ []) p.left h.stands_left; stands_right = h.stands_right; one_key = h.one_key })
+          (λ h. record { stands_left = Contains-append_right front (member_view d ∷ []) p.left h.stands_left; stands_right = h.stands_right; one_key = h.one_key }) s),
+      (λ h. ⊎_elim
+          (λ c. inl (record { stands_left = c; stands_right = h.stands_right; one_key = h.one_key }))
+          (λ c. inr (record { stands_left = c; stands_right = h.stands_right; one_key = h.one_key }))
+          (Contains-append_cases front (member_view d ∷ []) p.left h.stands_left)),
+    ))
+    (looked_both w (AreMet front right) (AreMet (member_view d ∷ []) right) items middle items' old between new a b))
+
 -- a field with those of its key
 pub look_keyed : (w : LookOf) (a : MemberOf) (t : ByKeyOf) (those : List MemberOf) (items items' : List Item) (old new : List ℕ) → those ≡ fields_with t (key a.field_at) →
     Looked w (AreMet (a ∷ []) those) items items' old new → Looked w (AreMetByKey (a ∷ []) t) items items' old new
@@ -238,10 +256,10 @@ look_unkeyed w a t items old none =
     the_one : (d : MemberOf) → Contains (a ∷ []) d → a ≡ d
     the_one d h = ⊎_elim (λ e. e) (λ f. absurd (contains_none d f)) (contains_cases a [] d h)
 
-pub look_left_more : (w : LookOf) (right : ByKeyOf) (xs : List Member) (i : ℕ) (d : Member) (items middle items' : List Item) (old between new : List ℕ) → i < length xs → get_or xs i d ≡ d →
+pub look_keyed_more : (w : LookOf) (right : ByKeyOf) (xs : List Member) (i : ℕ) (d : Member) (items middle items' : List Item) (old between new : List ℕ) → i < length xs → get_or xs i d ≡ d →
     Looked w (AreMetByKey (members_view (take i xs)) right) items middle old between → Looked w (AreMetByKey (member_view d ∷ []) right) middle items' between new →
     Looked w (AreMetByKey (members_view (take (i + 1) xs)) right) items items' old new
-look_left_more w right xs i d items middle items' old between new l e a b =
+look_keyed_more w right xs i d items middle items' old between new l e a b =
     let front = members_view (take i xs) in
     subst (λ ms. Looked w (AreMetByKey ms right) items items' old new) (sym (view_more xs i d l e))
     (looked_as w (λ p. AreMetByKey front right p ⊎ AreMetByKey (member_view d ∷ []) right p) (AreMetByKey (front ++ member_view d ∷ []) right) items items' old new
@@ -257,12 +275,22 @@ look_left_more w right xs i d items middle items' old between new l e a b =
     (looked_both w (AreMetByKey front right) (AreMetByKey (member_view d ∷ []) right) items middle items' old between new a b))
 
 -- the fields of the two sets of a pair
-pub look_pair : (w : LookOf) (number : ℕ) (left right : List MemberOf) (t : ByKeyOf) (items items' : List Item) (old new : List ℕ) →
+pub look_pair_keyed : (w : LookOf) (number : ℕ) (left right : List MemberOf) (t : ByKeyOf) (items items' : List Item) (old new : List ℕ) →
     ((m : MemberOf) → Contains left m ↔ IsMember w.rows (number / w.count) m) → ((m : MemberOf) → Contains right m ↔ IsMember w.rows (number % w.count) m) → AreByKey t right →
     Looked w (AreMetByKey left t) items items' old new → Looked w (IsMetAt w number) items items' old new
-look_pair w number left right t items items' old new are are' by_key l =
+look_pair_keyed w number left right t items items' old new are are' by_key l =
     looked_as w (AreMetByKey left t) (IsMetAt w number) items items' old new
     (λ p. (
       (λ h. record { left = (are p.left).0 h.stands_left; right = (are' p.right).0 ((by_key.each (key p.left.field_at) p.right).0 h.stands_right).0; one_key = h.one_key }),
       (λ h. record { stands_left = (are p.left).1 h.left; stands_right = (by_key.each (key p.left.field_at) p.right).1 ((are' p.right).1 h.right, sym h.one_key); one_key = h.one_key }),
+    )) l
+
+pub look_pair : (w : LookOf) (number : ℕ) (left right : List MemberOf) (items items' : List Item) (old new : List ℕ) →
+    ((m : MemberOf) → Contains left m ↔ IsMember w.rows (number / w.count) m) → ((m : MemberOf) → Contains right m ↔ IsMember w.rows (number % w.count) m) →
+    Looked w (AreMet left right) items items' old new → Looked w (IsMetAt w number) items items' old new
+look_pair w number left right items items' old new are are' l =
+    looked_as w (AreMet left right) (IsMetAt w number) items items' old new
+    (λ p. (
+      (λ h. record { left = (are p.left).0 h.stands_left; right = (are' p.right).0 h.stands_right; one_key = h.one_key }),
+      (λ h. record { stands_left = (are p.left).1 h.left; stands_right = (are' p.right).1 h.right; one_key = h.one_key }),
     )) l

@@ -26,6 +26,9 @@ use indexmap::IndexSet;
 use std::alloc::Global;
 use std::thread::Threads;
 
+/// The most fields that are not put into a table by their keys: to go over so few takes less time than to make one.
+const FEW: usize = 16;
+
 /// The item of the second of two fields that meet, if they differ and the first one stands no later.
 fn put_fault_of(look: Look<'_>, one: &Met<'_>, items: &mut Vec<Item>) -> Result<(), NoMemory>
     requires { type_view look.typename_type.now ≡ typename_field.type_ref }
@@ -101,6 +104,23 @@ fn look_with(
     Ok(())
 }
 
+/// Looks at each field of the one list with each of the other.
+fn look_among(
+    look: Look<'_>,
+    left: &[Member<'_>],
+    right: &[Member<'_>],
+    items: &mut Vec<Item>,
+    found: &mut IndexSet<usize>,
+) -> Result<(), NoMemory>
+    requires { type_view look.typename_type.now ≡ typename_field.type_ref }
+    ensures { OnOk result (Looked (look_view look.entry) (AreMet (members_view left.now) (members_view right.now)) items.old.items items.new.items found.old.keys found.new.keys) }
+{
+    for member in left {
+        look_with(look, member, right, items, found)?;
+    }
+    Ok(())
+}
+
 /// Looks at a field with those of the table that have its key.
 fn look_by_key(
     look: Look<'_>,
@@ -119,7 +139,7 @@ fn look_by_key(
 }
 
 /// Looks at each field of the list with those of the table that have its key.
-fn look_among(
+fn look_among_keyed(
     look: Look<'_>,
     left: &[Member<'_>],
     right: &FieldsByKey<'_>,
@@ -151,9 +171,11 @@ fn look_at_pair(
     let count = look.rows.len();
     let left = members_of(look.alloc, look.rows, look.spreads, number / count)?;
     let right = members_of(look.alloc, look.rows, look.spreads, number % count)?;
-    let right = FieldsByKey::of(look.alloc, &right)?;
-    look_among(look, &left, &right, items, found)?;
-    Ok(())
+    if right.len() <= FEW {
+        return look_among(look, &left, &right, items, found);
+    }
+    let by_key = FieldsByKey::of(look.alloc, &right)?;
+    look_among_keyed(look, &left, &by_key, items, found)
 }
 
 /// The items of all fields that meet in a set that is not passed over, or under it. A pair of sets is looked at once.
