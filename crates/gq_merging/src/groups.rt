@@ -325,7 +325,30 @@ fn mark_together(
     mark_together(tables, back, marks, groups, notes)
 }
 
-/// Tests the sets that are not marked together.
+/// Tests these sets one by one, in order.
+fn mark_each(
+    tables: Tables<'_>,
+    starts: &[usize],
+    marks: &mut Vec<bool>,
+    groups: &mut Vec<Vec<usize>>,
+    notes: &mut Notes,
+) -> Result<(), NoMemory>
+    requires typename { type_view tables.typename_type.now ≡ typename_field.type_ref }
+    requires range { InRange tables.spreads.now }
+    requires spreads { map (λ v. v.items) tables.spreads.now ≡ map (λ r. r.spreads.items) tables.rows.now }
+    requires starts { All (λ n. n < length tables.rows.now) starts.now }
+    requires tested { AreTested (types_view tables.types.now) (rows_view tables.rows.now) marks.old.items }
+    requires groups { ArePassed (types_view tables.types.now) (rows_view tables.rows.now) (groups_view groups.old.items) }
+    ensures tested { OnOk result (AreTested (types_view tables.entry.types.now) (rows_view tables.entry.rows.now) marks.new.items) }
+    ensures groups { OnOk result (ArePassed (types_view tables.entry.types.now) (rows_view tables.entry.rows.now) (groups_view groups.new.items)) }
+{
+    for number in starts {
+        mark_from(tables, *number, marks, groups, notes)?;
+    }
+    Ok(())
+}
+
+/// Tests the sets that are not marked together, and what is left then one by one in more steps.
 fn mark_the_rest(
     tables: Tables<'_>,
     starts: &[usize],
@@ -343,7 +366,9 @@ fn mark_the_rest(
 {
     let rest = unmarked_of(tables.alloc, starts, marks)?;
     let mut notes = no_notes(tables.alloc, tables.rows, 0)?;
-    mark_together(tables, &rest, marks, groups, &mut notes)
+    mark_together(tables, &rest, marks, groups, &mut notes)?;
+    let mut notes = no_notes(tables.alloc, tables.rows, MORE_STEPS)?;
+    mark_each(tables, &rest, marks, groups, &mut notes)
 }
 
 /// Those of the numbers that are not marked.
@@ -436,9 +461,9 @@ fn no_notes(alloc: Global, rows: &[Row<'_>], more: usize) -> Result<Notes, NoMem
     })
 }
 
-/// How many steps the last tests may take beyond those in proportion to the rows. Some thousands of sets that all reach some
-/// thousands of fragments are tested one by one in so many, and they take a fraction of a second.
-const MORE_STEPS: usize = 10_000_000;
+/// How many steps each thread may take beyond those in proportion to the rows. In so many some thousands of sets that all
+/// reach some thousands of fragments are tested one by one, and they take a second.
+const MORE_STEPS: usize = 30_000_000;
 
 /// The marks that tests leave which begin with these sets, in order.
 fn marks_from(tables: Tables<'_>, starts: &[usize]) -> Result<Vec<bool>, NoMemory>
@@ -451,9 +476,7 @@ fn marks_from(tables: Tables<'_>, starts: &[usize]) -> Result<Vec<bool>, NoMemor
     let mut marks = vec![in tables.alloc; false; tables.rows.len()]?;
     let mut notes = no_notes(tables.alloc, tables.rows, 0)?;
     let mut groups = Vec::new(tables.alloc);
-    for number in starts {
-        mark_from(tables, *number, &mut marks, &mut groups, &mut notes)?;
-    }
+    mark_each(tables, starts, &mut marks, &mut groups, &mut notes)?;
     if notes.left.steps == 0 {
         mark_the_rest(tables, starts, &mut marks, &mut groups)?;
     }
@@ -542,7 +565,7 @@ pub(crate) fn merged_rows<R: Threads + Sync>(
         .saturating_add(executable.operations.len());
     let starts = unmarked_below(alloc, &named, firsts)?;
     let mut marks = marks_by_threads(rt, tables, &starts)?;
-    let mut notes = no_notes(alloc, rows, MORE_STEPS)?;
+    let mut notes = no_notes(alloc, rows, 0)?;
     let mut groups = Vec::new(alloc);
     mark_those(tables, &named, false, &mut marks, &mut groups, &mut notes)?;
     mark_those(tables, &named, true, &mut marks, &mut groups, &mut notes)?;

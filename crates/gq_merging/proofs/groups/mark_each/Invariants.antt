@@ -2,7 +2,7 @@ use Rattle.gq_types.specs.Look.{types_view}
 use Rattle.gq_merging.specs.GroupTables.{AreTested, ArePassed}
 use Rattle.gq_merging.specs.Views.{rows_view}
 use Rattle.gq_merging.specs.GroupViews.{groups_view}
-use Rattle.gq_merging.proofs.groups.marks_from.Given as goal
+use Rattle.gq_merging.proofs.groups.mark_each.Given as goal
 
 abbrev pub invariant-loop-number : goal.invariant-loop-number
 invariant-loop-number l = record {
