@@ -8,9 +8,9 @@ const NODES: &str = "type Query{a:Query f:Int g:Int x(n:Int):Int}";
 /// Fragments `F0` to `F499`, each of which spreads the one before it, with a field of its own.
 fn chain(alloc: Global) -> Result<String, Fail> {
     let mut text = String::from_str(alloc, "fragment F0 on Query{g}")?;
-    for number in 1..500 {
-        let before = number - 1;
-        let one = format!(in alloc; "fragment F{number} on Query{{c{number}:f ...F{before}}}")?;
+    for number in 0..499 {
+        let next = number + 1;
+        let one = format!(in alloc; "fragment F{next} on Query{{c{next}:f ...F{number}}}")?;
         text.push_str(one.as_str())?;
     }
     Ok(text)
@@ -48,8 +48,8 @@ fn spread_beside_calls(alloc: Global) -> Result<String, Fail> {
 
 /// The text, alone and with an operation behind it in which `c1:g` differs from the chain's `c1:f`.
 fn rows(alloc: Global, text: &str) -> Result<String, Fail> {
-    let place = text.len() + 11;
-    let end = place + 1;
+    let place = text.len().saturating_add(11);
+    let end = place.saturating_add(1);
     let rows = format!(in alloc;
         "{text} =>\n{text}query R{{c1:g ...F499}} => 1:V5[{place},{end}]"
     )?;
