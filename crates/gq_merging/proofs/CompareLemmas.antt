@@ -61,7 +61,7 @@ shapes_are es (non_null t) (named m) = (λ e. absurd (cc), λ e. absurd (no_null
 shapes_are es (non_null t) (list_of u) = (λ e. absurd (cc), λ e. absurd (cc))
 shapes_are es (non_null t) (non_null u) = let q = shapes_are es t u in (λ e. ap never_null (q.0 e), λ e. q.1 (ap item_in e))
 
-has_type : (es : List EntryOf) (f : FieldAt) (t : TypeOf Span) → known_type es f ≡ Some t → HasType es f t
+pub has_type : (es : List EntryOf) (f : FieldAt) (t : TypeOf Span) → known_type es f ≡ Some t → HasType es f t
 has_type es f t e = by_field (selected_field es f.parent f.name.text) refl e
   where
     by_end : (d : FieldOf) (b : Bool) → selected_field es f.parent f.name.text ≡ Some d → is_some (kind_named es (base_name d.type_ref)) ≡ b → (if b then Some d.type_ref else None) ≡ Some t → HasType es f t

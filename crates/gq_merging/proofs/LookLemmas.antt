@@ -13,7 +13,7 @@ use Rattle.gq_found.proofs.PutLemmas.{puts_both, puts_as}
 use Rattle.gq_merging.specs.FieldSets.{key}
 use Rattle.gq_merging.specs.FieldsMerge.{leads_on}
 use Rattle.gq_merging.specs.SetTables.{MemberOf, IsMember}
-use Rattle.gq_merging.specs.KeyTables.{ByKeyOf, fields_with, AreByKey, AreMetByKey}
+use Rattle.gq_merging.specs.NameTables.{ByNameOf, fields_with, AreByKey, AreMetByKey}
 use Rattle.gq_merging.specs.PairTables.{MetOf, LookOf, AreMet, IsMetAt, IsNumber, IsStart, IsBelow, IsGiven, IsFaultOf, Gains, Looked}
 use Rattle.gq_merging.specs.Views.{member_view, members_view}
 use Rattle.gq_merging.specs.declared.rows.Member.{Member}
@@ -77,7 +77,7 @@ gains_both A B old middle new a b = record {
 pub no_start : (passed : List Bool) (count size : ℕ) → Gains (IsStart passed count size 0) [] []
 no_start passed count size = gains_nothing (IsStart passed count size 0) [] (λ n s. let b = s.before in omega (arith, b))
 
-before_next : (k j : ℕ) → k < j + 1 → (k < j) ⊎ (k ≡ j)
+pub before_next : (k j : ℕ) → k < j + 1 → (k < j) ⊎ (k ≡ j)
 before_next k zero l = inr (omega (arith, l))
 before_next zero (suc j) l = inl (omega arith)
 before_next (suc k) (suc j) l = elim (before_next k j (omega (arith, l))) [
@@ -227,7 +227,7 @@ look_left_more w right xs i d items middle items' old between new l e a b =
     (looked_both w (AreMet front right) (AreMet (member_view d ∷ []) right) items middle items' old between new a b))
 
 -- a field with those of its key
-pub look_keyed : (w : LookOf) (a : MemberOf) (t : ByKeyOf) (those : List MemberOf) (items items' : List Item) (old new : List ℕ) → those ≡ fields_with t (key a.field_at) →
+pub look_keyed : (w : LookOf) (a : MemberOf) (t : ByNameOf) (those : List MemberOf) (items items' : List Item) (old new : List ℕ) → those ≡ fields_with t (key a.field_at) →
     Looked w (AreMet (a ∷ []) those) items items' old new → Looked w (AreMetByKey (a ∷ []) t) items items' old new
 look_keyed w a t those items items' old new is l =
     looked_as w (AreMet (a ∷ []) those) (AreMetByKey (a ∷ []) t) items items' old new
@@ -248,7 +248,7 @@ look_keyed w a t those items items' old new is l =
     the_one d h = ⊎_elim (λ e. e) (λ f. absurd (contains_none d f)) (contains_cases a [] d h)
 
 -- a field whose key no other has
-pub look_unkeyed : (w : LookOf) (a : MemberOf) (t : ByKeyOf) (items : List Item) (old : List ℕ) → [] ≡ fields_with t (key a.field_at) → Looked w (AreMetByKey (a ∷ []) t) items items old old
+pub look_unkeyed : (w : LookOf) (a : MemberOf) (t : ByNameOf) (items : List Item) (old : List ℕ) → [] ≡ fields_with t (key a.field_at) → Looked w (AreMetByKey (a ∷ []) t) items items old old
 look_unkeyed w a t items old none =
     looked_nowhere w (AreMetByKey (a ∷ []) t) items old
     (λ p h. contains_none p.right (subst (λ ms. Contains ms p.right) (sym none) (subst (λ (b : MemberOf). Contains (fields_with t (key b.field_at)) p.right) (sym (the_one p.left h.stands_left)) h.stands_right)))
@@ -256,7 +256,7 @@ look_unkeyed w a t items old none =
     the_one : (d : MemberOf) → Contains (a ∷ []) d → a ≡ d
     the_one d h = ⊎_elim (λ e. e) (λ f. absurd (contains_none d f)) (contains_cases a [] d h)
 
-pub look_keyed_more : (w : LookOf) (right : ByKeyOf) (xs : List Member) (i : ℕ) (d : Member) (items middle items' : List Item) (old between new : List ℕ) → i < length xs → get_or xs i d ≡ d →
+pub look_keyed_more : (w : LookOf) (right : ByNameOf) (xs : List Member) (i : ℕ) (d : Member) (items middle items' : List Item) (old between new : List ℕ) → i < length xs → get_or xs i d ≡ d →
     Looked w (AreMetByKey (members_view (take i xs)) right) items middle old between → Looked w (AreMetByKey (member_view d ∷ []) right) middle items' between new →
     Looked w (AreMetByKey (members_view (take (i + 1) xs)) right) items items' old new
 look_keyed_more w right xs i d items middle items' old between new l e a b =
@@ -275,7 +275,7 @@ look_keyed_more w right xs i d items middle items' old between new l e a b =
     (looked_both w (AreMetByKey front right) (AreMetByKey (member_view d ∷ []) right) items middle items' old between new a b))
 
 -- the fields of the two sets of a pair
-pub look_pair_keyed : (w : LookOf) (number : ℕ) (left right : List MemberOf) (t : ByKeyOf) (items items' : List Item) (old new : List ℕ) →
+pub look_pair_keyed : (w : LookOf) (number : ℕ) (left right : List MemberOf) (t : ByNameOf) (items items' : List Item) (old new : List ℕ) →
     ((m : MemberOf) → Contains left m ↔ IsMember w.rows (number / w.count) m) → ((m : MemberOf) → Contains right m ↔ IsMember w.rows (number % w.count) m) → AreByKey t right →
     Looked w (AreMetByKey left t) items items' old new → Looked w (IsMetAt w number) items items' old new
 look_pair_keyed w number left right t items items' old new are are' by_key l =

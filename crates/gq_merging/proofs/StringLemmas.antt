@@ -28,7 +28,7 @@ not_both text a b h k = by h.body h.characters (sym h.is ∙ k.is)
     by [] c e = absurd (cc)
     by (n ∷ ns) c e = let first : n ≡ 34 = cc in no_quote c ns (ap (λ m. m ∷ ns) first)
 
-one_standing : (text a b : Text) → StandsFor text a → StandsFor text b → a ≡ b
+pub one_standing : (text a b : Text) → StandsFor text a → StandsFor text b → a ≡ b
 one_standing text a b (as_string h) (as_string k) = one_string text a b h k
 one_standing text a b (as_string h) (as_block_string k) = absurd (not_both text a b h k)
 one_standing text a b (as_block_string h) (as_string k) = absurd (not_both text b a k h)

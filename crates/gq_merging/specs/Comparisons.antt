@@ -1,5 +1,5 @@
 -- What is compared of two fields, computed. Nothing here must be believed.
-use Rattle.std.specs.Prelude.{Bool, false, not, List, Option, Some, None, nat_eq, nat_lt, nat_le, is_some, ◌&&◌, ◌||◌, if◌then◌else◌, option_and_then}
+use Rattle.std.specs.Prelude.{Bool, true, false, not, List, Option, Some, None, nat_eq, nat_lt, nat_le, is_some, ◌&&◌, ◌||◌, if◌then◌else◌, option_and_then}
 use Rattle.std.specs.Str.{bytes_eq}
 use Rattle.gq_text.specs.declared.place.Span.{Span}
 use Rattle.gq_tree.specs.Plain.{TypeOf, named, list_of, non_null}
@@ -7,6 +7,8 @@ use Rattle.gq_types.specs.Entries.{Text, EntryOf}
 use Rattle.gq_types.specs.Joined.{kind_named}
 use Rattle.gq_document.specs.Selections.{selected_field, base_name, is_composite_named}
 use Rattle.gq_merging.specs.FieldSets.{FieldAt}
+use Rattle.gq_merging.specs.declared.purpose.Purpose.{Purpose}
+use Rattle.gq_merging.specs.declared.purpose.Purpose.TheVariants.{Shapes, Names}
 
 abbrev pub is_no_later : FieldAt → FieldAt → Bool
 is_no_later a b = nat_lt a.file b.file || (nat_eq a.file b.file && nat_le a.place.start b.place.start)
@@ -39,3 +41,8 @@ types_differ es (Some left) (Some right) = not (same_shapes es left right)
 
 abbrev pub shapes_differ : List EntryOf → FieldAt → FieldAt → Bool
 shapes_differ es a b = types_differ es (known_type es a) (known_type es b)
+
+-- whether the field can differ from another one: for shapes, its type has to be known
+abbrev pub may_differ : List EntryOf → Purpose → FieldAt → Bool
+may_differ es Shapes f = is_some (known_type es f)
+may_differ es Names f = true

@@ -11,4 +11,7 @@ pub mod StartTables
 pub mod PairTables
 pub mod Views
 pub mod GroupViews
-pub mod KeyTables
+pub mod NameTables
+pub mod ParentTables
+pub mod SearchTables
+pub mod SearchViews

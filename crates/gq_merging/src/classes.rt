@@ -44,7 +44,7 @@ fn have_one_shape(tables: Tables<'_>, left: &StandingField<'_>, right: &Standing
 }
 
 /// Whether the parents of both fields are of one type, or the types of neither are known.
-fn have_one_parent(left: &StandingField<'_>, right: &StandingField<'_>) -> bool
+pub(crate) fn have_one_parent(left: &StandingField<'_>, right: &StandingField<'_>) -> bool
     ensures { IsTrue result → text_of left.now.parent ≡ text_of right.now.parent }
 {
     match (left.parent, right.parent) {

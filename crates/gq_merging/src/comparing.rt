@@ -39,7 +39,7 @@ pub(crate) fn is_no_later(first: &StandingField<'_>, later: &StandingField<'_>) 
 }
 
 /// Whether the name is that of an object type.
-fn is_object(types: &Types, type_name: &str) -> bool
+pub(crate) fn is_object(types: &Types, type_name: &str) -> bool
     ensures { result ≡ has_kind (types_view types.now) kind.Object type_name.now }
 {
     match types.kind(type_name) {

@@ -7,11 +7,12 @@ ghost use Rattle.gq_reach.specs.Reach.{InRange};
 ghost use Rattle.gq_document.specs.Selections.{typename_field};
 ghost use Rattle.gq_document.specs.Executable.{executable_view};
 ghost use Rattle.gq_merging.specs.FieldsMerge.{IsMergingFault};
-ghost use Rattle.gq_merging.specs.KeyTables.{AreMetByKey, by_key_view};
+ghost use Rattle.gq_merging.specs.NameTables.{AreMetByKey, by_name_view};
 ghost use Rattle.gq_merging.specs.PairTables.{AreMet, IsMetAt, IsMetReached, IsGiven, IsFaultOf, Looked};
-ghost use Rattle.gq_merging.specs.Views.{member_view, members_view, met_view, look_view};
+ghost use Rattle.gq_merging.specs.SearchTables.{HaveSets};
+ghost use Rattle.gq_merging.specs.Views.{member_view, members_view, rows_view, met_view, look_view};
 
-use crate::by_key::FieldsByKey;
+use crate::by_name::FieldsByName;
 use crate::comparing::{differ, is_no_later, key, typename_type};
 use crate::groups::merged_rows;
 use crate::members::{all_spreads, members_of};
@@ -19,6 +20,7 @@ use crate::pairs::{Look, Met, put_below, starts};
 use crate::passed::passed_rows;
 use crate::purpose::Purpose;
 use crate::rows::{Member, all_rows};
+use crate::search::search_groups;
 use gq_document::Executable;
 use gq_found::{Code, Item};
 use gq_text::{NoMemory, Span};
@@ -30,7 +32,11 @@ use std::thread::Threads;
 const FEW: usize = 16;
 
 /// The item of the second of two fields that meet, if they differ and the first one stands no later.
-fn put_fault_of(look: Look<'_>, one: &Met<'_>, items: &mut Vec<Item>) -> Result<(), NoMemory>
+pub(crate) fn put_fault_of(
+    look: Look<'_>,
+    one: &Met<'_>,
+    items: &mut Vec<Item>,
+) -> Result<(), NoMemory>
     requires { type_view look.typename_type.now ≡ typename_field.type_ref }
     ensures { OnOk result (Puts (IsFaultOf (look_view look.entry) (met_view one.now)) items.old.items items.new.items) }
 {
@@ -125,14 +131,14 @@ fn look_among(
 fn look_by_key(
     look: Look<'_>,
     left: &Member<'_>,
-    right: &FieldsByKey<'_>,
+    right: &FieldsByName<'_>,
     items: &mut Vec<Item>,
     found: &mut IndexSet<usize>,
 ) -> Result<(), NoMemory>
     requires { type_view look.typename_type.now ≡ typename_field.type_ref }
-    ensures { OnOk result (Looked (look_view look.entry) (AreMetByKey (member_view left.now ∷ []) (by_key_view right.now)) items.old.items items.new.items found.old.keys found.new.keys) }
+    ensures { OnOk result (Looked (look_view look.entry) (AreMetByKey (member_view left.now ∷ []) (by_name_view right.now)) items.old.items items.new.items found.old.keys found.new.keys) }
 {
-    if let Some(those) = right.with_key(key(&left.it)) {
+    if let Some(those) = right.with_name(key(&left.it)) {
         look_with(look, left, those, items, found)?;
     }
     Ok(())
@@ -142,12 +148,12 @@ fn look_by_key(
 fn look_among_keyed(
     look: Look<'_>,
     left: &[Member<'_>],
-    right: &FieldsByKey<'_>,
+    right: &FieldsByName<'_>,
     items: &mut Vec<Item>,
     found: &mut IndexSet<usize>,
 ) -> Result<(), NoMemory>
     requires { type_view look.typename_type.now ≡ typename_field.type_ref }
-    ensures { OnOk result (Looked (look_view look.entry) (AreMetByKey (members_view left.now) (by_key_view right.now)) items.old.items items.new.items found.old.keys found.new.keys) }
+    ensures { OnOk result (Looked (look_view look.entry) (AreMetByKey (members_view left.now) (by_name_view right.now)) items.old.items items.new.items found.old.keys found.new.keys) }
 {
     for member in left {
         look_by_key(look, member, right, items, found)?;
@@ -174,12 +180,16 @@ fn look_at_pair(
     if right.len() <= FEW {
         return look_among(look, &left, &right, items, found);
     }
-    let by_key = FieldsByKey::of(look.alloc, &right)?;
+    let by_key = FieldsByName::by_key(look.alloc, &right)?;
     look_among_keyed(look, &left, &by_key, items, found)
 }
 
-/// The items of all fields that meet in a set that is not passed over, or under it. A pair of sets is looked at once.
-fn put_faults_for(look: Look<'_>, passed: &[bool], items: &mut Vec<Item>) -> Result<(), NoMemory>
+/// The items of all fields that meet in a set that is not passed over, or under it, pair by pair. A pair of sets is looked at once.
+fn put_faults_by_pairs(
+    look: Look<'_>,
+    passed: &[bool],
+    items: &mut Vec<Item>,
+) -> Result<(), NoMemory>
     requires typename { type_view look.typename_type.now ≡ typename_field.type_ref }
     requires range { InRange look.spreads.now }
     requires spreads { map (λ v. v.items) look.spreads.now ≡ map (λ r. r.spreads.items) look.rows.now }
@@ -195,6 +205,25 @@ fn put_faults_for(look: Look<'_>, passed: &[bool], items: &mut Vec<Item>) -> Res
         done += 1;
     }
     Ok(())
+}
+
+/// The same by groups, or where they would be too many, pair by pair.
+fn put_faults_for(look: Look<'_>, passed: &[bool], items: &mut Vec<Item>) -> Result<(), NoMemory>
+    requires typename { type_view look.typename_type.now ≡ typename_field.type_ref }
+    requires range { InRange look.spreads.now }
+    requires spreads { map (λ v. v.items) look.spreads.now ≡ map (λ r. r.spreads.items) look.rows.now }
+    requires sets { HaveSets (rows_view look.rows.now) }
+    requires size { look.size ≡ length look.rows.now * length look.rows.now }
+    requires passed { length passed.now ≡ length look.rows.now }
+    ensures { OnOk result (Puts (IsGiven (IsMetReached (look_view look.entry) passed.now) (IsFaultOf (look_view look.entry))) items.old.items items.new.items) }
+{
+    match search_groups(look, passed)? {
+        Some(mut found) => {
+            items.append(&mut found)?;
+            Ok(())
+        }
+        None => put_faults_by_pairs(look, passed, items),
+    }
 }
 
 /// Each field that does not merge with one that stands no later, in any selection set of the project, at its name.

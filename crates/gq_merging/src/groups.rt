@@ -91,7 +91,7 @@ fn is_marked_one(group: &[usize], marks: &[bool]) -> bool
 }
 
 /// Whether an earlier group is the same as the one at that place.
-fn is_as_before(groups: &[Vec<usize>], earlier: usize, place: usize) -> bool
+pub(crate) fn is_as_before(groups: &[Vec<usize>], earlier: usize, place: usize) -> bool
     requires { place < length groups.now }
     ensures before { IsTrue result → earlier < place }
     ensures same { IsTrue result → slice_get (groups_view groups.now) earlier ≡ slice_get (groups_view groups.now) place }
@@ -425,7 +425,7 @@ fn named_sets(alloc: Global, spreads: &[Vec<usize>]) -> Result<Vec<bool>, NoMemo
 
 /// How many groups and numbers in them may be kept: some for each set, field and spread. Fields that double at each level of
 /// fragments would have many more.
-fn all_room(rows: &[Row<'_>]) -> usize {
+pub(crate) fn all_room(rows: &[Row<'_>]) -> usize {
     let mut room: usize = 1000;
     for row in rows {
         let size = row.members.len().saturating_add(row.spreads.len());

@@ -1,9 +1,12 @@
 //! Field selection merging (GraphQL, October 2021, section 5.3.2): fields under one response key that do not merge.
 #![tactic(auto)]
 
-mod by_key;
+mod by_name;
+mod by_parent;
 mod classes;
+mod cliques;
 mod comparing;
+mod earliest;
 mod faults;
 mod groups;
 mod marks;
@@ -15,6 +18,7 @@ mod rows;
 mod same_arguments;
 mod same_strings;
 mod same_values;
+mod search;
 mod sets;
 
 pub use faults::put_merging_faults;

@@ -1,5 +1,6 @@
 //! Fields that merge (section 5.3.2).
 mod arguments;
+mod clashes;
 mod groups;
 mod shared;
 
@@ -148,12 +149,12 @@ fn the_ends_of_a_long_chain_of_fragments_meet(rt: HostRuntime) -> Result<(), Fai
 }
 
 #[test]
-fn three_hundred_equal_sets_of_one_key_merge(rt: HostRuntime) -> Result<(), Fail> {
+fn three_thousand_equal_sets_of_one_key_merge(rt: HostRuntime) -> Result<(), Fail> {
     let alloc = rt.alloc();
-    let sets = "d{a} ".repeat(alloc, 300)?;
+    let sets = "d{a} ".repeat(alloc, 3000)?;
     let rows = format!(in alloc;
         "{{{sets}}} =>
-        {{{sets}d{{a:s}}}} => 1:V5[1505,1506]"
+        {{{sets}d{{a:s}}}} => 1:V5[15005,15006]"
     )?;
     assert_found(alloc, &rt, PETS, rows.as_str())
 }

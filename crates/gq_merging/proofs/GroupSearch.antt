@@ -1,0 +1,254 @@
+-- The search over groups: in the groups that are done and what they lead to stand all fields that meet, and no others.
+use Rattle.std.proofs.Common.{◌≡◌, ◌↔◌, ◌⊎◌, ⊎_elim, inl, inr, ℕ, zero, suc, ◌+◌, ◌*◌, ◌/◌, ◌%◌, ◌<◌, ◌≤◌, Bool, true, false, List, [], ◌∷◌, ◌++◌, Some, All, Contains, length, take, map, refl, sym, ◌∙◌, ap, subst, arith, Vec, Global}
+use Rattle.std.specs.Prelude.{slice_index_or}
+use Rattle.std.specs.List.{slice_get, flat_map}
+use Rattle.std.proofs.lemmas.List.{length-append, length-map, take-append-le, take_all, take_more}
+use Rattle.std.proofs.lemmas.List.Elements.{All-append, All-cons, All-contains, All-nil, Contains-append_left, Contains-append_right, Contains-append_cases, Contains-push, Contains-push_cases}
+use Rattle.std.proofs.lemmas.Option.{same_Some, none-some, slice_get_within}
+use Rattle.gq_names.proofs.RepeatLemmas.{contains_none, contains_first, contains_later, contains_cases}
+use Rattle.gq_reach.specs.Reach.{Reach, row}
+use Rattle.gq_found.specs.declared.item.Item.{Item}
+use Rattle.gq_found.specs.Puts.{Puts}
+use Rattle.gq_document.specs.Executable.{ExecutableOf}
+use Rattle.gq_merging.specs.FieldSets.{key}
+use Rattle.gq_merging.specs.FieldsMerge.{leads_on}
+use Rattle.gq_merging.specs.SetTables.{MemberOf, RowOf, AreRows, IsRow, HasNumber, members_at, spreads_at, IsMember, names_of}
+use Rattle.gq_merging.specs.GroupTables.{IsOfGroup, AreBelow}
+use Rattle.gq_merging.specs.PairTables.{MetOf, LookOf, IsGiven, IsMetAt, IsBelow, IsReached, start, step, IsMetReached, IsFaultOf}
+use Rattle.gq_merging.specs.SearchTables.{AreInGroup, AreInOne, AreMetInOne, AreUnder, Grows, Searched, IsFirst, AreFirst, HaveSets, Search, WasThere}
+use Rattle.gq_merging.specs.NameTables.{ByNameOf, AreByKey}
+use Rattle.gq_merging.specs.Views.{rows_view}
+use Rattle.gq_merging.specs.declared.rows.Member.{Member}
+use Rattle.gq_merging.specs.declared.rows.Row.{Row}
+use Rattle.gq_merging.proofs.ClassSearch.{seen, seen_tell}
+use Rattle.gq_merging.proofs.LookLemmas.{before_next}
+use Rattle.gq_merging.proofs.MemberSteps.{alike, reach_alike, from_flat, to_flat}
+use Rattle.gq_merging.proofs.MemberLemmas.{get_contains, get_below, members_there, row_of_member}
+use Rattle.gq_merging.proofs.PairNumbers.{pair_below, left_of, right_of}
+use Rattle.gq_merging.proofs.GrowLemmas.{of_one, in_either, still_in_one, searched_as, searched_both, searched_nowhere}
+
+-- the sets of rows that stand have rows
+pub sets_there : (x : ExecutableOf) (rows : List RowOf) → AreRows x rows → HaveSets rows
+sets_there x rows a n m c =
+    let r = row_of_member rows n m c in
+    let w : IsRow x.entries (names_of x) (map (λ r. r.set) rows) r.0 = All-contains (IsRow x.entries (names_of x) (map (λ r. r.set) rows)) rows r.0 a.each (get_contains rows n r.0 r.1) in
+    let h : HasNumber x.entries (map (λ r. r.set) rows) m = All-contains (HasNumber x.entries (map (λ r. r.set) rows)) r.0.members m w.numbers (subst (λ ms. Contains ms m) (members_there rows n r.0 r.1) c) in
+    subst (λ k. m.below < k) (length-map rows (λ r. r.set)) (slice_get_within (map (λ r. r.set) rows) m.below h.set h.is_set)
+
+contains_take : {A : Type 0} (xs : List A) (n i : ℕ) (y : A) → i < n → slice_get xs i ≡ Some y → Contains (take n xs) y
+contains_take [] n i y l e = absurd (none-some y e)
+contains_take (x ∷ xs) zero i y l e = absurd (omega (arith, l))
+contains_take (x ∷ xs) (suc n) zero y l e = contains_first x (take n xs) y (same_Some x y e)
+contains_take (x ∷ xs) (suc n) (suc i) y l e = contains_later x (take n xs) y (contains_take xs n i y (omega (arith, l)) e)
+
+-- one more at the front
+front_more : {A : Type 0} (xs : List A) (i : ℕ) (y : A) → slice_get xs i ≡ Some y → take (i + 1) xs ≡ take i xs ++ y ∷ []
+front_more [] i y e = absurd (none-some y e)
+front_more (x ∷ xs) zero y e = ap (λ z. z ∷ []) (same_Some x y e)
+front_more (x ∷ xs) (suc i) y e = let same : suc i + 1 ≡ suc (i + 1) = omega arith in ap (λ n. take n (x ∷ xs)) same ∙ ap (λ zs. x ∷ zs) (front_more xs i y e)
+
+module _ (w : LookOf) (passed : List Bool) (sets : HaveSets w.rows) (counted : w.count ≡ length w.rows) (square : w.size ≡ w.count * w.count) where
+  -- a field of a set has a set in its braces
+  below_there : (n : ℕ) (m : MemberOf) → IsMember w.rows n m → m.below < w.count
+  below_there n m h = subst (λ k. m.below < k) (sym counted) (sets h.reached m h.stands)
+
+  of_group_there : (group : List ℕ) (m : MemberOf) → IsOfGroup w.rows group m → m.below < w.count
+  of_group_there group m h = subst (λ k. m.below < k) (sym counted) (sets h.reached m h.stands)
+
+  met_at : (i j : ℕ) (q : MetOf) → j < w.count → IsMember w.rows i q.left → IsMember w.rows j q.right → key q.left.field_at ≡ key q.right.field_at → IsMetAt w (i * w.count + j) q
+  met_at i j q l left right one_key = record {
+    left = subst (λ n. IsMember w.rows n q.left) (sym (left_of w.count i j (i * w.count + j) l refl)) left;
+    right = subst (λ n. IsMember w.rows n q.right) (sym (right_of w.count i j (i * w.count + j) l refl)) right;
+    one_key = one_key;
+  }
+
+  -- what is under two fields that meet meets
+  under_reached : (p q : MetOf) → IsMetReached w passed p → p.left.below < w.count → p.right.below < w.count → AreUnder w p q → IsMetReached w passed q
+  under_reached p q h l r u = record {
+    number = p.left.below * w.count + p.right.below;
+    reached = step h.reached (record {
+      one = p;
+      these = h.met;
+      gives = record { leads = u.leads; number = record { is = refl; within = subst (λ k. p.left.below * w.count + p.right.below < k) (sym square) (pair_below w.count p.left.below p.right.below l r) } };
+    });
+    met = met_at p.left.below p.right.below q r u.left u.right u.one_key;
+  }
+
+  module _ (first : List (List ℕ)) (are_first : AreFirst passed (length passed) first) (as_many : length passed ≡ w.count) where
+    first_reached : (q : MetOf) → AreInOne w.rows first q → IsMetReached w passed q
+    first_reached q h =
+        let f = are_first.only h.group h.is_group in
+        let l : f.number < w.count = subst (λ k. f.number < k) as_many f.before in
+        record {
+          number = f.number * w.count + f.number;
+          reached = start (record {
+            row = f.number;
+            before = f.before;
+            stays = f.stays;
+            number = record { is = refl; within = subst (λ k. f.number * w.count + f.number < k) (sym square) (pair_below w.count f.number f.number l l) };
+          });
+          met = met_at f.number f.number q l ((of_one w.rows f.number q.left).0 (subst (λ g. IsOfGroup w.rows g q.left) f.is h.inside.left))
+              ((of_one w.rows f.number q.right).0 (subst (λ g. IsOfGroup w.rows g q.right) f.is h.inside.right)) h.inside.one_key;
+        }
+
+    one_below : (g : List ℕ) → IsFirst passed (length passed) g → All (λ n. n < length w.rows) g
+    one_below g f =
+        subst (All (λ n. n < length w.rows)) (sym f.is)
+        (All-cons (λ n. n < length w.rows) f.number [] (subst (λ k. f.number < k) (as_many ∙ counted) f.before) (All-nil (λ n. n < length w.rows)))
+
+    first_below : (gs : List (List ℕ)) → ((g : List ℕ) → Contains gs g → IsFirst passed (length passed) g) → AreBelow w.rows gs
+    first_below [] only = All-nil (λ g. All (λ n. n < length w.rows) g)
+    first_below (g ∷ gs) only =
+        All-cons (λ g. All (λ n. n < length w.rows) g) g gs (one_below g (only g (contains_first g gs g refl))) (first_below gs (λ h c. only h (contains_later g gs h c)))
+
+    pub search_starts : Search w passed first [] first 0
+    search_starts = record {
+      most = omega arith;
+      range = first_below first are_first.only;
+      sound = first_reached;
+      searched = searched_nowhere w (AreInOne w.rows []) [] first (λ p h. contains_none h.group h.is_group);
+    }
+
+  -- a group that was there already
+  pub search_known : (first : List (List ℕ)) (items : List Item) (groups : List (List ℕ)) (done : ℕ) → done < length groups → WasThere groups done →
+      Search w passed first items groups done → Search w passed first items groups (done + 1)
+  search_known first items groups done l was s =
+      let g = get_below groups done l in
+      let front : take (done + 1) groups ≡ take done groups ++ g.0 ∷ [] = front_more groups done g.0 g.1 in
+      let before : Contains (take done groups) g.0 = contains_take groups done was.earlier g.0 was.before (was.same ∙ g.1) in
+      record {
+        most = omega (arith, l);
+        range = s.range;
+        sound = s.sound;
+        searched = subst (λ gs. Searched w (AreInOne w.rows gs) [] items first groups) (sym front)
+            (searched_as w (AreInOne w.rows (take done groups)) (AreInOne w.rows (take done groups ++ g.0 ∷ [])) [] items first groups
+            (λ p. (
+              still_in_one w.rows (take done groups) (take done groups ++ g.0 ∷ []) (g.0 ∷ []) refl p,
+              (λ h. ⊎_elim (λ a. a)
+                  (λ b. record { group = g.0; is_group = before; inside = subst (λ k. AreInGroup w.rows k p) (the_one g.0 b.group b.is_group) b.inside })
+                  (in_either w.rows (take done groups) (g.0 ∷ []) p h)),
+            )) s.searched);
+      }
+    where
+      the_one : (g h : List ℕ) → Contains (g ∷ []) h → h ≡ g
+      the_one g h c = ⊎_elim (λ e. sym e) (λ f. absurd (contains_none h f)) (contains_cases g [] h c)
+
+  -- a group that is looked at
+  pub search_next : (first : List (List ℕ)) (items items' : List Item) (old new : List (List ℕ)) (done : ℕ) (group : List ℕ) → done < length old → slice_get old done ≡ Some group →
+      Searched w (AreInGroup w.rows group) items items' old new → Search w passed first items old done → Search w passed first items' new (done + 1)
+  search_next first items items' old new done group l at h s =
+      let g = h.grows in
+      let count : length new ≡ length old + length g.added = ap length g.is ∙ length-append old g.added in
+      let front : take (done + 1) new ≡ take done old ++ group ∷ [] = ap (take (done + 1)) g.is ∙ take-append-le (done + 1) old g.added (omega (arith, l)) ∙ front_more old done group at in
+      let here : Contains old group = get_contains old done group at in
+      record {
+        most = omega (arith, count, l);
+        range = subst (AreBelow w.rows) (sym g.is) (All-append (λ k. All (λ n. n < length w.rows) k) old g.added s.range g.range);
+        sound = λ q i. ⊎_elim (s.sound q) (sound_more here) (in_either w.rows old g.added q (subst (λ gs. AreInOne w.rows gs q) g.is i));
+        searched = subst (λ gs. Searched w (AreInOne w.rows gs) [] items' first new) (sym front)
+            (searched_as w (λ p. AreInOne w.rows (take done old) p ⊎ AreInGroup w.rows group p) (AreInOne w.rows (take done old ++ group ∷ [])) [] items' first new
+            (λ p. (
+              (λ e. ⊎_elim
+                  (still_in_one w.rows (take done old) (take done old ++ group ∷ []) (group ∷ []) refl p)
+                  (λ i. record { group = group; is_group = Contains-append_right (take done old) (group ∷ []) group (contains_first group [] group refl); inside = i }) e),
+              (λ i. ⊎_elim inl (λ b. inr (subst (λ k. AreInGroup w.rows k p) (the_one group b.group b.is_group) b.inside)) (in_either w.rows (take done old) (group ∷ []) p i)),
+            ))
+            (searched_both w (AreInOne w.rows (take done old)) (AreInGroup w.rows group) [] items items' first old new s.searched h));
+      }
+    where
+      the_one : (g h : List ℕ) → Contains (g ∷ []) h → h ≡ g
+      the_one g h c = ⊎_elim (λ e. sym e) (λ f. absurd (contains_none h f)) (contains_cases g [] h c)
+
+      sound_more : Contains old group → {q : MetOf} → AreInOne w.rows h.grows.added q → IsMetReached w passed q
+      sound_more here {q} i =
+          let t = h.grows.taken q i in
+          under_reached t.one q (s.sound t.one (record { group = group; is_group = here; inside = t.these }))
+          (of_group_there group t.one.left t.these.left) (of_group_there group t.one.right t.these.right) t.gives
+
+  module _ (first : List (List ℕ)) (are_first : AreFirst passed (length passed) first) (as_many : length passed ≡ w.count)
+      (items : List Item) (groups : List (List ℕ)) (sound : (q : MetOf) → AreInOne w.rows groups q → IsMetReached w passed q)
+      (searched : Searched w (AreInOne w.rows groups) [] items first groups) where
+    at_pair : (i j n : ℕ) (q : MetOf) → j < w.count → n ≡ i * w.count + j → IsMetAt w n q → IsMember w.rows i q.left × IsMember w.rows j q.right
+    at_pair i j n q l e h = (
+      subst (λ k. IsMember w.rows k q.left) (left_of w.count i j n l e) h.left,
+      subst (λ k. IsMember w.rows k q.right) (right_of w.count i j n l e) h.right,
+    )
+
+    -- what meets stands together in a group
+    complete : (n : ℕ) → IsReached w passed n → (q : MetOf) → IsMetAt w n q → AreInOne w.rows groups q
+    complete n (start s) q h =
+        let l : s.row < w.count = subst (λ k. s.row < k) as_many s.before in
+        let both = at_pair s.row s.row n q l s.number.is h in
+        still_in_one w.rows first groups searched.grows.added searched.grows.is q
+        (record {
+          group = s.row ∷ [];
+          is_group = are_first.each s.row s.before s.stays;
+          inside = record { left = (of_one w.rows s.row q.left).1 both.0; right = (of_one w.rows s.row q.right).1 both.1; one_key = h.one_key };
+        })
+    complete n (step {m = m} r g) q h =
+        let i = complete m r g.one g.these in
+        let l : g.one.right.below < w.count = of_group_there i.group g.one.right i.inside.right in
+        let both = at_pair g.one.left.below g.one.right.below n q l g.gives.number.is h in
+        searched.grows.holds q (record { one = g.one; these = i; gives = record { leads = g.gives.leads; left = both.0; right = both.1; one_key = h.one_key } })
+
+    all_found : (item : Item) → Contains items item ↔ IsGiven (IsMetReached w passed) (IsFaultOf w) item
+    all_found item =
+        let e = searched.puts.exactly item in (
+          (λ c. let g = e.0 (subst (λ is. Contains is item) searched.puts.is c) in record { one = g.one; these = sound g.one g.these; gives = g.gives }),
+          (λ g. subst (λ is. Contains is item) (sym searched.puts.is) (e.1 (record { one = g.one; these = complete g.these.number g.these.reached g.one g.these.met; gives = g.gives }))),
+        )
+
+  pub search_ends : (first : List (List ℕ)) → AreFirst passed (length passed) first → length passed ≡ w.count → (items : List Item) (groups : List (List ℕ)) (done : ℕ) →
+      Search w passed first items groups done → length groups ≤ done → (item : Item) → Contains items item ↔ IsGiven (IsMetReached w passed) (IsFaultOf w) item
+  search_ends first are_first as_many items groups done s past =
+      all_found first are_first as_many items groups s.sound (subst (λ gs. Searched w (AreInOne w.rows gs) [] items first groups) (take_all done groups past) s.searched)
+
+-- the groups of the sets that are not passed over, one set more
+pub first_none : (passed : List Bool) (groups : List (List ℕ)) → groups ≡ [] → AreFirst passed 0 groups
+first_none passed groups e = record {
+  only = λ g c. absurd (contains_none g (subst (λ gs. Contains gs g) e c));
+  each = λ n l stays. absurd (omega (arith, l));
+}
+
+later_first : (passed : List Bool) (k : ℕ) (g : List ℕ) → IsFirst passed k g → IsFirst passed (k + 1) g
+later_first passed k g f = record { number = f.number; before = (let l = f.before in omega (arith, l)); stays = f.stays; is = f.is }
+
+pub first_stays : (passed : List Bool) (k : ℕ) (old new : List (List ℕ)) → slice_index_or passed k false ≡ false → new ≡ old ++ (k ∷ []) ∷ [] → AreFirst passed k old → AreFirst passed (k + 1) new
+first_stays passed k old new stays e f = record {
+  only = λ g c. ⊎_elim (λ d. later_first passed k g (f.only g d)) (λ q. record { number = k; before = omega arith; stays = stays; is = sym q })
+      (Contains-push_cases old (k ∷ []) g (subst (λ gs. Contains gs g) e c));
+  each = λ n l s. subst (λ gs. Contains gs (n ∷ [])) (sym e) (⊎_elim (λ b. Contains-append_left old ((k ∷ []) ∷ []) (n ∷ []) (f.each n b s)) (λ q. subst (λ m. Contains (old ++ (k ∷ []) ∷ []) (m ∷ [])) (sym q) (Contains-push old (k ∷ []))) (before_next n k l));
+}
+
+pub first_passed : (passed : List Bool) (k : ℕ) (old : List (List ℕ)) → slice_index_or passed k false ≡ true → AreFirst passed k old → AreFirst passed (k + 1) old
+first_passed passed k old gone f = record {
+  only = λ g c. later_first passed k g (f.only g c);
+  each = λ n l s. ⊎_elim (λ b. f.each n b s) (λ q. let there : slice_index_or passed k false ≡ false = subst (λ m. slice_index_or passed m false ≡ false) q s in absurd (cc)) (before_next n k l);
+}
+
+-- the fields of a group are those of all that it reaches
+module _ (rows : List Row) (table : List (Vec ℕ Global)) (same : map (λ v. v.items) table ≡ map (λ r. r.spreads.items) rows) (group found : List ℕ) (ms : List MemberOf)
+    (sound : All (λ n. Reach group (row table) n) found) (complete : (n : ℕ) → Reach group (row table) n → Contains found n) (is : ms ≡ flat_map (members_at (rows_view rows)) found) where
+  members_of_group : (m : MemberOf) → Contains ms m ↔ IsOfGroup (rows_view rows) group m
+  members_of_group m = (
+    (λ c. let q = from_flat (members_at (rows_view rows)) found m (subst (λ ls. Contains ls m) is c) in
+        record {
+          reached = q.0;
+          reach = reach_alike (row table) (spreads_at (rows_view rows)) group (alike rows table same) q.0 (All-contains (λ n. Reach group (row table) n) found q.0 sound q.1);
+          stands = q.2;
+        }),
+    (λ h. subst (λ ls. Contains ls m) (sym is)
+        (to_flat (members_at (rows_view rows)) found h.reached m
+        (complete h.reached (reach_alike (spreads_at (rows_view rows)) (row table) group (λ n. sym (alike rows table same n)) h.reached h.reach)) h.stands)),
+  )
+
+  -- what is found in the lists by key is found in the group
+  pub group_searched : (w : LookOf) (vs : List (Vec Member Global)) (t : ByNameOf) → t.lists ≡ map seen vs → AreByKey t ms → (items items' : List Item) (old new : List (List ℕ)) →
+      Searched w (AreMetInOne (map seen vs)) items items' old new → Searched w (AreInGroup (rows_view rows) group) items items' old new
+  group_searched w vs t are by_key items items' old new s =
+      searched_as w (AreMetInOne (map seen vs)) (AreInGroup (rows_view rows) group) items items' old new
+      (λ p.
+      let tell = seen_tell vs t are ms by_key p in (
+        (λ h. let m = tell.0 h in record { left = (members_of_group p.left).0 m.stands_left; right = (members_of_group p.right).0 m.stands_right; one_key = m.one_key }),
+        (λ h. tell.1 (record { stands_left = (members_of_group p.left).1 h.left; stands_right = (members_of_group p.right).1 h.right; one_key = h.one_key })),
+      )) s

@@ -1,0 +1,6 @@
+use Rattle.gq_merging.specs.SearchTables.{AreFirst}
+use Rattle.gq_merging.specs.GroupViews.{groups_view}
+use Rattle.gq_merging.proofs.search.first_groups.Given as goal
+
+abbrev pub invariant-loop-number : goal.invariant-loop-number
+invariant-loop-number l = AreFirst l.passed l.number (groups_view l.groups.items)

@@ -1,0 +1,157 @@
+//! Fields that do not merge, found by a search over groups of sets whose fields stand together.
+//!
+//! It begins with each set that is not passed over alone. The fields of a group are those of its sets, and of the fragments that they
+//! reach by spreads. Among those of one key the faults are put, and the sets in the braces of those of which what stands there
+//! meets are a group again. Any two fields that meet stand together in a group, and two of one key in a group meet, so these are
+//! all faults. A group that was there already is passed over. The number of groups can double at each level of
+//! fragments: after a number of steps the search gives up.
+ghost use Rattle.std.specs.Prelude.{◌≡◌, ◌↔◌, ◌<◌, ◌+◌, ◌*◌, ℕ, Bool, List, [], All, Some, Contains, IsTrue, IfSome, IfOk, OnOk, length, map, slice_get};
+ghost use Rattle.gq_found.specs.declared.item.Item.{Item};
+ghost use Rattle.gq_reach.specs.Reach.{InRange};
+ghost use Rattle.gq_tree.specs.Views.{type_view};
+ghost use Rattle.gq_document.specs.Selections.{typename_field};
+ghost use Rattle.gq_merging.specs.PairTables.{IsGiven, IsMetReached, IsFaultOf};
+ghost use Rattle.gq_merging.specs.SearchTables.{AreFirst, AreInGroup, HaveSets, Search, Searched, WasThere};
+ghost use Rattle.gq_merging.specs.GroupTables.{AreBelow};
+ghost use Rattle.gq_merging.specs.GroupViews.{groups_view};
+ghost use Rattle.gq_merging.specs.Views.{rows_view, look_view};
+
+use crate::by_name::FieldsByName;
+use crate::cliques::{look_at_classes, take_steps};
+use crate::groups::{all_room, is_as_before};
+use crate::members::{gathered, reached_sets};
+use crate::pairs::Look;
+use gq_found::Item;
+use gq_text::NoMemory;
+use std::alloc::Global;
+
+/// What keeps the search short: the place of the last group that has each number, and how many steps are left.
+#[derive(Drop)]
+struct Notes {
+    places: Vec<usize>,
+    steps: usize,
+}
+
+/// How many steps the search may take beyond those in proportion to the rows.
+const MORE_STEPS: usize = 30_000_000;
+
+/// Notes of no group.
+fn no_notes(look: Look<'_>) -> Result<Notes, NoMemory> {
+    Ok(Notes {
+        places: vec![in look.alloc; 0; look.rows.len()]?,
+        steps: all_room(look.rows).saturating_add(MORE_STEPS),
+    })
+}
+
+/// A number for the group, by which one that is the same is looked for. It is below the count, if that is not 0.
+fn slot_of(group: &[usize], count: usize) -> usize {
+    let mut slot: usize = 0;
+    for number in group {
+        slot = slot.wrapping_mul(31).wrapping_add(*number);
+    }
+    slot.checked_rem(count).unwrap_or(0)
+}
+
+/// Whether the group at that place was there already. Its place is noted.
+fn was_there(groups: &[Vec<usize>], place: usize, places: &mut Vec<usize>) -> bool
+    requires { place < length groups.now }
+    ensures { IsTrue result → WasThere (groups_view groups.now) place }
+{
+    let slot = slot_of(&groups[place], places.len());
+    if slot >= places.len() {
+        return false;
+    }
+    let earlier = places[slot];
+    places[slot] = place;
+    is_as_before(groups, earlier, place)
+}
+
+/// The groups of one set each, those that are not passed over.
+fn first_groups(alloc: Global, passed: &[bool]) -> Result<Vec<Vec<usize>>, NoMemory>
+    ensures { IfOk result (λ groups. AreFirst passed.now (length passed.now) (groups_view groups.items)) }
+{
+    let mut groups = Vec::new(alloc);
+    for number in 0..passed.len() {
+        if !passed[number] {
+            groups.push(vec![in alloc; number; 1]?)?;
+        }
+    }
+    Ok(groups)
+}
+
+/// Looks at the fields of the group at that place.
+fn look_at_group(
+    look: Look<'_>,
+    place: usize,
+    items: &mut Vec<Item>,
+    groups: &mut Vec<Vec<usize>>,
+    steps: &mut usize,
+) -> Result<bool, NoMemory>
+    requires typename { type_view look.typename_type.now ≡ typename_field.type_ref }
+    requires reach { InRange look.spreads.now }
+    requires spreads { map (λ v. v.items) look.spreads.now ≡ map (λ r. r.spreads.items) look.rows.now }
+    requires place { place < length groups.old.items }
+    requires range { AreBelow (rows_view look.rows.now) (groups_view groups.old.items) }
+    ensures { (group : List ℕ) → slice_get (groups_view groups.old.items) place ≡ Some group → IfOk result (λ done. IsTrue done → Searched (look_view look.entry) (AreInGroup (rows_view look.entry.rows.now) group) items.old.items items.new.items (groups_view groups.old.items) (groups_view groups.new.items)) }
+{
+    let found = reached_sets(look.alloc, look.spreads, &groups[place])?;
+    let members = gathered(look.alloc, look.rows, &found)?;
+    if !take_steps(steps, found.len()) || !take_steps(steps, members.len()) {
+        return Ok(false);
+    }
+    let by_key = FieldsByName::by_key(look.alloc, &members)?;
+    let done = look_at_classes(look, &by_key.lists, items, groups, steps)?;
+    Ok(done)
+}
+
+/// The same, but passes over a group that was there already.
+fn search_on(
+    look: Look<'_>,
+    place: usize,
+    items: &mut Vec<Item>,
+    groups: &mut Vec<Vec<usize>>,
+    notes: &mut Notes,
+) -> Result<bool, NoMemory>
+    requires typename { type_view look.typename_type.now ≡ typename_field.type_ref }
+    requires reach { InRange look.spreads.now }
+    requires spreads { map (λ v. v.items) look.spreads.now ≡ map (λ r. r.spreads.items) look.rows.now }
+    requires sets { HaveSets (rows_view look.rows.now) }
+    requires size { look.size ≡ length look.rows.now * length look.rows.now }
+    requires place { place < length groups.old.items }
+    requires range { AreBelow (rows_view look.rows.now) (groups_view groups.old.items) }
+    ensures { IfOk result (λ done. IsTrue done → (passed : List Bool) (first : List (List ℕ)) → Search (look_view look.entry) passed first items.old.items (groups_view groups.old.items) place → Search (look_view look.entry) passed first items.new.items (groups_view groups.new.items) (place + 1)) }
+{
+    if was_there(groups, place, &mut notes.places) {
+        return Ok(true);
+    }
+    look_at_group(look, place, items, groups, &mut notes.steps)
+}
+
+/// The items of all fields that meet in a set that is not passed over, or under it, and differ from one that stands no later; none
+/// where the search takes too many steps.
+pub(crate) fn search_groups(look: Look<'_>, passed: &[bool]) -> Result<Option<Vec<Item>>, NoMemory>
+    requires typename { type_view look.typename_type.now ≡ typename_field.type_ref }
+    requires reach { InRange look.spreads.now }
+    requires spreads { map (λ v. v.items) look.spreads.now ≡ map (λ r. r.spreads.items) look.rows.now }
+    requires sets { HaveSets (rows_view look.rows.now) }
+    requires size { look.size ≡ length look.rows.now * length look.rows.now }
+    requires passed { length passed.now ≡ length look.rows.now }
+    ensures { IfOk result (λ found. IfSome found (λ items. (item : Item) → Contains items.items item ↔ IsGiven (IsMetReached (look_view look.entry) passed.now) (IsFaultOf (look_view look.entry)) item)) }
+{
+    let mut groups = first_groups(look.alloc, passed)?;
+    let mut notes = no_notes(look)?;
+    let mut items = Vec::new(look.alloc);
+    let mut turns = notes.steps;
+    let mut done = 0;
+    while done < groups.len() {
+        if turns == 0 {
+            return Ok(None);
+        }
+        if !search_on(look, done, &mut items, &mut groups, &mut notes)? {
+            return Ok(None);
+        }
+        turns -= 1;
+        done += 1;
+    }
+    Ok(Some(items))
+}

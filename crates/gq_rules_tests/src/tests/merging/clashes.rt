@@ -1,0 +1,39 @@
+//! Which of the fields of one key are told: those that differ from one that stands no later.
+use super::{CALLS, PETS, assert_found};
+use std::test::Fail;
+
+const NODES: &str = "type Query{p:I} interface I{a:Int c:Int i:I} type D implements I{a:Int c:Int i:I} type E implements I{a:Int c:Int i:I}";
+
+#[test]
+fn each_field_that_differs_from_an_earlier_one_is_told(rt: HostRuntime) -> Result<(), Fail> {
+    let rows = "
+        {k:f k:g k:f} => 1:V5[7,8]1:V5[11,12]
+        {k:f k:f k:g k:f} => 1:V5[11,12]1:V5[15,16]
+        {k:f k:f(a:1) k:f k:f(a:1)} => 1:V5[7,8]1:V5[16,17]1:V5[20,21]
+    ";
+    assert_found(rt.alloc(), &rt, CALLS, rows)
+}
+
+#[test]
+fn fields_of_unknown_shape_are_passed_over(rt: HostRuntime) -> Result<(), Fail> {
+    let rows = "
+        {p{...on Dog{k:a} ...on Cat{k:l} ...on Dog{k:a}}} => 1:V5[30,31]1:V5[45,46]
+        {p{...on Dog{k:none} ...on Cat{k:a} ...on Dog{k:none}}} =>
+        {p{...on Dog{k:none} ...on Cat{k:l} ...on Dog{k:a}}} => 1:V5[48,49]
+        {p{k:none ...on Dog{k:a} ...on Cat{k:l} k:none}} => 1:V5[22,23]1:V5[37,38]1:V5[42,46]
+    ";
+    assert_found(rt.alloc(), &rt, PETS, rows)
+}
+
+#[test]
+fn fields_of_an_interface_meet_those_of_each_object_type(rt: HostRuntime) -> Result<(), Fail> {
+    let rows = "
+        {p{...on D{k:a} ...on E{k:c} k:a}} => 1:V5[31,32]
+        {p{...on D{k:c} ...on E{k:a} k:c ...on E{k:a}}} => 1:V5[31,32]1:V5[43,44]
+        {p{...on D{n:i{k:a}} ...on E{n:i{k:c}}}} =>
+        {p{...on D{n:i{k:a}} ...on E{n:i{k:c}} n:i{k:a}}} => 1:V5[45,46]
+        {p{n:i{k:a} ...on D{n:i{k:c}} ...on E{n:i{k:c}}}} => 1:V5[26,27]1:V5[44,45]
+        {p{...on None{k:a} ...on D{k:c} ...on E{k:a} ...on None{k:c}}} =>
+    ";
+    assert_found(rt.alloc(), &rt, NODES, rows)
+}
