@@ -161,6 +161,27 @@ def one_fault(count):
     yield "q.graphql", "\n".join(rows + ["fragment F%d on Query{x x:f}" % (count - 1)])
 
 
+def other_set(count):
+    """Many equal sets under one key, and one that differs."""
+    yield "s.graphql", SCHEMA
+    yield "q.graphql", "{" + " ".join(["q{x q{x}}"] * count) + " q{x:f q{x}}}"
+
+
+def two_fields(count):
+    """Two fields of one key, in turn."""
+    yield "s.graphql", SCHEMA
+    yield "q.graphql", "{" + " ".join(["k:x k:f"] * (count // 2)) + "}"
+
+
+def object_types(count):
+    """Fields of one key on many object types, each with a set, beside as many on their interface, one of which differs."""
+    rows = ["type Query{i:I}interface I{a:I b:I c:Int}"]
+    rows += ["type T%d implements I{a:I b:I c:Int}" % i for i in range(count)]
+    yield "s.graphql", "\n".join(rows)
+    fields = ["...on T%d{k:a{c}}" % i for i in range(count)] + ["k:a{c}"] * count + ["k:b{c}"]
+    yield "q.graphql", "{i{%s}}" % "".join(fields)
+
+
 def many_conditions(objects, interfaces):
     """An interface of many objects, and inline fragments on other interfaces below it."""
     rows = ["type Query{i:I}interface I{a:Int}"]
@@ -186,7 +207,11 @@ PROJECTS = {
     "spread_alone": lambda: many_operations(3000, lambda i: ""),
     "spread_beside_fields": lambda: many_operations(3000, lambda i: "k%d:x" % i),
     "spread_beside_calls": lambda: many_operations(3000, lambda i: "k:f(a:%d)" % i),
-    "one_fault": lambda: one_fault(600),
+    "one_fault": lambda: one_fault(1200),
+    "many_faults": lambda: one_fault(3000),
+    "other_set": lambda: other_set(3200),
+    "two_fields": lambda: two_fields(6400),
+    "object_types": lambda: object_types(1000),
     "types": lambda: types(5000),
     "large": lambda: large(200, 20_000, True),
     "dense": lambda: large(200, 20_000, False),
