@@ -228,10 +228,11 @@ fn put_faults_for(look: Look<'_>, passed: &[bool], items: &mut Vec<Item>) -> Res
 
 /// Each field that does not merge with one that stands no later, in any selection set of the project, at its name.
 ///
-/// Pairs of fields are looked at only under selection sets of which it is not known that all fields under them merge, and
-/// each pair of sets once: it takes time for the pairs of fields in them, and memory for the pairs of sets. Past 2^64 pairs
-/// of sets in the project it answers `NoMemory`. Identical arguments in one order take linear time, others time for each
-/// pair of values in them. What is known of the sets is found by two threads.
+/// Selection sets of which it is known that all fields under them merge are passed over. Under the others fields are looked at in
+/// groups, which takes time for the fields that each operation reaches. Only where the groups would be too many are pairs of
+/// fields looked at, each pair of sets once: that takes time for the pairs of fields in them, and memory for the pairs
+/// of sets. Past 2^64 pairs of sets in the project it answers `NoMemory`. Identical arguments in one order take linear time,
+/// others time for each pair of values in them. What is known of the sets is found by two threads.
 pub fn put_merging_faults<R: Threads + Sync>(
     rt: &R,
     alloc: Global,
