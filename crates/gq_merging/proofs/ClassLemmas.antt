@@ -28,7 +28,7 @@ use Rattle.gq_merging.specs.declared.classes.Classes.{Classes}
 use Rattle.gq_merging.specs.declared.rows.Member.{Member}
 use Rattle.gq_merging.specs.declared.rows.Row.{Row}
 use Rattle.gq_merging.proofs.CompareLemmas.{shapes_are}
-use Rattle.gq_merging.proofs.MemberLemmas.{get_contains}
+use Rattle.gq_merging.proofs.MemberLemmas.{get_contains, reach_earlier}
 use Rattle.gq_merging.proofs.MemberSteps.{members_of_row, members_past}
 use Rattle.gq_merging.proofs.Worklist.{get_longer, get_seam}
 
@@ -101,6 +101,14 @@ through_member rows n fragment t m h = elim (on_through (spreads_at rows) n frag
   | inl at ↦ absurd (contains_none m (subst (λ ms. Contains ms m) (ap (members_at rows) at ∙ t.none) h.stands))
   | inr r ↦ record { reached = h.reached; reach = r; stands = h.stands }
 ]
+
+-- and back
+pub member_through : (rows : List RowOf) (n fragment : ℕ) → IsThrough rows n fragment → (m : MemberOf) → IsMember rows fragment m → IsMember rows n m
+member_through rows n fragment t m h = record {
+  reached = h.reached;
+  reach = reach_earlier (spreads_at rows) n fragment h.reached (subst (λ ns. Contains ns fragment) (sym t.one) (contains_first fragment [] fragment refl)) h.reach;
+  stands = h.stands;
+}
 
 -- the row in which no field stands, and one spread
 pub is_through : (rows : List Row) (n fragment : ℕ) (r : Row) → slice_get rows n ≡ Some r → r.members.items ≡ [] → length r.spreads.items ≡ 1 → fragment ≡ get_or r.spreads.items 0 fragment →

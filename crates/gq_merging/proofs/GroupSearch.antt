@@ -13,9 +13,9 @@ use Rattle.gq_document.specs.Executable.{ExecutableOf}
 use Rattle.gq_merging.specs.FieldSets.{key}
 use Rattle.gq_merging.specs.FieldsMerge.{leads_on}
 use Rattle.gq_merging.specs.SetTables.{MemberOf, RowOf, AreRows, IsRow, HasNumber, members_at, spreads_at, IsMember, names_of}
-use Rattle.gq_merging.specs.GroupTables.{IsOfGroup, AreBelow}
+use Rattle.gq_merging.specs.GroupTables.{IsOfGroup, IsUnder, AreBelow}
 use Rattle.gq_merging.specs.PairTables.{MetOf, LookOf, IsGiven, IsMetAt, IsBelow, IsReached, start, step, IsMetReached, IsFaultOf}
-use Rattle.gq_merging.specs.SearchTables.{AreInGroup, AreInOne, AreMetInOne, AreUnder, Grows, Searched, IsFirst, AreFirst, HaveSets, Search, WasThere}
+use Rattle.gq_merging.specs.SearchTables.{AreInGroup, AreInOne, AreMetInOne, AreUnder, Grows, Searched, IsFirst, HasFields, AreFirst, HaveSets, Search, WasThere}
 use Rattle.gq_merging.specs.NameTables.{ByNameOf, AreByKey}
 use Rattle.gq_merging.specs.Views.{rows_view}
 use Rattle.gq_merging.specs.declared.rows.Member.{Member}
@@ -74,7 +74,7 @@ module _ (w : LookOf) (passed : List Bool) (sets : HaveSets w.rows) (counted : w
     met = met_at p.left.below p.right.below q r u.left u.right u.one_key;
   }
 
-  module _ (first : List (List ℕ)) (are_first : AreFirst passed (length passed) first) (as_many : length passed ≡ w.count) where
+  module _ (first : List (List ℕ)) (are_first : AreFirst w.rows passed (length passed) first) (as_many : length passed ≡ w.count) where
     first_reached : (q : MetOf) → AreInOne w.rows first q → IsMetReached w passed q
     first_reached q h =
         let f = are_first.only h.group h.is_group in
@@ -87,16 +87,14 @@ module _ (w : LookOf) (passed : List Bool) (sets : HaveSets w.rows) (counted : w
             stays = f.stays;
             number = record { is = refl; within = subst (λ k. f.number * w.count + f.number < k) (sym square) (pair_below w.count f.number f.number l l) };
           });
-          met = met_at f.number f.number q l ((of_one w.rows f.number q.left).0 (subst (λ g. IsOfGroup w.rows g q.left) f.is h.inside.left))
-              ((of_one w.rows f.number q.right).0 (subst (λ g. IsOfGroup w.rows g q.right) f.is h.inside.right)) h.inside.one_key;
+          met = met_at f.number f.number q l (f.over q.left ((of_one w.rows f.same q.left).0 (subst (λ g. IsOfGroup w.rows g q.left) f.is h.inside.left)))
+              (f.over q.right ((of_one w.rows f.same q.right).0 (subst (λ g. IsOfGroup w.rows g q.right) f.is h.inside.right))) h.inside.one_key;
         }
 
-    one_below : (g : List ℕ) → IsFirst passed (length passed) g → All (λ n. n < length w.rows) g
-    one_below g f =
-        subst (All (λ n. n < length w.rows)) (sym f.is)
-        (All-cons (λ n. n < length w.rows) f.number [] (subst (λ k. f.number < k) (as_many ∙ counted) f.before) (All-nil (λ n. n < length w.rows)))
+    one_below : (g : List ℕ) → IsFirst w.rows passed (length passed) g → All (λ n. n < length w.rows) g
+    one_below g f = subst (All (λ n. n < length w.rows)) (sym f.is) (All-cons (λ n. n < length w.rows) f.same [] f.there (All-nil (λ n. n < length w.rows)))
 
-    first_below : (gs : List (List ℕ)) → ((g : List ℕ) → Contains gs g → IsFirst passed (length passed) g) → AreBelow w.rows gs
+    first_below : (gs : List (List ℕ)) → ((g : List ℕ) → Contains gs g → IsFirst w.rows passed (length passed) g) → AreBelow w.rows gs
     first_below [] only = All-nil (λ g. All (λ n. n < length w.rows) g)
     first_below (g ∷ gs) only =
         All-cons (λ g. All (λ n. n < length w.rows) g) g gs (one_below g (only g (contains_first g gs g refl))) (first_below gs (λ h c. only h (contains_later g gs h c)))
@@ -165,7 +163,7 @@ module _ (w : LookOf) (passed : List Bool) (sets : HaveSets w.rows) (counted : w
           under_reached t.one q (s.sound t.one (record { group = group; is_group = here; inside = t.these }))
           (of_group_there group t.one.left t.these.left) (of_group_there group t.one.right t.these.right) t.gives
 
-  module _ (first : List (List ℕ)) (are_first : AreFirst passed (length passed) first) (as_many : length passed ≡ w.count)
+  module _ (first : List (List ℕ)) (are_first : AreFirst w.rows passed (length passed) first) (as_many : length passed ≡ w.count)
       (items : List Item) (groups : List (List ℕ)) (sound : (q : MetOf) → AreInOne w.rows groups q → IsMetReached w passed q)
       (searched : Searched w (AreInOne w.rows groups) [] items first groups) where
     at_pair : (i j n : ℕ) (q : MetOf) → j < w.count → n ≡ i * w.count + j → IsMetAt w n q → IsMember w.rows i q.left × IsMember w.rows j q.right
@@ -180,10 +178,11 @@ module _ (w : LookOf) (passed : List Bool) (sets : HaveSets w.rows) (counted : w
         let l : s.row < w.count = subst (λ k. s.row < k) as_many s.before in
         let both = at_pair s.row s.row n q l s.number.is h in
         still_in_one w.rows first groups searched.grows.added searched.grows.is q
-        (record {
-          group = s.row ∷ [];
-          is_group = are_first.each s.row s.before s.stays;
-          inside = record { left = (of_one w.rows s.row q.left).1 both.0; right = (of_one w.rows s.row q.right).1 both.1; one_key = h.one_key };
+        (let f = are_first.each s.row s.before s.stays in
+        record {
+          group = f.group;
+          is_group = f.is_group;
+          inside = record { left = f.under.each q.left both.0; right = f.under.each q.right both.1; one_key = h.one_key };
         })
     complete n (step {m = m} r g) q h =
         let i = complete m r g.one g.these in
@@ -198,33 +197,42 @@ module _ (w : LookOf) (passed : List Bool) (sets : HaveSets w.rows) (counted : w
           (λ g. subst (λ is. Contains is item) (sym searched.puts.is) (e.1 (record { one = g.one; these = complete g.these.number g.these.reached g.one g.these.met; gives = g.gives }))),
         )
 
-  pub search_ends : (first : List (List ℕ)) → AreFirst passed (length passed) first → length passed ≡ w.count → (items : List Item) (groups : List (List ℕ)) (done : ℕ) →
+  pub search_ends : (first : List (List ℕ)) → AreFirst w.rows passed (length passed) first → length passed ≡ w.count → (items : List Item) (groups : List (List ℕ)) (done : ℕ) →
       Search w passed first items groups done → length groups ≤ done → (item : Item) → Contains items item ↔ IsGiven (IsMetReached w passed) (IsFaultOf w) item
   search_ends first are_first as_many items groups done s past =
       all_found first are_first as_many items groups s.sound (subst (λ gs. Searched w (AreInOne w.rows gs) [] items first groups) (take_all done groups past) s.searched)
 
 -- the groups of the sets that are not passed over, one set more
-pub first_none : (passed : List Bool) (groups : List (List ℕ)) → groups ≡ [] → AreFirst passed 0 groups
-first_none passed groups e = record {
-  only = λ g c. absurd (contains_none g (subst (λ gs. Contains gs g) e c));
-  each = λ n l stays. absurd (omega (arith, l));
-}
+module _ (rows : List RowOf) (passed : List Bool) where
+  pub first_none : (groups : List (List ℕ)) → groups ≡ [] → AreFirst rows passed 0 groups
+  first_none groups e = record {
+    only = λ g c. absurd (contains_none g (subst (λ gs. Contains gs g) e c));
+    each = λ n l stays. absurd (omega (arith, l));
+  }
 
-later_first : (passed : List Bool) (k : ℕ) (g : List ℕ) → IsFirst passed k g → IsFirst passed (k + 1) g
-later_first passed k g f = record { number = f.number; before = (let l = f.before in omega (arith, l)); stays = f.stays; is = f.is }
+  later_first : (k : ℕ) (g : List ℕ) → IsFirst rows passed k g → IsFirst rows passed (k + 1) g
+  later_first k g f = record { number = f.number; before = (let l = f.before in omega (arith, l)); stays = f.stays; same = f.same; is = f.is; there = f.there; over = f.over }
 
-pub first_stays : (passed : List Bool) (k : ℕ) (old new : List (List ℕ)) → slice_index_or passed k false ≡ false → new ≡ old ++ (k ∷ []) ∷ [] → AreFirst passed k old → AreFirst passed (k + 1) new
-first_stays passed k old new stays e f = record {
-  only = λ g c. ⊎_elim (λ d. later_first passed k g (f.only g d)) (λ q. record { number = k; before = omega arith; stays = stays; is = sym q })
-      (Contains-push_cases old (k ∷ []) g (subst (λ gs. Contains gs g) e c));
-  each = λ n l s. subst (λ gs. Contains gs (n ∷ [])) (sym e) (⊎_elim (λ b. Contains-append_left old ((k ∷ []) ∷ []) (n ∷ []) (f.each n b s)) (λ q. subst (λ m. Contains (old ++ (k ∷ []) ∷ []) (m ∷ [])) (sym q) (Contains-push old (k ∷ []))) (before_next n k l));
-}
+  more_fields : (old new : List (List ℕ)) → ((g : List ℕ) → Contains old g → Contains new g) → (n : ℕ) → HasFields rows old n → HasFields rows new n
+  more_fields old new keeps n h = record { group = h.group; is_group = keeps h.group h.is_group; under = h.under }
 
-pub first_passed : (passed : List Bool) (k : ℕ) (old : List (List ℕ)) → slice_index_or passed k false ≡ true → AreFirst passed k old → AreFirst passed (k + 1) old
-first_passed passed k old gone f = record {
-  only = λ g c. later_first passed k g (f.only g c);
-  each = λ n l s. ⊎_elim (λ b. f.each n b s) (λ q. let there : slice_index_or passed k false ≡ false = subst (λ m. slice_index_or passed m false ≡ false) q s in absurd (cc)) (before_next n k l);
-}
+  pub first_stays : (k same : ℕ) (old new : List (List ℕ)) → slice_index_or passed k false ≡ false → new ≡ old ++ (same ∷ []) ∷ [] → same < length rows → IsUnder rows k (same ∷ []) →
+      ((m : MemberOf) → IsMember rows same m → IsMember rows k m) → AreFirst rows passed k old → AreFirst rows passed (k + 1) new
+  first_stays k same old new stays e there under over f = record {
+    only = λ g c. ⊎_elim (λ d. later_first k g (f.only g d))
+        (λ q. record { number = k; before = omega arith; stays = stays; same = same; is = sym q; there = there; over = over })
+        (Contains-push_cases old (same ∷ []) g (subst (λ gs. Contains gs g) e c));
+    each = λ n l s. ⊎_elim
+        (λ b. more_fields old new (λ g c. subst (λ gs. Contains gs g) (sym e) (Contains-append_left old ((same ∷ []) ∷ []) g c)) n (f.each n b s))
+        (λ q. subst (HasFields rows new) (sym q) (record { group = same ∷ []; is_group = subst (λ gs. Contains gs (same ∷ [])) (sym e) (Contains-push old (same ∷ [])); under = under }))
+        (before_next n k l);
+  }
+
+  pub first_passed : (k : ℕ) (old : List (List ℕ)) → slice_index_or passed k false ≡ true → AreFirst rows passed k old → AreFirst rows passed (k + 1) old
+  first_passed k old gone f = record {
+    only = λ g c. later_first k g (f.only g c);
+    each = λ n l s. ⊎_elim (λ b. f.each n b s) (λ q. let there : slice_index_or passed k false ≡ false = subst (λ m. slice_index_or passed m false ≡ false) q s in absurd (cc)) (before_next n k l);
+  }
 
 -- the fields of a group are those of all that it reaches
 module _ (rows : List Row) (table : List (Vec ℕ Global)) (same : map (λ v. v.items) table ≡ map (λ r. r.spreads.items) rows) (group found : List ℕ) (ms : List MemberOf)

@@ -167,7 +167,7 @@ to_found x s f (after {file = file} {parent = parent} {head = inline on directiv
     (to_found x (record { file = file; parent = parent; selections = rest }) f i)
 
 -- a way may begin one step earlier
-reach_earlier : (next : ℕ → List ℕ) (n k j : ℕ) → Contains (next n) k → Reach (k ∷ []) next j → Reach (n ∷ []) next j
+pub reach_earlier : (next : ℕ → List ℕ) (n k j : ℕ) → Contains (next n) k → Reach (k ∷ []) next j → Reach (n ∷ []) next j
 reach_earlier next n k j c (start d) = elim (contains_cases k [] j d) [
   | inl e ↦ step (start (contains_first n [] n refl)) (subst (Contains (next n)) e c)
   | inr d' ↦ absurd (contains_none j d')

@@ -6,7 +6,7 @@ use Rattle.gq_merging.specs.FieldSets.{key}
 use Rattle.gq_merging.specs.FieldsMerge.{leads_on, IsNoLater}
 use Rattle.gq_merging.specs.Comparisons.{is_no_later}
 use Rattle.gq_merging.specs.SetTables.{MemberOf, RowOf, members_at, IsMember}
-use Rattle.gq_merging.specs.GroupTables.{IsOfGroup, AreBelow}
+use Rattle.gq_merging.specs.GroupTables.{IsOfGroup, IsUnder, AreBelow}
 use Rattle.gq_merging.specs.PairTables.{MetOf, LookOf, AreMet, IsGiven, IsMetReached, IsFaultOf}
 
 -- the earliest one of the fields for which that is true, where there is one; of each it is known whether it is true
@@ -93,17 +93,26 @@ pub record WasThere (groups : List (List ℕ)) (place : ℕ) : Type 0 where
   pub before : earlier < place
   pub same : slice_get groups earlier ≡ slice_get groups place
 
--- the group of one set that is not passed over
-pub record IsFirst (passed : List Bool) (end : ℕ) (group : List ℕ) : Type 0 where
+-- the group of one set that has the fields of one that is not passed over
+pub record IsFirst (rows : List RowOf) (passed : List Bool) (end : ℕ) (group : List ℕ) : Type 0 where
   pub number : ℕ
   pub before : number < end
   pub stays : slice_index_or passed number false ≡ false
-  pub is : group ≡ number ∷ []
+  pub same : ℕ
+  pub is : group ≡ same ∷ []
+  pub there : same < length rows
+  pub over : (m : MemberOf) → IsMember rows same m → IsMember rows number m
+
+-- a group has the fields of the set with that number
+pub record HasFields (rows : List RowOf) (groups : List (List ℕ)) (number : ℕ) : Type 0 where
+  pub group : List ℕ
+  pub is_group : Contains groups group
+  pub under : IsUnder rows number group
 
 -- these are the groups of the sets that are not passed over
-pub record AreFirst (passed : List Bool) (end : ℕ) (groups : List (List ℕ)) : Type 0 where
-  pub only : (group : List ℕ) → Contains groups group → IsFirst passed end group
-  pub each : (number : ℕ) → number < end → slice_index_or passed number false ≡ false → Contains groups (number ∷ [])
+pub record AreFirst (rows : List RowOf) (passed : List Bool) (end : ℕ) (groups : List (List ℕ)) : Type 0 where
+  pub only : (group : List ℕ) → Contains groups group → IsFirst rows passed end group
+  pub each : (number : ℕ) → number < end → slice_index_or passed number false ≡ false → HasFields rows groups number
 
 -- each field has a set in its braces
 abbrev pub HaveSets : List RowOf → Type 0

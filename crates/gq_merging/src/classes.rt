@@ -107,10 +107,11 @@ pub(crate) fn is_through(rows: &[Row<'_>], number: usize, marks: &[bool]) -> boo
 }
 
 /// The number of a set with the same fields: that of a fragment, where its spread stands alone in the set.
-fn number_of_same(rows: &[Row<'_>], number: usize) -> usize
+pub(crate) fn number_of_same(rows: &[Row<'_>], number: usize) -> usize
     requires { number < length rows.now }
     ensures range { result < length rows.now }
     ensures under { IsUnder (rows_view rows.now) number (result ∷ []) }
+    ensures over { (m : MemberOf) → IsMember (rows_view rows.now) result m → IsMember (rows_view rows.now) number m }
 {
     match lone_spread(rows, number) {
         Some(fragment) if fragment < rows.len() => fragment,

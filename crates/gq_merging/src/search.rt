@@ -17,10 +17,12 @@ ghost use Rattle.gq_merging.specs.GroupViews.{groups_view};
 ghost use Rattle.gq_merging.specs.Views.{rows_view, look_view};
 
 use crate::by_name::FieldsByName;
+use crate::classes::number_of_same;
 use crate::cliques::{look_at_classes, take_steps};
 use crate::groups::{all_room, is_as_before};
 use crate::members::{gathered, reached_sets};
 use crate::pairs::Look;
+use crate::rows::Row;
 use gq_found::Item;
 use gq_text::NoMemory;
 use std::alloc::Global;
@@ -66,14 +68,21 @@ fn was_there(groups: &[Vec<usize>], place: usize, places: &mut Vec<usize>) -> bo
     is_as_before(groups, earlier, place)
 }
 
-/// The groups of one set each, those that are not passed over.
-fn first_groups(alloc: Global, passed: &[bool]) -> Result<Vec<Vec<usize>>, NoMemory>
-    ensures { IfOk result (λ groups. AreFirst passed.now (length passed.now) (groups_view groups.items)) }
+/// The groups of one set each, those that are not passed over. A set in which the spread of a fragment stands alone has that
+/// fragment's fields, and so the same group.
+fn first_groups(
+    alloc: Global,
+    rows: &[Row<'_>],
+    passed: &[bool],
+) -> Result<Vec<Vec<usize>>, NoMemory>
+    requires { length passed.now ≡ length rows.now }
+    ensures { IfOk result (λ groups. AreFirst (rows_view rows.now) passed.now (length passed.now) (groups_view groups.items)) }
 {
     let mut groups = Vec::new(alloc);
     for number in 0..passed.len() {
         if !passed[number] {
-            groups.push(vec![in alloc; number; 1]?)?;
+            let same = number_of_same(rows, number);
+            groups.push(vec![in alloc; same; 1]?)?;
         }
     }
     Ok(groups)
@@ -138,7 +147,7 @@ pub(crate) fn search_groups(look: Look<'_>, passed: &[bool]) -> Result<Option<Ve
     requires passed { length passed.now ≡ length look.rows.now }
     ensures { IfOk result (λ found. IfSome found (λ items. (item : Item) → Contains items.items item ↔ IsGiven (IsMetReached (look_view look.entry) passed.now) (IsFaultOf (look_view look.entry)) item)) }
 {
-    let mut groups = first_groups(look.alloc, passed)?;
+    let mut groups = first_groups(look.alloc, look.rows, passed)?;
     let mut notes = no_notes(look)?;
     let mut items = Vec::new(look.alloc);
     let mut turns = notes.steps;

@@ -1,6 +1,7 @@
 use Rattle.gq_merging.specs.SearchTables.{AreFirst}
 use Rattle.gq_merging.specs.GroupViews.{groups_view}
+use Rattle.gq_merging.specs.Views.{rows_view}
 use Rattle.gq_merging.proofs.search.first_groups.Given as goal
 
 abbrev pub invariant-loop-number : goal.invariant-loop-number
-invariant-loop-number l = AreFirst l.passed l.number (groups_view l.groups.items)
+invariant-loop-number l = AreFirst (rows_view l.rows) l.passed l.number (groups_view l.groups.items)
