@@ -2,7 +2,8 @@
 use super::{CALLS, PETS, assert_found};
 use std::test::Fail;
 
-const NODES: &str = "type Query{p:I} interface I{a:Int c:Int i:I} type D implements I{a:Int c:Int i:I} type E implements I{a:Int c:Int i:I}";
+const NODES: &str =
+    "type Query{p:I} interface I{a:Int c:Int i:I} type D implements I{a:Int c:Int i:I} type E implements I{a:Int c:Int i:I}";
 
 #[test]
 fn each_field_that_differs_from_an_earlier_one_is_told(rt: HostRuntime) -> Result<(), Fail> {
