@@ -1,4 +1,4 @@
--- Which selection sets the search of pairs does not start at, computed. Nothing here must be believed.
+-- Which selection sets the search for faults does not start at, computed. Nothing here must be believed.
 use Rattle.std.specs.Prelude.{◌≡◌, ◌⊎◌, ℕ, ◌<◌, Bool, true, false, List, [], ◌∷◌, Contains, length, slice_index_or}
 use Rattle.gq_reach.specs.Reach.{Reach}
 

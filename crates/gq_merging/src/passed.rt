@@ -1,4 +1,4 @@
-//! Selection sets that the search of pairs starts at: it passes over sets that are marked, and over fragments that are spread
+//! Selection sets that the search for faults starts at: it passes over sets that are marked, and over fragments that are spread
 //! in a set that it starts at, since their fields are among that set's.
 ghost use Rattle.std.specs.Prelude.{◌≡◌, ◌<◌, All, IfOk, length};
 ghost use Rattle.gq_reach.specs.Reach.{InRange, row};
