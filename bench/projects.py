@@ -1,7 +1,7 @@
 #!/usr/bin/env python3
 """Writes projects on which the time of `gqls check` is measured.
 
-    python3 bench/projects.py FOLDER        one folder for each project below FOLDER
+    python3 bench/projects.py FOLDER [TIMES]        one folder for each project below FOLDER, so many times as large
 
 Each has files s.graphql (the type system) and q.graphql or q0.graphql, q1.graphql and so on (operations and fragments).
 docs/PERFORMANCE.md has the commands and what was seen.
@@ -153,12 +153,11 @@ def many_operations(count, keys):
     yield "q.graphql", "\n".join(rows + ["fragment F%d on Query{x}" % (count - 1)])
 
 
-def one_fault(count):
-    """Operations that spread the first of a chain of fragments, the last of which has fields that do not merge."""
+def one_fault(count, operations, more):
+    """Such operations, and a chain of fragments, the last of which has two fields that do not merge, and more."""
     yield "s.graphql", SCHEMA
-    rows = ["query Q%d{...F0}" % i for i in range(count)]
-    rows += ["fragment F%d on Query{c%d:x ...F%d}" % (i, i, i + 1) for i in range(count - 1)]
-    yield "q.graphql", "\n".join(rows + ["fragment F%d on Query{x x:f}" % (count - 1)])
+    rows = operations + ["fragment F%d on Query{c%d:x ...F%d}" % (i, i, i + 1) for i in range(count - 1)]
+    yield "q.graphql", "\n".join(rows + ["fragment F%d on Query{x x:f %s}" % (count - 1, more)])
 
 
 def other_set(count):
@@ -191,40 +190,44 @@ def many_conditions(objects, interfaces):
     yield "q.graphql", "{i{%s}}" % "".join("...on J%d{a}" % i for i in range(interfaces))
 
 
+# what makes each project, so many times as large
 PROJECTS = {
-    "chain": lambda: chain(8000),
-    "cycle": lambda: cycle(8000),
-    "repeated": lambda: repeated(6400),
-    "equal_sets": lambda: equal_sets(3200),
-    "spreads": lambda: spreads(2000),
-    "doubling": lambda: doubling(30),
-    "interfaces": lambda: interfaces(64),
-    "wide_inputs": lambda: wide_inputs(20_000),
-    "wide_arguments": lambda: wide_arguments(20_000),
-    "many_locations": lambda: many_locations(80_000),
-    "many_schema_extensions": lambda: many_schema_extensions(40_000),
-    "many_conditions": lambda: many_conditions(20_000, 5000),
-    "spread_alone": lambda: many_operations(3000, lambda i: ""),
-    "spread_beside_fields": lambda: many_operations(3000, lambda i: "k%d:x" % i),
-    "spread_beside_calls": lambda: many_operations(3000, lambda i: "k:f(a:%d)" % i),
-    "one_fault": lambda: one_fault(1200),
-    "many_faults": lambda: one_fault(3000),
-    "other_set": lambda: other_set(3200),
-    "two_fields": lambda: two_fields(6400),
-    "object_types": lambda: object_types(1000),
-    "types": lambda: types(5000),
-    "large": lambda: large(200, 20_000, True),
-    "dense": lambda: large(200, 20_000, False),
+    "chain": lambda times: chain(8000 * times),
+    "cycle": lambda times: cycle(8000 * times),
+    "repeated": lambda times: repeated(6400 * times),
+    "equal_sets": lambda times: equal_sets(3200 * times),
+    "spreads": lambda times: spreads(2000 * times),
+    "doubling": lambda times: doubling(30 * times),
+    "interfaces": lambda times: interfaces(64 * times),
+    "wide_inputs": lambda times: wide_inputs(20_000 * times),
+    "wide_arguments": lambda times: wide_arguments(20_000 * times),
+    "many_locations": lambda times: many_locations(80_000 * times),
+    "many_schema_extensions": lambda times: many_schema_extensions(40_000 * times),
+    "many_conditions": lambda times: many_conditions(20_000 * times, 5000 * times),
+    "spread_alone": lambda times: many_operations(3000 * times, lambda i: ""),
+    "spread_beside_fields": lambda times: many_operations(3000 * times, lambda i: "k%d:x" % i),
+    "spread_beside_calls": lambda times: many_operations(3000 * times, lambda i: "k:f(a:%d)" % i),
+    "fault_in_chain": lambda times: one_fault(8000 * times, ["{...F0}"], ""),
+    "fault_in_cycle": lambda times: one_fault(8000 * times, [], "...F0"),
+    "fault_below_spreads": lambda times: one_fault(3000 * times, ["query Q%d{...F0}" % i for i in range(3000 * times)], ""),
+    "fault_beside_fields": lambda times: one_fault(1200 * times, ["query Q%d{k%d:x ...F0}" % (i, i) for i in range(1200 * times)], ""),
+    "other_set": lambda times: other_set(3200 * times),
+    "two_fields": lambda times: two_fields(6400 * times),
+    "object_types": lambda times: object_types(1000 * times),
+    "types": lambda times: types(5000 * times),
+    "large": lambda times: large(200 * times, 20_000, True),
+    "dense": lambda times: large(200 * times, 20_000, False),
 }
 
 
 def main():
-    if len(sys.argv) != 2:
+    if len(sys.argv) not in (2, 3):
         sys.exit(__doc__)
+    times = int(sys.argv[2]) if len(sys.argv) == 3 else 1
     for name, files in PROJECTS.items():
         folder = os.path.join(sys.argv[1], name)
         os.makedirs(folder, exist_ok=True)
-        for file, text in files():
+        for file, text in files(times):
             with open(os.path.join(folder, file), "w", encoding="utf-8") as out:
                 out.write(text)
 

@@ -131,6 +131,28 @@ module _ (w : LookOf) (passed : List Bool) (sets : HaveSets w.rows) (counted : w
       the_one : (g h : List ℕ) → Contains (g ∷ []) h → h ≡ g
       the_one g h c = ⊎_elim (λ e. sym e) (λ f. absurd (contains_none h f)) (contains_cases g [] h c)
 
+  -- the same items, in another order or repeated
+  pub search_same : (first : List (List ℕ)) (items items' : List Item) (groups : List (List ℕ)) (done : ℕ) → ((item : Item) → Contains items' item ↔ Contains items item) →
+      Search w passed first items groups done → Search w passed first items' groups done
+  search_same first items items' groups done same s =
+      let p = s.searched.puts in
+      record {
+        most = s.most;
+        range = s.range;
+        sound = s.sound;
+        searched = record {
+          puts = record {
+            added = items';
+            is = refl;
+            exactly = λ item. (
+              (λ c. (p.exactly item).0 (subst (λ is. Contains is item) p.is ((same item).0 c))),
+              (λ g. (same item).1 (subst (λ is. Contains is item) (sym p.is) ((p.exactly item).1 g))),
+            );
+          };
+          grows = s.searched.grows;
+        };
+      }
+
   -- a group that is looked at
   pub search_next : (first : List (List ℕ)) (items items' : List Item) (old new : List (List ℕ)) (done : ℕ) (group : List ℕ) → done < length old → slice_get old done ≡ Some group →
       Searched w (AreInGroup w.rows group) items items' old new → Search w passed first items old done → Search w passed first items' new (done + 1)

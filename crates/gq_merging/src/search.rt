@@ -23,35 +23,45 @@ use crate::groups::{all_room, is_as_before};
 use crate::members::{gathered, reached_sets};
 use crate::pairs::Look;
 use crate::rows::Row;
-use gq_found::Item;
+use gq_found::{Item, put_in_order};
 use gq_text::NoMemory;
 use std::alloc::Global;
 
-/// What keeps the search short: the place of the last group that has each number, and how many steps are left.
+/// What keeps the search short: the place of the last group that has each number, how many steps are left for groups of several sets,
+/// and how many items may stand there before they are put in order, each once.
 #[derive(Drop)]
 struct Notes {
     places: Vec<usize>,
     steps: usize,
+    most_items: usize,
 }
 
 /// How many steps the search may take beyond those in proportion to the rows.
 const MORE_STEPS: usize = 30_000_000;
 
+/// How many items may be put before repeated ones among them are dropped, beyond as many again as stand there.
+const MORE_ITEMS: usize = 1000;
+
 /// Notes of no group.
 fn no_notes(look: Look<'_>) -> Result<Notes, NoMemory> {
     Ok(Notes {
-        places: vec![in look.alloc; 0; look.rows.len()]?,
+        places: vec![in look.alloc; 0; look.rows.len().saturating_mul(2)]?,
         steps: all_room(look.rows).saturating_add(MORE_STEPS),
+        most_items: MORE_ITEMS,
     })
 }
 
-/// A number for the group, by which one that is the same is looked for. It is below the count, if that is not 0.
+/// A number for the group, by which one that is the same is looked for. Below the count it is that of the one set of a group, and past
+/// it a group of several sets has one by all of them.
 fn slot_of(group: &[usize], count: usize) -> usize {
+    if let [one] = group {
+        return *one;
+    }
     let mut slot: usize = 0;
     for number in group {
         slot = slot.wrapping_mul(31).wrapping_add(*number);
     }
-    slot.checked_rem(count).unwrap_or(0)
+    slot.checked_rem(count).unwrap_or(0).saturating_add(count)
 }
 
 /// Whether the group at that place was there already. Its place is noted.
@@ -59,7 +69,7 @@ fn was_there(groups: &[Vec<usize>], place: usize, places: &mut Vec<usize>) -> bo
     requires { place < length groups.now }
     ensures { IsTrue result → WasThere (groups_view groups.now) place }
 {
-    let slot = slot_of(&groups[place], places.len());
+    let slot = slot_of(&groups[place], places.len() / 2);
     if slot >= places.len() {
         return false;
     }
@@ -88,6 +98,14 @@ fn first_groups(
     Ok(groups)
 }
 
+/// How many steps the search may take in a group, if so many are left. Those in one set are not counted: by pairs there are no fewer.
+fn steps_for(group: &[usize], left: usize) -> usize {
+    if group.len() == 1 {
+        return usize::MAX;
+    }
+    left
+}
+
 /// Looks at the fields of the group at that place.
 fn look_at_group(
     look: Look<'_>,
@@ -113,6 +131,16 @@ fn look_at_group(
     Ok(done)
 }
 
+/// Drops items that are repeated, once so many were put. A field that many groups hold is a fault in each.
+fn drop_repeated(items: &mut Vec<Item>, most: &mut usize)
+    ensures { (item : Item) → Contains items.new.items item ↔ Contains items.old.items item }
+{
+    if items.len() > *most {
+        put_in_order(items);
+        *most = items.len().saturating_mul(2).saturating_add(MORE_ITEMS);
+    }
+}
+
 /// The same, but passes over a group that was there already.
 fn search_on(
     look: Look<'_>,
@@ -133,7 +161,11 @@ fn search_on(
     if was_there(groups, place, &mut notes.places) {
         return Ok(true);
     }
-    look_at_group(look, place, items, groups, &mut notes.steps)
+    let mut steps = steps_for(&groups[place], notes.steps);
+    let done = look_at_group(look, place, items, groups, &mut steps)?;
+    notes.steps = notes.steps.min(steps);
+    drop_repeated(items, &mut notes.most_items);
+    Ok(done)
 }
 
 /// The items of all fields that meet in a set that is not passed over, or under it, and differ from one that stands no later; none

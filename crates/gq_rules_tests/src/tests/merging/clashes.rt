@@ -1,5 +1,6 @@
 //! Which of the fields of one key are told: those that differ from one that stands no later.
 use super::{CALLS, PETS, assert_found};
+use std::alloc::Global;
 use std::test::Fail;
 
 const NODES: &str =
@@ -37,4 +38,38 @@ fn fields_of_an_interface_meet_those_of_each_object_type(rt: HostRuntime) -> Res
         {p{...on None{k:a} ...on D{k:c} ...on E{k:a} ...on None{k:c}}} =>
     ";
     assert_found(rt.alloc(), &rt, NODES, rows)
+}
+
+#[test]
+fn what_differs_in_a_cycle_that_no_operation_reaches_is_told(rt: HostRuntime) -> Result<(), Fail> {
+    let rows = "
+        fragment F on I{k:a ...G} fragment G on I{...F k:c} => 1:V5[49,50]
+        fragment F on I{...F k:a} fragment G on I{...G ...F k:c} => 1:V5[54,55]
+        fragment F on I{...F ...G k:a} fragment G on I{...G k:c} => 1:V5[54,55]
+        fragment F on I{k:a ...F} fragment G on I{k:c ...G} =>
+    ";
+    assert_found(rt.alloc(), &rt, NODES, rows)
+}
+
+/// So many fragments that each spread the next one.
+fn spreading_on(alloc: Global, count: usize) -> Result<String, Fail> {
+    let mut text = String::new(alloc);
+    for number in 0..count {
+        let one = format!(in alloc; "fragment F{} on I{{k:a ...F{}}}", number, number + 1)?;
+        text.push_str(one.as_str())?;
+    }
+    Ok(text)
+}
+
+#[test]
+fn what_differs_in_a_long_cycle_is_told(rt: HostRuntime) -> Result<(), Fail> {
+    let alloc = rt.alloc();
+    let text = spreading_on(alloc, 200)?;
+    let place = text.as_str().len() + 27;
+    let row = format!(in alloc;
+        "{text}fragment F200 on I{{...F0 k:c}} => 1:V5[{},{}]",
+        place,
+        place + 1
+    )?;
+    assert_found(alloc, &rt, NODES, row.as_str())
 }
