@@ -7,6 +7,8 @@
 //! is passed over if it was there already, or if it is one set of which this is known. A set in which one spread stands alone
 //! has the fields of that fragment, and is known with it.
 //!
+//! Where a test fails, the fragments that are spread in its set are tested, and no other set that spreads one that fails.
+//!
 //! Where many sets reach the same fragments, each with fields of its own, their tests take too many steps. Then they are tested
 //! as one group, and where that fails, by halves.
 ghost use Rattle.std.specs.Prelude.{◌≡◌, ◌<◌, ◌+◌, ◌⊎◌, ℕ, List, All, Some, IsTrue, IfOk, OnOk, true, false, length, map, slice_get, slice_index_or};
@@ -39,11 +41,12 @@ struct Budget {
     room: usize,
 }
 
-/// What the tests keep for each other, that they take few steps: the place of the last group that began with each set, and
-/// what is left of their budget. Where no group is kept, there is all the room.
+/// What the tests keep for each other, that they take few steps: the place of the last group that began with each set, a mark
+/// at each set of which the test failed, and what is left of their budget. Where no group is kept, there is all the room.
 #[derive(Drop)]
 struct Notes {
     places: Vec<usize>,
+    failed: Vec<bool>,
     left: Budget,
     room: usize,
 }
@@ -261,7 +264,33 @@ fn tested_from(
     Ok(reached)
 }
 
-/// Tests the set with that number, if it is not marked and steps are left, and marks what the test finds. Where nothing
+/// Whether a mark is set at one of the numbers.
+fn is_one_marked(marks: &[bool], numbers: &[usize]) -> bool {
+    for number in numbers {
+        if *number < marks.len() && marks[*number] {
+            return true;
+        }
+    }
+    false
+}
+
+/// Whether a test of the set would fail: no steps are left, or it failed, or that of a fragment did which is spread there.
+fn is_in_vain(rows: &[Row<'_>], number: usize, notes: &Notes) -> bool
+    requires { number < length rows.now }
+{
+    notes.left.steps == 0
+        || is_one_marked(&notes.failed, &[number])
+        || is_one_marked(&notes.failed, &rows[number].spreads)
+}
+
+/// Notes that the test of the set failed, where it found no sets.
+fn note_failure(tested: &[usize], number: usize, failed: &mut Vec<bool>) {
+    if tested.is_empty() && number < failed.len() {
+        failed[number] = true;
+    }
+}
+
+/// Tests the set with that number, if it is not marked and the test can pass, and marks what the test finds. Where nothing
 /// stands in the set there is nothing to test.
 fn mark_from(
     tables: Tables<'_>,
@@ -279,7 +308,7 @@ fn mark_from(
     ensures tested { OnOk result (AreTested (types_view tables.entry.types.now) (rows_view tables.entry.rows.now) marks.new.items) }
     ensures groups { OnOk result (ArePassed (types_view tables.entry.types.now) (rows_view tables.entry.rows.now) (groups_view groups.new.items)) }
 {
-    if marks[number] || notes.left.steps == 0 {
+    if marks[number] || is_in_vain(tables.rows, number, notes) {
         return Ok(());
     }
     if !has_selections(tables.rows, number) {
@@ -291,7 +320,38 @@ fn mark_from(
         return Ok(());
     }
     let tested = tested_from(tables, marks, &[number], groups, notes)?;
+    note_failure(&tested, number, &mut notes.failed);
     mark_all(marks, &tested);
+    Ok(())
+}
+
+/// The same, and where the test fails, tests the fragments that are spread in the set, since other sets that spread one which
+/// fails need no test.
+fn mark_with_spreads(
+    tables: Tables<'_>,
+    number: usize,
+    marks: &mut Vec<bool>,
+    groups: &mut Vec<Vec<usize>>,
+    notes: &mut Notes,
+) -> Result<(), NoMemory>
+    requires typename { type_view tables.typename_type.now ≡ typename_field.type_ref }
+    requires range { InRange tables.spreads.now }
+    requires spreads { map (λ v. v.items) tables.spreads.now ≡ map (λ r. r.spreads.items) tables.rows.now }
+    requires number { number < length tables.rows.now }
+    requires tested { AreTested (types_view tables.types.now) (rows_view tables.rows.now) marks.old.items }
+    requires groups { ArePassed (types_view tables.types.now) (rows_view tables.rows.now) (groups_view groups.old.items) }
+    ensures tested { OnOk result (AreTested (types_view tables.entry.types.now) (rows_view tables.entry.rows.now) marks.new.items) }
+    ensures groups { OnOk result (ArePassed (types_view tables.entry.types.now) (rows_view tables.entry.rows.now) (groups_view groups.new.items)) }
+{
+    mark_from(tables, number, marks, groups, notes)?;
+    if marks[number] {
+        return Ok(());
+    }
+    for fragment in &tables.rows[number].spreads {
+        if *fragment < tables.rows.len() {
+            mark_from(tables, *fragment, marks, groups, notes)?;
+        }
+    }
     Ok(())
 }
 
@@ -343,7 +403,7 @@ fn mark_each(
     ensures groups { OnOk result (ArePassed (types_view tables.entry.types.now) (rows_view tables.entry.rows.now) (groups_view groups.new.items)) }
 {
     for number in starts {
-        mark_from(tables, *number, marks, groups, notes)?;
+        mark_with_spreads(tables, *number, marks, groups, notes)?;
     }
     Ok(())
 }
@@ -405,7 +465,7 @@ fn mark_those(
 {
     for number in 0..named.len() {
         if named[number] == are_named {
-            mark_from(tables, number, marks, groups, notes)?;
+            mark_with_spreads(tables, number, marks, groups, notes)?;
         }
     }
     Ok(())
@@ -453,6 +513,7 @@ fn no_notes(alloc: Global, rows: &[Row<'_>], more: usize) -> Result<Notes, NoMem
     let room = all_room(rows);
     Ok(Notes {
         places: vec![in alloc; 0; rows.len()]?,
+        failed: vec![in alloc; false; rows.len()]?,
         left: Budget {
             steps: room.saturating_mul(4).saturating_add(more),
             room,
