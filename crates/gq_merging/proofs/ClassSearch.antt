@@ -12,7 +12,7 @@ use Rattle.gq_merging.specs.FieldSets.{key}
 use Rattle.gq_merging.specs.FieldsMerge.{leads_on, can_coincide}
 use Rattle.gq_merging.specs.SetTables.{MemberOf}
 use Rattle.gq_merging.specs.PairTables.{MetOf, LookOf, AreMet}
-use Rattle.gq_merging.specs.NameTables.{ByNameOf, list_at, AreListed, AreByKey}
+use Rattle.gq_merging.specs.NameTables.{ByNameOf, list_at, AreByKey}
 use Rattle.gq_merging.specs.ParentTables.{AreByParent}
 use Rattle.gq_merging.specs.SearchTables.{AreOfOneKey, IsClique, AreMetInOne, Searched}
 use Rattle.gq_merging.specs.SearchViews.{list_with, AreCliquesWith, AreMetWith}
@@ -67,6 +67,17 @@ module _ (t : ByNameOf) (ms : List MemberOf) (by_key : AreByKey t ms) where
       let l = slice_get_within t.lists q.0 list q.1 in
       let there = λ (m : MemberOf) (h : Contains list m). (listed_at key_of t ms by_key q.0 l m (subst (λ k. Contains k m) (sym (at_place t.lists q.0 list q.1)) h)).1 in
       record { each = λ a b ca cb. there a ca ∙ sym (there b cb) }
+
+  -- a field in a list is one of the fields, and with each field stand those of its key in one list
+  pub list_of_member : ((list : List MemberOf) → Contains t.lists list → (m : MemberOf) → Contains list m → Contains ms m) ×
+      ((m : MemberOf) → Contains ms m → (list : List MemberOf) × Contains t.lists list × ((v : MemberOf) → Contains ms v → key v.field_at ≡ key m.field_at → Contains list v))
+  list_of_member = (
+    (λ list c m h.
+        let q = contains_get t.lists list c in
+        let l = slice_get_within t.lists q.0 list q.1 in
+        (listed_at key_of t ms by_key q.0 l m (subst (λ k. Contains k m) (sym (at_place t.lists q.0 list q.1)) h)).0),
+    (λ m c. let s = listed_somewhere key_of t ms by_key m c in (list_at t.lists s.0, list_there t.lists s.0 s.1, s.2)),
+  )
 
   pub lists_tell : (p : MetOf) → AreMetInOne t.lists p ↔ AreMet ms ms p
   lists_tell p = (

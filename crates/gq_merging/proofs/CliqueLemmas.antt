@@ -1,16 +1,16 @@
 -- Of fields of which any two lead on, the earliest one and the earliest that differs from it tell all that do not merge.
-use Rattle.std.proofs.Common.{◌≡◌, ◌↔◌, ◌⊎◌, ⊎_elim, inl, inr, ℕ, ◌+◌, ◌<◌, true, List, [], ◌∷◌, ◌++◌, Option, Some, None, Contains, length, take, get_or, map, refl, sym, ◌∙◌, ap, subst, arith, Vec, Global}
-use Rattle.std.proofs.lemmas.List.Elements.{Contains-push, Contains-push_cases, Contains-append_left, Contains-append_cases}
+use Rattle.std.proofs.Common.{◌≡◌, ◌↔◌, ◌⊎◌, ⊎_elim, inl, inr, ℕ, ◌+◌, ◌<◌, true, List, [], ◌∷◌, ◌++◌, Some, None, Contains, length, take, get_or, map, refl, sym, ◌∙◌, ap, subst, arith}
+use Rattle.std.proofs.lemmas.List.Elements.{Contains-push, Contains-push_cases, Contains-append_left}
 use Rattle.std.proofs.lemmas.Option.{same_Some}
-use Rattle.gq_names.proofs.RepeatLemmas.{contains_none, contains_first, contains_cases}
+use Rattle.gq_names.proofs.RepeatLemmas.{contains_none, contains_cases}
 use Rattle.gq_tree.specs.Views.{argument_view}
 use Rattle.gq_tree.specs.declared.value.Argument.{Argument}
 use Rattle.gq_types.specs.Entries.{EntryOf}
 use Rattle.gq_found.specs.declared.item.Item.{Item}
 use Rattle.gq_found.specs.Puts.{Puts}
 use Rattle.gq_found.proofs.PutLemmas.{puts_both, puts_as}
-use Rattle.gq_merging.specs.FieldSets.{FieldAt, key}
-use Rattle.gq_merging.specs.FieldsMerge.{leads_on, Differ, in_shape, in_call, IsNoLater}
+use Rattle.gq_merging.specs.FieldSets.{FieldAt}
+use Rattle.gq_merging.specs.FieldsMerge.{Differ, in_shape, in_call}
 use Rattle.gq_merging.specs.Comparisons.{may_differ}
 use Rattle.gq_merging.specs.SameArguments.{SameArguments}
 use Rattle.gq_merging.specs.Shapes.{shape_of}
@@ -20,7 +20,7 @@ use Rattle.gq_merging.specs.SearchTables.{IsEarliest, IsWith, IsClique}
 use Rattle.gq_merging.specs.Views.{field_at, member_view, members_view}
 use Rattle.gq_merging.specs.declared.purpose.Purpose.{Purpose}
 use Rattle.gq_merging.specs.declared.rows.Member.{Member}
-use Rattle.gq_merging.proofs.DifferLemmas.{differ_leads, differ_may, first_differs, second_differs}
+use Rattle.gq_merging.proofs.DifferLemmas.{differ_may, first_differs, second_differs}
 use Rattle.gq_merging.proofs.EarliestLemmas.{no_later_on}
 use Rattle.gq_merging.proofs.LookLemmas.{puts_nothing}
 use Rattle.gq_merging.proofs.ClassLemmas.{members_more}

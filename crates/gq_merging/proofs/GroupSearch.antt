@@ -1,28 +1,19 @@
 -- The search over groups: in the groups that are done and what they lead to stand all fields that meet, and no others.
-use Rattle.std.proofs.Common.{◌≡◌, ◌↔◌, ◌⊎◌, ⊎_elim, inl, inr, ℕ, zero, suc, ◌+◌, ◌*◌, ◌/◌, ◌%◌, ◌<◌, ◌≤◌, Bool, true, false, List, [], ◌∷◌, ◌++◌, Some, All, Contains, length, take, map, refl, sym, ◌∙◌, ap, subst, arith, Vec, Global}
+use Rattle.std.proofs.Common.{◌≡◌, ◌↔◌, ◌⊎◌, ⊎_elim, inl, inr, ℕ, zero, suc, ◌+◌, ◌*◌, ◌<◌, ◌≤◌, Bool, true, false, List, [], ◌∷◌, ◌++◌, Some, All, Contains, length, take, map, refl, sym, ◌∙◌, ap, subst, arith}
 use Rattle.std.specs.Prelude.{slice_index_or}
-use Rattle.std.specs.List.{slice_get, flat_map}
-use Rattle.std.proofs.lemmas.List.{length-append, length-map, take-append-le, take_all, take_more}
-use Rattle.std.proofs.lemmas.List.Elements.{All-append, All-cons, All-contains, All-nil, Contains-append_left, Contains-append_right, Contains-append_cases, Contains-push, Contains-push_cases}
+use Rattle.std.specs.List.{slice_get}
+use Rattle.std.proofs.lemmas.List.{length-append, length-map, take-append-le, take_all}
+use Rattle.std.proofs.lemmas.List.Elements.{All-append, All-cons, All-contains, All-nil, Contains-append_left, Contains-append_right, Contains-push, Contains-push_cases}
 use Rattle.std.proofs.lemmas.Option.{same_Some, none-some, slice_get_within}
 use Rattle.gq_names.proofs.RepeatLemmas.{contains_none, contains_first, contains_later, contains_cases}
-use Rattle.gq_reach.specs.Reach.{Reach, row}
 use Rattle.gq_found.specs.declared.item.Item.{Item}
-use Rattle.gq_found.specs.Puts.{Puts}
 use Rattle.gq_document.specs.Executable.{ExecutableOf}
 use Rattle.gq_merging.specs.FieldSets.{key}
-use Rattle.gq_merging.specs.FieldsMerge.{leads_on}
-use Rattle.gq_merging.specs.SetTables.{MemberOf, RowOf, AreRows, IsRow, HasNumber, members_at, spreads_at, IsMember, names_of}
+use Rattle.gq_merging.specs.SetTables.{MemberOf, RowOf, AreRows, IsRow, HasNumber, IsMember, names_of}
 use Rattle.gq_merging.specs.GroupTables.{IsOfGroup, IsUnder, AreBelow}
-use Rattle.gq_merging.specs.PairTables.{MetOf, LookOf, IsGiven, IsMetAt, IsBelow, IsReached, start, step, IsMetReached, IsFaultOf}
-use Rattle.gq_merging.specs.SearchTables.{AreInGroup, AreInOne, AreMetInOne, AreUnder, Grows, Searched, IsFirst, HasFields, AreFirst, HaveSets, Search, WasThere}
-use Rattle.gq_merging.specs.NameTables.{ByNameOf, AreByKey}
-use Rattle.gq_merging.specs.Views.{rows_view}
-use Rattle.gq_merging.specs.declared.rows.Member.{Member}
-use Rattle.gq_merging.specs.declared.rows.Row.{Row}
-use Rattle.gq_merging.proofs.ClassSearch.{seen, seen_tell}
+use Rattle.gq_merging.specs.PairTables.{MetOf, LookOf, IsGiven, IsMetAt, IsReached, start, step, IsMetReached, IsFaultOf}
+use Rattle.gq_merging.specs.SearchTables.{AreInGroup, AreInOne, AreUnder, Searched, IsFirst, HasFields, AreFirst, HaveSets, Search, WasThere}
 use Rattle.gq_merging.proofs.LookLemmas.{before_next}
-use Rattle.gq_merging.proofs.MemberSteps.{alike, reach_alike, from_flat, to_flat}
 use Rattle.gq_merging.proofs.MemberLemmas.{get_contains, get_below, members_there, row_of_member}
 use Rattle.gq_merging.proofs.PairNumbers.{pair_below, left_of, right_of}
 use Rattle.gq_merging.proofs.GrowLemmas.{of_one, in_either, still_in_one, searched_as, searched_both, searched_nowhere}
@@ -135,20 +126,12 @@ module _ (w : LookOf) (passed : List Bool) (sets : HaveSets w.rows) (counted : w
   pub search_same : (first : List (List ℕ)) (items items' : List Item) (groups : List (List ℕ)) (done : ℕ) → ((item : Item) → Contains items' item ↔ Contains items item) →
       Search w passed first items groups done → Search w passed first items' groups done
   search_same first items items' groups done same s =
-      let p = s.searched.puts in
       record {
         most = s.most;
         range = s.range;
         sound = s.sound;
         searched = record {
-          puts = record {
-            added = items';
-            is = refl;
-            exactly = λ item. (
-              (λ c. (p.exactly item).0 (subst (λ is. Contains is item) p.is ((same item).0 c))),
-              (λ g. (same item).1 (subst (λ is. Contains is item) (sym p.is) ((p.exactly item).1 g))),
-            );
-          };
+          tells = λ item. let t = s.searched.tells item in ((λ c. t.0 ((same item).0 c)), (λ e. (same item).1 (t.1 e)));
           grows = s.searched.grows;
         };
       }
@@ -214,9 +197,9 @@ module _ (w : LookOf) (passed : List Bool) (sets : HaveSets w.rows) (counted : w
 
     all_found : (item : Item) → Contains items item ↔ IsGiven (IsMetReached w passed) (IsFaultOf w) item
     all_found item =
-        let e = searched.puts.exactly item in (
-          (λ c. let g = e.0 (subst (λ is. Contains is item) searched.puts.is c) in record { one = g.one; these = sound g.one g.these; gives = g.gives }),
-          (λ g. subst (λ is. Contains is item) (sym searched.puts.is) (e.1 (record { one = g.one; these = complete g.these.number g.these.reached g.one g.these.met; gives = g.gives }))),
+        let t = searched.tells item in (
+          (λ c. ⊎_elim (λ d. absurd (contains_none item d)) (λ g. record { one = g.one; these = sound g.one g.these; gives = g.gives }) (t.0 c)),
+          (λ g. t.1 (inr (record { one = g.one; these = complete g.these.number g.these.reached g.one g.these.met; gives = g.gives }))),
         )
 
   pub search_ends : (first : List (List ℕ)) → AreFirst w.rows passed (length passed) first → length passed ≡ w.count → (items : List Item) (groups : List (List ℕ)) (done : ℕ) →
@@ -255,30 +238,3 @@ module _ (rows : List RowOf) (passed : List Bool) where
     only = λ g c. later_first k g (f.only g c);
     each = λ n l s. ⊎_elim (λ b. f.each n b s) (λ q. let there : slice_index_or passed k false ≡ false = subst (λ m. slice_index_or passed m false ≡ false) q s in absurd (cc)) (before_next n k l);
   }
-
--- the fields of a group are those of all that it reaches
-module _ (rows : List Row) (table : List (Vec ℕ Global)) (same : map (λ v. v.items) table ≡ map (λ r. r.spreads.items) rows) (group found : List ℕ) (ms : List MemberOf)
-    (sound : All (λ n. Reach group (row table) n) found) (complete : (n : ℕ) → Reach group (row table) n → Contains found n) (is : ms ≡ flat_map (members_at (rows_view rows)) found) where
-  members_of_group : (m : MemberOf) → Contains ms m ↔ IsOfGroup (rows_view rows) group m
-  members_of_group m = (
-    (λ c. let q = from_flat (members_at (rows_view rows)) found m (subst (λ ls. Contains ls m) is c) in
-        record {
-          reached = q.0;
-          reach = reach_alike (row table) (spreads_at (rows_view rows)) group (alike rows table same) q.0 (All-contains (λ n. Reach group (row table) n) found q.0 sound q.1);
-          stands = q.2;
-        }),
-    (λ h. subst (λ ls. Contains ls m) (sym is)
-        (to_flat (members_at (rows_view rows)) found h.reached m
-        (complete h.reached (reach_alike (spreads_at (rows_view rows)) (row table) group (λ n. sym (alike rows table same n)) h.reached h.reach)) h.stands)),
-  )
-
-  -- what is found in the lists by key is found in the group
-  pub group_searched : (w : LookOf) (vs : List (Vec Member Global)) (t : ByNameOf) → t.lists ≡ map seen vs → AreByKey t ms → (items items' : List Item) (old new : List (List ℕ)) →
-      Searched w (AreMetInOne (map seen vs)) items items' old new → Searched w (AreInGroup (rows_view rows) group) items items' old new
-  group_searched w vs t are by_key items items' old new s =
-      searched_as w (AreMetInOne (map seen vs)) (AreInGroup (rows_view rows) group) items items' old new
-      (λ p.
-      let tell = seen_tell vs t are ms by_key p in (
-        (λ h. let m = tell.0 h in record { left = (members_of_group p.left).0 m.stands_left; right = (members_of_group p.right).0 m.stands_right; one_key = m.one_key }),
-        (λ h. tell.1 (record { stands_left = (members_of_group p.left).1 h.left; stands_right = (members_of_group p.right).1 h.right; one_key = h.one_key })),
-      )) s

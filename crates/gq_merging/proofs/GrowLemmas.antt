@@ -1,22 +1,17 @@
 -- Groups that are put behind others, and what stands in them.
-use Rattle.std.proofs.Common.{◌≡◌, ◌↔◌, ◌⊎◌, ⊎_elim, inl, inr, ℕ, ◌+◌, ◌<◌, true, List, [], ◌∷◌, ◌++◌, append_assoc, append-nil, All, Contains, length, map, refl, sym, ◌∙◌, ap, subst, arith, Vec, Global}
-use Rattle.std.proofs.lemmas.List.{map-append}
+use Rattle.std.proofs.Common.{◌≡◌, ◌↔◌, ◌⊎◌, ⊎_elim, inl, inr, ℕ, ◌<◌, true, List, [], ◌∷◌, ◌++◌, append_assoc, append-nil, All, Contains, length, sym, ◌∙◌, ap, subst}
 use Rattle.std.proofs.lemmas.List.Elements.{All-nil, All-cons, All-append, Contains-append_left, Contains-append_right, Contains-append_cases, Contains-push, Contains-push_cases}
-use Rattle.gq_names.proofs.RepeatLemmas.{contains_none, contains_first, contains_cases}
+use Rattle.gq_names.proofs.RepeatLemmas.{contains_none, contains_cases}
 use Rattle.gq_reach.specs.Reach.{Reach, start, step}
-use Rattle.gq_reach.proofs.Ways.{way_on, way_starts, contains_one, one_contains, FirstStep, first_step}
+use Rattle.gq_reach.proofs.Ways.{way_on, way_starts, FirstStep, first_step}
 use Rattle.gq_found.specs.declared.item.Item.{Item}
 use Rattle.gq_found.specs.Puts.{Puts}
-use Rattle.gq_found.proofs.PutLemmas.{puts_both, puts_as}
-use Rattle.gq_merging.specs.FieldSets.{key}
-use Rattle.gq_merging.specs.FieldsMerge.{leads_on, Differ}
-use Rattle.gq_merging.specs.SetTables.{MemberOf, RowOf, members_at, spreads_at, IsMember}
-use Rattle.gq_merging.specs.GroupTables.{IsOfGroup, AreBelow}
+use Rattle.gq_merging.specs.FieldsMerge.{leads_on}
+use Rattle.gq_merging.specs.SetTables.{MemberOf, RowOf, spreads_at, IsMember}
+use Rattle.gq_merging.specs.GroupTables.{IsOfGroup}
 use Rattle.gq_merging.specs.PairTables.{MetOf, LookOf, AreMet, IsGiven, IsFaultOf}
 use Rattle.gq_merging.specs.SearchTables.{AreInGroup, AreInOne, IsBelowOne, AreBelowThese, AreUnder, IsClique, Grows, Searched}
-use Rattle.gq_merging.specs.GroupViews.{groups_view}
 use Rattle.gq_merging.proofs.DifferLemmas.{differ_leads}
-use Rattle.gq_merging.proofs.LookLemmas.{puts_nothing, puts_given}
 
 -- a set's fields are those of the group of that set
 pub of_one : (rows : List RowOf) (n : ℕ) (m : MemberOf) → IsOfGroup rows (n ∷ []) m ↔ IsMember rows n m
@@ -126,6 +121,14 @@ grows_both rows A B old middle new a b = record {
   holds = λ q s. ⊎_elim (λ l. still_in_one rows middle new b.added b.is q (a.holds q l)) (λ r. b.holds q r) s;
 }
 
+-- items that are put behind others
+told_by : (Is : Item → Type 0) (items items' : List Item) → Puts Is items items' → (item : Item) → Contains items' item ↔ (Contains items item ⊎ Is item)
+told_by Is items items' p item = (
+  (λ c. ⊎_elim inl (λ d. inr ((p.exactly item).0 d)) (Contains-append_cases items p.added item (subst (λ is. Contains is item) p.is c))),
+  (λ s. subst (λ is. Contains is item) (sym p.is)
+      (⊎_elim (Contains-append_left items p.added item) (λ i. Contains-append_right items p.added item ((p.exactly item).1 i)) s)),
+)
+
 -- the fields in the braces of a clique
 module _ (w : LookOf) (ms : List MemberOf) (clique : IsClique w ms) where
   under_clique : (q : MetOf) → AreBelowThese w.rows ms q ↔ IsGiven (AreMet ms ms) (AreUnder w) q
@@ -149,7 +152,7 @@ module _ (w : LookOf) (ms : List MemberOf) (clique : IsClique w ms) where
 
   pub searched_clique : (items items' : List Item) (old new : List (List ℕ)) → Puts (IsGiven (AreMet ms ms) (IsFaultOf w)) items items' → Grows w.rows (AreBelowThese w.rows ms) old new →
       Searched w (AreMet ms ms) items items' old new
-  searched_clique items items' old new p g = record { puts = p; grows = grows_as w.rows (AreBelowThese w.rows ms) (IsGiven (AreMet ms ms) (AreUnder w)) old new under_clique g }
+  searched_clique items items' old new p g = record { tells = told_by (IsGiven (AreMet ms ms) (IsFaultOf w)) items items' p; grows = grows_as w.rows (AreBelowThese w.rows ms) (IsGiven (AreMet ms ms) (AreUnder w)) old new under_clique g }
 
 -- where a group stands for the fields below
 pub in_group_below : (rows : List RowOf) (group : List ℕ) (ms : List MemberOf) → ((m : MemberOf) → IsOfGroup rows group m ↔ IsBelowOne rows ms m) → (q : MetOf) → AreInGroup rows group q ↔ AreBelowThese rows ms q
@@ -169,11 +172,12 @@ module _ (w : LookOf) where
   pub searched_led : (A B : MetOf → Type 0) (items items' : List Item) (old new : List (List ℕ)) → ((p : MetOf) → A p → B p) →
       ((p : MetOf) → B p → leads_on w.entries w.purpose p.left.field_at p.right.field_at ≡ true → A p) → Searched w A items items' old new → Searched w B items items' old new
   searched_led A B items items' old new to from s = record {
-    puts = puts_as (IsGiven A (IsFaultOf w)) (IsGiven B (IsFaultOf w)) items items'
-        (λ i. (
-          (λ g. record { one = g.one; these = to g.one g.these; gives = g.gives }),
-          (λ g. record { one = g.one; these = from g.one g.these (differ_leads w.entries w.purpose g.one.left.field_at g.one.right.field_at g.gives.differ); gives = g.gives }),
-        )) s.puts;
+    tells = λ i.
+        let t = s.tells i in (
+          (λ c. ⊎_elim inl (λ g. inr (record { one = g.one; these = to g.one g.these; gives = g.gives })) (t.0 c)),
+          (λ e. t.1 (⊎_elim inl
+              (λ g. inr (record { one = g.one; these = from g.one g.these (differ_leads w.entries w.purpose g.one.left.field_at g.one.right.field_at g.gives.differ); gives = g.gives })) e)),
+        );
     grows = grows_as w.rows (Gives A) (Gives B) old new
         (λ q. (
           (λ g. record { one = g.one; these = to g.one g.these; gives = g.gives }),
@@ -187,12 +191,18 @@ module _ (w : LookOf) where
   pub searched_both : (A B : MetOf → Type 0) (items middle items' : List Item) (old between new : List (List ℕ)) → Searched w A items middle old between → Searched w B middle items' between new →
       Searched w (λ p. A p ⊎ B p) items items' old new
   searched_both A B items middle items' old between new a b = record {
-    puts = puts_as (λ i. IsGiven A (IsFaultOf w) i ⊎ IsGiven B (IsFaultOf w) i) (IsGiven (λ p. A p ⊎ B p) (IsFaultOf w)) items items'
-        (λ i. (
-          (λ s. ⊎_elim (λ g. record { one = g.one; these = inl g.these; gives = g.gives }) (λ g. record { one = g.one; these = inr g.these; gives = g.gives }) s),
-          (λ g. ⊎_elim (λ l. inl (record { one = g.one; these = l; gives = g.gives })) (λ r. inr (record { one = g.one; these = r; gives = g.gives })) g.these),
-        ))
-        (puts_both (IsGiven A (IsFaultOf w)) (IsGiven B (IsFaultOf w)) items middle items' a.puts b.puts);
+    tells = λ i.
+        let t = a.tells i in
+        let u = b.tells i in (
+          (λ c. ⊎_elim
+              (λ d. ⊎_elim inl (λ g. inr (record { one = g.one; these = inl g.these; gives = g.gives })) (t.0 d))
+              (λ g. inr (record { one = g.one; these = inr g.these; gives = g.gives })) (u.0 c)),
+          (λ e. ⊎_elim
+              (λ d. u.1 (inl (t.1 (inl d))))
+              (λ g. ⊎_elim
+              (λ l. u.1 (inl (t.1 (inr (record { one = g.one; these = l; gives = g.gives })))))
+              (λ r. u.1 (inr (record { one = g.one; these = r; gives = g.gives }))) g.these) e),
+        );
     grows = grows_as w.rows (λ q. Gives A q ⊎ Gives B q) (Gives (λ p. A p ⊎ B p)) old new
         (λ q. (
           (λ s. ⊎_elim (λ g. record { one = g.one; these = inl g.these; gives = g.gives }) (λ g. record { one = g.one; these = inr g.these; gives = g.gives }) s),
@@ -203,6 +213,6 @@ module _ (w : LookOf) where
 
   pub searched_nowhere : (A : MetOf → Type 0) (items : List Item) (old : List (List ℕ)) → ((p : MetOf) → A p → ⊥) → Searched w A items items old old
   searched_nowhere A items old none = record {
-    puts = puts_nothing (IsGiven A (IsFaultOf w)) items (λ i g. none g.one g.these);
+    tells = λ i. (inl, (λ s. ⊎_elim (λ c. c) (λ g. absurd (none g.one g.these)) s));
     grows = grows_not w.rows (Gives A) old (λ q g. none g.one g.these);
   }

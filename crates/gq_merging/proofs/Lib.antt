@@ -25,6 +25,7 @@ pub mod EarliestLemmas
 pub mod CliqueLemmas
 pub mod GrowLemmas
 pub mod ClassSearch
+pub mod KeptLemmas
 pub mod GroupSearch
 pub mod ThreadLemmas
 pub mod Crossing

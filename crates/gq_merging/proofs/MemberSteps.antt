@@ -23,6 +23,12 @@ members_of_row rows n r e = ap (λ (o : Option RowOf). option_map_or (λ (r : Ro
 pub members_past : (rows : List Row) (n : ℕ) → slice_get rows n ≡ None → members_at (rows_view rows) n ≡ []
 members_past rows n e = ap (λ (o : Option RowOf). option_map_or (λ (r : RowOf). r.members) o []) (slice_get-map row_view rows n ∙ ap (option_map row_view) e)
 
+pub spreads_of_row : (rows : List Row) (n : ℕ) (r : Row) → slice_get rows n ≡ Some r → spreads_at (rows_view rows) n ≡ r.spreads.items
+spreads_of_row rows n r e = ap (λ (o : Option RowOf). option_map_or (λ (r : RowOf). r.spreads) o []) (slice_get-map row_view rows n ∙ ap (option_map row_view) e)
+
+pub spreads_past : (rows : List Row) (n : ℕ) → slice_get rows n ≡ None → spreads_at (rows_view rows) n ≡ []
+spreads_past rows n e = ap (λ (o : Option RowOf). option_map_or (λ (r : RowOf). r.spreads) o []) (slice_get-map row_view rows n ∙ ap (option_map row_view) e)
+
 -- the fields of a set that stands alone
 pub lone_members : (rows : List RowOf) (numbers : List ℕ) → length numbers ≡ 1 → members_at rows (get_or numbers 0 0) ≡ flat_map (members_at rows) numbers
 lone_members rows [] one = absurd (omega (arith, one))

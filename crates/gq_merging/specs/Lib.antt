@@ -15,3 +15,4 @@ pub mod NameTables
 pub mod ParentTables
 pub mod SearchTables
 pub mod SearchViews
+pub mod KeptTables

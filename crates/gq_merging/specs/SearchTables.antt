@@ -1,7 +1,6 @@
 -- Groups of selection sets whose fields meet, and what the search over them finds, computed. Nothing here must be believed.
-use Rattle.std.specs.Prelude.{◌≡◌, ◌⊎◌, ℕ, ◌<◌, ◌≤◌, Bool, true, false, List, [], ◌∷◌, ◌++◌, Option, Some, None, if◌then◌else◌, IfSome, IfNone, Contains, length, take, slice_get, slice_index_or}
+use Rattle.std.specs.Prelude.{◌≡◌, ◌↔◌, ◌⊎◌, ℕ, ◌<◌, ◌≤◌, Bool, true, false, List, [], ◌∷◌, ◌++◌, Option, Some, None, if◌then◌else◌, IfSome, IfNone, Contains, length, take, slice_get, slice_index_or}
 use Rattle.gq_found.specs.declared.item.Item.{Item}
-use Rattle.gq_found.specs.Puts.{Puts}
 use Rattle.gq_merging.specs.FieldSets.{key}
 use Rattle.gq_merging.specs.FieldsMerge.{leads_on, IsNoLater}
 use Rattle.gq_merging.specs.Comparisons.{is_no_later}
@@ -82,9 +81,10 @@ pub record Grows (rows : List RowOf) (Is : MetOf → Type 0) (old new : List (Li
   pub taken : (q : MetOf) → AreInOne rows added q → Is q
   pub holds : (q : MetOf) → Is q → AreInOne rows new q
 
--- The faults of these fields that meet are put behind the items, and groups of what stands in their braces behind the groups.
+-- The faults of these fields that meet stand among the items now, and what stands in their braces in the groups; no other items are
+-- there than before, and no more groups than for these.
 pub record Searched (w : LookOf) (These : MetOf → Type 0) (items items' : List Item) (old new : List (List ℕ)) : Type 0 where
-  pub puts : Puts (IsGiven These (IsFaultOf w)) items items'
+  pub tells : (item : Item) → Contains items' item ↔ (Contains items item ⊎ IsGiven These (IsFaultOf w) item)
   pub grows : Grows w.rows (IsGiven These (AreUnder w)) old new
 
 -- an earlier group is the same

@@ -257,7 +257,7 @@ fn look_by_parents(
 }
 
 /// Looks at fields of one key.
-fn look_at_class(
+pub(crate) fn look_at_class(
     look: Look<'_>,
     members: &[Member<'_>],
     items: &mut Vec<Item>,

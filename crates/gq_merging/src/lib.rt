@@ -9,6 +9,7 @@ mod comparing;
 mod earliest;
 mod faults;
 mod groups;
+mod kept;
 mod marks;
 mod members;
 mod pairs;

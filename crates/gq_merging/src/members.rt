@@ -2,7 +2,7 @@
 ghost use Rattle.std.specs.Prelude.{◌≡◌, ℕ, ◌++◌, ◌↔◌, ◌<◌, All, IfOk, OnOk, length, map, Contains};
 ghost use Rattle.std.specs.List.{flat_map};
 ghost use Rattle.gq_reach.specs.Reach.{Reach, InRange, row};
-ghost use Rattle.gq_merging.specs.SetTables.{MemberOf, members_at, IsMember};
+ghost use Rattle.gq_merging.specs.SetTables.{MemberOf, members_at, spreads_at, IsMember};
 ghost use Rattle.gq_merging.specs.Views.{members_view, rows_view};
 
 use crate::rows::{Member, Row};
@@ -81,6 +81,34 @@ fn put_members<'a>(
 {
     if number < rows.len() {
         members.extend_from_slice(&rows[number].members)?;
+    }
+    Ok(())
+}
+
+/// The numbers of the fragments that are spread in the sets with these numbers.
+pub(crate) fn spreads_of(
+    alloc: Global,
+    rows: &[Row<'_>],
+    numbers: &[usize],
+) -> Result<Vec<usize>, NoMemory>
+    ensures { IfOk result (λ fragments. fragments.items ≡ flat_map (spreads_at (rows_view rows.now)) numbers.now) }
+{
+    let mut fragments = Vec::new(alloc);
+    for number in numbers {
+        put_spreads_of(rows, *number, &mut fragments)?;
+    }
+    Ok(fragments)
+}
+
+fn put_spreads_of(
+    rows: &[Row<'_>],
+    number: usize,
+    fragments: &mut Vec<usize>,
+) -> Result<(), NoMemory>
+    ensures { OnOk result (fragments.new.items ≡ fragments.old.items ++ spreads_at (rows_view rows.now) number) }
+{
+    if number < rows.len() {
+        fragments.extend_from_slice(&rows[number].spreads)?;
     }
     Ok(())
 }

@@ -12,26 +12,28 @@ ghost use Rattle.gq_tree.specs.Views.{type_view};
 ghost use Rattle.gq_document.specs.Selections.{typename_field};
 ghost use Rattle.gq_merging.specs.PairTables.{IsGiven, IsMetReached, IsFaultOf};
 ghost use Rattle.gq_merging.specs.SearchTables.{AreFirst, AreInGroup, HaveSets, Search, Searched, WasThere};
-ghost use Rattle.gq_merging.specs.GroupTables.{AreBelow};
+ghost use Rattle.gq_merging.specs.KeptTables.{AreKept, tables_view};
 ghost use Rattle.gq_merging.specs.GroupViews.{groups_view};
 ghost use Rattle.gq_merging.specs.Views.{rows_view, look_view};
 
 use crate::by_name::FieldsByName;
 use crate::classes::number_of_same;
-use crate::cliques::{look_at_classes, take_steps};
+use crate::cliques::take_steps;
 use crate::groups::{all_room, is_as_before};
-use crate::members::{gathered, reached_sets};
+use crate::kept::{Kept, look_at_besides, no_tables, slot_of, table_of};
+use crate::members::{gathered, spreads_of};
 use crate::pairs::Look;
 use crate::rows::Row;
 use gq_found::{Item, put_in_order};
 use gq_text::NoMemory;
 use std::alloc::Global;
 
-/// What keeps the search short: the place of the last group that has each number, how many steps are left for groups of several sets,
-/// and how many items may stand there before they are put in order, each once.
+/// What keeps the search short: the place of the last group that has each number, tables of what fragments reach, how many steps are
+/// left for groups of several sets, and how many items may stand there before they are put in order, each once.
 #[derive(Drop)]
-struct Notes {
+struct Notes<'a> {
     places: Vec<usize>,
+    kept: Kept<'a>,
     steps: usize,
     most_items: usize,
 }
@@ -43,9 +45,12 @@ const MORE_STEPS: usize = 30_000_000;
 const MORE_ITEMS: usize = 1000;
 
 /// Notes of no group.
-fn no_notes(look: Look<'_>) -> Result<Notes, NoMemory> {
+fn no_notes<'a>(look: Look<'a>) -> Result<Notes<'a>, NoMemory>
+    ensures { IfOk result (λ notes. notes.kept.tables.items ≡ []) }
+{
     Ok(Notes {
         places: vec![in look.alloc; 0; look.rows.len().saturating_mul(2)]?,
+        kept: no_tables(look.alloc, look.rows)?,
         steps: all_room(look.rows).saturating_add(MORE_STEPS),
         most_items: MORE_ITEMS,
     })
@@ -53,15 +58,11 @@ fn no_notes(look: Look<'_>) -> Result<Notes, NoMemory> {
 
 /// A number for the group, by which one that is the same is looked for. Below the count it is that of the one set of a group, and past
 /// it a group of several sets has one by all of them.
-fn slot_of(group: &[usize], count: usize) -> usize {
+fn place_for(group: &[usize], count: usize) -> usize {
     if let [one] = group {
         return *one;
     }
-    let mut slot: usize = 0;
-    for number in group {
-        slot = slot.wrapping_mul(31).wrapping_add(*number);
-    }
-    slot.checked_rem(count).unwrap_or(0).saturating_add(count)
+    slot_of(group, count).saturating_add(count)
 }
 
 /// Whether the group at that place was there already. Its place is noted.
@@ -69,7 +70,7 @@ fn was_there(groups: &[Vec<usize>], place: usize, places: &mut Vec<usize>) -> bo
     requires { place < length groups.now }
     ensures { IsTrue result → WasThere (groups_view groups.now) place }
 {
-    let slot = slot_of(&groups[place], places.len() / 2);
+    let slot = place_for(&groups[place], places.len() / 2);
     if slot >= places.len() {
         return false;
     }
@@ -106,28 +107,34 @@ fn steps_for(group: &[usize], left: usize) -> usize {
     left
 }
 
-/// Looks at the fields of the group at that place.
-fn look_at_group(
-    look: Look<'_>,
+/// Looks at the fields of the group at that place: those of its sets, and those that the fragments reach which are spread in them.
+fn look_at_group<'a>(
+    look: Look<'a>,
     place: usize,
     items: &mut Vec<Item>,
     groups: &mut Vec<Vec<usize>>,
+    kept: &mut Kept<'a>,
     steps: &mut usize,
 ) -> Result<bool, NoMemory>
     requires typename { type_view look.typename_type.now ≡ typename_field.type_ref }
     requires reach { InRange look.spreads.now }
     requires spreads { map (λ v. v.items) look.spreads.now ≡ map (λ r. r.spreads.items) look.rows.now }
     requires place { place < length groups.old.items }
-    requires range { AreBelow (rows_view look.rows.now) (groups_view groups.old.items) }
-    ensures { (group : List ℕ) → slice_get (groups_view groups.old.items) place ≡ Some group → IfOk result (λ done. IsTrue done → Searched (look_view look.entry) (AreInGroup (rows_view look.entry.rows.now) group) items.old.items items.new.items (groups_view groups.old.items) (groups_view groups.new.items)) }
+    requires kept { AreKept (look_view look) items.old.items (groups_view groups.old.items) (tables_view kept.old.tables.items) }
+    ensures kept { IfOk result (λ done. IsTrue done → AreKept (look_view look.entry) items.new.items (groups_view groups.new.items) (tables_view kept.new.tables.items)) }
+    ensures searched { (group : List ℕ) → slice_get (groups_view groups.old.items) place ≡ Some group → IfOk result (λ done. IsTrue done → Searched (look_view look.entry) (AreInGroup (rows_view look.entry.rows.now) group) items.old.items items.new.items (groups_view groups.old.items) (groups_view groups.new.items)) }
 {
-    let found = reached_sets(look.alloc, look.spreads, &groups[place])?;
-    let members = gathered(look.alloc, look.rows, &found)?;
-    if !take_steps(steps, found.len()) || !take_steps(steps, members.len()) {
+    let own = gathered(look.alloc, look.rows, &groups[place])?;
+    let fragments = spreads_of(look.alloc, look.rows, &groups[place])?;
+    if !take_steps(steps, own.len()) || !take_steps(steps, fragments.len()) {
         return Ok(false);
     }
-    let by_key = FieldsByName::by_key(look.alloc, &members)?;
-    let done = look_at_classes(look, &by_key.lists, items, groups, steps)?;
+    let by_key = FieldsByName::by_key(look.alloc, &own)?;
+    let Some(place) = table_of(look, fragments, items, groups, kept, steps)? else {
+        return Ok(false);
+    };
+    let table = &kept.tables[place];
+    let done = look_at_besides(look, &by_key.lists, &table.fields, items, groups, steps)?;
     Ok(done)
 }
 
@@ -142,12 +149,12 @@ fn drop_repeated(items: &mut Vec<Item>, most: &mut usize)
 }
 
 /// The same, but passes over a group that was there already.
-fn search_on(
-    look: Look<'_>,
+fn search_on<'a>(
+    look: Look<'a>,
     place: usize,
     items: &mut Vec<Item>,
     groups: &mut Vec<Vec<usize>>,
-    notes: &mut Notes,
+    notes: &mut Notes<'a>,
 ) -> Result<bool, NoMemory>
     requires typename { type_view look.typename_type.now ≡ typename_field.type_ref }
     requires reach { InRange look.spreads.now }
@@ -155,14 +162,15 @@ fn search_on(
     requires sets { HaveSets (rows_view look.rows.now) }
     requires size { look.size ≡ length look.rows.now * length look.rows.now }
     requires place { place < length groups.old.items }
-    requires range { AreBelow (rows_view look.rows.now) (groups_view groups.old.items) }
-    ensures { IfOk result (λ done. IsTrue done → (passed : List Bool) (first : List (List ℕ)) → Search (look_view look.entry) passed first items.old.items (groups_view groups.old.items) place → Search (look_view look.entry) passed first items.new.items (groups_view groups.new.items) (place + 1)) }
+    requires kept { AreKept (look_view look) items.old.items (groups_view groups.old.items) (tables_view notes.old.kept.tables.items) }
+    ensures kept { IfOk result (λ done. IsTrue done → AreKept (look_view look.entry) items.new.items (groups_view groups.new.items) (tables_view notes.new.kept.tables.items)) }
+    ensures search { IfOk result (λ done. IsTrue done → (passed : List Bool) (first : List (List ℕ)) → Search (look_view look.entry) passed first items.old.items (groups_view groups.old.items) place → Search (look_view look.entry) passed first items.new.items (groups_view groups.new.items) (place + 1)) }
 {
     if was_there(groups, place, &mut notes.places) {
         return Ok(true);
     }
     let mut steps = steps_for(&groups[place], notes.steps);
-    let done = look_at_group(look, place, items, groups, &mut steps)?;
+    let done = look_at_group(look, place, items, groups, &mut notes.kept, &mut steps)?;
     notes.steps = notes.steps.min(steps);
     drop_repeated(items, &mut notes.most_items);
     Ok(done)

@@ -1,4 +1,4 @@
-use Rattle.std.proofs.Common.{rules, ◌≡◌, true, Some, None, length, ap, subst}
+use Rattle.std.proofs.Common.{rules, ◌≡◌, true, Some, None, length, subst}
 use Rattle.std.specs.Option.{option_map}
 use Rattle.std.proofs.lemmas.Result.{on_ok_weaker}
 use Rattle.gq_types.specs.Look.{types_view}

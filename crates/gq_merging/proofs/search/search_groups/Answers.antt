@@ -1,21 +1,35 @@
 use Rattle.std.proofs.Common.{rules, ◌≡◌, ◌≤◌, [], length, sym, arith, ap, subst}
 use Rattle.std.proofs.lemmas.List.{length-map}
 use Rattle.gq_merging.specs.SearchTables.{Search}
+use Rattle.gq_merging.specs.KeptTables.{tables_view}
 use Rattle.gq_merging.specs.GroupViews.{groups_view}
 use Rattle.gq_merging.specs.Views.{row_view, look_view}
+use Rattle.gq_merging.proofs.KeptLemmas.{none_kept}
 use Rattle.gq_merging.proofs.GroupSearch.{search_starts, search_ends}
 use Rattle.gq_merging.proofs.search.search_groups.Goals as goal
 
 pub loop-done-init : goal.loop-done-init
 loop-done-init c =
     let first = groups_view c.in_ok-groups.groups.items in
-    let none : c.new-items.result.items ≡ [] = c.new-items.ensures.items in
-    subst (λ is. Search (look_view c.args.look) c.args.passed.now first is first 0) (sym none)
-    (search_starts (look_view c.args.look) c.args.passed.now c.requires.sets (sym (length-map c.args.look.rows.now row_view)) c.requires.size first c.in_ok-groups.ensures c.requires.passed)
+    let none : c.new-items.result.items ≡ [] = c.new-items.ensures.items in (
+      subst (λ is. Search (look_view c.args.look) c.args.passed.now first is first 0) (sym none)
+          (search_starts (look_view c.args.look) c.args.passed.now c.requires.sets (sym (length-map c.args.look.rows.now row_view)) c.requires.size first c.in_ok-groups.ensures c.requires.passed),
+      none_kept (look_view c.args.look) c.new-items.result.items first (tables_view c.in_ok-notes.notes.kept.tables.items) (ap tables_view c.in_ok-notes.ensures),
+    )
+
+pub search_on-requires-clause-kept : goal.search_on-requires-clause-kept
+search_on-requires-clause-kept c = c.loop-done.invariant.1
+
+pub loop-done-preserved : goal.loop-done-preserved
+loop-done-preserved c =
+    let t = c.if-not-branch.false in (
+      c.in_ok-search_on.ensures.search t c.args.passed.now (groups_view c.in_ok-groups.groups.items) c.loop-done.invariant.0,
+      c.in_ok-search_on.ensures.kept t,
+    )
 
 pub returns : goal.returns
 returns c =
     let past : length c.loop-done.groups.items ≤ c.loop-done.done = search rules in
     let all : length (groups_view c.loop-done.groups.items) ≤ c.loop-done.done = omega (arith, past, length-map c.loop-done.groups.items (λ v. v.items)) in
     search_ends (look_view c.args.look) c.args.passed.now c.requires.sets (sym (length-map c.args.look.rows.now row_view)) c.requires.size (groups_view c.in_ok-groups.groups.items) c.in_ok-groups.ensures c.requires.passed
-    c.loop-done.items.items (groups_view c.loop-done.groups.items) c.loop-done.done c.loop-done.invariant all
+    c.loop-done.items.items (groups_view c.loop-done.groups.items) c.loop-done.done c.loop-done.invariant.0 all

@@ -1,0 +1,339 @@
+-- What fragments that are spread together reach, kept by keys; and the fields of a group, which are its sets' own and those.
+use Rattle.std.proofs.Common.{◌≡◌, ◌↔◌, ◌⊎◌, ⊎_elim, inl, inr, ℕ, zero, suc, ◌+◌, ◌<◌, List, [], ◌∷◌, ◌++◌, append-nil, Some, None, All, Contains, length, map, take, get_or, refl, sym, ◌∙◌, ap, subst, Vec, Global}
+use Rattle.std.specs.List.{slice_get, flat_map}
+use Rattle.std.specs.Option.{option_map}
+use Rattle.std.proofs.lemmas.List.{length-map, map-append, take_more}
+use Rattle.std.proofs.lemmas.List.Elements.{All-nil, All-contains, All-weaker, All-contains_itself, Contains-append_left, Contains-append_right, Contains-append_cases, Contains-push, Contains-push_cases}
+use Rattle.std.proofs.lemmas.Option.{none-some, same_Some, slice_get-map, slice_get_within, slice_get_read}
+use Rattle.gq_names.proofs.RepeatLemmas.{contains_none, contains_first, contains_later}
+use Rattle.gq_reach.specs.Reach.{Reach, InRange, start, step, row}
+use Rattle.gq_reach.proofs.Ways.{way_on, way_starts, contains_one, FirstStep, first_step}
+use Rattle.gq_found.specs.declared.item.Item.{Item}
+use Rattle.gq_types.specs.Entries.{Text}
+use Rattle.gq_merging.specs.FieldSets.{key}
+use Rattle.gq_merging.specs.SetTables.{MemberOf, RowOf, members_at, spreads_at}
+use Rattle.gq_merging.specs.GroupTables.{IsOfGroup}
+use Rattle.gq_merging.specs.PairTables.{MetOf, LookOf, AreMet}
+use Rattle.gq_merging.specs.NameTables.{ByNameOf, by_name_view, fields_with, AreByKey}
+use Rattle.gq_merging.specs.SearchTables.{AreInGroup, AreOfOneKey, AreMetInOne, Searched}
+use Rattle.gq_merging.specs.KeptTables.{KeptOf, AreByTheirKeys, IsTableOf, IsKept, AreKept, IsTableAt, ArePut, AreMetBeside, AreMetBesideOne, table_view, tables_view}
+use Rattle.gq_merging.specs.Views.{member_view, members_view, rows_view}
+use Rattle.gq_merging.specs.declared.rows.Member.{Member}
+use Rattle.gq_merging.specs.declared.rows.Row.{Row}
+use Rattle.gq_merging.specs.declared.kept.Table.{Table}
+use Rattle.gq_merging.proofs.ClassSearch.{seen, seen_tell, list_of_member}
+use Rattle.gq_merging.proofs.MemberLemmas.{get_contains}
+use Rattle.gq_merging.proofs.Worklist.{get_seam}
+use Rattle.gq_merging.proofs.MemberSteps.{alike, reach_alike, from_flat, to_flat}
+use Rattle.gq_merging.proofs.GrowLemmas.{searched_as, searched_both, searched_nowhere, still_in_one}
+
+-- a way of no step, or one that goes on from what the first number leads to
+lone_way : (next : ℕ → List ℕ) (b n : ℕ) → Reach (b ∷ []) next n → (n ≡ b) ⊎ Reach (next b) next n
+lone_way next b n (start h) = inl (contains_one b n h)
+lone_way next b n (step {m = k} r c) = ⊎_elim (λ e. inr (start (subst (λ j. Contains (next j) n) e c))) (λ w. inr (step w c)) (lone_way next b k r)
+
+module _ (rows : List RowOf) (group : List ℕ) where
+  abbrev own : List MemberOf
+  own = flat_map (members_at rows) group
+
+  abbrev spread : List ℕ
+  spread = flat_map (spreads_at rows) group
+
+  -- the fields of a group: its sets' own, and those that the fragments reach which are spread in them
+  own_or_reached : (m : MemberOf) → IsOfGroup rows group m ↔ (Contains own m ⊎ IsOfGroup rows spread m)
+  own_or_reached m = (
+    (λ h.
+        let f : FirstStep (spreads_at rows) group h.reached = first_step (spreads_at rows) group h.reached h.reach in
+        ⊎_elim
+        (λ e. inl (to_flat (members_at rows) group f.by m f.on (subst (λ k. Contains (members_at rows k) m) e h.stands)))
+        (λ w. inr (record { reached = h.reached; reach = way_starts (spreads_at rows) (spreads_at rows f.by) spread (λ k c. to_flat (spreads_at rows) group f.by k f.on c) h.reached w; stands = h.stands }))
+        (lone_way (spreads_at rows) f.by h.reached f.rest)),
+    (λ s. ⊎_elim
+        (λ c. let q = from_flat (members_at rows) group m c in record { reached = q.0; reach = start q.1; stands = q.2 })
+        (λ h.
+        let f : FirstStep (spreads_at rows) spread h.reached = first_step (spreads_at rows) spread h.reached h.reach in
+        let q = from_flat (spreads_at rows) group f.by f.on in
+        record { reached = h.reached; reach = way_on group (spreads_at rows) f.by h.reached (step (start q.1) q.2) f.rest; stands = h.stands }) s),
+  )
+
+row_holds : (P : ℕ → Type 0) (vs : List (Vec ℕ Global)) → ((v : Vec ℕ Global) → Contains vs v → (n : ℕ) → Contains v.items n → P n) → (k n : ℕ) → Contains (row vs k) n → P n
+row_holds P [] h k n c = absurd (contains_none n c)
+row_holds P (v ∷ vs) h zero n c = h v (contains_first v vs v refl) n c
+row_holds P (v ∷ vs) h (suc k) n c = row_holds P vs (λ w d. h w (contains_later v vs w d)) k n c
+
+-- the fragments that are spread in sets have rows
+pub spreads_have_rows : (rows : List Row) (table : List (Vec ℕ Global)) → map (λ v. v.items) table ≡ map (λ r. r.spreads.items) rows → InRange table → (group ns : List ℕ) →
+    ns ≡ flat_map (spreads_at (rows_view rows)) group → All (λ n. n < length table) ns
+spreads_have_rows rows table same range group ns is =
+    All-weaker (Contains ns) (λ n. n < length table)
+    (λ n c.
+    let q = from_flat (spreads_at (rows_view rows)) group n (subst (λ ms. Contains ms n) is c) in
+    row_holds (λ n. n < length table) table
+    (λ v d m e. All-contains (λ k. k < length table) v.items m (All-contains (λ w. All (λ k. k < length table) w.items) table v range d) e)
+    q.0 n (subst (λ ms. Contains ms n) (sym (alike rows table same q.0)) q.2)) ns (All-contains_itself ns)
+
+-- the fields of a group are those of all that it reaches
+module _ (rows : List Row) (table : List (Vec ℕ Global)) (same : map (λ v. v.items) table ≡ map (λ r. r.spreads.items) rows) (group found : List ℕ) (ms : List MemberOf)
+    (sound : All (λ n. Reach group (row table) n) found) (complete : (n : ℕ) → Reach group (row table) n → Contains found n) (is : ms ≡ flat_map (members_at (rows_view rows)) found) where
+  members_of_group : (m : MemberOf) → Contains ms m ↔ IsOfGroup (rows_view rows) group m
+  members_of_group m = (
+    (λ c. let q = from_flat (members_at (rows_view rows)) found m (subst (λ ls. Contains ls m) is c) in
+        record {
+          reached = q.0;
+          reach = reach_alike (row table) (spreads_at (rows_view rows)) group (alike rows table same) q.0 (All-contains (λ n. Reach group (row table) n) found q.0 sound q.1);
+          stands = q.2;
+        }),
+    (λ h. subst (λ ls. Contains ls m) (sym is)
+        (to_flat (members_at (rows_view rows)) found h.reached m
+        (complete h.reached (reach_alike (spreads_at (rows_view rows)) (row table) group (λ n. sym (alike rows table same n)) h.reached h.reach)) h.stands)),
+  )
+
+  -- by keys they are the table of the group
+  pub group_table : (t : ByNameOf) → AreByKey t ms → IsTableOf (rows_view rows) group t
+  group_table t by_key = record {
+    each = λ text m. (
+      (λ c. let h = (by_key.each text m).0 c in ((members_of_group m).0 h.0, h.1)),
+      (λ h. (by_key.each text m).1 ((members_of_group m).1 h.0, h.1)),
+    );
+  }
+
+  -- what is found in the lists by key is found in the group
+  pub group_searched : (w : LookOf) (vs : List (Vec Member Global)) (t : ByNameOf) → t.lists ≡ map seen vs → AreByKey t ms → (items items' : List Item) (old new : List (List ℕ)) →
+      Searched w (AreMetInOne (map seen vs)) items items' old new → Searched w (AreInGroup (rows_view rows) group) items items' old new
+  group_searched w vs t are by_key items items' old new s =
+      searched_as w (AreMetInOne (map seen vs)) (AreInGroup (rows_view rows) group) items items' old new
+      (λ p.
+      let tell = seen_tell vs t are ms by_key p in (
+        (λ h. let m = tell.0 h in record { left = (members_of_group p.left).0 m.stands_left; right = (members_of_group p.right).0 m.stands_right; one_key = m.one_key }),
+        (λ h. tell.1 (record { stands_left = (members_of_group p.left).1 h.left; stands_right = (members_of_group p.right).1 h.right; one_key = h.one_key })),
+      )) s
+
+-- the fields of a table are under their keys
+pub by_their_keys : (rows : List RowOf) (fragments : List ℕ) (t : ByNameOf) → IsTableOf rows fragments t → AreByTheirKeys t
+by_their_keys rows fragments t is = record { each = λ text m c. ((is.each text m).0 c).1 }
+
+-- a list of one key with those that a table has for it
+module _ (list : List MemberOf) (one_key : AreOfOneKey list) (t : ByNameOf) (keys : AreByTheirKeys t) (first : MemberOf) (stands : Contains list first) (others : List MemberOf)
+    (are : others ≡ fields_with t (key first.field_at)) where
+  its_key : (m : MemberOf) → Contains (list ++ others) m → key first.field_at ≡ key m.field_at
+  its_key m c = ⊎_elim (λ l. one_key.each first m stands l) (λ o. sym (keys.each (key first.field_at) m (subst (λ ms. Contains ms m) are o))) (Contains-append_cases list others m c)
+
+  pub beside_of_one_key : AreOfOneKey (list ++ others)
+  beside_of_one_key = record { each = λ a b ca cb. sym (its_key a ca) ∙ its_key b cb }
+
+  the_others : (p : MetOf) → key first.field_at ≡ key p.left.field_at → list ++ fields_with t (key p.left.field_at) ≡ list ++ others
+  the_others p e = ap (λ k. list ++ fields_with t k) (sym e) ∙ ap (λ ms. list ++ ms) (sym are)
+
+  pub beside_told : (p : MetOf) → AreMet (list ++ others) (list ++ others) p ↔ AreMetBeside list t p
+  beside_told p = (
+    (λ m.
+        let e = its_key p.left m.stands_left in
+        record {
+          one = first;
+          stands = stands;
+          same = e;
+          left = subst (λ ms. Contains ms p.left) (sym (the_others p e)) m.stands_left;
+          right = subst (λ ms. Contains ms p.right) (sym (the_others p e)) m.stands_right;
+          one_key = m.one_key;
+        }),
+    (λ m.
+        let e = one_key.each first m.one stands m.stands ∙ m.same in
+        record {
+          stands_left = subst (λ ms. Contains ms p.left) (the_others p e) m.left;
+          stands_right = subst (λ ms. Contains ms p.right) (the_others p e) m.right;
+          one_key = m.one_key;
+        }),
+  )
+
+  pub beside_searched : (w : LookOf) (items items' : List Item) (old new : List (List ℕ)) → Searched w (AreMet (list ++ others) (list ++ others)) items items' old new →
+      Searched w (AreMetBeside list t) items items' old new
+  beside_searched w items items' old new s = searched_as w (AreMet (list ++ others) (list ++ others)) (AreMetBeside list t) items items' old new beside_told s
+
+-- the table has none for it
+pub alone_searched : (list : List MemberOf) → AreOfOneKey list → (t : ByNameOf) → AreByTheirKeys t → (first : MemberOf) → Contains list first → fields_with t (key first.field_at) ≡ [] →
+    (w : LookOf) (items items' : List Item) (old new : List (List ℕ)) → Searched w (AreMet list list) items items' old new → Searched w (AreMetBeside list t) items items' old new
+alone_searched list one_key t keys first stands none w items items' old new s =
+    beside_searched list one_key t keys first stands [] (sym none) w items items' old new (subst (λ ms. Searched w (AreMet ms ms) items items' old new) (sym (append-nil list)) s)
+
+-- the first of a list
+pub first_none : (ms : List Member) → slice_get ms 0 ≡ None → members_view ms ≡ []
+first_none [] e = refl
+first_none (m ∷ ms) e = absurd (none-some m (sym e))
+
+pub first_there : (ms : List Member) (m : Member) → slice_get ms 0 ≡ Some m → Contains (members_view ms) (member_view m)
+first_there ms m e = get_contains (members_view ms) 0 (member_view m) (slice_get-map member_view ms 0 ∙ ap (option_map member_view) e)
+
+-- no field stands in it
+pub none_beside : (list : List MemberOf) (t : ByNameOf) → list ≡ [] → (w : LookOf) (items : List Item) (old : List (List ℕ)) → Searched w (AreMetBeside list t) items items old old
+none_beside list t none w items old = searched_nowhere w (AreMetBeside list t) items old (λ p m. contains_none m.one (subst (λ ms. Contains ms m.one) none m.stands))
+
+-- one list more
+besides_more : (ls : List (List MemberOf)) (l : List MemberOf) (t : ByNameOf) (p : MetOf) → (AreMetBesideOne ls t p ⊎ AreMetBeside l t p) ↔ AreMetBesideOne (ls ++ l ∷ []) t p
+besides_more ls l t p = (
+  (λ s. ⊎_elim
+      (λ h. record { list = h.list; is_list = Contains-append_left ls (l ∷ []) h.list h.is_list; met = h.met })
+      (λ m. record { list = l; is_list = Contains-push ls l; met = m }) s),
+  (λ h. ⊎_elim
+      (λ c. inl (record { list = h.list; is_list = c; met = h.met }))
+      (λ e. inr (subst (λ k. AreMetBeside k t p) (sym e) h.met)) (Contains-push_cases ls l h.list h.is_list)),
+)
+
+module _ (w : LookOf) (t : ByNameOf) where
+  pub lists_more_beside : (vs : List (Vec Member Global)) (i : ℕ) (d : Vec Member Global) (items middle items' : List Item) (old between new : List (List ℕ)) → i < length vs → get_or vs i d ≡ d →
+      Searched w (AreMetBesideOne (map seen (take i vs)) t) items middle old between → Searched w (AreMetBeside (seen d) t) middle items' between new →
+      Searched w (AreMetBesideOne (map seen (take (i + 1) vs)) t) items items' old new
+  lists_more_beside vs i d items middle items' old between new l e a b =
+      let front = map seen (take i vs) in
+      let more : map seen (take (i + 1) vs) ≡ front ++ seen d ∷ [] = ap (map seen) (take_more vs i d l) ∙ map-append seen (take i vs) (get_or vs i d ∷ []) ∙ ap (λ y. front ++ seen y ∷ []) e in
+      subst (λ ls. Searched w (AreMetBesideOne ls t) items items' old new) (sym more)
+      (searched_as w (λ p. AreMetBesideOne front t p ⊎ AreMetBeside (seen d) t p) (AreMetBesideOne (front ++ seen d ∷ []) t) items items' old new (besides_more front (seen d) t)
+      (searched_both w (AreMetBesideOne front t) (AreMetBeside (seen d) t) items middle items' old between new a b))
+
+  pub no_lists_beside : (items : List Item) (old : List (List ℕ)) → Searched w (AreMetBesideOne [] t) items items old old
+  no_lists_beside items old = searched_nowhere w (AreMetBesideOne [] t) items old (λ p h. contains_none h.list h.is_list)
+
+-- Of two fields of one key in a group both are among those that the fragments reach, or one of them stands in a set of the group itself.
+module _ (rows : List RowOf) (group : List ℕ) (vs : List (Vec Member Global)) (o : ByNameOf) (are : o.lists ≡ map seen vs)
+    (by_key : AreByKey o (flat_map (members_at rows) group)) (t : ByNameOf) (is : IsTableOf rows (flat_map (spreads_at rows) group) t) where
+  -- a field of the group that has the key of one of its own stands in the list of that, or with those that the table has for it
+  in_list_or_table : (list : List MemberOf) → (m : MemberOf) → ((v : MemberOf) → Contains (flat_map (members_at rows) group) v → key v.field_at ≡ key m.field_at → Contains list v) →
+      (text : Text) → key m.field_at ≡ text → IsOfGroup rows group m → Contains (list ++ fields_with t text) m
+  in_list_or_table list m holds text e h = ⊎_elim
+      (λ c. Contains-append_left list (fields_with t text) m (holds m c refl))
+      (λ r. Contains-append_right list (fields_with t text) m ((is.each text m).1 (r, e)))
+      ((own_or_reached rows group m).0 h)
+
+  of_the_group : (list : List MemberOf) → Contains o.lists list → (text : Text) (m : MemberOf) → Contains (list ++ fields_with t text) m → IsOfGroup rows group m
+  of_the_group list c text m h = ⊎_elim
+      (λ l. (own_or_reached rows group m).1 (inl ((list_of_member o (flat_map (members_at rows) group) by_key).0 list c m l)))
+      (λ r. (own_or_reached rows group m).1 (inr ((is.each text m).0 r).0))
+      (Contains-append_cases list (fields_with t text) m h)
+
+  -- one of its own fields, with all that have its key
+  with_own : (p : MetOf) → AreInGroup rows group p → (m : MemberOf) → Contains (flat_map (members_at rows) group) m → key m.field_at ≡ key p.left.field_at → AreMetBesideOne o.lists t p
+  with_own p h m c e =
+      let q = (list_of_member o (flat_map (members_at rows) group) by_key).1 m c in
+      record {
+        list = q.0;
+        is_list = q.1;
+        met = record {
+          one = m;
+          stands = q.2 m c refl;
+          same = e;
+          left = in_list_or_table q.0 p.left (λ v d k. q.2 v d (k ∙ sym e)) (key p.left.field_at) refl h.left;
+          right = in_list_or_table q.0 p.right (λ v d k. q.2 v d (k ∙ sym h.one_key ∙ sym e)) (key p.left.field_at) (sym h.one_key) h.right;
+          one_key = h.one_key;
+        };
+      }
+
+  own_or_kept : (p : MetOf) → (AreInGroup rows (flat_map (spreads_at rows) group) p ⊎ AreMetBesideOne o.lists t p) ↔ AreInGroup rows group p
+  own_or_kept p = (
+    (λ s. ⊎_elim
+        (λ k. record { left = (own_or_reached rows group p.left).1 (inr k.left); right = (own_or_reached rows group p.right).1 (inr k.right); one_key = k.one_key })
+        (λ b. record {
+          left = of_the_group b.list b.is_list (key p.left.field_at) p.left b.met.left;
+          right = of_the_group b.list b.is_list (key p.left.field_at) p.right b.met.right;
+          one_key = b.met.one_key;
+        }) s),
+    (λ h. ⊎_elim
+        (λ c. inr (with_own p h p.left c refl))
+        (λ l. ⊎_elim
+        (λ c. inr (with_own p h p.right c (sym h.one_key)))
+        (λ r. inl (record { left = l; right = r; one_key = h.one_key }))
+        ((own_or_reached rows group p.right).0 h.right))
+        ((own_or_reached rows group p.left).0 h.left)),
+  )
+
+  pub group_told : (w : LookOf) (items middle items' : List Item) (old between new : List (List ℕ)) →
+      Searched w (AreInGroup rows (flat_map (spreads_at rows) group)) items middle old between → Searched w (AreMetBesideOne (map seen vs) t) middle items' between new →
+      Searched w (AreInGroup rows group) items items' old new
+  group_told w items middle items' old between new a b =
+      searched_as w (λ p. AreInGroup rows (flat_map (spreads_at rows) group) p ⊎ AreMetBesideOne o.lists t p) (AreInGroup rows group) items items' old new own_or_kept
+      (searched_both w (AreInGroup rows (flat_map (spreads_at rows) group)) (AreMetBesideOne o.lists t) items middle items' old between new a
+      (subst (λ ls. Searched w (AreMetBesideOne ls t) middle items' between new) (sym are) b))
+
+-- the code's tables
+pub table_at : (ts : List Table) (place : ℕ) (t : Table) (fragments : List ℕ) → slice_get ts place ≡ Some t → t.fragments.items ≡ fragments → IsTableAt (tables_view ts) place fragments
+table_at ts place t fragments e is = record { table = table_view t; at = slice_get-map table_view ts place ∙ ap (option_map table_view) e; is = is }
+
+pub table_put : (old middle new : List Table) (place : ℕ) (t : Table) → ((j : KeptOf) → Contains (tables_view middle) j → Contains (tables_view old) j) → new ≡ middle ++ t ∷ [] → place ≡ length middle →
+    ArePut (tables_view old) (tables_view new) place (table_view t)
+table_put old middle new place t keeps e last =
+    let pushed : tables_view new ≡ tables_view middle ++ table_view t ∷ [] = ap tables_view e ∙ map-append table_view middle (t ∷ []) in
+    record {
+      at = ap (slice_get (tables_view new)) (last ∙ sym (length-map middle table_view)) ∙ ap (λ ks. slice_get ks (length (tables_view middle))) pushed ∙ get_seam (tables_view middle) (table_view t) [];
+      others = λ j c. ⊎_elim (λ o. inl (keeps j o)) (λ q. inr (sym q)) (Contains-push_cases (tables_view middle) (table_view t) j (subst (λ ks. Contains ks j) pushed c));
+    }
+
+-- tables that are kept
+module _ (w : LookOf) where
+  -- what was looked at is looked at where there is more
+  pub searched_still : (A : MetOf → Type 0) (items items' : List Item) (groups groups' added : List (List ℕ)) → ((item : Item) → Contains items item → Contains items' item) → groups' ≡ groups ++ added →
+      Searched w A items items groups groups → Searched w A items' items' groups' groups'
+  searched_still A items items' groups groups' added keeps e s = record {
+    tells = λ item. (inl, (λ c. ⊎_elim (λ d. d) (λ g. keeps item ((s.tells item).1 (inr g))) c));
+    grows = record {
+      added = [];
+      is = sym (append-nil groups');
+      range = All-nil (λ g. All (λ n. n < length w.rows) g);
+      taken = λ q h. absurd (contains_none h.group h.is_group);
+      holds = λ q i. still_in_one w.rows groups groups' added e q (s.grows.holds q i);
+    };
+  }
+
+  pub kept_still : (items items' : List Item) (groups groups' added : List (List ℕ)) (ks : List KeptOf) → ((item : Item) → Contains items item → Contains items' item) → groups' ≡ groups ++ added →
+      AreKept w items groups ks → AreKept w items' groups' ks
+  kept_still items items' groups groups' added ks keeps e are k c =
+      let i = are k c in
+      record { table = i.table; searched = searched_still (AreInGroup w.rows k.fragments) items items' groups groups' added keeps e i.searched }
+
+  -- what was looked at just now
+  pub searched_now : (A : MetOf → Type 0) (items items' : List Item) (groups groups' : List (List ℕ)) → Searched w A items items' groups groups' → Searched w A items' items' groups' groups'
+  searched_now A items items' groups groups' s = record {
+    tells = λ item. (inl, (λ c. ⊎_elim (λ d. d) (λ g. (s.tells item).1 (inr g)) c));
+    grows = record {
+      added = [];
+      is = sym (append-nil groups');
+      range = All-nil (λ g. All (λ n. n < length w.rows) g);
+      taken = λ q h. absurd (contains_none h.group h.is_group);
+      holds = λ q i. s.grows.holds q i;
+    };
+  }
+
+  pub kept_on : (A : MetOf → Type 0) (items items' : List Item) (groups groups' : List (List ℕ)) (ks : List KeptOf) → Searched w A items items' groups groups' →
+      AreKept w items groups ks → AreKept w items' groups' ks
+  kept_on A items items' groups groups' ks s are =
+      kept_still items items' groups groups' s.grows.added ks (λ item c. (s.tells item).1 (inl c)) s.grows.is are
+
+  -- one table more
+  pub kept_put : (old new : List KeptOf) (place : ℕ) (k : KeptOf) (items items' : List Item) (groups groups' : List (List ℕ)) → ArePut old new place k →
+      IsTableOf w.rows k.fragments k.fields → Searched w (AreInGroup w.rows k.fragments) items items' groups groups' → AreKept w items groups old → AreKept w items' groups' new
+  kept_put old new place k items items' groups groups' put is s are j c = ⊎_elim
+      (λ d. kept_on (AreInGroup w.rows k.fragments) items items' groups groups' old s are j d)
+      (λ e. subst (IsKept w items' groups') (sym e) (record { table = is; searched = searched_now (AreInGroup w.rows k.fragments) items items' groups groups' s }))
+      (put.others j c)
+
+  pub none_kept : (items : List Item) (groups : List (List ℕ)) (ks : List KeptOf) → ks ≡ [] → AreKept w items groups ks
+  none_kept items groups ks e k c = absurd (contains_none k (subst (λ js. Contains js k) e c))
+
+  -- the table at a place
+  pub table_there : (items : List Item) (groups : List (List ℕ)) (ks : List KeptOf) (place : ℕ) (fragments : List ℕ) → IsTableAt ks place fragments → AreKept w items groups ks →
+      (k : KeptOf) × (slice_get ks place ≡ Some k) × IsTableOf w.rows fragments k.fields × Searched w (AreInGroup w.rows fragments) items items groups groups
+  table_there items groups ks place fragments h are =
+      let i = are h.table (get_contains ks place h.table h.at) in (
+        h.table,
+        h.at,
+        subst (λ ns. IsTableOf w.rows ns h.table.fields) h.is i.table,
+        subst (λ ns. Searched w (AreInGroup w.rows ns) items items groups groups) h.is i.searched,
+      )
+
+  pub table_within : (ts : List Table) (place : ℕ) (fragments : List ℕ) → IsTableAt (tables_view ts) place fragments → place < length ts
+  table_within ts place fragments h = subst (λ k. place < k) (length-map ts table_view) (slice_get_within (tables_view ts) place h.table h.at)
+
+  pub table_here : (items : List Item) (groups : List (List ℕ)) (ts : List Table) (place : ℕ) (t : Table) (fragments : List ℕ) → t ≡ get_or ts place t → IsTableAt (tables_view ts) place fragments →
+      AreKept w items groups (tables_view ts) → IsTableOf w.rows fragments (by_name_view t.fields)
+  table_here items groups ts place t fragments is h are =
+      let k = table_there items groups (tables_view ts) place fragments h are in
+      let read : slice_get ts place ≡ Some t = slice_get_read ts (length ts) place t refl (table_within ts place fragments h) is in
+      let same : k.0 ≡ table_view t = same_Some k.0 (table_view t) (sym k.1 ∙ slice_get-map table_view ts place ∙ ap (option_map table_view) read) in
+      subst (λ (j : KeptOf). IsTableOf w.rows fragments j.fields) same k.2
