@@ -82,18 +82,9 @@ module _ (w : LookOf) (passed : List Bool) (sets : HaveSets w.rows) (counted : w
               (f.over q.right ((of_one w.rows f.same q.right).0 (subst (λ g. IsOfGroup w.rows g q.right) f.is h.inside.right))) h.inside.one_key;
         }
 
-    one_below : (g : List ℕ) → IsFirst w.rows passed (length passed) g → All (λ n. n < length w.rows) g
-    one_below g f = subst (All (λ n. n < length w.rows)) (sym f.is) (All-cons (λ n. n < length w.rows) f.same [] f.there (All-nil (λ n. n < length w.rows)))
-
-    first_below : (gs : List (List ℕ)) → ((g : List ℕ) → Contains gs g → IsFirst w.rows passed (length passed) g) → AreBelow w.rows gs
-    first_below [] only = All-nil (λ g. All (λ n. n < length w.rows) g)
-    first_below (g ∷ gs) only =
-        All-cons (λ g. All (λ n. n < length w.rows) g) g gs (one_below g (only g (contains_first g gs g refl))) (first_below gs (λ h c. only h (contains_later g gs h c)))
-
     pub search_starts : Search w passed first [] first 0
     search_starts = record {
       most = omega arith;
-      range = first_below first are_first.only;
       sound = first_reached;
       searched = searched_nowhere w (AreInOne w.rows []) [] first (λ p h. contains_none h.group h.is_group);
     }
@@ -107,7 +98,6 @@ module _ (w : LookOf) (passed : List Bool) (sets : HaveSets w.rows) (counted : w
       let before : Contains (take done groups) g.0 = contains_take groups done was.earlier g.0 was.before (was.same ∙ g.1) in
       record {
         most = omega (arith, l);
-        range = s.range;
         sound = s.sound;
         searched = subst (λ gs. Searched w (AreInOne w.rows gs) [] items first groups) (sym front)
             (searched_as w (AreInOne w.rows (take done groups)) (AreInOne w.rows (take done groups ++ g.0 ∷ [])) [] items first groups
@@ -128,7 +118,6 @@ module _ (w : LookOf) (passed : List Bool) (sets : HaveSets w.rows) (counted : w
   search_same first items items' groups done same s =
       record {
         most = s.most;
-        range = s.range;
         sound = s.sound;
         searched = record {
           tells = λ item. let t = s.searched.tells item in ((λ c. t.0 ((same item).0 c)), (λ e. (same item).1 (t.1 e)));
@@ -146,7 +135,6 @@ module _ (w : LookOf) (passed : List Bool) (sets : HaveSets w.rows) (counted : w
       let here : Contains old group = get_contains old done group at in
       record {
         most = omega (arith, count, l);
-        range = subst (AreBelow w.rows) (sym g.is) (All-append (λ k. All (λ n. n < length w.rows) k) old g.added s.range g.range);
         sound = λ q i. ⊎_elim (s.sound q) (sound_more here) (in_either w.rows old g.added q (subst (λ gs. AreInOne w.rows gs q) g.is i));
         searched = subst (λ gs. Searched w (AreInOne w.rows gs) [] items' first new) (sym front)
             (searched_as w (λ p. AreInOne w.rows (take done old) p ⊎ AreInGroup w.rows group p) (AreInOne w.rows (take done old ++ group ∷ [])) [] items' first new
@@ -216,16 +204,16 @@ module _ (rows : List RowOf) (passed : List Bool) where
   }
 
   later_first : (k : ℕ) (g : List ℕ) → IsFirst rows passed k g → IsFirst rows passed (k + 1) g
-  later_first k g f = record { number = f.number; before = (let l = f.before in omega (arith, l)); stays = f.stays; same = f.same; is = f.is; there = f.there; over = f.over }
+  later_first k g f = record { number = f.number; before = (let l = f.before in omega (arith, l)); stays = f.stays; same = f.same; is = f.is; over = f.over }
 
   more_fields : (old new : List (List ℕ)) → ((g : List ℕ) → Contains old g → Contains new g) → (n : ℕ) → HasFields rows old n → HasFields rows new n
   more_fields old new keeps n h = record { group = h.group; is_group = keeps h.group h.is_group; under = h.under }
 
-  pub first_stays : (k same : ℕ) (old new : List (List ℕ)) → slice_index_or passed k false ≡ false → new ≡ old ++ (same ∷ []) ∷ [] → same < length rows → IsUnder rows k (same ∷ []) →
+  pub first_stays : (k same : ℕ) (old new : List (List ℕ)) → slice_index_or passed k false ≡ false → new ≡ old ++ (same ∷ []) ∷ [] → IsUnder rows k (same ∷ []) →
       ((m : MemberOf) → IsMember rows same m → IsMember rows k m) → AreFirst rows passed k old → AreFirst rows passed (k + 1) new
-  first_stays k same old new stays e there under over f = record {
+  first_stays k same old new stays e under over f = record {
     only = λ g c. ⊎_elim (λ d. later_first k g (f.only g d))
-        (λ q. record { number = k; before = omega arith; stays = stays; same = same; is = sym q; there = there; over = over })
+        (λ q. record { number = k; before = omega arith; stays = stays; same = same; is = sym q; over = over })
         (Contains-push_cases old (same ∷ []) g (subst (λ gs. Contains gs g) e c));
     each = λ n l s. ⊎_elim
         (λ b. more_fields old new (λ g c. subst (λ gs. Contains gs g) (sym e) (Contains-append_left old ((same ∷ []) ∷ []) g c)) n (f.each n b s))

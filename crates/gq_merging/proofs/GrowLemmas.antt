@@ -77,18 +77,16 @@ pub grows_not : (rows : List RowOf) (Is : MetOf → Type 0) (old : List (List �
 grows_not rows Is old none = record {
   added = [];
   is = sym (append-nil old);
-  range = All-nil (λ g. All (λ n. n < length rows) g);
   taken = λ q h. absurd (contains_none h.group h.is_group);
   holds = λ q i. absurd (none q i);
 }
 
 -- one group more
-pub grows_one : (rows : List RowOf) (Is : MetOf → Type 0) (old new : List (List ℕ)) (group : List ℕ) → new ≡ old ++ group ∷ [] → All (λ n. n < length rows) group →
+pub grows_one : (rows : List RowOf) (Is : MetOf → Type 0) (old new : List (List ℕ)) (group : List ℕ) → new ≡ old ++ group ∷ [] →
     ((q : MetOf) → AreInGroup rows group q ↔ Is q) → Grows rows Is old new
-grows_one rows Is old new group e range are = record {
+grows_one rows Is old new group e are = record {
   added = group ∷ [];
   is = e;
-  range = All-cons (λ g. All (λ n. n < length rows) g) group [] range (All-nil (λ g. All (λ n. n < length rows) g));
   taken = λ q h. ⊎_elim (λ s. (are q).0 (subst (λ g. AreInGroup rows g q) (sym s) h.inside)) (λ c. absurd (contains_none h.group c)) (contains_cases group [] h.group h.is_group);
   holds = λ q i. record { group = group; is_group = subst (λ gs. Contains gs group) (sym e) (Contains-push old group); inside = (are q).1 i };
 }
@@ -97,7 +95,6 @@ pub grows_as : (rows : List RowOf) (A B : MetOf → Type 0) (old new : List (Lis
 grows_as rows A B old new h g = record {
   added = g.added;
   is = g.is;
-  range = g.range;
   taken = λ q i. (h q).0 (g.taken q i);
   holds = λ q b. g.holds q ((h q).1 b);
 }
@@ -116,7 +113,6 @@ pub grows_both : (rows : List RowOf) (A B : MetOf → Type 0) (old middle new : 
 grows_both rows A B old middle new a b = record {
   added = a.added ++ b.added;
   is = b.is ∙ ap (λ gs. gs ++ b.added) a.is ∙ append_assoc old a.added b.added;
-  range = All-append (λ g. All (λ n. n < length rows) g) a.added b.added a.range b.range;
   taken = λ q h. ⊎_elim (λ l. inl (a.taken q l)) (λ r. inr (b.taken q r)) (in_either rows a.added b.added q h);
   holds = λ q s. ⊎_elim (λ l. still_in_one rows middle new b.added b.is q (a.holds q l)) (λ r. b.holds q r) s;
 }

@@ -275,7 +275,6 @@ module _ (w : LookOf) where
     grows = record {
       added = [];
       is = sym (append-nil groups');
-      range = All-nil (λ g. All (λ n. n < length w.rows) g);
       taken = λ q h. absurd (contains_none h.group h.is_group);
       holds = λ q i. still_in_one w.rows groups groups' added e q (s.grows.holds q i);
     };
@@ -294,7 +293,6 @@ module _ (w : LookOf) where
     grows = record {
       added = [];
       is = sym (append-nil groups');
-      range = All-nil (λ g. All (λ n. n < length w.rows) g);
       taken = λ q h. absurd (contains_none h.group h.is_group);
       holds = λ q i. s.grows.holds q i;
     };

@@ -5,7 +5,7 @@ use Rattle.gq_merging.specs.FieldSets.{key}
 use Rattle.gq_merging.specs.FieldsMerge.{leads_on, IsNoLater}
 use Rattle.gq_merging.specs.Comparisons.{is_no_later}
 use Rattle.gq_merging.specs.SetTables.{MemberOf, RowOf, members_at, IsMember}
-use Rattle.gq_merging.specs.GroupTables.{IsOfGroup, IsUnder, AreBelow}
+use Rattle.gq_merging.specs.GroupTables.{IsOfGroup, IsUnder}
 use Rattle.gq_merging.specs.PairTables.{MetOf, LookOf, AreMet, IsGiven, IsMetReached, IsFaultOf}
 
 -- the earliest one of the fields for which that is true, where there is one; of each it is known whether it is true
@@ -77,7 +77,6 @@ pub record AreUnder (w : LookOf) (p q : MetOf) : Type 0 where
 pub record Grows (rows : List RowOf) (Is : MetOf → Type 0) (old new : List (List ℕ)) : Type 0 where
   pub added : List (List ℕ)
   pub is : new ≡ old ++ added
-  pub range : AreBelow rows added
   pub taken : (q : MetOf) → AreInOne rows added q → Is q
   pub holds : (q : MetOf) → Is q → AreInOne rows new q
 
@@ -100,7 +99,6 @@ pub record IsFirst (rows : List RowOf) (passed : List Bool) (end : ℕ) (group :
   pub stays : slice_index_or passed number false ≡ false
   pub same : ℕ
   pub is : group ≡ same ∷ []
-  pub there : same < length rows
   pub over : (m : MemberOf) → IsMember rows same m → IsMember rows number m
 
 -- a group has the fields of the set with that number
@@ -121,6 +119,5 @@ HaveSets rows = (n : ℕ) (m : MemberOf) → Contains (members_at rows n) m → 
 -- The first groups are done: their faults are put, and groups of what stands in the braces of their fields are there.
 pub record Search (w : LookOf) (passed : List Bool) (first : List (List ℕ)) (items : List Item) (groups : List (List ℕ)) (done : ℕ) : Type 0 where
   pub most : done ≤ length groups
-  pub range : AreBelow w.rows groups
   pub sound : (q : MetOf) → AreInOne w.rows groups q → IsMetReached w passed q
   pub searched : Searched w (AreInOne w.rows (take done groups)) [] items first groups

@@ -90,9 +90,7 @@ fn put_faults_among(
 
 /// Puts the number of the set in the field's braces into a group, if something stands there.
 fn put_below(rows: &[Row<'_>], member: &Member<'_>, group: &mut Vec<usize>) -> Result<(), NoMemory>
-    requires range { All (λ n. n < length (rows_view rows.now)) group.old.items }
-    ensures range { OnOk result (All (λ n. n < length (rows_view rows.now)) group.new.items) }
-    ensures below { OnOk result ((ms : List MemberOf) → ((m : MemberOf) → IsOfGroup (rows_view rows.now) group.old.items m ↔ IsBelowOne (rows_view rows.now) ms m) → (m : MemberOf) → IsOfGroup (rows_view rows.now) group.new.items m ↔ IsBelowOne (rows_view rows.now) (ms ++ member_view member.now ∷ []) m) }
+    ensures { OnOk result ((ms : List MemberOf) → ((m : MemberOf) → IsOfGroup (rows_view rows.now) group.old.items m ↔ IsBelowOne (rows_view rows.now) ms m) → (m : MemberOf) → IsOfGroup (rows_view rows.now) group.new.items m ↔ IsBelowOne (rows_view rows.now) (ms ++ member_view member.now ∷ []) m) }
 {
     if has_selections(rows, member.below) {
         group.push(member.below)?;
@@ -106,8 +104,7 @@ fn sets_below(
     rows: &[Row<'_>],
     members: &[Member<'_>],
 ) -> Result<Vec<usize>, NoMemory>
-    ensures range { IfOk result (λ group. All (λ n. n < length (rows_view rows.now)) group.items) }
-    ensures below { IfOk result (λ group. (m : MemberOf) → IsOfGroup (rows_view rows.now) group.items m ↔ IsBelowOne (rows_view rows.now) (members_view members.now) m) }
+    ensures { IfOk result (λ group. (m : MemberOf) → IsOfGroup (rows_view rows.now) group.items m ↔ IsBelowOne (rows_view rows.now) (members_view members.now) m) }
 {
     let mut group = Vec::new(alloc);
     for member in members {

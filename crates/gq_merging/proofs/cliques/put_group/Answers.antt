@@ -16,7 +16,7 @@ returns-in_ok-push c =
     let pushed : c.push.new.self.items ≡ c.args.groups.now.items ++ group ∷ [] = search rules in
     grows_one rows (AreBelowThese rows ms) (groups_view c.args.groups.now.items) (groups_view c.push.new.self.items) group.items
     (ap groups_view pushed ∙ map-append (λ v. v.items) c.args.groups.now.items (group ∷ []))
-    c.in_ok-group.ensures.range (in_group_below rows group.items ms c.in_ok-group.ensures.below)
+    (in_group_below rows group.items ms c.in_ok-group.ensures)
 
 pub returns-else-not-is_empty : goal.returns-else-not-is_empty
 returns-else-not-is_empty c =
@@ -24,4 +24,4 @@ returns-else-not-is_empty c =
     let ms = members_view c.args.members.now in
     let group = c.in_ok-group.group in
     let none : group.items ≡ [] = nil_from_length _ (grind (arith, nat_tests)) in
-    grows_not rows (AreBelowThese rows ms) (groups_view c.args.groups.now.items) (nothing_below rows group.items ms c.in_ok-group.ensures.below none)
+    grows_not rows (AreBelowThese rows ms) (groups_view c.args.groups.now.items) (nothing_below rows group.items ms c.in_ok-group.ensures none)

@@ -6,7 +6,4 @@ use Rattle.gq_merging.specs.Views.{members_view, rows_view}
 use Rattle.gq_merging.proofs.cliques.sets_below.Given as goal
 
 abbrev pub invariant-loop-member : goal.invariant-loop-member
-invariant-loop-member l = record {
-  range : All (λ n. n < length (rows_view l.rows)) l.group.items;
-  below : (m : MemberOf) → IsOfGroup (rows_view l.rows) l.group.items m ↔ IsBelowOne (rows_view l.rows) (members_view (take l.member-index l.members)) m;
-}
+invariant-loop-member l = (m : MemberOf) → IsOfGroup (rows_view l.rows) l.group.items m ↔ IsBelowOne (rows_view l.rows) (members_view (take l.member-index l.members)) m

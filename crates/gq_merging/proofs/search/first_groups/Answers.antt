@@ -20,9 +20,8 @@ loop-number-preserved c = elim c.if-not-passed-number.branch [
       let pushed : w.push.new.self.items ≡ c.loop-number.groups.items ++ w.in_ok-vec.field-0 ∷ [] = search rules in
       let more : groups_view w.push.new.self.items ≡ groups_view c.loop-number.groups.items ++ (same.result ∷ []) ∷ [] =
       ap groups_view pushed ∙ map-append (λ v. v.items) c.loop-number.groups.items (w.in_ok-vec.field-0 ∷ []) ∙ ap (λ g. groups_view c.loop-number.groups.items ++ g ∷ []) one in
-      let there : same.result < length (rows_view c.args.rows.now) = subst (λ k. same.result < k) (sym (length-map c.args.rows.now row_view)) same.ensures.range in
       subst (λ gs. AreFirst (rows_view c.args.rows.now) c.args.passed.now (c.loop-number.number + 1) (groups_view gs.items)) (sym w.groups-is)
-      (first_stays (rows_view c.args.rows.now) c.args.passed.now c.loop-number.number same.result (groups_view c.loop-number.groups.items) (groups_view w.push.new.self.items) stays more there same.ensures.under same.ensures.over c.loop-number.invariant)
+      (first_stays (rows_view c.args.rows.now) c.args.passed.now c.loop-number.number same.result (groups_view c.loop-number.groups.items) (groups_view w.push.new.self.items) stays more same.ensures.under same.ensures.over c.loop-number.invariant)
   | else-not-passed-number w ↦
       let gone : slice_index_or c.args.passed.now c.loop-number.number false ≡ true = search rules in
       subst (λ gs. AreFirst (rows_view c.args.rows.now) c.args.passed.now (c.loop-number.number + 1) (groups_view gs.items)) (sym w.groups-is)

@@ -6,6 +6,8 @@ use std::test::Fail;
 const NODES: &str =
     "type Query{p:I} interface I{a:Int c:Int i:I} type D implements I{a:Int c:Int i:I} type E implements I{a:Int c:Int i:I}";
 
+const SPREADS: &str = "type Query{a:Query f:Int g:Int}";
+
 #[test]
 fn each_field_that_differs_from_an_earlier_one_is_told(rt: HostRuntime) -> Result<(), Fail> {
     let rows = "
@@ -49,6 +51,22 @@ fn what_differs_in_a_cycle_that_no_operation_reaches_is_told(rt: HostRuntime) ->
         fragment F on I{k:a ...F} fragment G on I{k:c ...G} =>
     ";
     assert_found(rt.alloc(), &rt, NODES, rows)
+}
+
+#[test]
+fn fields_beside_the_same_spreads_are_compared_with_what_these_reach(
+    rt: HostRuntime,
+) -> Result<(), Fail> {
+    let rows = "
+        query A{...F k:f} query B{...F k:g} fragment F on Query{k:f} => 1:V5[58,59]
+        fragment F on Query{k:f} query A{...F k:f} query B{...F k:g} => 1:V5[58,59]
+        fragment F on Query{k:f ...G} fragment G on Query{k:g} query A{...F j:f} query B{...F k:g} => 1:V5[52,53]1:V5[88,89]
+        query A{...F ...G k:f} query B{...G ...F k:g} fragment F on Query{j:f} fragment G on Query{k:f} => 1:V5[93,94]
+        query A{a{...F} ...E} query B{a{...F k:g} ...E} fragment E on Query{a{k:f}} fragment F on Query{j:f} => 1:V5[72,73]
+        fragment F on Query{...F ...G k:f} fragment G on Query{j:g} query A{...F j:f} => 1:V5[75,76]
+        query A{...F ...F k:f} query B{...F k:f} query C{k:f} fragment F on Query{j:f} =>
+    ";
+    assert_found(rt.alloc(), &rt, SPREADS, rows)
 }
 
 /// So many fragments that each spread the next one.
