@@ -145,6 +145,14 @@ def many_schema_extensions(count):
     yield "q.graphql", "\n".join("mutation M%d{a}" % i for i in range(count // 2))
 
 
+def use_behind_spreads(count):
+    """Operations that each spread the first of a chain of fragments, in the last of which a variable is used."""
+    yield "s.graphql", SCHEMA
+    rows = ["query Q%d($v:Int){...F0}" % i for i in range(count)]
+    rows += ["fragment F%d on Query{g%d:x ...F%d}" % (i, i, i + 1) for i in range(count - 1)]
+    yield "q.graphql", "\n".join(rows + ["fragment F%d on Query{f(a:$v)}" % (count - 1)])
+
+
 def many_operations(count, keys):
     """A chain of fragments, and as many operations that spread the first, each beside a field of such a key and call."""
     yield "s.graphql", SCHEMA
@@ -207,6 +215,7 @@ PROJECTS = {
     "spread_alone": lambda times: many_operations(3000 * times, lambda i: ""),
     "spread_beside_fields": lambda times: many_operations(3000 * times, lambda i: "k%d:x" % i),
     "spread_beside_calls": lambda times: many_operations(3000 * times, lambda i: "k:f(a:%d)" % i),
+    "use_behind_spreads": lambda times: use_behind_spreads(3000 * times),
     "fault_in_chain": lambda times: one_fault(8000 * times, ["{...F0}"], ""),
     "fault_in_cycle": lambda times: one_fault(8000 * times, [], "...F0"),
     "fault_below_spreads": lambda times: one_fault(3000 * times, ["query Q%d{...F0}" % i for i in range(3000 * times)], ""),

@@ -12,8 +12,7 @@ use Rattle.gq_types.specs.contracts.types.Types as Types
 use Rattle.gq_types.proofs.table.Table.TheSendSync as Table
 use Rattle.gq_types.proofs.uses.Uses.TheSendSync as Uses
 use Rattle.gq_types.proofs.parts.Parts.TheSendSync as Parts
-use Rattle.gq_types.specs.contracts.declarers.Declarers as Declarers
-use Rattle.gq_names.proofs.list.NameList.TheSendSync as NameList
+use Rattle.gq_names.proofs.by_name.ByName.TheSendSync as ByName
 
 Entry-field_sync : IsSync (Entry.the_field).row
 Entry-field_sync = search (sendable, crosses, TypeSystemDefinition-field_sync) depth 12
@@ -24,11 +23,8 @@ Entry-sync = search (sendable, crosses, Entry-field_sync) depth 12
 Definitions-field_sync : IsSync (Definitions.the_field).row
 Definitions-field_sync = search (sendable, crosses, Entry-sync, Table.the_field_sync) depth 12
 
-Declarers-field_sync : IsSync (Declarers.the_field).row
-Declarers-field_sync = search (sendable, crosses, NameList.the_sync) depth 12
-
 Types-field_sync : IsSync (Types.the_field).row
-Types-field_sync = search (sendable, crosses, Definitions-field_sync, Parts.the_sync, Declarers-field_sync, Uses.the_sync, Uses.the_field_sync) depth 16
+Types-field_sync = search (sendable, crosses, Definitions-field_sync, Parts.the_sync, ByName.the_sync, Uses.the_field_sync) depth 16
 
 pub Types-sync : IsSync Types.the_row
 Types-sync = search (sendable, crosses, Types-field_sync) depth 12

@@ -1,2 +1,3 @@
 pub mod SelectionLemmas
 pub mod Crossing
+pub mod OneReading

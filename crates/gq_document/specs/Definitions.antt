@@ -1,11 +1,9 @@
 -- The definitions of a project's documents (section 2.2), each with the document that it stands in.
-use Rattle.std.specs.Prelude.{ℕ, List, [], ◌∷◌, Option, Some, None, map, flat_map}
+use Rattle.std.specs.Prelude.{ℕ, List, [], ◌∷◌, Option, map, flat_map}
 use Rattle.std.specs.List.{enumerate_from}
 use Rattle.std.specs.Option.{option_map}
 use Rattle.gq_text.specs.declared.place.Span.{Span}
 use Rattle.gq_tree.specs.declared.tree.OperationKind.{OperationKind}
-use Rattle.gq_tree.specs.declared.tree.Operation.{Operation}
-use Rattle.gq_tree.specs.declared.tree.Fragment.{Fragment}
 use Rattle.gq_tree.specs.Plain.{NameOf, VariableOf, DirectiveOf, Sels, Def, operation, fragment, type_system}
 use Rattle.gq_tree.specs.Views.{name_of, variable_view, directive_view, sels_view, def_view}
 use Rattle.gq_types.specs.Entries.{EntryOf}

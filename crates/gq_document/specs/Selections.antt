@@ -1,9 +1,9 @@
 -- The selections of operations and fragments, each with the type of its parent (section 5.3).
-use Rattle.std.specs.Prelude.{◌≡◌, ℕ, Bool, false, List, [], ◌∷◌, ◌++◌, Option, Some, None, Contains, codes, map, bytes_eq, if◌then◌else◌, option_and_then}
+use Rattle.std.specs.Prelude.{◌≡◌, ℕ, Bool, false, List, [], ◌∷◌, ◌++◌, Option, Some, None, Contains, codes, bytes_eq, if◌then◌else◌, option_and_then}
 use Rattle.std.specs.Option.{option_map, option_map_or}
 use Rattle.gq_text.specs.declared.place.Span.{Span}
 use Rattle.gq_tree.specs.Forest.{none, more}
-use Rattle.gq_tree.specs.Plain.{NameOf, TypeOf, named, list_of, non_null, InputOf, FieldDefinitionOf, Head, field, spread, inline, Sel, Sels}
+use Rattle.gq_tree.specs.Plain.{TypeOf, named, list_of, non_null, InputOf, Head, field, spread, inline, Sel, Sels}
 use Rattle.gq_types.specs.Entries.{Text, EntryOf}
 use Rattle.gq_types.specs.Kinds.{is_composite}
 use Rattle.gq_types.specs.Joined.{kind_named}

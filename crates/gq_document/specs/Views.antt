@@ -2,7 +2,6 @@
 use Rattle.std.specs.Prelude.{List, Option, map}
 use Rattle.std.specs.Option.{option_map}
 use Rattle.gq_tree.specs.Views.{type_view, input_view, sel_view}
-use Rattle.gq_types.specs.Entries.{Text}
 use Rattle.gq_types.specs.Look.{text_of}
 use Rattle.gq_document.specs.Selections.{FieldOf, typename_field, SelectedOf}
 use Rattle.gq_document.specs.declared.fields.SelectedField.{SelectedField}

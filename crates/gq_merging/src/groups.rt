@@ -522,9 +522,9 @@ fn no_notes(alloc: Global, rows: &[Row<'_>], more: usize) -> Result<Notes, NoMem
     })
 }
 
-/// How many steps each thread may take beyond those in proportion to the rows. In so many some thousands of sets that all
-/// reach some thousands of fragments are tested one by one, and they take a second.
-const MORE_STEPS: usize = 30_000_000;
+/// How many steps each thread may take beyond those in proportion to the rows. In so many a hundred sets that all reach some
+/// thousands of fragments are tested one by one, and they take a tenth of a second.
+const MORE_STEPS: usize = 1_000_000;
 
 /// The marks that tests leave which begin with these sets, in order.
 fn marks_from(tables: Tables<'_>, starts: &[usize]) -> Result<Vec<bool>, NoMemory>

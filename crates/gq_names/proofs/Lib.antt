@@ -1,3 +1,4 @@
 pub mod Enumerated
 pub mod PlaceLemmas
 pub mod RepeatLemmas
+pub mod UnderLemmas

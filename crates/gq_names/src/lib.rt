@@ -1,9 +1,11 @@
-//! Names in the order in which they stand, and those that stand there twice.
+//! Names in the order in which they stand, those that stand there twice, and lists of items under names.
 #![tactic(auto)]
 
+pub mod by_name;
 pub mod list;
 pub mod repeated;
 
+pub use by_name::ByName;
 pub use list::NameList;
 pub use repeated::repeated_names;
 

@@ -1,3 +1,4 @@
+use crate::by_name::ByName;
 use crate::list::NameList;
 use crate::repeated::repeated_names;
 use std::alloc::Global;
@@ -150,4 +151,32 @@ fn repeated_names_are_told_by_their_places(rt: HostRuntime) -> Result<(), Fail> 
         a b a c b a => [2, 4, 5]
     ";
     assert_repeated(rt.alloc(), &rt, rows)
+}
+
+/// The items under the names of a row, where `a=1` puts one and `a` asks for those that are there by then.
+fn items_told(alloc: Global, words: &str) -> Result<String, Fail> {
+    let mut items = ByName::new(alloc);
+    let mut told = String::new(alloc);
+    for word in words.split_whitespace() {
+        match word.split_once("=") {
+            Some((name, number)) => {
+                let number: usize = number.parse()?;
+                items.put(name, number)?;
+            }
+            None => {
+                let one = format!(in alloc; " {:?}", items.get(word))?;
+                told.push_str(one.as_str())?;
+            }
+        }
+    }
+    Ok(told)
+}
+
+#[test]
+fn items_stand_under_their_names(rt: HostRuntime) -> Result<(), Fail> {
+    let alloc = rt.alloc();
+    let words = "a a=1 b=2 a=3 a b c b=2 a=1 b a";
+    let told = items_told(alloc, words)?;
+    assert_eq!(rt; told.as_str(), " [] [1, 3] [2] [] [2, 2] [1, 3, 1]");
+    Ok(())
 }

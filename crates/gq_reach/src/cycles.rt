@@ -6,10 +6,11 @@
 ghost use Rattle.std.specs.Prelude.{◌≡◌, ℕ, ◌<◌, ◌≤◌, ◌↔◌, length, All, IfOk, OnOk, IsTrue, slice_index_or, false, true};
 ghost use Rattle.gq_reach.specs.Reach.{LeadsBack, row, InRange};
 ghost use Rattle.gq_reach.specs.Found.{Marked};
-ghost use Rattle.gq_reach.specs.Components.{Led, Also, SomeMarked, Collected};
+ghost use Rattle.gq_reach.specs.Components.{Led, SomeMarked, Collected};
 
 use crate::closing::close;
 use crate::found::Found;
+use crate::marks::mark_all;
 use crate::turned::turned;
 use crate::walk::finished;
 use gq_text::NoMemory;
@@ -72,15 +73,4 @@ fn some_marked(numbers: &[usize], marks: &[bool]) -> bool
         }
     }
     false
-}
-
-/// Marks the numbers.
-fn mark_all(marks: &mut Vec<bool>, numbers: &[usize])
-    requires range { All (λ n. n < length marks.old.items) numbers.now }
-    ensures count { length marks.new.items ≡ length marks.old.items }
-    ensures also { Also numbers.now marks.old.items marks.new.items }
-{
-    for number in numbers {
-        marks[*number] = true;
-    }
 }

@@ -6,6 +6,7 @@
 //! - `reach` and `reach_rows` list what the starts lead to in any number of steps, the starts among it, each number once.
 //! - `on_cycles` marks what leads back to itself.
 //! - `components` tells which numbers lead to each other.
+//! - `mark_all` marks numbers, and `turned` gives a table of what leads to each number.
 //!
 //! Everything is done with lists of numbers and marks, and nothing recurses, so a long way takes no deep stack.
 #![tactic(auto)]
@@ -15,13 +16,15 @@ pub mod cycles;
 mod found;
 mod gathered;
 pub mod leads;
+pub mod marks;
 pub mod mutual;
 pub mod rows;
-mod turned;
+pub mod turned;
 mod walk;
 
 pub use cycles::on_cycles;
 pub use leads::{Leads, reach};
+pub use marks::mark_all;
 pub use mutual::components;
 pub use rows::{are_below, is_in_range, reach_rows};
 

@@ -1,6 +1,7 @@
 ghost use Rattle.std.specs.Prelude.{◌/◌, ◌∷◌, []};
 
-use crate::{Leads, are_below, components, is_in_range, on_cycles, reach, reach_rows};
+use crate::turned::turned;
+use crate::{Leads, are_below, components, is_in_range, mark_all, on_cycles, reach, reach_rows};
 use gq_text::NoMemory;
 use std::alloc::Global;
 use std::process::Abort;
@@ -207,5 +208,36 @@ fn a_graph_is_searched_from_the_starts(rt: HostRuntime) -> Result<(), Fail> {
         shown(alloc, &reach(alloc, &halves, &[13, 5])?)?.as_str(),
         " 13 5 6 2 3 1 0"
     );
+    Ok(())
+}
+
+/// What leads to each number, a row behind the other.
+fn turned_round(alloc: Global, text: &str) -> Result<String, Fail> {
+    let rows = table(alloc, text)?;
+    if !is_in_range(&rows) {
+        return Err("a number without a row")?;
+    }
+    let back = turned(alloc, &rows)?;
+    Ok(format!(in alloc; "{back:?}")?)
+}
+
+#[test]
+fn a_table_is_turned_round(rt: HostRuntime) -> Result<(), Fail> {
+    let alloc = rt.alloc();
+    let told = turned_round(alloc, "4: 0-1 0-2 2-1 1-1 3-0")?;
+    assert_eq!(rt; told.as_str(), "[[3], [0, 1, 2], [0], []]");
+    Ok(())
+}
+
+#[test]
+fn numbers_are_marked_beside_others(rt: HostRuntime) -> Result<(), Fail> {
+    let alloc = rt.alloc();
+    let mut marks = vec![in alloc; false; 4]?;
+    mark_all(&mut marks, &[2]);
+    if marks.len() == 4 {
+        mark_all(&mut marks, &[0, 2]);
+    }
+    let told = format!(in alloc; "{marks:?}")?;
+    assert_eq!(rt; told.as_str(), "[true, false, true, false]");
     Ok(())
 }

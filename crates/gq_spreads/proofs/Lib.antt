@@ -1,5 +1,4 @@
 pub mod PlaceLemmas
-pub mod FindLemmas
 pub mod RowLemmas
 pub mod ReachLemmas
 pub mod MarkLemmas

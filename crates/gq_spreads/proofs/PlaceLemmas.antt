@@ -1,8 +1,11 @@
 -- The places of a name in a list of names.
-use Rattle.std.proofs.Common.{◌≡◌, ℕ, zero, suc, ◌+◌, ◌<◌, Bool, true, false, if◌then◌else◌, List, [], ◌∷◌, ◌++◌, length, refl, sym, ◌∙◌, ap, subst, arith, Contains, ⊎_elim, Some}
-use Rattle.std.specs.Prelude.{All, slice_get, bytes_eq}
+use Rattle.std.proofs.Common.{append-nil, ◌≡◌, ℕ, zero, suc, ◌+◌, ◌<◌, Bool, true, false, if◌then◌else◌, List, [], ◌∷◌, ◌++◌, length, refl, sym, ◌∙◌, ap, subst, arith, Contains, ⊎_elim, Some}
+use Rattle.std.specs.Prelude.{All, slice_get, bytes_eq, ◌||◌, not, nat_eq}
+use Rattle.std.specs.List.{list_any}
+use Rattle.gq_names.specs.UnderNames.{one_if}
 use Rattle.std.specs.Cmp.Lexicographic.{bytes_decides, nat_list_eq_equiv}
 use Rattle.std.proofs.lemmas.List.Elements.{All-nil, All-cons, All-weaker}
+use Rattle.std.proofs.Math.Dec.{eqb-suc-zero}
 use Rattle.std.proofs.lemmas.Option.{none-some, same_Some}
 use Rattle.gq_types.specs.Entries.{Text}
 use Rattle.gq_types.proofs.Gathered.{nothing_in, first, later, cases_cons}
@@ -24,6 +27,24 @@ push_same k text (other ∷ names) name same =
 pub push_other : (k : ℕ) (text : Text) (names : List Text) (name : Text) → bytes_eq text name ≡ false → places_from k text (names ++ name ∷ []) ≡ places_from k text names
 push_other k text [] name other = rw other refl
 push_other k text (one ∷ names) name other = ap (λ ns. if bytes_eq text one then k ∷ ns else ns) (push_other (k + 1) text names name other)
+
+-- and with its place the numbers under it
+pub places_more : (text : Text) (names : List Text) (name : Text) → places_from 0 text (names ++ name ∷ []) ≡ places_from 0 text names ++ one_if (bytes_eq text name) (length names)
+places_more text names name = by_same (bytes_eq text name) refl
+  where
+    by_same : (b : Bool) → bytes_eq text name ≡ b → places_from 0 text (names ++ name ∷ []) ≡ places_from 0 text names ++ one_if b (length names)
+    by_same true same = push_same 0 text names name same ∙ ap (λ n. places_from 0 text names ++ n ∷ []) (omega arith)
+    by_same false other = push_other 0 text names name other ∙ sym (append-nil (places_from 0 text names))
+
+-- a name has a place if it is in the list
+pub some_place : (k : ℕ) (text : Text) (names : List Text) → not (nat_eq (length (places_from k text names)) 0) ≡ list_any (bytes_eq text) names
+some_place k text [] = refl
+some_place k text (name ∷ names) = by_same (some_place (k + 1) text names) (bytes_eq text name) refl
+  where
+    by_same : not (nat_eq (length (places_from (k + 1) text names)) 0) ≡ list_any (bytes_eq text) names → (b : Bool) → bytes_eq text name ≡ b →
+        not (nat_eq (length (if b then k ∷ places_from (k + 1) text names else places_from (k + 1) text names)) 0) ≡ (b || list_any (bytes_eq text) names)
+    by_same rest true same = ap not (eqb-suc-zero (length (places_from (k + 1) text names)))
+    by_same rest false other = rest
 
 -- a place is that of a name in the list
 all_more : (P : ℕ → Type 0) (b : Bool) (k : ℕ) (ns : List ℕ) → P k → All P ns → All P (if b then k ∷ ns else ns)

@@ -1,6 +1,5 @@
 pub mod Spreads
 pub mod Rows
-pub mod FragmentNumbers
 pub mod Items
 pub mod FragmentsMustBeUsed
 pub mod FragmentsMustBeUsedPlaces

@@ -1,11 +1,10 @@
 -- The rows of spreads, computed. Nothing here must be believed.
-use Rattle.std.specs.Prelude.{◌≡◌, ◌≢◌, ℕ, List, [], ◌∷◌, ◌++◌, map, flat_map}
+use Rattle.std.specs.Prelude.{ℕ, List, map, flat_map}
 use Rattle.std.specs.declared.vec.Vec.{Vec}
 use Rattle.std.specs.declared.alloc.Global.{Global}
 use Rattle.gq_text.specs.declared.place.Span.{Span}
 use Rattle.gq_tree.specs.Names.{spread_names}
 use Rattle.gq_tree.specs.Plain.{NameOf, Sels}
-use Rattle.gq_reach.specs.Reach.{row}
 use Rattle.gq_types.specs.Entries.{Text}
 use Rattle.gq_document.specs.Definitions.{OperationOf, FragmentOf}
 use Rattle.gq_spreads.specs.Spreads.{places_from}
@@ -30,8 +29,3 @@ fragment_numbers ts f = spread_numbers ts f.set
 -- a table as lists
 abbrev pub row_items : List (Vec ℕ Global) → List (List ℕ)
 row_items rows = map (λ v. v.items) rows
-
--- the number was put at the end of one row, and nothing else changed
-pub record PutAt (place number : ℕ) (old new : List (Vec ℕ Global)) : Type 0 where
-  pub here : row new place ≡ row old place ++ number ∷ []
-  pub others : (k : ℕ) → k ≢ place → row new k ≡ row old k

@@ -11,6 +11,7 @@ ghost use Rattle.gq_spreads.specs.Spreads.{AreSpreads};
 use crate::spreads::Spreads;
 use gq_document::{Executable, FragmentEntry};
 use gq_found::{Code, Item};
+use gq_reach::mark_all;
 use gq_text::NoMemory;
 use std::alloc::Global;
 
@@ -49,17 +50,6 @@ fn mark_rows(marks: &mut Vec<bool>, rows: &[Vec<usize>])
 {
     for row in rows {
         mark_all(marks, row);
-    }
-}
-
-/// Marks the numbers.
-fn mark_all(marks: &mut Vec<bool>, numbers: &[usize])
-    requires range { All (λ n. n < length marks.old.items) numbers.now }
-    ensures count { length marks.new.items ≡ length marks.old.items }
-    ensures also { Also numbers.now marks.old.items marks.new.items }
-{
-    for number in numbers {
-        marks[*number] = true;
     }
 }
 

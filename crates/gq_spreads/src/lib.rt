@@ -6,7 +6,7 @@ pub mod fragment_names;
 mod fragment_spread_target_defined;
 mod fragment_spreads_must_not_form_cycles;
 mod fragments_must_be_used;
-mod spread_names;
+pub mod spread_names;
 pub mod spreads;
 
 pub use faults::put_spread_faults;

@@ -11,7 +11,8 @@ use Rattle.gq_types.specs.Look.{joined_numbers}
 use Rattle.gq_types.specs.LookUps.{declares_in, object_name, is_first, is_implementer, implementers}
 use Rattle.gq_types.specs.Tables.{AreParts, lists_in, parts_at}
 use Rattle.gq_types.specs.PossiblePlaces.{object_at}
-use Rattle.gq_types.specs.Declarers.{declaring_from, declarers_from, declarers, one_if}
+use Rattle.gq_names.specs.UnderNames.{one_if}
+use Rattle.gq_types.specs.Declarers.{declaring_from, declarers_from, declarers}
 use Rattle.gq_types.proofs.PartLookups.{interface_is}
 
 -- whether the entry with that number defines an object type that declares the interface

@@ -61,13 +61,6 @@ module _ (es : List EntryOf) (lists new : List (List ℕ)) (i o : ℕ) (inside :
   joined_more are k =
       by_same (nat_eq o k) k (numbers_owned es k (numbered_from (i + 1) (drop (i + 1) es))) refl ∙ ap (λ xs. get_or lists k [] ++ xs) (sym (owned_more k)) ∙ are k
 
--- a list of lists in which one has grown
-pub one_grown : {Z : Type 0} (lists : List (Vec ℕ Z)) (place number : ℕ) (x v : Vec ℕ Z) → place < length lists → x ≡ get_or lists place x → v.items ≡ x.items ++ number ∷ []
-    → lists_of (set lists place v) ≡ set (lists_of lists) place (get_or (lists_of lists) place [] ++ number ∷ [])
-one_grown [] place number x v h is grown = absurd (omega arith)
-one_grown (w ∷ lists) zero number x v h is grown = ap (λ xs. xs ∷ lists_of lists) (grown ∙ ap (λ y. y.items ++ number ∷ []) is)
-one_grown (w ∷ lists) (suc place) number x v h is grown = ap (λ ws. w.items ∷ ws) (one_grown lists place number x v (omega arith) is grown)
-
 -- a slice of a whole list that is written back
 pub written_back : {X : Type 0} (n : ℕ) (new old : List X) → n ≡ length old → length new ≡ length old → take n (new ++ drop (length new) old) ≡ new
 written_back n new old whole same =

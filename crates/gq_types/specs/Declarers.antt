@@ -1,22 +1,10 @@
 -- Numbers under names of interfaces, as the look-ups of a type system keep them. No contract of a public call speaks of it.
-use Rattle.std.specs.Prelude.{ℕ, ◌+◌, Bool, List, [], ◌∷◌, ◌++◌, get_or, position, if◌then◌else◌}
+use Rattle.std.specs.Prelude.{ℕ, ◌+◌, List, [], ◌∷◌, ◌++◌}
 use Rattle.std.specs.List.{list_any}
-use Rattle.std.specs.Option.{option_map_or}
 use Rattle.std.specs.Str.{bytes_eq}
+use Rattle.gq_names.specs.UnderNames.{one_if}
 use Rattle.gq_types.specs.Entries.{Text, EntryOf}
 use Rattle.gq_types.specs.LookUps.{declares_in}
-
--- names, and a list of numbers for each
-pub record Declared : Type 0 where
-  pub names : List Text
-  pub lists : List (List ℕ)
-
--- the numbers under a name, none where it is not there
-abbrev pub declared : Declared → Text → List ℕ
-declared d text = option_map_or (λ place. get_or d.lists place []) (position (bytes_eq text) d.names) []
-
-abbrev pub one_if : Bool → ℕ → List ℕ
-one_if b n = if b then n ∷ [] else []
 
 -- the numbers of the lists that have the name, the first of which is given
 abbrev pub declaring_from : ℕ → List (List Text) → Text → List ℕ

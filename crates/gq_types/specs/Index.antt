@@ -14,7 +14,8 @@ use Rattle.gq_types.specs.declared.roots.RootNames.{RootNames}
 use Rattle.gq_types.specs.declared.uses.Uses.{Uses}
 use Rattle.gq_types.specs.Directives.{locations_in}
 use Rattle.gq_types.specs.Entries.{Text, EntryOf}
-use Rattle.gq_types.specs.Declarers.{Declared, declared, declaring_from}
+use Rattle.gq_names.specs.UnderNames.{UnderNames, items_under}
+use Rattle.gq_types.specs.Declarers.{declaring_from}
 use Rattle.gq_types.specs.Joined.{fields_in_body, schema_number}
 use Rattle.gq_types.specs.Look.{joined_numbers}
 use Rattle.gq_types.specs.RequiredNames.{AreRequired, AreNamesOf}
@@ -61,8 +62,8 @@ pub record AreUses (es : List EntryOf) (uses : Uses) : Type 0 where
   pub locations_are : AreLocations es (lists_of uses.locations.items)
   pub roots_are : AreRoots es (joined_numbers es (schema_number es)) uses.roots
 
-pub record IsIndex {Z : Type 0} (es : List EntryOf) (joined : List (Vec ℕ Z)) (parts : List Parts) (declarers : Declared) (uses : Uses) : Type 0 where
+pub record IsIndex {Z : Type 0} (es : List EntryOf) (joined : List (Vec ℕ Z)) (parts : List Parts) (declarers : UnderNames ℕ) (uses : Uses) : Type 0 where
   pub joined_are : AreJoined es (lists_of joined)
   pub parts_are : AreParts es parts
-  pub declarers_are : (text : Text) → declared declarers text ≡ declaring_from 0 (map (λ p. p.interfaces) parts) text
+  pub declarers_are : (text : Text) → items_under declarers text ≡ declaring_from 0 (map (λ p. p.interfaces) parts) text
   pub uses_are : AreUses es uses

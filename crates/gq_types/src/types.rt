@@ -19,7 +19,7 @@ ghost use Rattle.gq_types.specs.Tables.{lists_in, parts_at, stands_at};
 
 use crate::arguments::Arguments;
 use crate::built_in::built_in;
-use crate::declarers::Declarers;
+use crate::declarers::declarers_of;
 use crate::definitions::Definitions;
 use crate::entry::{Entry, TypeKind};
 use crate::joined::joined_numbers;
@@ -29,7 +29,7 @@ use crate::places::{field_at, input_at};
 use crate::required::is_any_lacking;
 use crate::roots::default_name;
 use crate::uses::Uses;
-use gq_names::NameList;
+use gq_names::{ByName, NameList};
 use gq_text::NoMemory;
 use gq_tree::{
     DirectiveDefinition, DirectiveLocation, FieldDefinition, InputValueDefinition, OperationKind,
@@ -54,7 +54,7 @@ pub struct Types {
     definitions: Definitions,
     joined: Vec<Vec<usize>>,
     parts: Vec<Parts>,
-    declarers: Declarers,
+    declarers: ByName<usize>,
     uses: Uses,
 }
 
@@ -85,7 +85,7 @@ impl Types {
         let definitions = Definitions::of(alloc, all)?;
         let joined = joined_numbers(alloc, &definitions)?;
         let parts = all_parts(alloc, definitions.entries(), &joined)?;
-        let declarers = Declarers::of(alloc, &parts)?;
+        let declarers = declarers_of(alloc, &parts)?;
         let schema = definitions.schema_number();
         let uses = Uses::of(alloc, definitions.entries(), &joined, schema)?;
         Ok(Types {
@@ -320,7 +320,7 @@ impl Types {
     pub fn declarers(&self, interface: &str) -> &[usize]
         ensures { result.now ≡ declarers (types_view self.now) interface.now }
     {
-        self.declarers.named(interface)
+        self.declarers.get(interface)
     }
 
     /// The place of the field of that name of the object type or interface with that number.

@@ -12,13 +12,13 @@ use Rattle.gq_text.specs.declared.place.Span.{Span}
 use Rattle.gq_tree.specs.Plain.{VariableOf}
 use Rattle.gq_types.specs.Entries.{EntryOf}
 use Rattle.gq_values.proofs.Steps.{both_done}
-use Rattle.gq_document.specs.Definitions.{OperationOf, operation_view}
+use Rattle.gq_document.specs.Definitions.{OperationOf, FragmentOf, operation_view}
 use Rattle.gq_document.specs.declared.definitions.OperationEntry.{OperationEntry}
 use Rattle.gq_document.specs.Executable.{ExecutableOf}
-use Rattle.gq_spreads.specs.Spreads.{AreReached}
+use Rattle.gq_spreads.specs.Spreads.{ReachesNumber}
 use Rattle.gq_variables.specs.Uses.{UseOf}
 use Rattle.gq_variables.specs.ReachedUses.{ReachesUse}
-use Rattle.gq_variables.specs.UsesPlaces.{reached_uses}
+use Rattle.gq_variables.specs.UsesPlaces.{fragment_uses, reached_uses}
 use Rattle.gq_variables.specs.VariableFaults.{IsFaultOfOperation, IsVariableFault}
 use Rattle.gq_variables.specs.VariableFaults as rule
 use Rattle.gq_variables.specs.VariablePlaces.{variable_texts, use_texts, repeated_variables, not_unique, not_of_input_type, not_defined, not_used, not_allowed, definition_faults, use_faults, operation_faults, IsFaultAt, IsFaultBefore}
@@ -100,16 +100,17 @@ below_or_at (suc k) (suc n) h = elim (below_or_at k n (omega (arith, h))) [ inl 
 
 module _ (x : ExecutableOf) where
   -- the faults of one operation
-  pub puts_at : (number : ℕ) (o : OperationOf) (numbers : List ℕ) (old new : List Item) → slice_get x.operations number ≡ Some o → AreReached x number numbers →
+  pub puts_at : (number : ℕ) (o : OperationOf) (numbers : List ℕ) (old new : List Item) → slice_get x.operations number ≡ Some o → ((k : ℕ) → Contains numbers k → ReachesNumber x.fragments o.set k) →
+      ((k : ℕ) (f : FragmentOf) (u : UseOf) → slice_get x.fragments k ≡ Some f → Contains (fragment_uses x.entries f) u → ReachesNumber x.fragments o.set k → Contains numbers k) →
       new ≡ old ++ operation_faults x.entries o (reached_uses x.entries x.fragments o numbers) → Puts (IsFaultAt x number) old new
-  puts_at number o numbers old new at reached is = puts_list (IsFaultAt x number) old new (operation_faults x.entries o uses) is exactly
+  puts_at number o numbers old new at sound complete is = puts_list (IsFaultAt x number) old new (operation_faults x.entries o uses) is exactly
     where
       uses : List UseOf
       uses = reached_uses x.entries x.fragments o numbers
 
       exactly : (item : Item) → Contains (operation_faults x.entries o uses) item ↔ IsFaultAt x number item
       exactly item =
-          let are = faults_are x o uses (reached_are x o numbers (reached o at)) item in (
+          let are = faults_are x o uses (reached_are x o numbers sound complete) item in (
             λ c. record { operation = o; at = at; fault = are.0 c },
             λ w. are.1 (subst (λ p. IsFaultOfOperation x p item) (same_Some w.operation o (sym w.at ∙ at)) w.fault),
           )

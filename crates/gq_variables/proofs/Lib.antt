@@ -3,3 +3,4 @@ pub mod UseLemmas
 pub mod CompatibleLemmas
 pub mod RuleLemmas
 pub mod FaultLemmas
+pub mod LeadingLemmas

@@ -183,7 +183,9 @@ reached_stands : (fs : List FragmentOf) {set : _} {f : FragmentOf} → Reaches f
 reached_stands fs (at_once stands s) = stands
 reached_stands fs (through reached stands s) = stands
 
-module _ (x : ExecutableOf) (o : OperationOf) (numbers : List ℕ) (are : (k : ℕ) → Contains numbers k ↔ ReachesNumber x.fragments o.set k) where
+-- These numbers are reached, and each fragment that is reached and in which a use stands has one of them.
+module _ (x : ExecutableOf) (o : OperationOf) (numbers : List ℕ) (sound : (k : ℕ) → Contains numbers k → ReachesNumber x.fragments o.set k)
+    (complete : (k : ℕ) (f : FragmentOf) (u : UseOf) → slice_get x.fragments k ≡ Some f → Contains (fragment_uses x.entries f) u → ReachesNumber x.fragments o.set k → Contains numbers k) where
   row_of : (k : ℕ) (f : FragmentOf) → slice_get x.fragments k ≡ Some f → row_at (map (fragment_uses x.entries) x.fragments) k ≡ fragment_uses x.entries f
   row_of k f at =
       ap (λ (r : Option (List UseOf)). option_map_or (λ (row : List UseOf). row) r [])
@@ -193,7 +195,7 @@ module _ (x : ExecutableOf) (o : OperationOf) (numbers : List ℕ) (are : (k : �
   from_reached u c = elim (Contains-append_cases (operation_uses x.entries o) (flat_map (row_at (map (fragment_uses x.entries) x.fragments)) numbers) u c) [
     | inl own ↦ of_itself (from_operation x.entries o u own)
     | inr others ↦ (let r = from_flat (row_at (map (fragment_uses x.entries) x.fragments)) numbers u others in
-        let w = (are r.0).0 r.1 in
+        let w = sound r.0 r.1 in
         of_fragment w.reached (from_fragment x.entries w.fragment u (subst (λ us. Contains us u) (row_of r.0 w.fragment w.at) r.2)))
   ]
 
@@ -204,7 +206,7 @@ module _ (x : ExecutableOf) (o : OperationOf) (numbers : List ℕ) (are : (k : �
       let c = reached_stands x.fragments reached in
       let at : slice_get x.fragments c.0 ≡ Some f = slice_get-get_or x.fragments c.0 f c.1 ∙ ap Some c.2 in
       Contains-append_right (operation_uses x.entries o) (flat_map (row_at (map (fragment_uses x.entries) x.fragments)) numbers) u
-      (to_flat (row_at (map (fragment_uses x.entries) x.fragments)) numbers c.0 u ((are c.0).1 (record { fragment = f; at = at; reached = reached }))
+      (to_flat (row_at (map (fragment_uses x.entries) x.fragments)) numbers c.0 u (complete c.0 f u at (to_fragment x.entries f u used) (record { fragment = f; at = at; reached = reached }))
       (subst (λ us. Contains us u) (sym (row_of c.0 f at)) (to_fragment x.entries f u used)))
 
   pub reached_are : (u : UseOf) → Contains (reached_uses x.entries x.fragments o numbers) u ↔ ReachesUse x o u

@@ -9,3 +9,4 @@ pub mod VariableFaults
 pub mod Views
 pub mod UsesPlaces
 pub mod VariablePlaces
+pub mod Leading

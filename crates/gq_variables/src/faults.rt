@@ -6,6 +6,7 @@ ghost use Rattle.gq_types.specs.Look.{types_view};
 ghost use Rattle.gq_document.specs.Definitions.{operation_view, operations_view, fragments_view};
 ghost use Rattle.gq_document.specs.Executable.{executable_view};
 ghost use Rattle.gq_spreads.specs.Spreads.{AreSpreads};
+ghost use Rattle.gq_variables.specs.Leading.{AreLeading};
 ghost use Rattle.gq_variables.specs.UsesPlaces.{operation_uses, fragment_uses, row_at};
 ghost use Rattle.gq_variables.specs.VariableFaults.{IsVariableFault};
 ghost use Rattle.gq_variables.specs.VariablePlaces.{definition_faults, use_faults, operation_faults, IsFaultAt};
@@ -14,6 +15,7 @@ ghost use Rattle.gq_variables.specs.Views.{uses_view, rows_view, variables_view}
 use crate::all_variable_usages_are_allowed::put_not_allowed;
 use crate::all_variable_uses_defined::put_not_defined;
 use crate::all_variables_used::put_not_used;
+use crate::leading::leading_spreads;
 use crate::reached::{reached_uses, uses_of_fragments};
 use crate::uses::Use;
 use crate::variable_uniqueness::put_not_unique;
@@ -21,7 +23,8 @@ use crate::variables::Variables;
 use crate::variables_are_input_types::put_not_of_input_type;
 use gq_document::{Executable, OperationEntry};
 use gq_found::Item;
-use gq_spreads::{Spreads, reached_fragments};
+use gq_reach::reach_rows;
+use gq_spreads::Spreads;
 use gq_text::NoMemory;
 use gq_tree::VariableDefinition;
 use gq_types::Types;
@@ -78,7 +81,7 @@ fn put_faults_of_operation(
     put_use_faults(alloc, types, file, &variables, &repeated, &uses, items)
 }
 
-/// Puts what is wrong with the variables of the operation of that number.
+/// Puts what is wrong with the variables of the operation of that number. The spreads are those of fragments that lead to a use.
 fn put_faults_at(
     alloc: Global,
     executable: &Executable<'_>,
@@ -87,12 +90,13 @@ fn put_faults_at(
     number: usize,
     items: &mut Vec<Item>,
 ) -> Result<(), NoMemory>
-    requires spreads { AreSpreads (executable_view executable.now) spreads.now }
+    requires spreads { AreLeading (executable_view executable.now) spreads.now }
     requires operation { number < length (operations_view executable.now.operations.now) }
     requires rows { rows_view rows.now ≡ map (fragment_uses (types_view executable.now.types.now)) (fragments_view executable.now.fragments.now) }
     ensures { OnOk result (Puts (IsFaultAt (executable_view executable.now) number) items.old.items items.new.items) }
 {
-    let numbers = reached_fragments(alloc, executable, spreads, number)?;
+    let starts = &spreads.of_operations[number];
+    let numbers = reach_rows(alloc, &spreads.of_fragments, starts)?;
     let operation = &executable.operations[number];
     put_faults_of_operation(alloc, executable.types, operation, rows, &numbers, items)
 }
@@ -110,8 +114,9 @@ pub fn put_variable_faults(
     ensures { OnOk result (Puts (IsVariableFault (executable_view executable.now)) items.old.items items.new.items) }
 {
     let rows = uses_of_fragments(alloc, executable.types, executable.fragments)?;
+    let leading = leading_spreads(alloc, executable, spreads, &rows)?;
     for number in 0..executable.operations.len() {
-        put_faults_at(alloc, executable, spreads, &rows, number, items)?;
+        put_faults_at(alloc, executable, &leading, &rows, number, items)?;
     }
     Ok(())
 }

@@ -7,6 +7,7 @@ mod all_variables_used;
 mod compatible;
 pub mod faults;
 mod items;
+mod leading;
 mod places;
 mod reached;
 mod selections;

@@ -14,6 +14,18 @@ fn uses_in_reached_fragments_count(rt: HostRuntime) -> Result<(), Fail> {
 }
 
 #[test]
+fn uses_count_behind_fragments_without_any(rt: HostRuntime) -> Result<(), Fail> {
+    let rows = "
+        query($a:Int){...G} fragment G on Query{...H} fragment H on Query{...F} ;; \
+            fragment F on Query{n(x:$a)} =>
+        query($a:Int){...G} fragment G on Query{...H} fragment H on Query{n} ;; \
+            fragment F on Query{...G n(x:$a)} => 1:V27[7,8]
+        {...G} fragment G on Query{...H ...G} fragment H on Query{...G n(x:$u)} => 1:V26[68,69]
+    ";
+    assert_found(rt.alloc(), &rt, rows)
+}
+
+#[test]
 fn each_operation_must_define_what_it_reaches(rt: HostRuntime) -> Result<(), Fail> {
     let rows = "
         query A($a:Int){...F} query B{...F} fragment F on Query{n(x:$a)} => 1:V26[61,62]

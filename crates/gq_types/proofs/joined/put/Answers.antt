@@ -1,4 +1,4 @@
-use Rattle.gq_types.proofs.JoinedLemmas.{one_grown}
+use Rattle.gq_names.proofs.UnderLemmas.{one_grown}
 use Rattle.gq_types.proofs.joined.put.Goals as goal
 
 pub returns : goal.returns

@@ -1,6 +1,6 @@
 use Rattle.std.proofs.Common.{◌≡◌, ◌++◌, drop, map}
 use Rattle.gq_values.specs.ArgumentPlaces.{definitions_view}
-use Rattle.gq_tree.specs.Views.{input_view, argument_view}
+use Rattle.gq_tree.specs.Views.{argument_view}
 use Rattle.gq_types.specs.Look.{types_view}
 use Rattle.gq_variables.specs.UsesPlaces.{argument_uses}
 use Rattle.gq_variables.specs.Views.{uses_view}

@@ -1,10 +1,9 @@
-use Rattle.std.proofs.Common.{◌≡◌, ℕ, List, flat_map, map, sym, ap, ◌∙◌}
+use Rattle.std.proofs.Common.{ℕ, List, flat_map, sym, ap, ◌∙◌}
 use Rattle.std.proofs.lemmas.List.{map-id}
 use Rattle.std.proofs.lemmas.Iterator.Adapters.{YieldsList-from_vec}
 use Rattle.std.proofs.lemmas.Iterator.Consumers.{YieldsList-end, YieldsList-from_enumerate}
-use Rattle.std.specs.List.{enumerate_from}
 use Rattle.gq_read.specs.declared.reader.Reading.{Reading}
-use Rattle.gq_document.specs.Definitions.{operation_in, fragment_in, entry_in, in_document, in_documents}
+use Rattle.gq_document.specs.Definitions.{operation_in, fragment_in, entry_in, in_document}
 use Rattle.gq_document.proofs.definitions.Definitions.of.Goals as goal
 
 -- src/definitions.rt:40:5

@@ -1,0 +1,105 @@
+//! The executable definitions of documents (GraphQL, October 2021, section 2.2).
+ghost use Rattle.std.specs.Prelude.{◌≡◌, ◌++◌, IfOk, OnOk, flat_map, map};
+ghost use Rattle.gq_tree.specs.Names.{names_at, spread_names};
+ghost use Rattle.gq_tree.specs.Views.{def_view};
+ghost use Rattle.gq_document.specs.Definitions.{in_document};
+ghost use Rattle.gq_index.specs.Occurrences.{executable_in, executables, fragment_name, spreads_in};
+ghost use Rattle.gq_index.specs.Views.{definitions_view};
+
+use gq_read::Reading;
+use gq_spreads::spread_names::spread_names;
+use gq_text::NoMemory;
+use gq_tree::{Definition, Name};
+use std::alloc::Global;
+
+/// An operation or a fragment, and the document that it stands in.
+#[derive(Clone, Copy)]
+pub(crate) struct Executable<'a> {
+    /// The number of the document in the project, from 0.
+    pub(crate) file: usize,
+    pub(crate) definition: &'a Definition,
+}
+
+/// The operations and fragments of the documents, in their order.
+pub(crate) fn executables<'a>(
+    alloc: Global,
+    readings: &'a [Reading],
+) -> Result<Vec<Executable<'a>>, NoMemory>
+    ensures { IfOk result (λ all. definitions_view all.items ≡ executables readings.now) }
+{
+    let mut all = Vec::new(alloc);
+    for (file, reading) in readings.iter().enumerate() {
+        put_reading(file, reading, &mut all)?;
+    }
+    Ok(all)
+}
+
+fn put_reading<'a>(
+    file: usize,
+    reading: &'a Reading,
+    all: &mut Vec<Executable<'a>>,
+) -> Result<(), NoMemory>
+    ensures { OnOk result (definitions_view all.new.items ≡ definitions_view all.old.items ++ in_document executable_in file reading.now) }
+{
+    match reading {
+        Reading::Tree(document) => put_all(file, &document.definitions, all),
+        Reading::Syntax { .. } => Ok(()),
+        Reading::Limit { .. } => Ok(()),
+    }
+}
+
+fn put_all<'a>(
+    file: usize,
+    definitions: &'a [Definition],
+    all: &mut Vec<Executable<'a>>,
+) -> Result<(), NoMemory>
+    ensures { OnOk result (definitions_view all.new.items ≡ definitions_view all.old.items ++ flat_map (executable_in file) (map def_view definitions.now)) }
+{
+    for definition in definitions {
+        put_one(file, definition, all)?;
+    }
+    Ok(())
+}
+
+fn put_one<'a>(
+    file: usize,
+    definition: &'a Definition,
+    all: &mut Vec<Executable<'a>>,
+) -> Result<(), NoMemory>
+    ensures { OnOk result (definitions_view all.new.items ≡ definitions_view all.old.items ++ executable_in file (def_view definition.now)) }
+{
+    match definition {
+        Definition::Operation(_) => all.push(Executable { file, definition })?,
+        Definition::Fragment(_) => all.push(Executable { file, definition })?,
+        Definition::TypeSystem(_) => {}
+    }
+    Ok(())
+}
+
+/// The name that a fragment is defined under.
+pub(crate) fn fragment_name<'a>(
+    alloc: Global,
+    definition: &'a Definition,
+) -> Result<Vec<&'a Name>, NoMemory>
+    ensures { IfOk result (λ names. names_at names.items ≡ fragment_name (def_view definition.now)) }
+{
+    let mut names = Vec::new(alloc);
+    if let Definition::Fragment(fragment) = definition {
+        names.push(&fragment.name)?;
+    }
+    Ok(names)
+}
+
+/// The names in the spreads of a definition, in the order of the text.
+pub(crate) fn spreads_in<'a>(
+    alloc: Global,
+    definition: &'a Definition,
+) -> Result<Vec<&'a Name>, NoMemory>
+    ensures { IfOk result (λ names. names_at names.items ≡ spreads_in (def_view definition.now)) }
+{
+    match definition {
+        Definition::Operation(operation) => spread_names(alloc, &operation.set.items),
+        Definition::Fragment(fragment) => spread_names(alloc, &fragment.set.items),
+        Definition::TypeSystem(_) => Ok(Vec::new(alloc)),
+    }
+}

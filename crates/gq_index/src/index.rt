@@ -1,0 +1,33 @@
+//! What is kept of where fragments and variables stand in a project.
+ghost use Rattle.std.specs.Prelude.{◌≡◌, length};
+ghost use Rattle.gq_reach.specs.Reach.{InRange};
+
+use crate::occurrence::Occurrence;
+use gq_names::ByName;
+use gq_text::Span;
+
+/// The places of the variables of one definition, by their names.
+#[derive(Drop)]
+pub struct Variables {
+    pub(crate) uses: ByName<Span>,
+    pub(crate) definitions: ByName<Span>,
+}
+
+/// Where fragments and variables stand in a project.
+///
+/// An operation or fragment has a number: its place among all of them, in the order of documents and places, from 0.
+#[derive(Drop)]
+pub struct Index {
+    pub(crate) definitions: ByName<Occurrence>,
+    pub(crate) spreads: ByName<Occurrence>,
+    pub(crate) variables: Vec<Variables>,
+    /// For each definition, the fragments that it spreads.
+    pub(crate) spread_in: Vec<Vec<usize>>,
+    /// For each definition, those that spread it.
+    pub(crate) spreading: Vec<Vec<usize>>,
+    /// Whether each definition is an operation.
+    pub(crate) operations: Vec<bool>,
+    ghost spread_in_range: { InRange spread_in.items },
+    ghost spreading_in_range: { InRange spreading.items },
+    ghost same_count: { length spreading.items ≡ length spread_in.items },
+}

@@ -1,0 +1,48 @@
+//! Where fragments and variables are defined and used.
+ghost use Rattle.std.specs.Prelude.{◌≡◌, List};
+ghost use Rattle.gq_index.specs.Indexed.{IsIndexOf};
+ghost use Rattle.gq_index.specs.Occurrences.{DefinitionOf, fragment_definitions, fragment_spreads, variable_uses, variable_definitions};
+
+use crate::index::Index;
+use crate::occurrence::Occurrence;
+use gq_text::Span;
+
+impl Index {
+    /// Where the fragments of that name are defined: the places of their names, in the order of documents and places. It takes no memory.
+    pub fn definitions(&self, name: &str) -> &[Occurrence]
+        ensures { (ds : List DefinitionOf) → IsIndexOf ds self.now → result.now ≡ fragment_definitions ds name.now }
+    {
+        self.definitions.get(name)
+    }
+
+    /// Where the fragment of that name is spread: the places of its name, in the order of documents and places. It takes no memory.
+    pub fn spreads(&self, name: &str) -> &[Occurrence]
+        ensures { (ds : List DefinitionOf) → IsIndexOf ds self.now → result.now ≡ fragment_spreads ds name.now }
+    {
+        self.spreads.get(name)
+    }
+
+    /// Where the variable of that name is used in the definition of that number: the places of its name, in order. Past the last
+    /// definition there is none. It takes no memory.
+    pub fn variable_uses(&self, definition: usize, name: &str) -> &[Span]
+        ensures { (ds : List DefinitionOf) → IsIndexOf ds self.now → result.now ≡ variable_uses ds definition name.now }
+    {
+        if definition < self.variables.len() {
+            self.variables[definition].uses.get(name)
+        } else {
+            &[]
+        }
+    }
+
+    /// Where the variable of that name is defined in the definition of that number: the places of its name, in order. Past the last
+    /// definition there is none. It takes no memory.
+    pub fn variable_definitions(&self, definition: usize, name: &str) -> &[Span]
+        ensures { (ds : List DefinitionOf) → IsIndexOf ds self.now → result.now ≡ variable_definitions ds definition name.now }
+    {
+        if definition < self.variables.len() {
+            self.variables[definition].definitions.get(name)
+        } else {
+            &[]
+        }
+    }
+}

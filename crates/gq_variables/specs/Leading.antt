@@ -1,0 +1,29 @@
+-- Which fragments have to be gone over for the uses of variables. Only contracts of private functions speak of it.
+use Rattle.std.specs.Prelude.{◌≡◌, ◌<◌, ℕ, ◌+◌, Bool, true, false, List, [], ◌∷◌, ◌++◌, Some, All, Contains, length, not, nat_eq, slice_get, slice_index_or}
+use Rattle.gq_names.specs.UnderNames.{one_if}
+use Rattle.gq_reach.specs.Reach.{Reach, row, InRange}
+use Rattle.gq_document.specs.Definitions.{OperationOf, FragmentOf}
+use Rattle.gq_document.specs.Executable.{ExecutableOf}
+use Rattle.gq_spreads.specs.Spreads.{ReachesNumber}
+use Rattle.gq_spreads.specs.declared.spreads.Spreads.{Spreads}
+use Rattle.gq_variables.specs.Uses.{UseOf}
+use Rattle.gq_variables.specs.UsesPlaces.{fragment_uses, row_at}
+
+-- the numbers of the rows that are not empty, the first of which has the given number
+abbrev pub numbers_with_uses : ℕ → List (List UseOf) → List ℕ
+numbers_with_uses k [] = []
+numbers_with_uses k (r ∷ rs) = one_if (not (nat_eq (length r) 0)) k ++ numbers_with_uses (k + 1) rs
+
+-- what has a use is marked, and so is what leads to something that is marked
+pub record LeadToUses (next : ℕ → List ℕ) (rows : List (List UseOf)) (marks : List Bool) : Type 0 where
+  pub used : (k : ℕ) (u : UseOf) → Contains (row_at rows k) u → slice_index_or marks k false ≡ true
+  pub closed : (m k : ℕ) → Contains (next m) k → slice_index_or marks k false ≡ true → slice_index_or marks m false ≡ true
+
+-- Spreads by which an operation reaches only what it reaches, and each fragment of that in which a use stands.
+pub record AreLeading (x : ExecutableOf) (s : Spreads) : Type 0 where
+  pub operations : length s.of_operations.items ≡ length x.operations
+  pub range : InRange s.of_fragments.items
+  pub starts : (n : ℕ) → All (λ k. k < length s.of_fragments.items) (row s.of_operations.items n)
+  pub sound : (n : ℕ) (o : OperationOf) (k : ℕ) → slice_get x.operations n ≡ Some o → Reach (row s.of_operations.items n) (row s.of_fragments.items) k → ReachesNumber x.fragments o.set k
+  pub complete : (n : ℕ) (o : OperationOf) (k : ℕ) (f : FragmentOf) (u : UseOf) → slice_get x.operations n ≡ Some o → slice_get x.fragments k ≡ Some f → Contains (fragment_uses x.entries f) u →
+      ReachesNumber x.fragments o.set k → Reach (row s.of_operations.items n) (row s.of_fragments.items) k
