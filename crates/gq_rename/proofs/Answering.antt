@@ -18,7 +18,8 @@ use Rattle.gq_project.specs.declared.document.Doc.{Doc}
 use Rattle.gq_project.specs.Documents.{has_key}
 use Rattle.gq_edit.specs.declared.edit.DocumentEdit.{DocumentEdit}
 use Rattle.gq_edit.specs.Replacements.{AreDisjoint, FitText}
-use Rattle.gq_rename.specs.Names.{IsFragmentNameText, target, called, replacements_of}
+use Rattle.gq_rename.specs.Names.{IsFragmentNameText, target, called}
+use Rattle.gq_rewrite.specs.Changed.{replacements_of}
 use Rattle.gq_rename.specs.Rename.{Target, MayRename, Renames, rename_replacements, rename_edit}
 use Rattle.gq_rename.proofs.Renaming.{rename_keeps, rename_disjoint, rename_fits}
 
@@ -63,11 +64,11 @@ made_are f old new names made old_is names_is made_is =
     ∙ ap (λ (ns : List (NameOf Span)). replacements_of new (called f.name.text ns)) (names_is ∙ f.names_are)
 
 pub made_disjoint : {project : List Doc} {key : List ℕ} {offset : ℕ} (f : Found project key offset) (new : List ℕ) (made : List Replacement) → IsFragmentNameText new → made ≡ rename_replacements f.name.text new f.tree → AreDisjoint made
-made_disjoint f new made named is = subst AreDisjoint (sym is) (rename_disjoint f.name.text new f.document.text f.tree f.derives named.not_on)
+made_disjoint f new made named is = subst AreDisjoint (sym is) (rename_disjoint f.name.text new f.document.text f.tree f.derives named.is_name named.not_on)
 
 pub made_fit : {project : List Doc} {key : List ℕ} {offset : ℕ} (f : Found project key offset) (new text : List ℕ) (made : List Replacement) → IsFragmentNameText new → text ≡ f.document.text → IsUtf8 text → made ≡ rename_replacements f.name.text new f.tree → FitText text made
 made_fit f new text made named text_is utf8 is =
-    let e : FitText f.document.text made = subst (FitText f.document.text) (sym is) (rename_fits f.name.text new f.document.text f.tree (subst IsUtf8 text_is utf8) f.derives named.not_on) in
+    let e : FitText f.document.text made = subst (FitText f.document.text) (sym is) (rename_fits f.name.text new f.document.text f.tree (subst IsUtf8 text_is utf8) f.derives named.is_name named.not_on) in
     let P : List ℕ → Type 0 = λ t. FitText t made in
     subst P (sym text_is) e
 
@@ -120,6 +121,6 @@ pub fits_in : {project : List Doc} {key : List ℕ} {offset : ℕ} (f : Found pr
 fits_in {project} f new edit in_order utf8 named is =
     let one : DocumentEdit = rename_edit f.document f.name.text new f.tree in
     let there = edited_is f one in_order refl refl in
-    let fit = rename_fits f.name.text new f.document.text f.tree utf8 f.derives named.not_on in
+    let fit = rename_fits f.name.text new f.document.text f.tree utf8 f.derives named.is_name named.not_on in
     subst (FitDocuments project) (sym is)
     (λ doc e. let same : f.document ≡ doc = (let h = sym there ∙ e in cc) in let P : Doc → Type 0 = λ d. FitText d.text one.replacements in subst P same fit, tt)

@@ -1,7 +1,3 @@
-pub mod Retelling
-pub mod Regrammar
-pub mod TypeSystemAgain
-pub mod DocumentAgain
 pub mod Renaming
 pub mod Spellings
 pub mod Answering

@@ -9,7 +9,7 @@ use Rattle.gq_lex.specs.Bytes.{Passes, is_name_start, is_name_continue}
 use Rattle.gq_lex.specs.Tokens.{IsToken, name}
 use Rattle.gq_rename.specs.Names.{IsFragmentNameText}
 use Rattle.gq_rename.specs.Spelling.{is_name_spelled}
-use Rattle.gq_rename.proofs.Retelling.{spelled}
+use Rattle.gq_rewrite.proofs.Retelling.{spelled}
 
 all_pass : (p : ℕ → Bool) (bs : List ℕ) → list_all p bs ≡ true → Passes p bs
 all_pass p [] h = tt

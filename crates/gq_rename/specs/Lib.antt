@@ -1,5 +1,4 @@
 pub mod Names
-pub mod Renamed
 pub mod Refusals
 pub mod Rename
 pub mod Kept

@@ -1,9 +1,8 @@
 -- Names of fragments: how they are spelled, and which one an offset means.
-use Rattle.std.specs.Prelude.{◌≢◌, ℕ, ◌==◌, ◌&&◌, nat_lt, nat_le, Bool, List, [], map, codes, Option, filter, find}
+use Rattle.std.specs.Prelude.{◌≢◌, ℕ, ◌==◌, ◌&&◌, nat_lt, nat_le, Bool, List, [], codes, Option, filter, find}
 use Rattle.std.specs.Option.{option_or}
 use Rattle.std.specs.Str.{bytes_eq}
 use Rattle.gq_text.specs.declared.place.Span.{Span}
-use Rattle.gq_text.specs.declared.replacement.Replacement.{Replacement}
 use Rattle.gq_lex.specs.declared.token.Kind.TheVariants as kind
 use Rattle.gq_lex.specs.Tokens.{IsToken}
 use Rattle.gq_tree.specs.Plain.{NameOf}
@@ -27,7 +26,3 @@ target offset names = option_or (find (holds offset) names) (find (ends_at offse
 -- the names with this text
 abbrev pub called : List ℕ → List (NameOf Span) → List (NameOf Span)
 called text names = filter (λ name. bytes_eq name.text text) names
-
--- each of these names replaced
-abbrev pub replacements_of : List ℕ → List (NameOf Span) → List Replacement
-replacements_of new names = map (λ name. record { span = name.place; text = new }) names

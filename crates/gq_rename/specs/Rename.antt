@@ -10,9 +10,10 @@ use Rattle.gq_project.specs.declared.document.Doc.{Doc}
 use Rattle.gq_project.specs.Documents.{has_key}
 use Rattle.gq_edit.specs.declared.edit.DocumentEdit.{DocumentEdit}
 use Rattle.gq_edit.specs.Edits.{edited_text}
+use Rattle.gq_rewrite.specs.Changed.{replacements_of}
 use Rattle.gq_rename.specs.declared.refusal.Refusal.{Refusal}
 use Rattle.gq_rename.specs.declared.refusal.Refusal.TheVariants.{ProjectInvalid, NothingHere, BadName, SameName, TooLarge, NoMemory}
-use Rattle.gq_rename.specs.Names.{IsFragmentNameText, target, called, replacements_of}
+use Rattle.gq_rename.specs.Names.{IsFragmentNameText, target, called}
 use Rattle.gq_rename.specs.Kept.{KeepsDocument}
 
 -- the document of the key, its tree, and the name at the offset

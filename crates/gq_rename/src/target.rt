@@ -3,7 +3,8 @@ ghost use Rattle.std.specs.Prelude.{◌≡◌, ◌++◌, ◌∷◌, [], IfOk, On
 ghost use Rattle.std.specs.Option.{option_map};
 ghost use Rattle.gq_tree.specs.Names.{names_at};
 ghost use Rattle.gq_tree.specs.Views.{name_of};
-ghost use Rattle.gq_rename.specs.Names.{holds, ends_at, target, called, replacements_of};
+ghost use Rattle.gq_rename.specs.Names.{holds, ends_at, target, called};
+ghost use Rattle.gq_rewrite.specs.Changed.{replacements_of};
 
 use gq_parse::Name;
 use gq_text::{NoMemory, OwnedText, Replacement};

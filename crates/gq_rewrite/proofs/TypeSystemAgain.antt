@@ -1,21 +1,18 @@
 -- Where tokens are a type system definition, the same tokens somewhere else are it too. No fragment's name stands in one;
 -- but where a type ends may hang on the text of the next token, so that text is asked for here.
-use Rattle.std.proofs.Common.{◌≡◌, ◌≢◌, ℕ, List, [], ◌∷◌, ◌++◌, Bool, true, false, Option, Some, None, refl, sym, ap, subst, ◌∙◌, append_assoc, map, ◌⊎◌, inl, inr}
-use Rattle.std.specs.Prelude.{if◌then◌else◌, codes}
-use Rattle.std.specs.List.{filter}
+use Rattle.std.proofs.Common.{◌≡◌, ◌≢◌, ℕ, List, [], ◌∷◌, ◌++◌, Bool, true, false, Option, Some, None, refl, sym, ap, subst, ◌∙◌, append_assoc, map, inl, inr}
+use Rattle.std.specs.Prelude.{if◌then◌else◌}
 use Rattle.std.specs.Option.{option_map}
 use Rattle.std.proofs.lemmas.List.{map-append}
-use Rattle.std.proofs.lemmas.List.Elements.{filter-append}
 use Rattle.gq_text.specs.declared.place.Span.{Span}
 use Rattle.gq_lex.specs.declared.token.Kind.{Kind}
 use Rattle.gq_lex.specs.declared.token.Kind.TheVariants as kind
-use Rattle.gq_lex.specs.Tokens.{Lexeme}
 use Rattle.gq_tree.specs.declared.type_system.DirectiveLocation.{DirectiveLocation}
-use Rattle.gq_tree.specs.Plain.{NameOf, Val, DirectiveOf, TypeOf, InputOf, FieldDefinitionOf, EnumValueOf, RootOf, BodyOf, scalar_type, object_type, interface_type, union_type, enum_type, input_type, TypeSystemOf, schema, type_definition, directive_definition, place_name, place_directive, place_input, place_field, place_enum_value, place_root, place_body, place_type_system, no_place}
-use Rattle.gq_parse.specs.Grammar.{Tokens, IsSpelled, IsName, IsPunctuator, IsKeyword, NotNext, covered, Enclosed, IsValueWord, IsDirectives, IsType, IsDefaultValue, IsOperationType}
-use Rattle.gq_parse.specs.TypeSystem.{NotWord, IsDescription, no_description, a_description, a_block_description, Separated, last, next, Led, plain, led, IsRoot, a_root, IsSchema, a_schema, IsInputValue, an_input_value, IsArgumentsDefinition, IsFieldDefinition, a_field_definition, IsFieldsDefinition, IsEnumValueDefinition, an_enum_value, IsImplements, no_interfaces, interfaces, IsMembers, no_members, members, IsTypeBody, a_scalar, an_object_type, an_interface, a_union, an_enum_type, an_input_type, location_word, IsLocation, a_location, IsRepeatable, once, repeatable, HasParts, IsTypeSystemDefinition, a_schema_definition, a_type_definition, a_directive_definition, a_schema_extension, a_type_extension}
-use Rattle.gq_rename.proofs.Retelling.{Marked, tokens_of, Retold, MarksNames}
-use Rattle.gq_rename.proofs.Regrammar.{BeginsUnmarked, SameNext, Again, CutRetold, cut_retold, next_kept, none_retold, marked_names, marked_append, marks_append, name_in, is_old, Then, joined, changed, Peeks, peeked, marked_again, kept_again, plain_name, plain_directive, Like, AllKept, named_again, skipped, enclosed_again, directives_again, type_again, default_again, operation_type_again}
+use Rattle.gq_tree.specs.Plain.{NameOf, DirectiveOf, InputOf, FieldDefinitionOf, EnumValueOf, RootOf, BodyOf, scalar_type, object_type, interface_type, union_type, enum_type, input_type, TypeSystemOf, schema, type_definition, directive_definition, place_input, place_field, place_enum_value, place_root, place_body, place_type_system, no_place}
+use Rattle.gq_parse.specs.Grammar.{Tokens, NotNext, covered, Enclosed}
+use Rattle.gq_parse.specs.TypeSystem.{NotWord, IsDescription, no_description, a_description, a_block_description, Separated, last, next, Led, plain, led, IsRoot, a_root, IsSchema, a_schema, IsInputValue, an_input_value, IsFieldDefinition, a_field_definition, IsFieldsDefinition, IsEnumValueDefinition, an_enum_value, IsImplements, no_interfaces, interfaces, IsMembers, no_members, members, IsTypeBody, a_scalar, an_object_type, an_interface, a_union, an_enum_type, an_input_type, IsLocation, a_location, IsRepeatable, once, repeatable, HasParts, IsTypeSystemDefinition, a_schema_definition, a_type_definition, a_directive_definition, a_schema_extension, a_type_extension}
+use Rattle.gq_rewrite.proofs.Retelling.{Marked, tokens_of, Retold, MarksNames}
+use Rattle.gq_rewrite.proofs.Regrammar.{BeginsUnmarked, SameNext, Again, cut_retold, next_kept, none_retold, marked_names, marked_append, marks_append, name_in, Then, joined, changed, peeked, marked_again, kept_again, plain_name, plain_directive, Like, AllKept, named_again, skipped, enclosed_again, constant_directives_again, type_again, default_again, operation_type_again}
 
 -- the first tokens are of one kind and text, or neither list has one
 abbrev pub SameText : Tokens → Tokens → Type 0
@@ -25,10 +22,10 @@ SameText (t ∷ ts) [] = ⊥
 SameText (t ∷ ts) (u ∷ us) = (u.kind ≡ t.kind) × (u.text ≡ t.text)
 
 -- as Again, where the next token has the same text too
-pub record AgainText (old new : List ℕ) (names : List (NameOf Span)) (Q : Tokens → Tokens → Type 0) (tokens rest : Tokens) : Type 0 where
+pub record AgainText (new : List ℕ) (names : List (NameOf Span)) (Q : Tokens → Tokens → Type 0) (tokens rest : Tokens) : Type 0 where
   pub front : List Marked
   pub split : tokens ≡ tokens_of front ++ rest
-  pub named : marked_names front ≡ filter (is_old old) names
+  pub named : marked_names front ≡ names
   pub marks : MarksNames front
   pub again : (us after : Tokens) → Retold new front us → SameText rest after → Q (us ++ after) after
 
@@ -38,18 +35,18 @@ same_next [] (u ∷ us) h = absurd h
 same_next (t ∷ ts) [] h = absurd h
 same_next (t ∷ ts) (u ∷ us) h = h.0
 
-pub lifted : {old new : List ℕ} {n : List (NameOf Span)} {Q : Tokens → Tokens → Type 0} {tokens rest : Tokens} → Again old new n Q tokens rest → AgainText old new n Q tokens rest
+pub lifted : {new : List ℕ} {n : List (NameOf Span)} {Q : Tokens → Tokens → Type 0} {tokens rest : Tokens} → Again new n Q tokens rest → AgainText new n Q tokens rest
 lifted {rest = rest} w = record { front = w.front; split = w.split; named = w.named; marks = w.marks; again = λ us after r s. w.again us after r (same_next rest after s) }
 
-pub changed_text : {old new : List ℕ} {n : List (NameOf Span)} {Q R : Tokens → Tokens → Type 0} {tokens rest : Tokens} → ((x y : Tokens) → Q x y → R x y) → AgainText old new n Q tokens rest → AgainText old new n R tokens rest
+pub changed_text : {new : List ℕ} {n : List (NameOf Span)} {Q R : Tokens → Tokens → Type 0} {tokens rest : Tokens} → ((x y : Tokens) → Q x y → R x y) → AgainText new n Q tokens rest → AgainText new n R tokens rest
 changed_text f w = record { front = w.front; split = w.split; named = w.named; marks = w.marks; again = λ us after r s. f (us ++ after) after (w.again us after r s) }
 
 -- a part that looks at the kind of the next token at most, and another
-pub joined_text : {old new : List ℕ} {m n : List (NameOf Span)} {Q R : Tokens → Tokens → Type 0} {tokens a rest : Tokens} → Again old new m Q tokens a → AgainText old new n R a rest → AgainText old new (m ++ n) (Then Q R) tokens rest
-joined_text {old} {new} {m} {n} {Q} {R} {tokens} {a} {rest} v w = record {
+pub joined_text : {new : List ℕ} {m n : List (NameOf Span)} {Q R : Tokens → Tokens → Type 0} {tokens a rest : Tokens} → Again new m Q tokens a → AgainText new n R a rest → AgainText new (m ++ n) (Then Q R) tokens rest
+joined_text {new} {m} {n} {Q} {R} {tokens} {a} {rest} v w = record {
   front = v.front ++ w.front;
   split = v.split ∙ ap (λ (l : Tokens). tokens_of v.front ++ l) w.split ∙ sym (append_assoc (tokens_of v.front) (tokens_of w.front) rest) ∙ ap (λ (l : Tokens). l ++ rest) (sym (map-append (λ (m : Marked). m.token) v.front w.front));
-  named = marked_append v.front w.front ∙ ap (λ (l : List (NameOf Span)). l ++ marked_names w.front) v.named ∙ ap (λ (l : List (NameOf Span)). filter (is_old old) m ++ l) w.named ∙ sym (filter-append (is_old old) m n);
+  named = marked_append v.front w.front ∙ ap (λ (l : List (NameOf Span)). l ++ marked_names w.front) v.named ∙ ap (λ (l : List (NameOf Span)). m ++ l) w.named;
   marks = marks_append v.front w.front v.marks w.marks;
   again = λ us after r s.
       let c = cut_retold new v.front w.front us r in
@@ -74,11 +71,11 @@ text_kept new (m ∷ f) [] rest after free h s = absurd h
 text_kept new (m ∷ f) (u ∷ us) rest after free h s = (h.0, h.1 ∙ ap (λ (b : Bool). if b then new else m.token.text) free)
 
 -- a part that looks at the text of the next token, and another that begins unmarked
-pub then_text : {old new : List ℕ} {m n : List (NameOf Span)} {Q R : Tokens → Tokens → Type 0} {tokens a rest : Tokens} → AgainText old new m Q tokens a → (w : AgainText old new n R a rest) → StartsUnmarked w.front → AgainText old new (m ++ n) (Then Q R) tokens rest
-then_text {old} {new} {m} {n} {Q} {R} {tokens} {a} {rest} v w free = record {
+pub then_text : {new : List ℕ} {m n : List (NameOf Span)} {Q R : Tokens → Tokens → Type 0} {tokens a rest : Tokens} → AgainText new m Q tokens a → (w : AgainText new n R a rest) → StartsUnmarked w.front → AgainText new (m ++ n) (Then Q R) tokens rest
+then_text {new} {m} {n} {Q} {R} {tokens} {a} {rest} v w free = record {
   front = v.front ++ w.front;
   split = v.split ∙ ap (λ (l : Tokens). tokens_of v.front ++ l) w.split ∙ sym (append_assoc (tokens_of v.front) (tokens_of w.front) rest) ∙ ap (λ (l : Tokens). l ++ rest) (sym (map-append (λ (m : Marked). m.token) v.front w.front));
-  named = marked_append v.front w.front ∙ ap (λ (l : List (NameOf Span)). l ++ marked_names w.front) v.named ∙ ap (λ (l : List (NameOf Span)). filter (is_old old) m ++ l) w.named ∙ sym (filter-append (is_old old) m n);
+  named = marked_append v.front w.front ∙ ap (λ (l : List (NameOf Span)). l ++ marked_names w.front) v.named ∙ ap (λ (l : List (NameOf Span)). m ++ l) w.named;
   marks = marks_append v.front w.front v.marks w.marks;
   again = λ us after r s.
       let c = cut_retold new v.front w.front us r in
@@ -100,10 +97,10 @@ unmarked (m ∷ ms) e = by_mark m.marked (name_in m.token) (marked_names ms) e
     by_mark true n ns e = absurd (cc)
     by_mark false n ns e = refl
 
-pub nameless : {old new : List ℕ} {Q : Tokens → Tokens → Type 0} {tokens rest : Tokens} → (w : AgainText old new [] Q tokens rest) → StartsUnmarked w.front
+pub nameless : {new : List ℕ} {Q : Tokens → Tokens → Type 0} {tokens rest : Tokens} → (w : AgainText new [] Q tokens rest) → StartsUnmarked w.front
 nameless w = unmarked w.front w.named
 
-pub lifted_starts : {old new : List ℕ} {n : List (NameOf Span)} {Q : Tokens → Tokens → Type 0} {tokens rest : Tokens} (w : Again old new n Q tokens rest) → BeginsUnmarked w.front → StartsUnmarked (lifted w).front
+pub lifted_starts : {new : List ℕ} {n : List (NameOf Span)} {Q : Tokens → Tokens → Type 0} {tokens rest : Tokens} (w : Again new n Q tokens rest) → BeginsUnmarked w.front → StartsUnmarked (lifted w).front
 unfolding lifted
 lifted_starts w h = there w.front h
   where
@@ -111,11 +108,11 @@ lifted_starts w h = there w.front h
     there [] h = tt
     there (m ∷ f) h = h
 
-pub changed_starts : {old new : List ℕ} {n : List (NameOf Span)} {Q R : Tokens → Tokens → Type 0} {tokens rest : Tokens} (f : (x y : Tokens) → Q x y → R x y) (w : AgainText old new n Q tokens rest) → StartsUnmarked w.front → StartsUnmarked (changed_text {R = R} f w).front
+pub changed_starts : {new : List ℕ} {n : List (NameOf Span)} {Q R : Tokens → Tokens → Type 0} {tokens rest : Tokens} (f : (x y : Tokens) → Q x y → R x y) (w : AgainText new n Q tokens rest) → StartsUnmarked w.front → StartsUnmarked (changed_text {R = R} f w).front
 unfolding changed_text
 changed_starts f w h = h
 
-pub then_starts : {old new : List ℕ} {n m : List (NameOf Span)} {Q R : Tokens → Tokens → Type 0} {tokens a rest : Tokens} (v : AgainText old new n Q tokens a) (w : AgainText old new m R a rest) (free : StartsUnmarked w.front) → StartsUnmarked v.front → StartsUnmarked (then_text v w free).front
+pub then_starts : {new : List ℕ} {n m : List (NameOf Span)} {Q R : Tokens → Tokens → Type 0} {tokens a rest : Tokens} (v : AgainText new n Q tokens a) (w : AgainText new m R a rest) (free : StartsUnmarked w.front) → StartsUnmarked v.front → StartsUnmarked (then_text v w free).front
 unfolding then_text
 then_starts v w free h = both v.front w.front h free
   where
@@ -133,7 +130,7 @@ word_kept word [] (u ∷ us) s h = absurd s
 word_kept word (t ∷ ts) [] s h = absurd s
 word_kept word (t ∷ ts) (u ∷ us) s h = λ k e. h (sym s.0 ∙ k) (sym s.1 ∙ e)
 
-peeked_word : {old new word : List ℕ} {tokens : Tokens} → NotWord word tokens → AgainText old new [] (PeeksWord word) tokens tokens
+peeked_word : {new word : List ℕ} {tokens : Tokens} → NotWord word tokens → AgainText new [] (PeeksWord word) tokens tokens
 peeked_word {new = new} {word} {tokens} h = record {
   front = [];
   split = refl;
@@ -146,7 +143,7 @@ peeked_word {new = new} {word} {tokens} h = record {
 }
 
 -- a description
-description_again : {old new : List ℕ} {o : Option (NameOf Span)} {tokens rest : Tokens} → IsDescription o tokens rest → Again old new [] (Like IsDescription (option_map plain_name) o) tokens rest
+description_again : {new : List ℕ} {o : Option (NameOf Span)} {tokens rest : Tokens} → IsDescription o tokens rest → Again new [] (Like IsDescription (option_map plain_name) o) tokens rest
 description_again (no_description free other) =
     changed (λ x y q.
     let P : Tokens → Type 0 = λ l. NotNext kind.String l in
@@ -157,7 +154,7 @@ description_again (a_description {text = text} h) = changed (λ x y q. (Some (re
 description_again (a_block_description {text = text} h) = changed (λ x y q. (Some (record { text = text; place = q.0 }), a_block_description q.1, refl)) (kept_again h)
 
 -- phrases with a punctuator between them
-separated_again : {old new : List ℕ} {A B : Type 0} {X : A → Tokens → Tokens → Type 0} {f : A → B} {k : Kind} {xs : List A} {tokens rest : Tokens} → AllKept old new X f → Separated X k xs tokens rest → Again old new [] (Like (Separated X k) (map f) xs) tokens rest
+separated_again : {new : List ℕ} {A B : Type 0} {X : A → Tokens → Tokens → Type 0} {f : A → B} {k : Kind} {xs : List A} {tokens rest : Tokens} → AllKept new X f → Separated X k xs tokens rest → Again new [] (Like (Separated X k) (map f) xs) tokens rest
 separated_again {X = X} {k = k} {tokens = tokens} {rest = rest} each (last {x = x} one free) =
     changed (λ u v q.
     let P : Tokens → Type 0 = λ l. Separated X k (q.1.0 ∷ []) u l in
@@ -167,7 +164,7 @@ separated_again {f = f} {tokens = tokens} each (next {x = x} {xs = xs} a b one m
     changed (λ u v q. (q.1.0 ∷ q.2.2.0, next q.0 q.2.0 q.1.1 q.2.1 q.2.2.1, let e = q.1.2 in let d = q.2.2.2 in cc))
     (joined (each x tokens a one) (joined (marked_again m) (separated_again {f = f} each others)))
 
-led_again : {old new : List ℕ} {A B : Type 0} {X : A → Tokens → Tokens → Type 0} {f : A → B} {k : Kind} {xs : List A} {tokens rest : Tokens} → AllKept old new X f → Led X k xs tokens rest → Again old new [] (Like (Led X k) (map f) xs) tokens rest
+led_again : {new : List ℕ} {A B : Type 0} {X : A → Tokens → Tokens → Type 0} {f : A → B} {k : Kind} {xs : List A} {tokens rest : Tokens} → AllKept new X f → Led X k xs tokens rest → Again new [] (Like (Led X k) (map f) xs) tokens rest
 led_again {X = X} {f} {k} each (plain free h) =
     changed (λ u v q.
     let e = q.1.0 in
@@ -195,12 +192,12 @@ plain_body b = place_body no_place b
 abbrev pub plain_type_system : TypeSystemOf Span → TypeSystemOf (Unit {0})
 plain_type_system d = place_type_system no_place d
 
-root_again : {old new : List ℕ} {r : RootOf Span} {tokens rest : Tokens} → IsRoot r tokens rest → Again old new [] (Like IsRoot plain_root r) tokens rest
+root_again : {new : List ℕ} {r : RootOf Span} {tokens rest : Tokens} → IsRoot r tokens rest → Again new [] (Like IsRoot plain_root r) tokens rest
 root_again (a_root {type = type} {name = name} a b t m n) =
     changed (λ x y q. (record { kind = type; name = record { text = name.text; place = q.2.2.0 } }, a_root q.0 q.2.0 q.1 q.2.1 q.2.2.1, refl))
     (joined (operation_type_again t) (joined (marked_again m) (kept_again n)))
 
-input_again : {old new : List ℕ} {i : InputOf Span} {tokens rest : Tokens} → IsInputValue i tokens rest → Again old new [] (Like IsInputValue plain_input i) tokens rest
+input_again : {new : List ℕ} {i : InputOf Span} {tokens rest : Tokens} → IsInputValue i tokens rest → Again new [] (Like IsInputValue plain_input i) tokens rest
 input_again (an_input_value {description = desc} {name = name} {t = t} {default = default} {directives = ds} a b c d e said n m type value dirs) =
     changed (λ x y q.
     let q1 = q.2 in
@@ -211,12 +208,12 @@ input_again (an_input_value {description = desc} {name = name} {t = t} {default 
       an_input_value q.0 q1.0 q2.0 q3.0 q4.0 q.1.1 q1.1.1 q2.1 q3.1.1 q4.1.1 q4.2.1,
       let e0 = q.1.2 in let e1 = q3.1.2 in let e2 = q4.1.2 in let e3 = q4.2.2 in cc,
     ))
-    (joined (description_again said) (joined (kept_again n) (joined (marked_again m) (joined (type_again type) (joined (default_again value) (directives_again dirs))))))
+    (joined (description_again said) (joined (kept_again n) (joined (marked_again m) (joined (type_again type) (joined (default_again value) (constant_directives_again dirs))))))
 
-inputs_again : {old new : List ℕ} {k j : Kind} {vs : List (InputOf Span)} {tokens rest : Tokens} → Enclosed IsInputValue k j vs tokens rest → Again old new [] (Like (Enclosed IsInputValue k j) (map plain_input) vs) tokens rest
+inputs_again : {new : List ℕ} {k j : Kind} {vs : List (InputOf Span)} {tokens rest : Tokens} → Enclosed IsInputValue k j vs tokens rest → Again new [] (Like (Enclosed IsInputValue k j) (map plain_input) vs) tokens rest
 inputs_again h = enclosed_again (λ x t r one. input_again one) h
 
-field_again : {old new : List ℕ} {i : FieldDefinitionOf Span} {tokens rest : Tokens} → IsFieldDefinition i tokens rest → Again old new [] (Like IsFieldDefinition plain_field i) tokens rest
+field_again : {new : List ℕ} {i : FieldDefinitionOf Span} {tokens rest : Tokens} → IsFieldDefinition i tokens rest → Again new [] (Like IsFieldDefinition plain_field i) tokens rest
 field_again (a_field_definition {description = desc} {name = name} {arguments = args} {t = t} {directives = ds} a b c d e said n inputs m type dirs) =
     changed (λ x y q.
     let q1 = q.2 in
@@ -227,29 +224,29 @@ field_again (a_field_definition {description = desc} {name = name} {arguments = 
       a_field_definition q.0 q1.0 q2.0 q3.0 q4.0 q.1.1 q1.1.1 q2.1.1 q3.1 q4.1.1 q4.2.1,
       let e0 = q.1.2 in let e1 = q2.1.2 in let e2 = q4.1.2 in let e3 = q4.2.2 in cc,
     ))
-    (joined (description_again said) (joined (kept_again n) (joined (inputs_again inputs) (joined (marked_again m) (joined (type_again type) (directives_again dirs))))))
+    (joined (description_again said) (joined (kept_again n) (joined (inputs_again inputs) (joined (marked_again m) (joined (type_again type) (constant_directives_again dirs))))))
 
-fields_again : {old new : List ℕ} {vs : List (FieldDefinitionOf Span)} {tokens rest : Tokens} → IsFieldsDefinition vs tokens rest → Again old new [] (Like IsFieldsDefinition (map plain_field) vs) tokens rest
+fields_again : {new : List ℕ} {vs : List (FieldDefinitionOf Span)} {tokens rest : Tokens} → IsFieldsDefinition vs tokens rest → Again new [] (Like IsFieldsDefinition (map plain_field) vs) tokens rest
 fields_again h = enclosed_again (λ x t r one. field_again one) h
 
-enum_value_again : {old new : List ℕ} {v : EnumValueOf Span} {tokens rest : Tokens} → IsEnumValueDefinition v tokens rest → Again old new [] (Like IsEnumValueDefinition plain_enum_value v) tokens rest
+enum_value_again : {new : List ℕ} {v : EnumValueOf Span} {tokens rest : Tokens} → IsEnumValueDefinition v tokens rest → Again new [] (Like IsEnumValueDefinition plain_enum_value v) tokens rest
 enum_value_again (an_enum_value {description = desc} {name = name} {directives = ds} a b said n other dirs) =
     changed (λ x y q. (
       record { description = q.1.0; name = record { text = name.text; place = q.2.1.0 }; directives = q.2.2.0 },
       an_enum_value q.0 q.2.0 q.1.1 q.2.1.1 other q.2.2.1,
       let e0 = q.1.2 in let e1 = q.2.2.2 in cc,
     ))
-    (joined (description_again said) (joined (kept_again n) (directives_again dirs)))
+    (joined (description_again said) (joined (kept_again n) (constant_directives_again dirs)))
 
 abbrev pub NamesAre : (List (NameOf Span) → Tokens → Tokens → Type 0) → List (NameOf Span) → Tokens → Tokens → Type 0
 NamesAre X names = Like X (map plain_name) names
 
-implements_again : {old new : List ℕ} {is : List (NameOf Span)} {tokens rest : Tokens} → IsImplements is tokens rest → AgainText old new [] (NamesAre IsImplements is) tokens rest
+implements_again : {new : List ℕ} {is : List (NameOf Span)} {tokens rest : Tokens} → IsImplements is tokens rest → AgainText new [] (NamesAre IsImplements is) tokens rest
 implements_again (no_interfaces free) = changed_text (λ x y q. let P : Tokens → Type 0 = λ l. IsImplements [] x l in ([], subst P q.0 (no_interfaces q.1), refl)) (peeked_word free)
 implements_again (interfaces a word names) =
     lifted (changed (λ x y q. (q.2.0, interfaces q.0 q.1.1 q.2.1, q.2.2)) (joined (kept_again word) (led_again {f = plain_name} (λ x t r one. named_again one) names)))
 
-members_again : {old new : List ℕ} {ns : List (NameOf Span)} {tokens rest : Tokens} → IsMembers ns tokens rest → Again old new [] (NamesAre IsMembers ns) tokens rest
+members_again : {new : List ℕ} {ns : List (NameOf Span)} {tokens rest : Tokens} → IsMembers ns tokens rest → Again new [] (NamesAre IsMembers ns) tokens rest
 members_again (no_members free) = skipped {X = IsMembers} {f = map plain_name} [] (λ u h. no_members h) free
 members_again (members a m names) = changed (λ x y q. (q.2.0, members q.0 q.1 q.2.1, q.2.2)) (joined (marked_again m) (led_again {f = plain_name} (λ x t r one. named_again one) names))
 
@@ -262,23 +259,23 @@ map_some f (x ∷ xs) (y ∷ ys) e h = λ k. cc
 abbrev SchemaLike : List (DirectiveOf Span) → List (RootOf Span) → Tokens → Tokens → Type 0
 SchemaLike ds rs x y = (ds' : List (DirectiveOf Span)) × (rs' : List (RootOf Span)) × IsSchema ds' rs' x y × (map plain_directive ds' ≡ map plain_directive ds) × (map plain_root rs' ≡ map plain_root rs)
 
-schema_again : {old new : List ℕ} {ds : List (DirectiveOf Span)} {rs : List (RootOf Span)} {tokens rest : Tokens} → IsSchema ds rs tokens rest → Again old new [] (SchemaLike ds rs) tokens rest
+schema_again : {new : List ℕ} {ds : List (DirectiveOf Span)} {rs : List (RootOf Span)} {tokens rest : Tokens} → IsSchema ds rs tokens rest → Again new [] (SchemaLike ds rs) tokens rest
 schema_again (a_schema a b word dirs roots) =
     changed (λ x y q. (q.2.1.0, q.2.2.0, a_schema q.0 q.2.0 q.1.1 q.2.1.1 q.2.2.1, q.2.1.2, q.2.2.2))
-    (joined (kept_again word) (joined (directives_again dirs) (enclosed_again {f = plain_root} (λ x t r one. root_again one) roots)))
+    (joined (kept_again word) (joined (constant_directives_again dirs) (enclosed_again {f = plain_root} (λ x t r one. root_again one) roots)))
 
 -- a type from its keyword on
 abbrev BodyLike : NameOf Span → List (DirectiveOf Span) → BodyOf Span → Tokens → Tokens → Type 0
 BodyLike n ds b x y = (n' : NameOf Span) × (ds' : List (DirectiveOf Span)) × (b' : BodyOf Span) × IsTypeBody n' ds' b' x y × (plain_name n' ≡ plain_name n) × (map plain_directive ds' ≡ map plain_directive ds) × (plain_body b' ≡ plain_body b)
 
-body_again : {old new : List ℕ} {n : NameOf Span} {ds : List (DirectiveOf Span)} {body : BodyOf Span} {tokens rest : Tokens} → IsTypeBody n ds body tokens rest → AgainText old new [] (BodyLike n ds body) tokens rest
+body_again : {new : List ℕ} {n : NameOf Span} {ds : List (DirectiveOf Span)} {body : BodyOf Span} {tokens rest : Tokens} → IsTypeBody n ds body tokens rest → AgainText new [] (BodyLike n ds body) tokens rest
 body_again (a_scalar {name = name} a b word n dirs) =
     lifted (changed (λ x y q.
     let q1 = q.2 in
     (record { text = name.text; place = q1.1.0 }, q1.2.0, scalar_type, a_scalar q.0 q1.0 q.1.1 q1.1.1 q1.2.1, refl, q1.2.2, refl))
-    (joined (kept_again word) (joined (kept_again n) (directives_again dirs))))
+    (joined (kept_again word) (joined (kept_again n) (constant_directives_again dirs))))
 body_again (an_object_type {name = name} a b c d word n is dirs fields) =
-    let behind = lifted (joined (directives_again dirs) (fields_again fields)) in
+    let behind = lifted (joined (constant_directives_again dirs) (fields_again fields)) in
     changed_text (λ x y q.
     let q1 = q.2 in
     let q2 = q1.2 in
@@ -293,7 +290,7 @@ body_again (an_object_type {name = name} a b c d word n is dirs fields) =
     ))
     (joined_text (kept_again word) (joined_text (kept_again n) (then_text (implements_again is) behind (nameless behind))))
 body_again (an_interface {name = name} a b c d word n is dirs fields) =
-    let behind = lifted (joined (directives_again dirs) (fields_again fields)) in
+    let behind = lifted (joined (constant_directives_again dirs) (fields_again fields)) in
     changed_text (λ x y q.
     let q1 = q.2 in
     let q2 = q1.2 in
@@ -319,7 +316,7 @@ body_again (a_union {name = name} a b c word n dirs names) =
       q2.1.2,
       let e = q2.2.2 in cc,
     ))
-    (joined (kept_again word) (joined (kept_again n) (joined (directives_again dirs) (members_again names)))))
+    (joined (kept_again word) (joined (kept_again n) (joined (constant_directives_again dirs) (members_again names)))))
 body_again (an_enum_type {name = name} a b c word n dirs values) =
     lifted (changed (λ x y q.
     let q1 = q.2 in
@@ -332,7 +329,7 @@ body_again (an_enum_type {name = name} a b c word n dirs values) =
       q2.1.2,
       let e = q2.2.2 in cc,
     ))
-    (joined (kept_again word) (joined (kept_again n) (joined (directives_again dirs) (enclosed_again {f = plain_enum_value} (λ x t r one. enum_value_again one) values)))))
+    (joined (kept_again word) (joined (kept_again n) (joined (constant_directives_again dirs) (enclosed_again {f = plain_enum_value} (λ x t r one. enum_value_again one) values)))))
 body_again (an_input_type {name = name} a b c word n dirs fields) =
     lifted (changed (λ x y q.
     let q1 = q.2 in
@@ -345,13 +342,13 @@ body_again (an_input_type {name = name} a b c word n dirs fields) =
       q2.1.2,
       let e = q2.2.2 in cc,
     ))
-    (joined (kept_again word) (joined (kept_again n) (joined (directives_again dirs) (inputs_again fields)))))
+    (joined (kept_again word) (joined (kept_again n) (joined (constant_directives_again dirs) (inputs_again fields)))))
 
 -- the locations of a directive
-location_again : {old new : List ℕ} {l : DirectiveLocation} {tokens rest : Tokens} → IsLocation l tokens rest → Again old new [] (Like IsLocation (λ (l : DirectiveLocation). l) l) tokens rest
+location_again : {new : List ℕ} {l : DirectiveLocation} {tokens rest : Tokens} → IsLocation l tokens rest → Again new [] (Like IsLocation (λ (l : DirectiveLocation). l) l) tokens rest
 location_again {l = l} (a_location h) = changed (λ x y q. (l, a_location q.1, refl)) (kept_again h)
 
-repeatable_again : {old new : List ℕ} {b : Bool} {tokens rest : Tokens} → IsRepeatable b tokens rest → Again old new [] (IsRepeatable b) tokens rest
+repeatable_again : {new : List ℕ} {b : Bool} {tokens rest : Tokens} → IsRepeatable b tokens rest → Again new [] (IsRepeatable b) tokens rest
 repeatable_again (once h) = changed (λ x y q. once q.1) (kept_again h)
 repeatable_again (repeatable a h k) = changed (λ x y q. repeatable q.0 q.1.1 q.2.1) (joined (kept_again h) (kept_again k))
 
@@ -399,7 +396,7 @@ parts_kept (enum_type vs) (input_type gs) e h = absurd (cc)
 abbrev pub TypeSystemLike : TypeSystemOf Span → Tokens → Tokens → Type 0
 TypeSystemLike d = Like IsTypeSystemDefinition plain_type_system d
 
-pub type_system_again : {old new : List ℕ} {d : TypeSystemOf Span} {tokens rest : Tokens} → IsTypeSystemDefinition d tokens rest → AgainText old new [] (TypeSystemLike d) tokens rest
+pub type_system_again : {new : List ℕ} {d : TypeSystemOf Span} {tokens rest : Tokens} → IsTypeSystemDefinition d tokens rest → AgainText new [] (TypeSystemLike d) tokens rest
 type_system_again (a_schema_definition {description = desc} {directives = ds} {roots = rs} a said s some) =
     lifted (changed (λ x y q.
     let w = q.2 in (

@@ -1,0 +1,6 @@
+pub mod Retelling
+pub mod Regrammar
+pub mod TypeSystemAgain
+pub mod DocumentAgain
+pub mod Renaming
+pub mod Called

@@ -1,0 +1,4 @@
+pub mod Renamings
+pub mod Renamed
+pub mod Changed
+pub mod Rewritten
