@@ -52,7 +52,7 @@ definition_again r may (a_fragment h) = lifted (fragment_again r may h)
 definition_again r may (a_type_system_definition h) = changed_text (λ x y q. (type_system q.0, a_type_system_definition q.1, let e = q.2 in cc)) (type_system_again h)
 
 -- the definitions behind are numbered alike
-number_kept : (d : Def Span) (k : ℕ) → next_number (plain_def d) k ≡ next_number d k
+pub number_kept : (d : Def Span) (k : ℕ) → next_number (plain_def d) k ≡ next_number d k
 number_kept (operation kind name variables directives set braces place) k = refl
 number_kept (fragment name on directives set braces place) k = refl
 number_kept (type_system one) k = refl

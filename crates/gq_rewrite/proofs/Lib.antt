@@ -4,3 +4,5 @@ pub mod TypeSystemAgain
 pub mod DocumentAgain
 pub mod Renaming
 pub mod Called
+pub mod EditedParts
+pub mod ProjectRenaming

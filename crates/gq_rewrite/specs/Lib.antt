@@ -2,3 +2,4 @@ pub mod Renamings
 pub mod Renamed
 pub mod Changed
 pub mod Rewritten
+pub mod Projects
