@@ -8,7 +8,7 @@ use Rattle.gq_types.specs.Entries.{Text}
 use Rattle.gq_index.specs.declared.index.Variables.{Variables}
 use Rattle.gq_index.specs.declared.index.Index.{Index}
 use Rattle.gq_index.specs.VariableGroups.{SpreadsFragment}
-use Rattle.gq_index.specs.Occurrences.{DefinitionOf, AreExecutables, is_operation, fragment_definitions, fragment_spreads, uses_in, definitions_in}
+use Rattle.gq_index.specs.Occurrences.{DefinitionOf, AreExecutables, is_operation, fragment_definitions, fragment_spreads, fragment_occurrences, definition_places, uses_in, definitions_in}
 
 -- the places of the variables of a definition, by their names
 pub record AreVariablesOf (d : DefinitionOf) (v : Variables) : Type 0 where
@@ -24,6 +24,8 @@ pub record AreVariables (ds : List DefinitionOf) (vs : List Variables) : Type 0 
 pub record IsIndexOf (ds : List DefinitionOf) (index : Index) : Type 0 where
   pub definitions : (text : Text) → items_under index.definitions text ≡ fragment_definitions ds text
   pub spreads : (text : Text) → items_under index.spreads text ≡ fragment_spreads ds text
+  pub occurrences : (text : Text) → items_under index.occurrences text ≡ fragment_occurrences ds text
+  pub places : index.places.items ≡ definition_places ds
   pub variables : AreVariables ds index.variables.items
   pub count : length index.spread_in.items ≡ length ds
   pub spread_in : (n k : ℕ) → Contains (row index.spread_in.items n) k ↔ SpreadsFragment ds n k

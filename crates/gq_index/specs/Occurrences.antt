@@ -4,8 +4,8 @@ use Rattle.std.specs.List.{flat_map}
 use Rattle.std.specs.Option.{option_map_or}
 use Rattle.std.specs.Str.{bytes_eq}
 use Rattle.gq_text.specs.declared.place.Span.{Span}
-use Rattle.gq_tree.specs.Plain.{NameOf, Def, operation, fragment, type_system}
-use Rattle.gq_tree.specs.Names.{spread_names}
+use Rattle.gq_tree.specs.Plain.{NameOf, TypeSystemOf, schema, type_definition, directive_definition, Def, operation, fragment, type_system}
+use Rattle.gq_tree.specs.Names.{spread_names, names_in}
 use Rattle.gq_project.specs.declared.document.Doc.{Doc}
 use Rattle.gq_read.specs.declared.reader.Reading.{Reading}
 use Rattle.gq_read.specs.Readings.{AreReadings}
@@ -71,6 +71,25 @@ fragment_definitions ds text = occurrences_in fragment_name text ds
 
 abbrev pub fragment_spreads : List DefinitionOf → Text → List Occurrence
 fragment_spreads ds text = occurrences_in spreads_in text ds
+
+-- where its name stands, at its definitions and in its spreads, in the order of the texts
+abbrev pub fragment_occurrences : List DefinitionOf → Text → List Occurrence
+fragment_occurrences ds text = occurrences_in names_in text ds
+
+-- the place of all tokens of a definition
+abbrev pub type_system_place : TypeSystemOf Span → Span
+type_system_place (schema extends description directives roots place) = place
+type_system_place (type_definition extends description name directives body place) = place
+type_system_place (directive_definition description name arguments repeatable locations place) = place
+
+abbrev pub place_of : Def Span → Span
+place_of (operation kind name variables directives set braces place) = place
+place_of (fragment name on directives set braces place) = place
+place_of (type_system definition) = type_system_place definition
+
+-- where each definition stands
+abbrev pub definition_places : List DefinitionOf → List Occurrence
+definition_places ds = map (λ d. record { file = d.file; span = place_of d.definition }) ds
 
 -- where the variable of that name is defined and used in a definition
 abbrev pub places_called : Text → List (NameOf Span) → List Span

@@ -1,15 +1,15 @@
 //! The executable definitions of documents (GraphQL, October 2021, section 2.2).
 ghost use Rattle.std.specs.Prelude.{◌≡◌, ◌++◌, IfOk, OnOk, flat_map, map};
-ghost use Rattle.gq_tree.specs.Names.{names_at, spread_names};
-ghost use Rattle.gq_tree.specs.Views.{def_view};
+ghost use Rattle.gq_tree.specs.Names.{names_at, spread_names, names_in};
+ghost use Rattle.gq_tree.specs.Views.{def_view, type_system_view};
 ghost use Rattle.gq_document.specs.Definitions.{in_document};
-ghost use Rattle.gq_index.specs.Occurrences.{executable_in, executables, fragment_name, spreads_in};
+ghost use Rattle.gq_index.specs.Occurrences.{executable_in, executables, fragment_name, spreads_in, place_of, type_system_place};
 ghost use Rattle.gq_index.specs.Views.{definitions_view};
 
 use gq_read::Reading;
 use gq_spreads::spread_names::spread_names;
-use gq_text::NoMemory;
-use gq_tree::{Definition, Name};
+use gq_text::{NoMemory, Span};
+use gq_tree::{Definition, Name, TypeSystemDefinition};
 use std::alloc::Global;
 
 /// An operation or a fragment, and the document that it stands in.
@@ -101,5 +101,39 @@ pub(crate) fn spreads_in<'a>(
         Definition::Operation(operation) => spread_names(alloc, &operation.set.items),
         Definition::Fragment(fragment) => spread_names(alloc, &fragment.set.items),
         Definition::TypeSystem(_) => Ok(Vec::new(alloc)),
+    }
+}
+
+/// The names of fragments in a definition: its own, and those in its spreads, in the order of the text.
+pub(crate) fn names_in<'a>(
+    alloc: Global,
+    definition: &'a Definition,
+) -> Result<Vec<&'a Name>, NoMemory>
+    ensures { IfOk result (λ names. names_at names.items ≡ names_in (def_view definition.now)) }
+{
+    let mut names = fragment_name(alloc, definition)?;
+    let mut spreads = spreads_in(alloc, definition)?;
+    names.append(&mut spreads)?;
+    Ok(names)
+}
+
+/// The place of all tokens of a definition.
+pub(crate) fn place_of(definition: &Definition) -> Span
+    ensures { result ≡ place_of (def_view definition.now) }
+{
+    match definition {
+        Definition::Operation(operation) => operation.span,
+        Definition::Fragment(fragment) => fragment.span,
+        Definition::TypeSystem(definition) => type_system_place(definition),
+    }
+}
+
+fn type_system_place(definition: &TypeSystemDefinition) -> Span
+    ensures { result ≡ type_system_place (type_system_view definition.now) }
+{
+    match definition {
+        TypeSystemDefinition::Schema(one) => one.span,
+        TypeSystemDefinition::Type(one) => one.span,
+        TypeSystemDefinition::Directive(one) => one.span,
     }
 }

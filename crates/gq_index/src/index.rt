@@ -20,6 +20,10 @@ pub struct Variables {
 pub struct Index {
     pub(crate) definitions: ByName<Occurrence>,
     pub(crate) spreads: ByName<Occurrence>,
+    /// The definitions and the spreads of each name, in the order of the texts.
+    pub(crate) occurrences: ByName<Occurrence>,
+    /// Where each definition stands.
+    pub(crate) places: Vec<Occurrence>,
     pub(crate) variables: Vec<Variables>,
     /// For each definition, the fragments that it spreads.
     pub(crate) spread_in: Vec<Vec<usize>>,

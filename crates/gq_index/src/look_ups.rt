@@ -1,7 +1,7 @@
 //! Where fragments and variables are defined and used.
 ghost use Rattle.std.specs.Prelude.{◌≡◌, List};
 ghost use Rattle.gq_index.specs.Indexed.{IsIndexOf};
-ghost use Rattle.gq_index.specs.Occurrences.{DefinitionOf, fragment_definitions, fragment_spreads, variable_uses, variable_definitions};
+ghost use Rattle.gq_index.specs.Occurrences.{DefinitionOf, fragment_definitions, fragment_spreads, fragment_occurrences, definition_places, variable_uses, variable_definitions};
 
 use crate::index::Index;
 use crate::occurrence::Occurrence;
@@ -20,6 +20,21 @@ impl Index {
         ensures { (ds : List DefinitionOf) → IsIndexOf ds self.now → result.now ≡ fragment_spreads ds name.now }
     {
         self.spreads.get(name)
+    }
+
+    /// Where the name of that fragment stands: the places of its name at its definitions and in its spreads, in the order of documents and places. It takes no
+    /// memory.
+    pub fn occurrences(&self, name: &str) -> &[Occurrence]
+        ensures { (ds : List DefinitionOf) → IsIndexOf ds self.now → result.now ≡ fragment_occurrences ds name.now }
+    {
+        self.occurrences.get(name)
+    }
+
+    /// Where each operation and fragment stands, by its number: the place of all its tokens. It takes no memory.
+    pub fn places(&self) -> &[Occurrence]
+        ensures { (ds : List DefinitionOf) → IsIndexOf ds self.now → result.now ≡ definition_places ds }
+    {
+        self.places.as_slice()
     }
 
     /// Where the variable of that name is used in the definition of that number: the places of its name, in order. Past the last

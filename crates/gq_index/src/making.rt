@@ -5,7 +5,9 @@ ghost use Rattle.gq_index.specs.Views.{definition_view, definitions_view};
 
 use crate::definitions::{Executable, executables};
 use crate::index::{Index, Variables};
-use crate::places::{fragment_definitions, fragment_spreads, places_of};
+use crate::places::{
+    definition_places, fragment_definitions, fragment_occurrences, fragment_spreads, places_of,
+};
 use crate::spreads::{are_operations, spread_rows};
 use crate::variables::{defined_variables, used_variables};
 use gq_project::Project;
@@ -47,6 +49,8 @@ fn index_of(alloc: Global, definitions: &[Executable<'_>]) -> Result<Index, NoMe
     Ok(Index {
         definitions: fragment_definitions(alloc, definitions)?,
         spreads: fragment_spreads(alloc, definitions)?,
+        occurrences: fragment_occurrences(alloc, definitions)?,
+        places: definition_places(alloc, definitions)?,
         variables: all_variables(alloc, definitions)?,
         spread_in,
         spreading,

@@ -76,6 +76,8 @@ fn told(alloc: Global, index: &Index, words: &str) -> Result<String, Fail> {
     match call {
         "definitions" => occurrences_shown(alloc, index.definitions(rest)),
         "spreads" => occurrences_shown(alloc, index.spreads(rest)),
+        "occurrences" => occurrences_shown(alloc, index.occurrences(rest)),
+        "places" => occurrences_shown(alloc, index.places()),
         _ => variable_told(alloc, index, call, rest),
     }
 }
@@ -102,8 +104,11 @@ fn fragments_are_found_in_all_documents(rt: HostRuntime) -> Result<(), Fail> {
     let rows = "
         definitions F => 0:9..10
         spreads F => 1:4..5 1:9..10
+        occurrences F => 0:9..10 1:4..5 1:9..10
         definitions G =>
         spreads x =>
+        occurrences x =>
+        places all => 0:0..22 1:0..11
     ";
     assert_told(alloc, &rt, &index, rows)
 }
@@ -123,6 +128,9 @@ fn spreads_are_found_at_each_depth(rt: HostRuntime) -> Result<(), Fail> {
         definitions B => 2:58..59
         spreads A => 2:74..75 3:6..7 3:30..31
         spreads B => 2:23..24 3:23..24
+        occurrences A => 2:9..10 2:35..36 2:74..75 3:6..7 3:30..31
+        occurrences B => 2:23..24 2:58..59 3:23..24
+        places all => 2:0..25 2:26..48 2:49..76 3:0..35
     ";
     assert_told(alloc, &rt, &index, rows)
 }

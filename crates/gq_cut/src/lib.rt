@@ -1,0 +1,7 @@
+//! The edits of renames in all documents of a project.
+#![tactic(auto)]
+
+mod edits;
+pub mod renames;
+
+pub use renames::fragment_edit;

@@ -1,0 +1,41 @@
+//! The edits of renames.
+ghost use Rattle.std.specs.Prelude.{◌≡◌, ◌≢◌, [], List, IfOk, codes};
+ghost use Rattle.gq_text.specs.declared.place.Span.{Span};
+ghost use Rattle.gq_lex.specs.declared.token.Kind.TheVariants as kind;
+ghost use Rattle.gq_lex.specs.Tokens.{IsToken};
+ghost use Rattle.gq_tree.specs.Plain.{Def};
+ghost use Rattle.gq_index.specs.Indexed.{IsIndexOfProject};
+ghost use Rattle.gq_rewrite.specs.Renamings.{fragment_called};
+ghost use Rattle.gq_rewrite.specs.Projects.{AreTrees, rename_edits};
+ghost use Rattle.gq_cut.specs.Cut.{HaveTrees};
+
+use crate::edits::edits_at;
+use gq_edit::Edit;
+use gq_index::Index;
+use gq_project::Project;
+use gq_text::NoMemory;
+use std::alloc::Global;
+
+/// The edit that gives a fragment another name: in each document of the project, the name token of its definition and of every spread of it. Its documents
+/// have trees, and the index is of them.
+pub fn fragment_edit(
+    alloc: Global,
+    project: &Project,
+    index: &Index,
+    old_name: &str,
+    new_name: &str,
+) -> Result<Edit, NoMemory>
+    requires trees { HaveTrees project.now }
+    requires index { IsIndexOfProject project.now index.now }
+    requires is_name { IsToken kind.Name new_name.now [] }
+    requires not_on { new_name.now ≢ codes "on" }
+    ensures { IfOk result (λ edit. (trees : List (List (Def Span))) → AreTrees project.now trees → edit ≡ rename_edits (λ n. fragment_called old_name.now) 0 new_name.now project.now trees) }
+{
+    let edits = edits_at(
+        alloc,
+        project.documents(),
+        index.occurrences(old_name),
+        new_name,
+    )?;
+    Ok(Edit::from_vec(edits))
+}
