@@ -38,14 +38,14 @@ tree_read text (reading.Syntax place) tree p q = absurd (p.0 tree q)
 tree_read text (reading.Limit place) tree p q = absurd (p.0 tree q)
 
 -- the texts are compared either way round
-same_test : (a b : List ℕ) → bytes_eq a b ≡ bytes_eq b a
+pub same_test : (a b : List ℕ) → bytes_eq a b ≡ bytes_eq b a
 same_test a b = by (bytes_eq a b) refl
   where
     by : (t : Bool) → bytes_eq a b ≡ t → t ≡ bytes_eq b a
     by true e = sym ((bytes_decides b a).1 (sym ((bytes_decides a b).0 e)))
     by false e = sym (false_from_ne_true _ (λ h. let f : true ≡ false = sym ((bytes_decides a b).1 (sym ((bytes_decides b a).0 h))) ∙ e in cc))
 
-filter_alike : {A : Type 0} (p q : A → Bool) → ((x : A) → p x ≡ q x) → (xs : List A) → filter p xs ≡ filter q xs
+pub filter_alike : {A : Type 0} (p q : A → Bool) → ((x : A) → p x ≡ q x) → (xs : List A) → filter p xs ≡ filter q xs
 filter_alike p q h [] = refl
 filter_alike {A} p q h (x ∷ xs) = ap (λ (b : Bool). if b then x ∷ filter p xs else filter p xs) (h x) ∙ ap (λ (l : List A). if q x then x ∷ l else l) (filter_alike p q h xs)
 

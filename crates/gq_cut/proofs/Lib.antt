@@ -1,2 +1,5 @@
 pub mod RunLemmas
 pub mod FragmentCut
+pub mod Constant
+pub mod VariableCut
+pub mod GroupLemmas

@@ -1,13 +1,16 @@
 -- The edits of documents from places in the order of documents, computed. Nothing here must be believed.
-use Rattle.std.specs.Prelude.{ℕ, suc, ◌+◌, ◌==◌, Bool, List, [], ◌∷◌, ◌++◌, map, take, drop}
-use Rattle.std.specs.List.{prefix_len}
+use Rattle.std.specs.Prelude.{ℕ, ◌+◌, ◌==◌, Bool, List, [], ◌∷◌, ◌++◌, map, take, drop, slice_get}
+use Rattle.std.specs.List.{prefix_len, flat_map}
+use Rattle.std.specs.Option.{option_map_or}
 use Rattle.gq_text.specs.declared.place.Span.{Span}
 use Rattle.gq_text.specs.declared.replacement.Replacement.{Replacement}
 use Rattle.gq_tree.specs.Plain.{NameOf, Def}
 use Rattle.gq_project.specs.declared.document.Doc.{Doc}
 use Rattle.gq_edit.specs.declared.edit.DocumentEdit.{DocumentEdit}
 use Rattle.gq_edit.specs.Replacements.{AreDisjoint}
+use Rattle.gq_types.specs.Entries.{Text}
 use Rattle.gq_index.specs.declared.occurrence.Occurrence.{Occurrence}
+use Rattle.gq_index.specs.Occurrences.{DefinitionOf, definitions_in, uses_in}
 use Rattle.gq_rewrite.specs.Renamings.{Renaming}
 use Rattle.gq_rewrite.specs.Changed.{changed_in_document}
 use Rattle.gq_rewrite.specs.Projects.{edit_if_any, number_behind}
@@ -42,3 +45,14 @@ occurrences_at file names = map (λ n. record { file = file; span = n.place }) n
 abbrev pub changed_occurrences : (ℕ → Renaming) → ℕ → ℕ → List (List (Def Span)) → List Occurrence
 changed_occurrences rule k file [] = []
 changed_occurrences rule k file (tree ∷ trees) = occurrences_at file (changed_in_document rule k tree) ++ changed_occurrences rule (number_behind tree k) (file + 1) trees
+
+abbrev pub occurrences_in_file : ℕ → List Span → List Occurrence
+occurrences_in_file file spans = map (λ s. record { file = file; span = s }) spans
+
+-- where the variable of that name stands in a definition, at its definitions and uses
+abbrev pub variable_occurrences : DefinitionOf → Text → List Occurrence
+variable_occurrences d text = occurrences_in_file d.file (definitions_in d.definition text ++ uses_in d.definition text)
+
+-- in the definitions of these numbers
+abbrev pub group_occurrences : List DefinitionOf → List ℕ → Text → List Occurrence
+group_occurrences ds group text = flat_map (λ n. option_map_or (λ d. variable_occurrences d text) (slice_get ds n) []) group

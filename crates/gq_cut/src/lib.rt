@@ -2,6 +2,7 @@
 #![tactic(auto)]
 
 mod edits;
+mod group;
 pub mod renames;
 
-pub use renames::fragment_edit;
+pub use renames::{fragment_edit, variable_edit};
