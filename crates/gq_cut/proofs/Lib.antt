@@ -3,3 +3,4 @@ pub mod FragmentCut
 pub mod Constant
 pub mod VariableCut
 pub mod GroupLemmas
+pub mod TreeLemmas

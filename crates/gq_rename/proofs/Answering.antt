@@ -18,7 +18,8 @@ use Rattle.gq_project.specs.declared.document.Doc.{Doc}
 use Rattle.gq_project.specs.Documents.{has_key}
 use Rattle.gq_edit.specs.declared.edit.DocumentEdit.{DocumentEdit}
 use Rattle.gq_edit.specs.Replacements.{AreDisjoint, FitText}
-use Rattle.gq_rename.specs.Names.{IsFragmentNameText, target, called}
+use Rattle.gq_rewrite.specs.Names.{IsFragmentNameText}
+use Rattle.gq_rename.specs.Names.{target, called}
 use Rattle.gq_rewrite.specs.Changed.{replacements_of}
 use Rattle.gq_rename.specs.Rename.{Target, MayRename, Renames, rename_replacements, rename_edit}
 use Rattle.gq_rename.proofs.Renaming.{rename_keeps, rename_disjoint, rename_fits}

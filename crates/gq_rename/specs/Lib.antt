@@ -2,4 +2,3 @@ pub mod Names
 pub mod Refusals
 pub mod Rename
 pub mod Kept
-pub mod Spelling

@@ -1,4 +1,4 @@
--- Names of fragments: how they are spelled, and which one an offset means.
+-- Names of fragments: which one an offset means.
 use Rattle.std.specs.Prelude.{◌≢◌, ℕ, ◌==◌, ◌&&◌, nat_lt, nat_le, Bool, List, [], codes, Option, filter, find}
 use Rattle.std.specs.Option.{option_or}
 use Rattle.std.specs.Str.{bytes_eq}
@@ -6,11 +6,6 @@ use Rattle.gq_text.specs.declared.place.Span.{Span}
 use Rattle.gq_lex.specs.declared.token.Kind.TheVariants as kind
 use Rattle.gq_lex.specs.Tokens.{IsToken}
 use Rattle.gq_tree.specs.Plain.{NameOf}
-
--- FragmentName : Name but not `on` (section 2.8)
-pub record IsFragmentNameText (text : List ℕ) : Type 0 where
-  pub is_name : IsToken kind.Name text []
-  pub not_on : text ≢ codes "on"
 
 -- the name's token holds the offset, or ends there
 abbrev pub holds : ℕ → NameOf Span → Bool

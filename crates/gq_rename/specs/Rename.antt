@@ -13,7 +13,8 @@ use Rattle.gq_edit.specs.Edits.{edited_text}
 use Rattle.gq_rewrite.specs.Changed.{replacements_of}
 use Rattle.gq_rename.specs.declared.refusal.Refusal.{Refusal}
 use Rattle.gq_rename.specs.declared.refusal.Refusal.TheVariants.{ProjectInvalid, NothingHere, BadName, SameName, TooLarge, NoMemory}
-use Rattle.gq_rename.specs.Names.{IsFragmentNameText, target, called}
+use Rattle.gq_rewrite.specs.Names.{IsFragmentNameText}
+use Rattle.gq_rename.specs.Names.{target, called}
 use Rattle.gq_rename.specs.Kept.{KeepsDocument}
 
 -- the document of the key, its tree, and the name at the offset

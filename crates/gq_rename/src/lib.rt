@@ -1,12 +1,11 @@
 //! Renames of fragments.
 #![tactic(auto)]
 
-pub mod name;
 pub mod refusal;
 pub mod rename;
 mod target;
 
-pub use name::is_fragment_name;
+pub use gq_rewrite::is_fragment_name;
 pub use refusal::Refusal;
 pub use rename::rename_fragment;
 

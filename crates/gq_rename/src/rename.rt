@@ -6,12 +6,12 @@ ghost use Rattle.gq_edit.specs.Edits.{FitDocuments};
 ghost use Rattle.gq_edit.specs.Replacements.{AreDisjoint};
 ghost use Rattle.gq_rename.specs.Rename.{IsRename, Renames, NoTree};
 
-use crate::name::is_fragment_name;
 use crate::refusal::Refusal;
 use crate::target::{replacements, target};
 use gq_edit::{DocumentEdit, Edit, Replacements, replaced_fits};
 use gq_parse::{Doc, Document, Fault, Name, parse};
 use gq_project::Project;
+use gq_rewrite::is_fragment_name;
 use gq_text::{NoMemory, Replacement};
 use gq_tree::fragment_names;
 use std::alloc::Global;

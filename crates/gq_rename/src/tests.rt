@@ -1,4 +1,4 @@
-use crate::{Refusal, is_fragment_name, rename_fragment};
+use crate::{Refusal, rename_fragment};
 use gq_edit::Edit;
 use gq_parse::Doc;
 use gq_project::Project;
@@ -110,15 +110,7 @@ fn an_edited_text_has_at_most_4_mib(rt: HostRuntime) -> Result<(), Fail> {
 }
 
 #[test]
-fn a_fragment_name_is_a_name_but_not_on(rt: HostRuntime) {
-    let are_names = [
-        is_fragment_name("_a1"),
-        is_fragment_name("On"),
-        is_fragment_name("on"),
-        is_fragment_name("a b"),
-        is_fragment_name("é"),
-    ];
-    assert_eq!(rt; are_names, [true, true, false, false, false]);
+fn refusals_have_numbers(rt: HostRuntime) {
     let messages = [Refusal::TooLarge.message(), Refusal::BadName.message()];
     assert_eq!(rt; messages, ["10 TooLarge", "3 BadName"]);
 }

@@ -82,8 +82,8 @@ none_of_more : (p : Part) (front : List DocumentEdit) (docs : List Doc) → AllB
 none_of_more p front [] none less = tt
 none_of_more p front (d ∷ docs) none less = (
   find-append (is_of d) front (edit_if_any p.document p.replacements)
-  ∙ ap (λ (o : Option DocumentEdit). option_or o (find (is_of d) (edit_if_any p.document p.replacements))) none.0
-  ∙ none_of_own d p (λ e. less_differs p.document.key d.key less.0 (sym e)),
+      ∙ ap (λ (o : Option DocumentEdit). option_or o (find (is_of d) (edit_if_any p.document p.replacements))) none.0
+      ∙ none_of_own d p (λ e. less_differs p.document.key d.key less.0 (sym e)),
   none_of_more p front docs none.1 less.1,
 )
 
@@ -96,11 +96,11 @@ made_each front (p ∷ parts) none h =
     let rest : List DocumentEdit = edits_of parts in
     let behind = none_behind p.document parts h.0 in
     let skip : find (is_of p.document) (front ++ (own ++ rest)) ≡ find (is_of p.document) (own ++ rest) =
-        find-append (is_of p.document) front (own ++ rest) ∙ ap (λ (o : Option DocumentEdit). option_or o (find (is_of p.document) (own ++ rest))) none.0 in
+    find-append (is_of p.document) front (own ++ rest) ∙ ap (λ (o : Option DocumentEdit). option_or o (find (is_of p.document) (own ++ rest))) none.0 in
     let head : edited (front ++ (own ++ rest)) p.document ≡ made_in p =
-        ap (λ (o : Option DocumentEdit). edited_by o p.document) skip ∙ made_first p.document p.replacements rest behind in
+    ap (λ (o : Option DocumentEdit). edited_by o p.document) skip ∙ made_first p.document p.replacements rest behind in
     let tail : after_edit (front ++ (own ++ rest)) (documents_of parts) ≡ map made_in parts =
-        ap (λ (es : List DocumentEdit). after_edit es (documents_of parts)) (sym (append_assoc front own rest)) ∙ made_each (front ++ own) parts (none_of_more p front (documents_of parts) none.1 h.0) h.1 in
+    ap (λ (es : List DocumentEdit). after_edit es (documents_of parts)) (sym (append_assoc front own rest)) ∙ made_each (front ++ own) parts (none_of_more p front (documents_of parts) none.1 h.0) h.1 in
     ap (λ (d : Doc). d ∷ after_edit (front ++ (own ++ rest)) (documents_of parts)) head ∙ ap (λ (ds : List Doc). made_in p ∷ ds) tail
 
 none_in_nothing : (docs : List Doc) → AllByRecursion (λ d. NoneOf d []) docs

@@ -6,3 +6,4 @@ pub mod Renaming
 pub mod Called
 pub mod EditedParts
 pub mod ProjectRenaming
+pub mod Spellings

@@ -63,7 +63,7 @@ renamed_projects_read rule new documents trees in_order are_trees is_name may =
     let F : List DocumentEdit → Type 0 = λ es. FitDocuments documents es in
     let G : List Doc → Type 0 = λ ds. FitDocuments ds (edits_of w.parts) in
     let made : map made_in w.parts ≡ after_edit (rename_edits rule 0 new documents trees) documents =
-        sym (after_parts w.parts sorted) ∙ ap (λ (es : List DocumentEdit). after_edit es (documents_of w.parts)) w.are_edits ∙ ap (after_edit (rename_edits rule 0 new documents trees)) w.are_documents in
+    sym (after_parts w.parts sorted) ∙ ap (λ (es : List DocumentEdit). after_edit es (documents_of w.parts)) w.are_edits ∙ ap (after_edit (rename_edits rule 0 new documents trees)) w.are_documents in
     let T : List Doc → Type 0 = λ ds. AreTrees ds w.after in
     record {
       in_order = subst AreInOrder w.are_edits (order_parts w.parts sorted);

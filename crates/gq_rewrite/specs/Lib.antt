@@ -1,3 +1,5 @@
+pub mod Names
+pub mod Spelling
 pub mod Renamings
 pub mod Renamed
 pub mod Changed

@@ -7,8 +7,8 @@ use Rattle.std.proofs.lemmas.Slice.Eq.{bytes_eq-Decides}
 use Rattle.gq_lex.specs.declared.token.Kind.TheVariants as kind
 use Rattle.gq_lex.specs.Bytes.{Passes, is_name_start, is_name_continue}
 use Rattle.gq_lex.specs.Tokens.{IsToken, name}
-use Rattle.gq_rename.specs.Names.{IsFragmentNameText}
-use Rattle.gq_rename.specs.Spelling.{is_name_spelled}
+use Rattle.gq_rewrite.specs.Names.{IsNameText, IsFragmentNameText}
+use Rattle.gq_rewrite.specs.Spelling.{is_name_spelled}
 use Rattle.gq_rewrite.proofs.Retelling.{spelled}
 
 all_pass : (p : ℕ → Bool) (bs : List ℕ) → list_all p bs ≡ true → Passes p bs
@@ -37,7 +37,10 @@ name_is bs h =
     let w = spelled h refl in
     ap is_name_spelled w.is ∙ ap (λ a. a && list_all is_name_continue w.others) w.starts ∙ pass_all is_name_continue w.others w.continues
 
--- the test, and what it tells
+-- the tests, and what they tell
+pub spelled_as_name : (bs : List ℕ) → IsTrue (is_name_spelled bs) ↔ IsNameText bs
+spelled_as_name bs = (is_name bs, name_is bs)
+
 pub spelled_is_name : (bs : List ℕ) → IsTrue (is_name_spelled bs && not (bytes_eq bs (codes "on"))) ↔ IsFragmentNameText bs
 spelled_is_name bs = (there (is_name_spelled bs) (bytes_eq bs (codes "on")) refl refl, λ h. back (is_name_spelled bs) (bytes_eq bs (codes "on")) refl refl h)
   where
