@@ -3,6 +3,7 @@
 
 pub mod by_name;
 pub mod list;
+mod places;
 pub mod repeated;
 
 pub use by_name::ByName;
