@@ -1,6 +1,6 @@
 use Rattle.gq_tree.specs.Views.{name_of}
 use Rattle.gq_tree.proofs.ValueLemmas.{named_alike}
-use Rattle.gq_tree.proofs.same_values.same_argument.Goals as goal
+use Rattle.gq_tree.proofs.same.same_argument.Goals as goal
 
 pub returns : goal.returns
 returns c =
