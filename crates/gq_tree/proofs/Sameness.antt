@@ -4,7 +4,6 @@ use Rattle.std.specs.Prelude.{◌&&◌}
 use Rattle.std.specs.Bool.{Decides, beq}
 use Rattle.std.specs.Option.{option_map}
 use Rattle.std.proofs.lemmas.Slice.Eq.{bytes_eq-Decides}
-use Rattle.gq_tree.specs.declared.type_system.DirectiveLocation.TheVariants as location
 use Rattle.gq_tree.specs.Forest.{Forest, Tree, none, more, row, agree, agree_trees, relabel, relabel_tree}
 use Rattle.gq_tree.specs.Plain.{NameOf, Says, variable, int, float, string, boolean, null, enum, list, object, Part, Val, TypeOf, named, list_of, non_null, place_name, place_says, place_part, place_value, place_type, no_place}
 use Rattle.gq_tree.specs.Same.{same_names, both, all_same, same_says, same_parts, same_values, same_types}
