@@ -35,9 +35,10 @@ pub enum Question {
 }
 
 impl Question {
-    /// What the file of that name asks.
+    /// What the file of that name asks, such as `check.rows` or `check.cycles.rows`.
     pub fn of_file(name: &str) -> Option<Question> {
-        Some(match name.strip_suffix(".rows")? {
+        let (word, _) = name.split_once('.')?;
+        Some(match word {
             "check" => Question::Check,
             "report" => Question::Report,
             "validity" => Question::Validity,
