@@ -57,9 +57,10 @@ pub struct Row<'t> {
     pub line: usize,
     /// The codes of the faults that are told, parted by blanks, or none where all are.
     pub only: &'t str,
-    /// The texts that are given to several rows, and then its own.
+    /// The texts that are given to several rows.
+    pub given: Vec<Entry<'t>>,
+    /// These, and then its own.
     pub entries: Vec<Entry<'t>>,
-    given: usize,
     wanted: Vec<&'t str>,
 }
 
@@ -72,11 +73,6 @@ impl<'t> Row<'t> {
     /// Its last text.
     pub fn asked(&self, alloc: Global) -> Result<String, NoAnswer> {
         self.entries.last().ok_or(NoAnswer)?.text(alloc)
-    }
-
-    /// The texts that are given to several rows.
-    pub fn given(&self) -> &[Entry<'t>] {
-        self.entries.get(..self.given).unwrap_or(&[])
     }
 
     /// The name of a text, with a colon behind it; nothing of a text without a name.
@@ -213,6 +209,7 @@ impl<'t> Reader<'t> {
 
     /// Puts a row of the given texts and of those before it.
     fn put_row(&mut self, line: usize) -> Result<(), NoAnswer> {
+        let given = Vec::from_slice(self.alloc, self.given.as_slice())?;
         let mut entries = Vec::from_slice(self.alloc, self.given.as_slice())?;
         entries.extend_from_slice(self.entries.as_slice())?;
         self.entries.clear();
@@ -220,8 +217,8 @@ impl<'t> Reader<'t> {
         self.rows.push(Row {
             line,
             only: self.only,
+            given,
             entries,
-            given: self.given.len(),
             wanted: Vec::new(self.alloc),
         })?;
         Ok(())

@@ -60,7 +60,7 @@ fn root<'s>(schema: &'s Schema, kind: &str) -> Option<&'s str> {
 /// Tells what the schema of the given texts answers to a question.
 pub fn tell_answer(alloc: Global, row: &Row<'_>, telling: &mut Telling) -> Result<(), NoAnswer> {
     let asked = row.asked(alloc)?;
-    let project = project_of(alloc, row.given())?;
+    let project = project_of(alloc, &row.given)?;
     match Schema::build(alloc, &project) {
         Ok(schema) => tell_of(alloc, &schema, asked.as_str(), telling),
         Err(_) => Err(NoAnswer),

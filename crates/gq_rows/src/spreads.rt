@@ -41,7 +41,7 @@ fn tell_named(
 /// Tells what the given texts answer to a question such as `reached 0` or `named A`.
 pub fn tell_spreads(alloc: Global, row: &Row<'_>, telling: &mut Telling) -> Result<(), NoAnswer> {
     let asked = row.asked(alloc)?;
-    let documents = documents_of(alloc, row.given())?;
+    let documents = documents_of(alloc, &row.given)?;
     match asked.as_str().split_once(' ') {
         Some(("reached", number)) => tell_reached(alloc, &documents, number.parse()?, telling),
         Some(("named", name)) => tell_named(alloc, &documents, name, telling),

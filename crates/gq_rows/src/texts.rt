@@ -17,7 +17,7 @@ fn position(word: &str) -> Result<Position, NoAnswer> {
 /// Tells the offset of a position in the given text, and the position of that offset.
 pub fn tell_place(alloc: Global, row: &Row<'_>, telling: &mut Telling) -> Result<(), NoAnswer> {
     let asked = row.asked(alloc)?;
-    let given = row.given().first().ok_or(NoAnswer)?.text(alloc)?;
+    let given = row.given.first().ok_or(NoAnswer)?.text(alloc)?;
     let text: Text<VecBuffer> = Text::from_str(alloc, given.as_str())?;
     let offset = text.offset_of(position(asked.as_str())?);
     let Position { line, character } = text.position_of(offset);

@@ -246,7 +246,7 @@ fn tell_of(
 pub fn tell_types(alloc: Global, row: &Row<'_>, telling: &mut Telling) -> Result<(), NoAnswer> {
     let asked = row.asked(alloc)?;
     let mut text = String::new(alloc);
-    for entry in row.given() {
+    for entry in &row.given {
         text.push_str(entry.text(alloc)?.as_str())?;
         text.push_str("\n")?;
     }
