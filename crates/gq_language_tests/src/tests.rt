@@ -1,4 +1,3 @@
-mod parsing;
-mod printed;
+mod texts;
 mod trees;
-mod types;
+mod words;
