@@ -1,3 +1,4 @@
+mod names;
 mod texts;
 mod trees;
 mod words;

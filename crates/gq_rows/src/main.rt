@@ -3,6 +3,8 @@
 #![tactic(auto)]
 
 mod checks;
+mod documents;
+mod indexes;
 mod items;
 mod literals;
 mod no_answer;

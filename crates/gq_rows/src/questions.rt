@@ -1,5 +1,9 @@
 //! What a file of rows asks of each of them.
 use crate::checks::{tell_check, tell_report, tell_validity};
+use crate::documents::{
+    tell_definitions, tell_readings, tell_readings_by_threads, tell_selections,
+};
+use crate::indexes::tell_index;
 use crate::items::{Rules, tell_faults};
 use crate::literals::tell_literals;
 use crate::no_answer::NoAnswer;
@@ -20,6 +24,11 @@ pub enum Question {
     Report,
     Validity,
     Faults(Rules),
+    Index,
+    Definitions,
+    Readings,
+    ReadingsByThreads,
+    Selections,
     Schema,
     SchemaAnswer,
     Literals,
@@ -49,6 +58,11 @@ impl Question {
             "variables" => Question::Faults(Rules::Variables),
             "merging" => Question::Faults(Rules::Merging),
             "type_system" => Question::Faults(Rules::TypeSystem),
+            "index" => Question::Index,
+            "definitions" => Question::Definitions,
+            "readings" => Question::Readings,
+            "readings_by_threads" => Question::ReadingsByThreads,
+            "selections" => Question::Selections,
             "schema" => Question::Schema,
             "schema_answers" => Question::SchemaAnswer,
             "literals" => Question::Literals,
@@ -78,6 +92,13 @@ impl Question {
             Question::Report => tell_report(threads, alloc, row, telling),
             Question::Validity => tell_validity(threads, alloc, row, telling),
             Question::Faults(rules) => tell_faults(threads, alloc, rules, row, telling),
+            Question::Index => tell_index(alloc, row, telling),
+            Question::Definitions => tell_definitions(alloc, row, telling),
+            Question::Readings => tell_readings(alloc, row, telling),
+            Question::ReadingsByThreads => {
+                tell_readings_by_threads(threads, alloc, row, telling)
+            }
+            Question::Selections => tell_selections(alloc, row, telling),
             Question::Schema => tell_schema(alloc, row, telling),
             Question::SchemaAnswer => tell_answer(alloc, row, telling),
             Question::Literals => tell_literals(alloc, row, telling),

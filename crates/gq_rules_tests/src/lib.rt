@@ -1,4 +1,4 @@
-//! Tests of the check of files that no row of texts can say.
+//! Tests that no row of texts can say, of the check of files and of crates below it, through their public calls.
 #![tactic(auto)]
 
 #[cfg(test)]

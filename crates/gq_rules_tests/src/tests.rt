@@ -1,1 +1,5 @@
 mod check;
+mod found;
+mod graphs;
+mod projects;
+mod rewriting;

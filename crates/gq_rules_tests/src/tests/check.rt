@@ -148,4 +148,3 @@ fn a_sink_that_fails_is_told_on_the_other(rt: HostRuntime) -> Result<(), Fail> {
     let err_fails = "q.graphql => 3";
     assert_written(alloc, &rt, (9, 0), err_fails)
 }
-
