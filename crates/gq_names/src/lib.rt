@@ -9,6 +9,3 @@ pub mod repeated;
 pub use by_name::ByName;
 pub use list::NameList;
 pub use repeated::repeated_names;
-
-#[cfg(test)]
-mod tests;
