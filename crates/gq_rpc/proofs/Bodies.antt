@@ -1,12 +1,11 @@
 -- Which value a body is.
-use Rattle.std.proofs.Common.{◌≡◌, ℕ, List, Bool, true, false, Option, Some, None, cond, refl, ap, ◌∙◌}
+use Rattle.std.proofs.Common.{◌≡◌, ℕ, List, Bool, true, false, Some, None, cond, refl, ap, ◌∙◌}
 use Rattle.std.specs.Prelude.{IsUtf8}
 use Rattle.std.specs.Str.{is_utf8}
 use Rattle.std.proofs.lemmas.Str.{IsUtf8-from_is_utf8, is_utf8-from_IsUtf8}
 use Rattle.serde_json.specs.Data.{Data}
 use Rattle.serde_json.specs.Read.{read}
-use Rattle.gq_rpc.specs.Decoding.{body_value, message_in, message_of, decoded}
-use Rattle.gq_rpc.specs.declared.messages.Incoming.{Incoming}
+use Rattle.gq_rpc.specs.Decoding.{message_in, message_of, decoded}
 use Rattle.gq_rpc.specs.declared.messages.Incoming.TheVariants as incoming
 
 not_utf8_is : (body : List ℕ) (b : Bool) → is_utf8 body ≡ b → ¬ IsUtf8 body → b ≡ false

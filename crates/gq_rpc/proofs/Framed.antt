@@ -1,6 +1,6 @@
 -- Frames that are written are cut back.
-use Rattle.std.proofs.Common.{◌≡◌, ℕ, suc, ◌+◌, ◌-◌, ◌^◌, ◌<◌, ◌≤◌, min, List, [], ◌∷◌, ◌++◌, length, take, drop, get_or, Bool, true, false, not, ◌&&◌, cond, Option, Some, None, refl, ap, sym, ◌∙◌, subst, arith, append_assoc, length-append, add-one}
-use Rattle.std.specs.Prelude.{All, codes, decimal, nat_lt, nat_le, option_map, unwrap_or, slice_index, slice_range, ◌==◌}
+use Rattle.std.proofs.Common.{◌≡◌, ℕ, suc, ◌+◌, ◌-◌, ◌^◌, ◌<◌, ◌≤◌, min, List, [], ◌∷◌, ◌++◌, length, take, drop, true, false, not, ◌&&◌, cond, Option, Some, None, refl, ap, sym, ◌∙◌, subst, arith, append_assoc, length-append, add-one}
+use Rattle.std.specs.Prelude.{codes, decimal, nat_lt, nat_le, option_map, unwrap_or, slice_index, slice_range, ◌==◌}
 use Rattle.std.specs.Char.{digit_value, is_ascii_digit}
 use Rattle.std.specs.List.{flat_map, list_all, position_or_len}
 use Rattle.std.specs.Str.Parse.{AllDigits, digits_value}
@@ -11,8 +11,7 @@ use Rattle.std.proofs.lemmas.Str.Parse.{digit_from_value}
 use Rattle.gq_rpc.specs.Lines.{is_line_feed, is_no_space, onto, ended_lines, length_cap, length_in, length_field, field_in, field_of, known_after, head_of}
 use Rattle.gq_rpc.specs.Frames.{max_header, max_body, with_head, scan_of, Cuts, frame}
 use Rattle.gq_rpc.specs.Cutting.{FramesAreCutBack}
-use Rattle.gq_rpc.specs.declared.header.Field.{Field}
-use Rattle.gq_rpc.specs.declared.header.Field.TheVariants.{Other, Length, Malformed}
+use Rattle.gq_rpc.specs.declared.header.Field.TheVariants.{Length, Malformed}
 use Rattle.gq_rpc.specs.declared.header.FrameFault.TheVariants.{BadHeader, TooLong}
 use Rattle.gq_rpc.specs.declared.header.Head.TheVariants as head
 use Rattle.gq_rpc.specs.declared.header.Scan.TheVariants.{Whole, Partial, Bad}

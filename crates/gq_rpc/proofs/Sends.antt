@@ -1,8 +1,8 @@
 -- Bytes that are written in several calls.
-use Rattle.std.proofs.Common.{◌≡◌, ℕ, List, [], ◌∷◌, ◌++◌, length, take, drop, Option, Some, None, refl, ap, sym, ◌∙◌, subst, append_assoc, append-nil}
+use Rattle.std.proofs.Common.{◌≡◌, ℕ, List, [], ◌++◌, take, drop, Option, Some, None, refl, ap, sym, ◌∙◌, append_assoc, append-nil}
 use Rattle.std.specs.Io.KnownBytes.{Appends, Consumes}
 use Rattle.std.proofs.lemmas.List.{take-append-drop}
-use Rattle.gq_rpc.specs.Devices.{Sent, Put}
+use Rattle.gq_rpc.specs.Devices.{Put}
 
 -- a front of the bytes was written, and the rest was not yet
 pub record Half (old new : Option (List ℕ)) (bytes rest : List ℕ) : Type 0 where

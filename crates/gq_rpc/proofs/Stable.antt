@@ -1,14 +1,13 @@
 -- What stands at the front of a text stays when more bytes come.
-use Rattle.std.proofs.Common.{◌≡◌, ℕ, suc, ◌+◌, ◌-◌, ◌<◌, ◌≤◌, List, [], ◌∷◌, ◌++◌, length, take, drop, Bool, true, false, cond, Option, Some, None, refl, ap, sym, ◌∙◌, subst, arith, append_assoc, append-nil, length-append, length-drop}
+use Rattle.std.proofs.Common.{◌≡◌, ℕ, ◌+◌, ◌-◌, ◌<◌, ◌≤◌, List, [], ◌∷◌, ◌++◌, length, take, drop, Bool, true, false, cond, Option, Some, None, refl, ap, sym, ◌∙◌, subst, arith, length-append, length-drop}
 use Rattle.std.specs.Prelude.{unwrap_or, option_map, bytes_eq, nat_lt, nat_le, slice_range}
 use Rattle.std.proofs.lemmas.List.{drop-append-le, take-append-le}
 use Rattle.std.proofs.lemmas.Bool.Decides.{nat_tests}
 use Rattle.gq_rpc.specs.declared.header.FrameFault.TheVariants.{BadHeader, NoLength, TooLong}
 use Rattle.gq_rpc.specs.Lines.{ended_lines, onto, is_line_feed, head_of, known_after, field_of}
-use Rattle.gq_rpc.specs.Frames.{scan_of, with_head, with_length, max_header, max_body, Cuts, IsWithin}
+use Rattle.gq_rpc.specs.Frames.{scan_of, with_head, with_length, max_header, max_body, Cuts}
 use Rattle.gq_rpc.specs.declared.header.Head.{Head}
 use Rattle.gq_rpc.specs.declared.header.Head.TheVariants as head
-use Rattle.gq_rpc.specs.declared.header.Scan.{Scan}
 use Rattle.gq_rpc.specs.declared.header.Scan.TheVariants.{Whole, Partial, Bad}
 use Rattle.gq_rpc.proofs.Streams.{Cuts-trans}
 

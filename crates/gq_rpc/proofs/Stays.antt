@@ -1,16 +1,15 @@
 -- A fault stays when more bytes come.
 use Rattle.std.proofs.Common.{◌≡◌, ℕ, suc, ◌+◌, ◌<◌, ◌≤◌, List, [], ◌∷◌, ◌++◌, length, Bool, true, false, cond, Option, Some, None, refl, ap, sym, ◌∙◌, subst, arith, length-append}
-use Rattle.std.specs.Prelude.{unwrap_or, option_map, bytes_eq, nat_lt, nat_le}
+use Rattle.std.specs.Prelude.{bytes_eq, nat_lt, nat_le}
 use Rattle.std.proofs.lemmas.Bool.Decides.{nat_tests}
 use Rattle.std.proofs.lemmas.Slice.Eq.{bytes_eq-Decides}
 use Rattle.gq_rpc.specs.Lines.{ended_lines, onto, is_line_feed, head_of, known_after, field_of}
 use Rattle.gq_rpc.specs.Frames.{scan_of, with_head, with_length, max_header, max_body}
 use Rattle.gq_rpc.specs.Cutting.{FaultsStay}
 use Rattle.gq_rpc.specs.declared.header.FrameFault.{FrameFault}
-use Rattle.gq_rpc.specs.declared.header.FrameFault.TheVariants.{BadHeader, NoLength, TooLong}
+use Rattle.gq_rpc.specs.declared.header.FrameFault.TheVariants.{BadHeader, TooLong}
 use Rattle.gq_rpc.specs.declared.header.Head.{Head}
 use Rattle.gq_rpc.specs.declared.header.Head.TheVariants as head
-use Rattle.gq_rpc.specs.declared.header.Scan.{Scan}
 use Rattle.gq_rpc.specs.declared.header.Scan.TheVariants.{Whole, Partial, Bad}
 use Rattle.gq_rpc.proofs.Stable.{head_of-append, ended_lines-append, Known}
 

@@ -1,5 +1,5 @@
 -- Frames, one after another.
-use Rattle.std.proofs.Common.{◌≡◌, ℕ, ◌+◌, ◌-◌, ◌<◌, ◌≤◌, List, [], ◌∷◌, ◌++◌, length, take, drop, refl, ap, sym, ◌∙◌, subst, arith, append_assoc, append-nil, inr, Err}
+use Rattle.std.proofs.Common.{◌≡◌, ℕ, ◌+◌, ◌-◌, List, [], ◌∷◌, ◌++◌, take, drop, refl, ap, sym, ◌∙◌, subst, append_assoc, append-nil, inr, Err}
 use Rattle.std.proofs.lemmas.List.{drop-drop}
 use Rattle.gq_rpc.specs.Frames.{scan_of, Cuts, Reads, FeedsVec}
 use Rattle.gq_rpc.specs.declared.header.FrameFault.TheVariants.{NoMemory}

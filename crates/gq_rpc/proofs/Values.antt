@@ -1,5 +1,5 @@
 -- The values of messages have no floats.
-use Rattle.std.proofs.Common.{◌≡◌, ℕ, Bool, true, false, ◌||◌, cond, List, [], ◌∷◌, map, Option, Some, None, refl, ap, ◌∙◌}
+use Rattle.std.proofs.Common.{◌≡◌, ℕ, Bool, true, false, ◌||◌, List, [], ◌∷◌, map, Option, Some, None, refl, ap, ◌∙◌}
 use Rattle.std.specs.Prelude.{ℤ, pos, negsuc}
 use Rattle.serde_json.specs.Data.{Data, null}
 use Rattle.serde_json.specs.Find.{of_integer, is_float}
@@ -7,12 +7,8 @@ use Rattle.serde_json.specs.View.{items_of}
 use Rattle.serde_json.specs.Written.{has_float, items_have_float, members_have_float}
 use Rattle.gq_edit.specs.declared.workspace.TextEdit.{TextEdit}
 use Rattle.gq_edit.specs.declared.workspace.TextDocumentEdit.{TextDocumentEdit}
-use Rattle.gq_edit.specs.declared.workspace.WorkspaceEdit.{WorkspaceEdit}
 use Rattle.gq_rpc.specs.declared.messages.Id.{Id}
 use Rattle.gq_rpc.specs.declared.messages.Id.TheVariants as id
-use Rattle.gq_rpc.specs.declared.messages.ServerCapabilities.{ServerCapabilities}
-use Rattle.gq_rpc.specs.declared.messages.ResponseError.{ResponseError}
-use Rattle.gq_rpc.specs.declared.messages.ResponseError.TheVariants as error
 use Rattle.gq_rpc.specs.declared.messages.Outgoing.{Outgoing}
 use Rattle.gq_rpc.specs.declared.messages.Outgoing.TheVariants as outgoing
 use Rattle.gq_rpc.specs.Encoding.{id_value, id_or_null, response, error_response, initialize_result, capability_members, text_edit_value, document_edit_value, workspace_edit_value, code_of, words_of, value_of}

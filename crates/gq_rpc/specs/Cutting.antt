@@ -1,5 +1,5 @@
 -- What cutting a stream into frames means.
-use Rattle.std.specs.Prelude.{◌≡◌, ℕ, ◌≤◌, All, List, ◌∷◌, [], ◌++◌, length}
+use Rattle.std.specs.Prelude.{◌≡◌, ℕ, ◌≤◌, All, List, ◌++◌, length}
 use Rattle.std.specs.List.{flat_map}
 use Rattle.gq_rpc.specs.Frames.{max_body, scan_of, Cuts, frame}
 use Rattle.gq_rpc.specs.declared.header.FrameFault.{FrameFault}

@@ -1,7 +1,7 @@
 -- Which message a JSON value is: requests, notifications and answers of JSON-RPC 2.0, with the parameters of LSP 3.17.
-use Rattle.std.specs.Prelude.{ℕ, ◌^◌, ℤ, List, [], ◌∷◌, Bool, true, false, nat_lt, codes, Option, Some, None, is_some, unwrap_or, ◌||◌, option_map, option_and_then, if◌then◌else◌, bytes_eq}
+use Rattle.std.specs.Prelude.{ℕ, ◌^◌, ℤ, List, false, nat_lt, codes, Option, Some, None, is_some, unwrap_or, ◌||◌, option_map, option_and_then, if◌then◌else◌, bytes_eq}
 use Rattle.std.specs.Str.{is_utf8}
-use Rattle.serde_json.specs.Data.{Num, Data, null, boolean, number, string, array, object}
+use Rattle.serde_json.specs.Data.{Data, null, boolean, number, string, array, object}
 use Rattle.serde_json.specs.Find.{get, as_bool, as_str, as_number, as_i64, as_u64}
 use Rattle.serde_json.specs.Read.{read}
 use Rattle.gq_text.specs.declared.place.Position.{Position}
@@ -9,8 +9,6 @@ use Rattle.gq_rpc.specs.Keys.{key_of_uri}
 use Rattle.gq_rpc.specs.declared.messages.Id.{Id}
 use Rattle.gq_rpc.specs.declared.messages.Id.TheVariants as id
 use Rattle.gq_rpc.specs.declared.messages.ClientCapabilities.{ClientCapabilities}
-use Rattle.gq_rpc.specs.declared.messages.RenameParams.{RenameParams}
-use Rattle.gq_rpc.specs.declared.messages.TextDocumentItem.{TextDocumentItem}
 use Rattle.gq_rpc.specs.declared.messages.Request.{Request}
 use Rattle.gq_rpc.specs.declared.messages.Request.TheVariants as request
 use Rattle.gq_rpc.specs.declared.messages.Notification.{Notification}

@@ -1,5 +1,5 @@
 -- The frames in a stream of bytes.
-use Rattle.std.specs.Prelude.{◌≡◌, codes, decimal, ℕ, ◌+◌, ◌<◌, ◌≤◌, ◌⊎◌, map, Vec, Result, Ok, Err, MatchResult, OnOk, List, [], ◌∷◌, ◌++◌, length, drop, Bool, nat_lt, nat_le, Option, Some, None, slice_range, if◌then◌else◌}
+use Rattle.std.specs.Prelude.{◌≡◌, codes, decimal, ℕ, ◌+◌, ◌<◌, ◌≤◌, ◌⊎◌, map, Vec, Result, Ok, Err, MatchResult, OnOk, List, [], ◌∷◌, ◌++◌, length, drop, nat_lt, nat_le, Option, Some, None, slice_range, if◌then◌else◌}
 use Rattle.std.specs.declared.alloc.Global.{Global}
 use Rattle.gq_rpc.specs.Lines.{ended_lines, head_of}
 use Rattle.gq_rpc.specs.declared.header.Head.{Head}

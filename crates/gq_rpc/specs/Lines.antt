@@ -1,5 +1,5 @@
 -- The header part of a frame, by its lines.
-use Rattle.std.specs.Prelude.{ℕ, ◌<◌, ◌+◌, ◌-◌, List, [], ◌∷◌, length, take, drop, min, Bool, true, false, not, ◌&&◌, ◌||◌, ◌==◌, nat_lt, codes, bytes_eq, Option, Some, None, option_map, unwrap_or, slice_index, if◌then◌else◌}
+use Rattle.std.specs.Prelude.{ℕ, ◌<◌, ◌+◌, ◌-◌, List, [], ◌∷◌, length, take, drop, min, Bool, not, ◌&&◌, ◌==◌, nat_lt, codes, bytes_eq, Option, Some, None, option_map, unwrap_or, slice_index, if◌then◌else◌}
 use Rattle.std.specs.List.{position_or_len, before_first, after_first, list_all}
 use Rattle.std.specs.Char.{is_ascii_digit}
 use Rattle.std.specs.Str.{str_eq_ignore_ascii_case}

@@ -1,5 +1,4 @@
-use Rattle.std.proofs.Common.{◌≡◌, ◌++◌, length, List, ℕ, false}
-use Rattle.std.specs.Io.KnownBytes.{Appends}
+use Rattle.std.proofs.Common.{◌≡◌, length, false}
 use Rattle.gq_rpc.proofs.Sends.{Half}
 use Rattle.gq_rpc.proofs.devices.send.Given as goal
 

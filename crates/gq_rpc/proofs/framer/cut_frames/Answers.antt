@@ -1,4 +1,4 @@
-use Rattle.std.proofs.Common.{arith, rules, length-drop, length, ap}
+use Rattle.std.proofs.Common.{arith, length-drop, length, ap}
 use Rattle.gq_rpc.proofs.Streams.{Reads-one}
 use Rattle.gq_rpc.proofs.framer.cut_frames.Goals as goal
 

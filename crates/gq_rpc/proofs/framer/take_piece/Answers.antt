@@ -1,4 +1,3 @@
-use Rattle.std.proofs.Common.{rules}
 use Rattle.gq_rpc.proofs.Streams.{Feeds-refused}
 use Rattle.gq_rpc.proofs.framer.take_piece.Goals as goal
 

@@ -1,4 +1,3 @@
-use Rattle.std.proofs.Common.{rules}
 use Rattle.gq_rpc.proofs.Places.{unwrap_or_position}
 use Rattle.gq_rpc.proofs.header.digit_count.Goals as goal
 

@@ -1,4 +1,3 @@
-use Rattle.std.proofs.Common.{rules}
 use Rattle.gq_rpc.proofs.Places.{unwrap_or_position}
 use Rattle.gq_rpc.proofs.header.line_len.Goals as goal
 

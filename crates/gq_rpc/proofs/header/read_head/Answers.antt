@@ -1,4 +1,4 @@
-use Rattle.std.proofs.Common.{sym, ◌∙◌, arith, ◌≡◌, ◌+◌, length, length-drop, ap}
+use Rattle.std.proofs.Common.{sym, ◌∙◌, arith, ◌+◌, length, length-drop, ap}
 use Rattle.gq_rpc.specs.Lines.{head_of, ended_lines}
 use Rattle.gq_rpc.proofs.Places.{head_of-none, head_of-last, head_of-bad, head_of-next}
 use Rattle.gq_rpc.proofs.header.read_head.Goals as goal

@@ -1,4 +1,3 @@
-use Rattle.std.proofs.Common.{rules}
 use Rattle.gq_rpc.proofs.Places.{digits_pass}
 use Rattle.gq_rpc.proofs.header.read_length.Goals as goal
 
