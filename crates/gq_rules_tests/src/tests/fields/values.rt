@@ -21,11 +21,11 @@ fn a_default_value_is_of_the_type_of_its_variable(rt: HostRuntime) -> Result<(),
 }
 
 #[test]
-fn a_default_value_is_tested_at_an_input_type_alone(rt: HostRuntime) -> Result<(), Fail> {
+fn a_default_value_elsewhere_only_repeats_no_name(rt: HostRuntime) -> Result<(), Fail> {
     let rows = "
         query($v:S={a:1,a:2}){a} => V19[16,17]
-        query($v:Query={a:1,a:2}){a} =>
-        query($v:[N!]={a:1,a:2}){a} =>
+        query($v:Query={a:1,a:2}){a} => V19[20,21]
+        query($v:[N!]={a:1,a:2}){a} => V19[19,20]
     ";
     assert_found(rt.alloc(), &rt, schema(), rows)
 }
