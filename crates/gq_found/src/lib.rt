@@ -11,6 +11,3 @@ pub use code::Code;
 pub use found::{Found, found_at};
 pub use item::Item;
 pub use order::put_in_order;
-
-#[cfg(test)]
-mod tests;

@@ -14,6 +14,3 @@ mod variables;
 
 pub use index::Index;
 pub use occurrence::Occurrence;
-
-#[cfg(test)]
-mod tests;

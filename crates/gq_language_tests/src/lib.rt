@@ -1,5 +1,4 @@
-//! Tests of the syntax tree, of the parser and of what is looked up in a type system, through the public calls of their
-//! crates.
+//! Tests of texts, tokens, syntax trees and names that no row of texts can say, through the public calls of their crates.
 #![tactic(auto)]
 
 #[cfg(test)]

@@ -1,4 +1,4 @@
-mod parsing;
-mod printed;
+mod names;
+mod texts;
 mod trees;
-mod types;
+mod words;

@@ -17,6 +17,3 @@ pub use gq_text::Span;
 pub use lexer::lex;
 pub use token::{BadKind, Kind, LexFault, TOKENS_MAX, Token};
 pub use values::{block_string_value, string_value};
-
-#[cfg(test)]
-mod tests;

@@ -1,4 +1,5 @@
 pub mod Enumerated
+pub mod FirstLemmas
 pub mod PlaceLemmas
 pub mod RepeatLemmas
 pub mod UnderLemmas

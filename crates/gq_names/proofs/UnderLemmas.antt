@@ -1,5 +1,5 @@
 -- Items put under names.
-use Rattle.std.proofs.Common.{◌≡◌, ◌≢◌, ℕ, ◌<◌, Bool, true, false, List, [], ◌∷◌, ◌++◌, Option, Some, None, length, map, get_or, set, sym, ◌∙◌, ap, subst, refl, append-nil, zero, suc, arith, Vec}
+use Rattle.std.proofs.Common.{◌≡◌, ◌≢◌, ℕ, ◌<◌, Bool, true, false, List, [], ◌∷◌, ◌++◌, Option, Some, None, length, map, get_or, set, sym, ◌∙◌, ap, subst, refl, append-nil, zero, suc, arith, Vec, Result, Ok, Err, OnErr}
 use Rattle.std.specs.List.{list_any, position}
 use Rattle.std.specs.Option.{option_map_or, is_some}
 use Rattle.std.specs.Str.{bytes_eq}
@@ -16,6 +16,17 @@ pub one_grown : {T Z : Type 0} (lists : List (Vec T Z)) (place : ℕ) (item : T)
 one_grown [] place item x v h is grown = absurd (omega arith)
 one_grown (w ∷ lists) zero item x v h is grown = ap (λ xs. xs ∷ map (λ w. w.items) lists) (grown ∙ ap (λ y. y.items ++ item ∷ []) is)
 one_grown (w ∷ lists) (suc place) item x v h is grown = ap (λ ws. w.items ∷ ws) (one_grown lists place item x v (omega arith) is grown)
+
+-- a list of lists in which one was written with the items that it had
+pub one_kept : {T Z : Type 0} (lists : List (Vec T Z)) (place : ℕ) (x v : Vec T Z) → x ≡ get_or lists place x → v.items ≡ x.items → map (λ w. w.items) (set lists place v) ≡ map (λ w. w.items) lists
+one_kept [] place x v is kept = refl
+one_kept (w ∷ lists) zero x v is kept = ap (λ xs. xs ∷ map (λ w. w.items) lists) (kept ∙ ap (λ y. y.items) is)
+one_kept (w ∷ lists) (suc place) x v is kept = ap (λ ws. w.items ∷ ws) (one_kept lists place x v is kept)
+
+-- what holds in any case holds of an error
+pub on_err : {T E P : Type 0} (r : Result T E) → P → OnErr r P
+on_err (Ok x) p = tt
+on_err (Err e) p = p
 
 -- what stands at a place
 abbrev pub under : {T : Type 0} → List (List T) → Option ℕ → List T

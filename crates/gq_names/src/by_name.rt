@@ -1,5 +1,5 @@
 //! Lists of items under names.
-ghost use Rattle.std.specs.Prelude.{◌≡◌, ◌++◌, [], List, ℕ, OnOk};
+ghost use Rattle.std.specs.Prelude.{◌≡◌, ◌++◌, [], List, ℕ, OnOk, OnErr};
 ghost use Rattle.std.specs.Str.{bytes_eq};
 ghost use Rattle.gq_names.specs.UnderNames.{items_under, one_if};
 
@@ -39,9 +39,10 @@ impl<T: Copy + Drop> ByName<T> {
         }
     }
 
-    /// Puts the item under the name, behind those that are there.
+    /// Puts the item under the name, behind those that are there. An error leaves all as it was.
     pub fn put(&mut self, name: &str, item: T) -> Result<(), NoMemory>
-        ensures { OnOk result ((text : List ℕ) → items_under self.new text ≡ items_under self.old text ++ one_if (bytes_eq text name.now) item) }
+        ensures ok { OnOk result ((text : List ℕ) → items_under self.new text ≡ items_under self.old text ++ one_if (bytes_eq text name.now) item) }
+        ensures err { OnErr result (self.new ≡ self.old) }
     {
         match self.names.place(name) {
             Some(place) => {
@@ -51,7 +52,7 @@ impl<T: Copy + Drop> ByName<T> {
                 let mut list = Vec::new(self.alloc);
                 list.push(item)?;
                 self.lists.reserve(1)?;
-                let _ = self.names.push(name)?;
+                self.names.put(name, true)?;
                 self.lists.push_reserved(list);
             }
         }

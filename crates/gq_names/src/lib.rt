@@ -3,11 +3,9 @@
 
 pub mod by_name;
 pub mod list;
+mod places;
 pub mod repeated;
 
 pub use by_name::ByName;
 pub use list::NameList;
 pub use repeated::repeated_names;
-
-#[cfg(test)]
-mod tests;

@@ -7,6 +7,3 @@ pub mod project;
 
 pub use document::{Doc, DocChange};
 pub use project::Project;
-
-#[cfg(test)]
-mod tests;

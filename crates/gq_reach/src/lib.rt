@@ -27,6 +27,3 @@ pub use leads::{Leads, reach};
 pub use marks::mark_all;
 pub use mutual::components;
 pub use rows::{are_below, is_in_range, reach_rows};
-
-#[cfg(test)]
-mod tests;

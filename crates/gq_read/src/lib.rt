@@ -4,6 +4,3 @@
 pub mod reader;
 
 pub use reader::{Reading, read, read_by_threads};
-
-#[cfg(test)]
-mod tests;

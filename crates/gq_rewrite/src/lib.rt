@@ -5,6 +5,3 @@ pub mod laws;
 pub mod names;
 
 pub use names::{is_fragment_name, is_name};
-
-#[cfg(test)]
-mod tests;

@@ -1,5 +1,4 @@
-//! Tests of the type system's rules, of the rules of operations and fragments, and of what is told of them, through the
-//! public calls of their crates: each rule broken, and just not.
+//! Tests that no row of texts can say, of the check of files and of crates below it, through their public calls.
 #![tactic(auto)]
 
 #[cfg(test)]

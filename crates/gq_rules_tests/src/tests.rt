@@ -1,11 +1,5 @@
 mod check;
-mod documents;
-mod fields;
-mod fragments;
-mod merging;
-mod report;
-mod schema;
-mod spreads;
-mod type_system;
-mod values;
-mod variables;
+mod found;
+mod graphs;
+mod projects;
+mod rewriting;

@@ -19,6 +19,3 @@ pub use replacement::Replacement;
 pub use scan::{offset_in, position_in, positions_in};
 pub use small::SmallText;
 pub use text::{Change, Range, Text, TextError, TooLarge};
-
-#[cfg(test)]
-mod tests;

@@ -1,5 +1,5 @@
 //! Texts that a value owns, of which the short ones stand in the value itself.
-ghost use Rattle.std.specs.Prelude.{◌≡◌, IfOk};
+ghost use Rattle.std.specs.Prelude.{◌≡◌, ◌≤◌, length, IfOk, IsOk};
 ghost use Rattle.gq_text.specs.Small.{kept_bytes};
 
 use crate::buffer::NoMemory;
@@ -35,7 +35,8 @@ impl Model for SmallText {
 impl SmallText {
     /// A copy of the text.
     pub fn from_str(alloc: Global, text: &str) -> Result<SmallText, NoMemory>
-        ensures { IfOk result (λ t. t ≡ text.now) }
+        ensures text { IfOk result (λ t. t ≡ text.now) }
+        ensures short { length text.now ≤ 16 → IsOk result }
     {
         let kept = match ArrayString::from(text) {
             Ok(here) => Kept::Here(here),
@@ -56,7 +57,8 @@ impl SmallText {
 
     /// Another text with the same bytes.
     pub fn copied(&self, alloc: Global) -> Result<SmallText, NoMemory>
-        ensures { IfOk result (λ t. t ≡ self.now) }
+        ensures text { IfOk result (λ t. t ≡ self.now) }
+        ensures short { length self.now ≤ 16 → IsOk result }
     {
         SmallText::from_str(alloc, self.as_str())
     }

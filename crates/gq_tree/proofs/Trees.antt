@@ -7,7 +7,6 @@ use Rattle.gq_text.specs.declared.place.Span.{Span}
 use Rattle.gq_tree.specs.Forest.{none, row}
 use Rattle.gq_tree.specs.Plain.{Val, variable, int, float, string, boolean, null, enum, list, object, unnamed, TypeOf, named, list_of, non_null, Sel, field, spread, inline}
 use Rattle.gq_tree.specs.Views.{name_of, value_step, entry_step, value_view, values_view, entry_view, entries_view, argument_view, directive_view, type_step, type_view, Braces, sel_view, sels_view, below_of, braces_of, sel_step, field_step, inline_step, set_step}
-use Rattle.gq_tree.proofs.ForestLemmas.{relabel_row}
 use Rattle.gq_tree.specs.declared.tree.Name.{Name}
 use Rattle.gq_tree.specs.declared.tree.Spread.{Spread}
 use Rattle.gq_tree.specs.declared.tree.Selection.{Selection}
@@ -160,14 +159,8 @@ view_made alias name arguments directives o place =
 -- for a walk over values
 pub ruleset values = (view_variable, view_int, view_float, view_string, view_boolean, view_null, view_enum, view_list, view_object)
 
--- for a walk over types
-pub ruleset types = (view_named, view_list_of, view_non_null)
-
 -- for a walk over selections that tests or counts
 pub ruleset views = (view_field, view_made, view_spread, view_inline, view_made_inline)
 
 -- for a walk over selections or values that gathers
 pub ruleset gathers = (views, values, map-append, append-nil, append_assoc, flat_map-append)
-
--- for a walk that builds a row
-pub ruleset builds = (gathers, relabel_row)

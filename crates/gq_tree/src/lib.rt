@@ -1,22 +1,16 @@
 //! Trees of GraphQL documents.
 #![tactic(auto)]
 
-pub mod copy;
-mod copy_type_system;
-mod copy_values;
 pub mod laws;
 pub mod names;
 pub mod same;
-mod same_type_system;
-mod same_values;
 pub mod tree;
 pub mod type_system;
 pub mod types;
 pub mod value;
 
-pub use copy::copied_selections;
 pub use names::fragment_names;
-pub use same::{are_same_arguments, are_same_documents, are_same_selections};
+pub use same::are_same_arguments;
 pub use tree::{
     Definition, Document, Field, Fragment, InlineFragment, Name, Operation, OperationKind,
     Selection, SelectionSet, Spread, VariableDefinition,

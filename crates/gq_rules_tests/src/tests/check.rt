@@ -1,4 +1,4 @@
-//! The check of files: what is written, and the status.
+//! The check of files where a write fails, and of more files than may be given.
 ghost use Rattle.std.specs.Prelude.{◌≡◌, false};
 
 use gq_check::{File, check};
@@ -53,23 +53,10 @@ fn sink_of(alloc: Global, writes: usize) -> Narrow
     }
 }
 
-/// The bytes that a row writes so: `⏎`, `␍` and `␉` stand for LF, CR and a tab, and behind `▯` stands how many bytes 0xff follow.
-fn bytes(alloc: Global, text: &str) -> Result<Vec<u8>, Fail> {
-    let (text, count) = text.split_once("▯").unwrap_or((text, "0"));
-    let text = text.replace(alloc, "⏎", "\n")?;
-    let text = text.replace(alloc, "␍", "\r")?;
-    let text = text.replace(alloc, "␉", "\t")?;
-    let mut rest = Vec::new(alloc);
-    rest.resize(count.parse()?, 0xff)?;
-    let mut bytes = Vec::from_slice(alloc, text.as_bytes())?;
-    bytes.extend_from_slice(&rest)?;
-    Ok(bytes)
-}
-
 fn file(alloc: Global, name: &str, text: &str) -> Result<File, Fail> {
     Ok(File {
         name: OwnedText::from_str(alloc, name)?,
-        bytes: Some(bytes(alloc, text)?),
+        bytes: Some(Vec::from_slice(alloc, text.as_bytes())?),
     })
 }
 
@@ -125,114 +112,6 @@ fn assert_written(
     Ok(())
 }
 
-/// Each row is the text of `q.graphql` and, behind `=>`, what is written of it and that type system. A `⏎` stands for the end of a line.
-fn assert_told(
-    alloc: Global,
-    rt: &(impl Abort + Threads + Sync),
-    s: &str,
-    rows: &str,
-) -> Result<(), Fail> {
-    for row in rows.trim().lines() {
-        let (q, want) = row.split_once("=>").unwrap_or((row, "no arrow"));
-        let files = [
-            file(alloc, "s.graphql", s)?,
-            file(alloc, "q.graphql", q.trim())?,
-        ];
-        let all = written(alloc, rt, &files, ENOUGH)?;
-        let want = want.trim().replace(alloc, "⏎", "\n")?;
-        assert_eq!(rt; all.as_str(), want.as_str(), "{row}");
-    }
-    Ok(())
-}
-
-#[test]
-fn each_fault_is_a_line(rt: HostRuntime) -> Result<(), Fail> {
-    let rows = "
-        query A{x y} query A{x(k:1)} => \
-            q.graphql:1:11: V4 unknown field⏎\
-            q.graphql:1:20: V2 operation name not unique⏎\
-            q.graphql:1:24: V7 unknown argument⏎1
-    ";
-    assert_told(rt.alloc(), &rt, S, rows)
-}
-
-#[test]
-fn a_fault_of_syntax_stands_alone(rt: HostRuntime) -> Result<(), Fail> {
-    assert_told(rt.alloc(), &rt, S, "{x => q.graphql:1:3: T1 syntax⏎1")
-}
-
-#[test]
-fn a_fragment_that_is_not_used_is_told(rt: HostRuntime) -> Result<(), Fail> {
-    let rows = "{x} fragment A on Query{x} => q.graphql:1:14: V13 fragment not used⏎1";
-    assert_told(rt.alloc(), &rt, "type Query{x:Int}", rows)
-}
-
-#[test]
-fn a_valid_project_is_ok(rt: HostRuntime) -> Result<(), Fail> {
-    let rows = "
-        => ok⏎0
-        #c => ok⏎0
-        {x} => ok⏎0
-    ";
-    assert_told(rt.alloc(), &rt, "type Query{x:Int}", rows)
-}
-
-#[test]
-fn no_documents_are_invalid_with_nothing_to_tell(rt: HostRuntime) -> Result<(), Fail> {
-    let all = written(rt.alloc(), &rt, &[], ENOUGH)?;
-    assert_eq!(rt; all.as_str(), "1");
-    Ok(())
-}
-
-#[test]
-fn lines_and_columns_are_those_of_the_protocol(rt: HostRuntime) -> Result<(), Fail> {
-    let rows = r#"
-        #a␍⏎#b␍{f(a:"😀") y} => q.graphql:3:12: V4 unknown field⏎1
-        #é⏎⏎{ x⏎␉y z } => q.graphql:4:2: V4 unknown field⏎q.graphql:4:4: V4 unknown field⏎1
-    "#;
-    assert_told(rt.alloc(), &rt, "type Query{x:Int f(a:String):Int}", rows)
-}
-
-#[test]
-fn each_document_has_its_own_lines_in_the_order_of_names(rt: HostRuntime) -> Result<(), Fail> {
-    let rows = "
-        c.graphql: ⏎ query C{x z} ;; s.graphql: type Query{x:Int f(a:Int):Int} ;; a.graphql: query A{y} => \
-            a.graphql:1:9: V4 unknown field⏎\
-            c.graphql:2:12: V4 unknown field⏎1
-    ";
-    assert_written(rt.alloc(), &rt, ENOUGH, rows)
-}
-
-#[test]
-fn a_name_that_is_given_twice_is_one_document(rt: HostRuntime) -> Result<(), Fail> {
-    let rows = "
-        q.graphql: query A{x} ;; s.graphql: type Query{x:Int f(a:Int):Int} ;; \
-            q.graphql ;; s.graphql: { => ok⏎0
-    ";
-    assert_written(rt.alloc(), &rt, ENOUGH, rows)
-}
-
-#[test]
-fn a_file_that_cannot_be_read_refuses_all(rt: HostRuntime) -> Result<(), Fail> {
-    let rows = "
-        s.graphql: { ;; q.graphql => gqls: Device⏎3
-        s.graphql: { ;; q.graphql: #▯1 => gqls: Device⏎3
-    ";
-    assert_written(rt.alloc(), &rt, ENOUGH, rows)
-}
-
-/// A file may have 4 MiB, which are 4194304 bytes.
-#[test]
-fn size_comes_before_text_and_files_in_their_order(rt: HostRuntime) -> Result<(), Fail> {
-    let rows = "
-        q.graphql: ▯4194304 => gqls: Device⏎3
-        q.graphql: ▯4194305 => gqls: TooLarge⏎3
-        q.graphql: ▯4194305 ;; a.graphql => gqls: TooLarge⏎3
-        z.graphql ;; q.graphql: ▯4194305 => gqls: Device⏎3
-    ";
-    assert_written(rt.alloc(), &rt, ENOUGH, rows)
-}
-
 /// So many files, as a row writes them: the type system, and then documents with nothing to tell.
 fn many_files(alloc: Global, count: usize) -> Result<String, Fail> {
     let mut files = format!(in alloc; "s.graphql: {S}")?;
@@ -268,10 +147,4 @@ fn a_sink_that_fails_is_told_on_the_other(rt: HostRuntime) -> Result<(), Fail> {
     assert_written(alloc, &rt, (0, 1), both_fail)?;
     let err_fails = "q.graphql => 3";
     assert_written(alloc, &rt, (9, 0), err_fails)
-}
-
-#[test]
-fn fields_that_do_not_merge_are_told(rt: HostRuntime) -> Result<(), Fail> {
-    let rows = "{k:f(a:1) k:f(a:2)} => q.graphql:1:13: V5 fields do not merge⏎1";
-    assert_told(rt.alloc(), &rt, S, rows)
 }

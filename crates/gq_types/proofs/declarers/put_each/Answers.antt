@@ -16,7 +16,7 @@ loop-place-preserved c =
       | then-eq+in_ok-put w ↦
           let first : position (bytes_eq name) names ≡ Some place = search rules in
           λ text. rw w.all-is (put_first names place c.args.number name inside c.get-name.ensures text first
-          (items_under c.args.all.now text) (items_under c.loop-place.all text) (items_under w.put.new.self text) (c.loop-place.invariant text) (w.in_ok-put.ensures text))
+          (items_under c.args.all.now text) (items_under c.loop-place.all text) (items_under w.put.new.self text) (c.loop-place.invariant text) (w.in_ok-put.ensures.ok text))
       | else-eq w ↦
           let again : position (bytes_eq name) names ≡ Some place → ⊥ = search rules in
           λ text. rw w.all-is (put_again names place c.args.number name inside c.get-name.ensures text again

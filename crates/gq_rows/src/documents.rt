@@ -1,0 +1,117 @@
+//! The documents of a project as they are read, what they define, and their selections.
+use crate::no_answer::NoAnswer;
+use crate::row::{Row, project_of};
+use crate::telling::Telling;
+use gq_document::{Definitions, Selected, fragment_selections, operation_selections};
+use gq_project::{Doc, Project};
+use gq_read::{Reading, read, read_by_threads};
+use gq_tree::Selection;
+use gq_types::Types;
+use std::alloc::Global;
+use std::thread::Threads;
+
+/// Tells readings, each behind the name of its document: how many definitions it has, or where it is at fault.
+fn tell_each(documents: &[Doc], readings: &[Reading], telling: &mut Telling) {
+    for (document, reading) in documents.iter().zip(readings) {
+        telling.put(if telling.is_empty() { "" } else { "\n" });
+        telling.put(document.key.as_str());
+        telling.put(": ");
+        let (word, number) = match reading {
+            Reading::Tree(tree) => ("definitions ", tree.definitions.len()),
+            Reading::Syntax { place } => ("syntax ", *place),
+            Reading::Limit { place } => ("limit ", *place),
+        };
+        telling.put(word);
+        telling.put_number(number);
+    }
+}
+
+/// Tells how the documents of the project are read.
+pub fn tell_readings(alloc: Global, row: &Row<'_>, telling: &mut Telling) -> Result<(), NoAnswer> {
+    let project = project_of(alloc, &row.entries)?;
+    let readings = read(alloc, project.documents())?;
+    tell_each(project.documents(), &readings, telling);
+    Ok(())
+}
+
+/// Tells how threads read them.
+pub fn tell_readings_by_threads<R: Threads + Sync>(
+    threads: &R,
+    alloc: Global,
+    row: &Row<'_>,
+    telling: &mut Telling,
+) -> Result<(), NoAnswer> {
+    let project = project_of(alloc, &row.entries)?;
+    let readings = read_by_threads(threads, alloc, project.documents())?;
+    tell_each(project.documents(), &readings, telling);
+    Ok(())
+}
+
+/// What the documents of a project define.
+fn definitions(alloc: Global, project: &Project) -> Result<Definitions, NoAnswer> {
+    Ok(Definitions::of(alloc, read(alloc, project.documents())?)?)
+}
+
+/// Tells the document of a definition.
+fn tell_definition(kind: &str, file: usize, telling: &mut Telling) {
+    telling.put(if telling.is_empty() { "" } else { " " });
+    telling.put(kind);
+    telling.put(" ");
+    telling.put_number(file);
+}
+
+/// Tells the number of the document of each definition, one kind behind the other.
+pub fn tell_definitions(
+    alloc: Global,
+    row: &Row<'_>,
+    telling: &mut Telling,
+) -> Result<(), NoAnswer> {
+    let project = project_of(alloc, &row.entries)?;
+    let all = definitions(alloc, &project)?;
+    for entry in &all.entries {
+        tell_definition("type system", entry.file, telling);
+    }
+    for operation in &all.operations {
+        tell_definition("operation", operation.file, telling);
+    }
+    for fragment in &all.fragments {
+        tell_definition("fragment", fragment.file, telling);
+    }
+    Ok(())
+}
+
+/// Tells selections, each as its name, or `...`, and the type of its parent, or `?`.
+fn tell_selected(selections: &[Selected<'_>], telling: &mut Telling) {
+    for one in selections {
+        telling.put(if telling.is_empty() { "" } else { " " });
+        telling.put(match one.selection {
+            Selection::Field(field) => field.name.text.as_str(),
+            Selection::Spread(spread) => spread.name.text.as_str(),
+            Selection::Inline(_) => "...",
+        });
+        telling.put(":");
+        telling.put(one.parent.unwrap_or("?"));
+    }
+}
+
+/// Tells the selections of all operations and then of all fragments.
+pub fn tell_selections(
+    alloc: Global,
+    row: &Row<'_>,
+    telling: &mut Telling,
+) -> Result<(), NoAnswer> {
+    let project = project_of(alloc, &row.entries)?;
+    let Definitions {
+        entries,
+        operations,
+        fragments,
+    } = definitions(alloc, &project)?;
+    let types = Types::of(alloc, entries)?;
+    for operation in &operations {
+        tell_selected(&operation_selections(alloc, &types, operation)?, telling);
+    }
+    for fragment in &fragments {
+        tell_selected(&fragment_selections(alloc, &types, fragment)?, telling);
+    }
+    Ok(())
+}

@@ -1,0 +1,116 @@
+//! What a file of rows asks of each of them.
+use crate::checks::{tell_check, tell_report, tell_validity};
+use crate::documents::{
+    tell_definitions, tell_readings, tell_readings_by_threads, tell_selections,
+};
+use crate::indexes::tell_index;
+use crate::items::{Rules, tell_faults};
+use crate::literals::tell_literals;
+use crate::no_answer::NoAnswer;
+use crate::row::Row;
+use crate::schemas::{tell_answer, tell_schema};
+use crate::spreads::tell_spreads;
+use crate::syntax::{tell_count, tell_fault, tell_string, tell_tokens, tell_tree};
+use crate::telling::Telling;
+use crate::texts::{tell_changed, tell_place};
+use crate::types::tell_types;
+use std::alloc::Global;
+use std::thread::Threads;
+
+/// What is asked of a row.
+#[derive(Clone, Copy)]
+pub enum Question {
+    Check,
+    Report,
+    Validity,
+    Faults(Rules),
+    Index,
+    Definitions,
+    Readings,
+    ReadingsByThreads,
+    Selections,
+    Schema,
+    SchemaAnswer,
+    Literals,
+    Spreads,
+    Types,
+    Tokens,
+    Strings,
+    SyntaxFault,
+    DefinitionCount,
+    Tree,
+    Place,
+    Changes,
+}
+
+impl Question {
+    /// What the file of that name asks, such as `check.rows` or `check.cycles.rows`.
+    pub fn of_file(name: &str) -> Option<Question> {
+        let (word, _) = name.split_once('.')?;
+        Some(match word {
+            "check" => Question::Check,
+            "report" => Question::Report,
+            "validity" => Question::Validity,
+            "fields" => Question::Faults(Rules::Fields),
+            "operations" => Question::Faults(Rules::Operations),
+            "fragments" => Question::Faults(Rules::Fragments),
+            "spreads" => Question::Faults(Rules::Spreads),
+            "variables" => Question::Faults(Rules::Variables),
+            "merging" => Question::Faults(Rules::Merging),
+            "type_system" => Question::Faults(Rules::TypeSystem),
+            "index" => Question::Index,
+            "definitions" => Question::Definitions,
+            "readings" => Question::Readings,
+            "readings_by_threads" => Question::ReadingsByThreads,
+            "selections" => Question::Selections,
+            "schema" => Question::Schema,
+            "schema_answers" => Question::SchemaAnswer,
+            "literals" => Question::Literals,
+            "spread_answers" => Question::Spreads,
+            "types" => Question::Types,
+            "tokens" => Question::Tokens,
+            "strings" => Question::Strings,
+            "syntax_faults" => Question::SyntaxFault,
+            "definition_counts" => Question::DefinitionCount,
+            "trees" => Question::Tree,
+            "positions" => Question::Place,
+            "changes" => Question::Changes,
+            _ => return None,
+        })
+    }
+
+    /// Tells the answer to a row.
+    pub fn answer<R: Threads + Sync>(
+        self,
+        threads: &R,
+        alloc: Global,
+        row: &Row<'_>,
+        telling: &mut Telling,
+    ) -> Result<(), NoAnswer> {
+        match self {
+            Question::Check => tell_check(threads, alloc, row, telling),
+            Question::Report => tell_report(threads, alloc, row, telling),
+            Question::Validity => tell_validity(threads, alloc, row, telling),
+            Question::Faults(rules) => tell_faults(threads, alloc, rules, row, telling),
+            Question::Index => tell_index(alloc, row, telling),
+            Question::Definitions => tell_definitions(alloc, row, telling),
+            Question::Readings => tell_readings(alloc, row, telling),
+            Question::ReadingsByThreads => {
+                tell_readings_by_threads(threads, alloc, row, telling)
+            }
+            Question::Selections => tell_selections(alloc, row, telling),
+            Question::Schema => tell_schema(alloc, row, telling),
+            Question::SchemaAnswer => tell_answer(alloc, row, telling),
+            Question::Literals => tell_literals(alloc, row, telling),
+            Question::Spreads => tell_spreads(alloc, row, telling),
+            Question::Types => tell_types(alloc, row, telling),
+            Question::Tokens => tell_tokens(alloc, row, telling),
+            Question::Strings => tell_string(alloc, row, telling),
+            Question::SyntaxFault => tell_fault(alloc, row, telling),
+            Question::DefinitionCount => tell_count(alloc, row, telling),
+            Question::Tree => tell_tree(alloc, row, telling),
+            Question::Place => tell_place(alloc, row, telling),
+            Question::Changes => tell_changed(alloc, row, telling),
+        }
+    }
+}
