@@ -159,6 +159,9 @@ view_made alias name arguments directives o place =
 -- for a walk over values
 pub ruleset values = (view_variable, view_int, view_float, view_string, view_boolean, view_null, view_enum, view_list, view_object)
 
+-- for a walk over types
+pub ruleset types = (view_named, view_list_of, view_non_null)
+
 -- for a walk over selections that tests or counts
 pub ruleset views = (view_field, view_made, view_spread, view_inline, view_made_inline)
 
