@@ -1,17 +1,14 @@
 -- The types that are marked are those one of whose input fields leads back to itself by default values.
-use Rattle.std.proofs.Common.{◌≡◌, ℕ, zero, suc, ◌<◌, Bool, true, false, cond, ◌||◌, List, [], ◌∷◌, length, get_or, map, refl, ap, sym, ◌∙◌, subst, arith, Contains, ◌↔◌, Vec, Global, Option, Some, None, is_some}
-use Rattle.std.specs.Prelude.{slice_get, slice_index_or, find, option_and_then}
+use Rattle.std.proofs.Common.{◌≡◌, ℕ, zero, suc, ◌<◌, Bool, true, false, ◌||◌, List, [], ◌∷◌, length, get_or, map, refl, ap, sym, ◌∙◌, subst, arith, Contains, ◌↔◌, Vec, Global, Option, Some, None, is_some}
+use Rattle.std.specs.Prelude.{slice_get, slice_index_or}
 use Rattle.std.specs.List.{list_any}
-use Rattle.std.specs.Option.{option_map, option_map_or}
-use Rattle.std.specs.Str.{bytes_eq}
-use Rattle.std.specs.Cmp.Lexicographic.{bytes_decides}
+use Rattle.std.specs.Option.{option_map_or}
 use Rattle.std.proofs.lemmas.List.{length-map}
-use Rattle.std.proofs.lemmas.List.Quantifiers.{position-Some}
 use Rattle.gq_text.specs.declared.place.Span.{Span}
 use Rattle.gq_reach.specs.Reach.{row, InRange, LeadsBack}
-use Rattle.gq_tree.specs.Plain.{InputOf, TypeSystemOf, schema, type_definition, directive_definition}
+use Rattle.gq_tree.specs.Plain.{InputOf}
 use Rattle.gq_types.specs.Entries.{Text, EntryOf}
-use Rattle.gq_types.specs.Joined.{type_number, is_type_named, In, inputs_of}
+use Rattle.gq_types.specs.Joined.{type_number}
 use Rattle.gq_types.specs.Look.{joined_numbers}
 use Rattle.gq_types.specs.Names.{input_named}
 use Rattle.gq_type_system.specs.EndlessInputs.{InputField, Way, LeadsByDefault}

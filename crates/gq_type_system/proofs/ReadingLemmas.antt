@@ -1,9 +1,9 @@
 -- What literals are read at, as types.
-use Rattle.std.proofs.Common.{◌≡◌, ℕ, Bool, true, false, cond, List, [], ◌++◌, refl, ap, sym, ◌∙◌, subst, Contains, ⊎_elim, Option, Some, None}
+use Rattle.std.proofs.Common.{◌≡◌, ℕ, List, [], ◌++◌, refl, ap, sym, subst, Contains, ⊎_elim, Option, Some, None}
 use Rattle.std.specs.Option.{option_map, option_map_or}
 use Rattle.gq_text.specs.declared.place.Span.{Span}
 use Rattle.gq_tree.specs.Forest.{none, more}
-use Rattle.gq_tree.specs.Plain.{NameOf, Says, Part, Val, Vals, TypeOf, named, list_of, non_null, InputOf}
+use Rattle.gq_tree.specs.Plain.{NameOf, Says, Part, Val, Vals, TypeOf, InputOf}
 use Rattle.gq_types.specs.Entries.{Text, EntryOf}
 use Rattle.gq_types.specs.Names.{input_named}
 use Rattle.gq_values.specs.Literals.{Reading, at_type, at_any, at_input, at_field, part_at, StandsIn, here, within, after}

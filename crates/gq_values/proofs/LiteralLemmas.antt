@@ -2,7 +2,7 @@
 use Rattle.std.proofs.Common.{◌≡◌, ℕ, List, [], ◌∷◌, ◌++◌, Option, Some, None, refl, ap, sym, ◌∙◌, Vec, Global}
 use Rattle.std.proofs.lemmas.Option.{none-some}
 use Rattle.gq_text.specs.declared.place.Span.{Span}
-use Rattle.gq_tree.specs.Plain.{NameOf, Says, Val, list, object}
+use Rattle.gq_tree.specs.Plain.{NameOf, Val}
 use Rattle.gq_tree.specs.Views.{value_view, values_view, entries_view}
 use Rattle.gq_tree.specs.declared.value.Value.{Value}
 use Rattle.gq_tree.specs.declared.value.ObjectField.{ObjectField}
