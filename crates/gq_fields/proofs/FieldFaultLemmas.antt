@@ -1,23 +1,18 @@
 -- What the rules put is what is wrong.
-use Rattle.std.proofs.Common.{◌≡◌, Bool, true, false, if◌then◌else◌, List, [], ◌++◌, inl, inr, ◌↔◌, Contains, Option, Some, None, refl, sym, ap, subst, ◌∙◌}
-use Rattle.std.specs.Option.{option_map_or}
+use Rattle.std.proofs.Common.{◌≡◌, List, [], ◌++◌, inl, inr, ◌↔◌, Contains, Option, Some, None, refl, sym, ap, subst, ◌∙◌}
 use Rattle.std.proofs.lemmas.List.Elements.{Contains-append_left, Contains-append_right, Contains-append_cases}
 use Rattle.gq_text.specs.declared.place.Span.{Span}
 use Rattle.gq_found.specs.declared.item.Item.{Item}
 use Rattle.gq_found.specs.Puts.{Puts}
 use Rattle.gq_tree.specs.Plain.{VariableOf, Val}
 use Rattle.gq_names.proofs.RepeatLemmas.{contains_none}
-use Rattle.gq_types.specs.declared.entry.TypeKind.{TypeKind}
 use Rattle.gq_types.specs.Entries.{EntryOf}
-use Rattle.gq_types.specs.Kinds.{is_input}
-use Rattle.gq_types.specs.Joined.{kind_named}
-use Rattle.gq_values.specs.Literals.{at_type}
-use Rattle.gq_values.specs.LiteralPlaces.{literal_faults}
+use Rattle.gq_values.specs.Literals.{default_at}
 use Rattle.gq_values.proofs.FoundLemmas.{from_flat, to_flat}
 use Rattle.gq_values.proofs.LiteralRules.{literal_faults_are}
 use Rattle.gq_values.proofs.DirectiveRules.{directive_faults_are}
 use Rattle.gq_document.specs.Definitions.{OperationOf, FragmentOf}
-use Rattle.gq_document.specs.Selections.{SelectedOf, base_name, operation_selections, fragment_selections, of_operation, of_fragment}
+use Rattle.gq_document.specs.Selections.{SelectedOf, operation_selections, fragment_selections, of_operation, of_fragment}
 use Rattle.gq_document.specs.Executable.{ExecutableOf, Selects}
 use Rattle.gq_document.proofs.SelectionLemmas.{operation_holds, fragment_holds}
 use Rattle.gq_fields.specs.FieldSelectionsPlaces.{unknown_field_at}
@@ -27,15 +22,10 @@ use Rattle.gq_fields.specs.Directives.{Site, IsSite, HasWrongDirective, operatio
 use Rattle.gq_fields.specs.Directives as site
 use Rattle.gq_fields.specs.DirectivesPlaces.{wrong_directives_at}
 use Rattle.gq_fields.specs.Values.{HasWrongDefault}
-use Rattle.gq_fields.specs.ValuesPlaces.{is_of_input_type, wrong_value_of, wrong_default_of}
+use Rattle.gq_fields.specs.ValuesPlaces.{wrong_value_of, wrong_default_of}
 use Rattle.gq_fields.specs.FieldFaults.{IsFieldFault, unknown_field, wrong_selections, wrong_argument, wrong_directive, wrong_default}
 use Rattle.gq_fields.specs.FieldFaultsPlaces.{selection_faults, selections_faults, variable_faults, variables_faults, operation_faults, fragment_faults, operations_faults, fragments_faults, field_faults}
 use Rattle.gq_fields.proofs.SelectionRules.{from_unknown_field, to_unknown_field, from_wrong_selections, to_wrong_selections, from_wrong_arguments, to_wrong_arguments}
-
--- a type that is known and an input type
-from_input : (k : Option TypeKind) → option_map_or is_input k false ≡ true → (kind : TypeKind) × (k ≡ Some kind) × (is_input kind ≡ true)
-from_input None holds = absurd (cc)
-from_input (Some kind) holds = (kind, refl, holds)
 
 module _ (x : ExecutableOf) (item : Item) where
   abbrev es : List EntryOf
@@ -48,31 +38,20 @@ module _ (x : ExecutableOf) (item : Item) where
   -- the default value of a variable
   from_value : (o : OperationOf) → Contains x.operations o → (v : VariableOf Span) → Contains o.variables v → (default : Option (Val Span)) → v.default ≡ default → Contains (wrong_value_of es o.file v.type_ref default) item → IsFieldFault x item
   from_value o stands v defined None has found = absurd (contains_none item found)
-  from_value o stands v defined (Some default) has found = by_test (is_of_input_type es v.type_ref) refl found
-    where
-      by_test : (b : Bool) → is_of_input_type es v.type_ref ≡ b → Contains (if b then literal_faults es o.file (at_type v.type_ref) default else []) item → IsFieldFault x item
-      by_test true is told =
-          let input = from_input (kind_named es (base_name v.type_ref)) is in
-          wrong_default (record {
-            operation = o;
-            stands = stands;
-            variable = v;
-            is_defined = defined;
-            kind = input.0;
-            is_known = input.1;
-            is_of_input_type = input.2;
-            default = default;
-            has_default = has;
-            fault = (literal_faults_are es o.file item (at_type v.type_ref) default).0 told;
-          })
-      by_test false is told = absurd (contains_none item told)
+  from_value o stands v defined (Some default) has found = wrong_default (record {
+    operation = o;
+    stands = stands;
+    variable = v;
+    is_defined = defined;
+    default = default;
+    has_default = has;
+    fault = (literal_faults_are es o.file item (default_at es v.type_ref) default).0 found;
+  })
 
   to_value : (w : HasWrongDefault x item) → Contains (wrong_default_of es w.operation.file w.variable) item
   to_value w =
-      let holds : is_of_input_type es w.variable.type_ref ≡ true = ap (λ k. option_map_or is_input k false) w.is_known ∙ w.is_of_input_type in
       subst (λ o. Contains (wrong_value_of es w.operation.file w.variable.type_ref o) item) (sym w.has_default)
-      (subst (λ b. Contains (if b then literal_faults es w.operation.file (at_type w.variable.type_ref) w.default else []) item) (sym holds)
-      ((literal_faults_are es w.operation.file item (at_type w.variable.type_ref) w.default).1 w.fault))
+      ((literal_faults_are es w.operation.file item (default_at es w.variable.type_ref) w.default).1 w.fault)
 
   -- one selection
   from_selection : (s : SelectedOf) → Selects x s → Contains (selection_faults es s) item → IsFieldFault x item

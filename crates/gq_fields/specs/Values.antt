@@ -1,15 +1,11 @@
 -- Values: the default value of a variable is of the variable's type, where that is known and an input type (section 5.6).
-use Rattle.std.specs.Prelude.{◌≡◌, true, Some, Contains}
+use Rattle.std.specs.Prelude.{◌≡◌, Some, Contains}
 use Rattle.gq_text.specs.declared.place.Span.{Span}
 use Rattle.gq_found.specs.declared.item.Item.{Item}
 use Rattle.gq_tree.specs.Plain.{VariableOf, Val}
-use Rattle.gq_types.specs.declared.entry.TypeKind.{TypeKind}
-use Rattle.gq_types.specs.Joined.{kind_named}
-use Rattle.gq_types.specs.Kinds.{is_input}
 use Rattle.gq_document.specs.Definitions.{OperationOf}
-use Rattle.gq_document.specs.Selections.{base_name}
 use Rattle.gq_document.specs.Executable.{ExecutableOf}
-use Rattle.gq_values.specs.Literals.{at_type}
+use Rattle.gq_values.specs.Literals.{default_at}
 use Rattle.gq_values.specs.LiteralFaults.{IsLiteralFault}
 
 -- what is wrong with a default value, or with a literal in it
@@ -18,9 +14,6 @@ pub record HasWrongDefault (x : ExecutableOf) (item : Item) : Type 0 where
   pub stands : Contains x.operations operation
   pub variable : VariableOf Span
   pub is_defined : Contains operation.variables variable
-  pub kind : TypeKind
-  pub is_known : kind_named x.entries (base_name variable.type_ref) ≡ Some kind
-  pub is_of_input_type : is_input kind ≡ true
   pub default : Val Span
   pub has_default : variable.default ≡ Some default
-  pub fault : IsLiteralFault x.entries operation.file (at_type variable.type_ref) default item
+  pub fault : IsLiteralFault x.entries operation.file (default_at x.entries variable.type_ref) default item

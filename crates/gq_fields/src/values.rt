@@ -1,26 +1,16 @@
 //! Default values of variables (GraphQL, October 2021, section 5.6).
 ghost use Rattle.std.specs.Prelude.{◌≡◌, ◌++◌, OnOk};
-ghost use Rattle.gq_tree.specs.Views.{type_view, variable_view};
+ghost use Rattle.gq_tree.specs.Views.{variable_view};
 ghost use Rattle.gq_types.specs.Look.{types_view};
-ghost use Rattle.gq_fields.specs.ValuesPlaces.{is_of_input_type, wrong_default_of};
+ghost use Rattle.gq_fields.specs.ValuesPlaces.{wrong_default_of};
 
-use gq_document::base_name;
 use gq_found::Item;
 use gq_text::NoMemory;
-use gq_tree::{TypeRef, VariableDefinition};
+use gq_tree::VariableDefinition;
 use gq_types::Types;
-use gq_values::{Read, put_literal_faults};
+use gq_values::put_literal_faults;
+use gq_values::reading::default_at;
 use std::alloc::Global;
-
-/// Whether the type is known and an input type.
-fn is_of_input_type(types: &Types, type_ref: &TypeRef) -> bool
-    ensures { result ≡ is_of_input_type (types_view types.now) (type_view type_ref.now) }
-{
-    match types.kind(base_name(type_ref)) {
-        Some(kind) => kind.is_input(),
-        None => false,
-    }
-}
 
 /// Puts an item for each fault of the default value of a variable.
 #[tactic(auto, using(gq_tree::proofs::Trees::gathers))]
@@ -35,11 +25,8 @@ pub(crate) fn put_wrong_default(
 {
     match &variable.default {
         Some(default) => {
-            if is_of_input_type(types, &variable.type_ref) {
-                let reading = Read::AtType(&variable.type_ref);
-                put_literal_faults(alloc, types, file, reading, default, items)?;
-            }
-            Ok(())
+            let reading = default_at(types, &variable.type_ref);
+            put_literal_faults(alloc, types, file, reading, default, items)
         }
         None => Ok(()),
     }

@@ -1,26 +1,23 @@
 -- The types that are marked are those one of whose input fields leads back to itself by default values.
-use Rattle.std.proofs.Common.{◌≡◌, ℕ, zero, suc, ◌<◌, Bool, true, false, cond, ◌||◌, List, [], ◌∷◌, length, get_or, map, refl, ap, sym, ◌∙◌, subst, arith, Contains, ◌↔◌, Vec, Global, Option, Some, None, is_some}
-use Rattle.std.specs.Prelude.{slice_get, slice_index_or, find, option_and_then}
+use Rattle.std.proofs.Common.{◌≡◌, ℕ, zero, suc, ◌<◌, Bool, true, false, ◌||◌, List, [], ◌∷◌, length, get_or, map, refl, ap, sym, ◌∙◌, subst, arith, Contains, ◌↔◌, Vec, Global, Option, Some, None, is_some}
+use Rattle.std.specs.Prelude.{slice_get, slice_index_or}
 use Rattle.std.specs.List.{list_any}
-use Rattle.std.specs.Option.{option_map, option_map_or}
-use Rattle.std.specs.Str.{bytes_eq}
-use Rattle.std.specs.Cmp.Lexicographic.{bytes_decides}
+use Rattle.std.specs.Option.{option_map_or}
 use Rattle.std.proofs.lemmas.List.{length-map}
-use Rattle.std.proofs.lemmas.List.Quantifiers.{position-Some}
 use Rattle.gq_text.specs.declared.place.Span.{Span}
 use Rattle.gq_reach.specs.Reach.{row, InRange, LeadsBack}
-use Rattle.gq_tree.specs.Plain.{InputOf, TypeSystemOf, schema, type_definition, directive_definition}
+use Rattle.gq_tree.specs.Plain.{InputOf}
 use Rattle.gq_types.specs.Entries.{Text, EntryOf}
-use Rattle.gq_types.specs.Joined.{type_number, is_type_named, In, inputs_of}
+use Rattle.gq_types.specs.Joined.{type_number}
 use Rattle.gq_types.specs.Look.{joined_numbers}
 use Rattle.gq_types.specs.Names.{input_named}
 use Rattle.gq_type_system.specs.EndlessInputs.{InputField, Way, LeadsByDefault}
-use Rattle.gq_type_system.specs.EndlessInputsPlaces.{row_items, inputs_at, MarksByDefault}
-use Rattle.gq_type_system.specs.DefaultValuesPlaces.{has_default, numbers_of, field_leads, any_marked, named_field, named_fields_at, fields_at, all_fields, field_rows, field_numbers, type_name_in, type_name_at}
+use Rattle.gq_type_system.specs.EndlessInputsPlaces.{row_items, inputs_at, type_name_at, MarksByDefault}
+use Rattle.gq_type_system.specs.DefaultValuesPlaces.{has_default, numbers_of, field_leads, any_marked, named_field, named_fields_at, fields_at, all_fields, field_rows, field_numbers}
 use Rattle.gq_type_system.proofs.Gathered.{in_none, in_first, in_later, from_flat, to_flat, from_map, to_map}
 use Rattle.gq_type_system.proofs.Ways.{Next, ways_lead_back, first_step, carried, carried_back}
 use Rattle.gq_type_system.proofs.EntryRows.{row_is, in_range, rows_are}
-use Rattle.gq_type_system.proofs.RequiredLemmas.{number_below, from_inputs}
+use Rattle.gq_type_system.proofs.RequiredLemmas.{number_below, from_inputs, input_of_name, type_name_is}
 use Rattle.gq_type_system.proofs.Numbering.{numbered_item, item_numbered}
 use Rattle.gq_type_system.proofs.DefaultLemmas.{Leads, from_leads, to_leads}
 
@@ -34,11 +31,6 @@ module _ {A : Type 0} where
   inside_get [] i below = absurd (omega arith)
   inside_get (w ∷ xs) zero below = (w, refl)
   inside_get (w ∷ xs) (suc i) below = inside_get xs i (omega arith)
-
-  get_is : (xs : List A) (i : ℕ) (d : A) → i < length xs → slice_get xs i ≡ Some (get_or xs i d)
-  get_is [] i d below = absurd (omega arith)
-  get_is (w ∷ xs) zero d below = refl
-  get_is (w ∷ xs) (suc i) d below = get_is xs i d (omega arith)
 
   get_mapped : {B : Type 0} (g : A → B) (xs : List A) (i : ℕ) (x : A) (d : B) → slice_get xs i ≡ Some x → get_or (map g xs) i d ≡ g x
   get_mapped g [] i x d is = absurd (cc)
@@ -68,49 +60,18 @@ module _ {A : Type 0} where
         or_right true b is = refl
         or_right false b is = is
 
-    found_cases : (x w : A) (xs : List A) (b : Bool) → p w ≡ b → cond b (Some w) (find p xs) ≡ Some x → (find p xs ≡ Some x → Contains xs x × (p x ≡ true)) → Contains (w ∷ xs) x × (p x ≡ true)
-    found_cases x w xs true passes is later = let same : w ≡ x = cc in (in_first w x xs same, subst (λ v. p v ≡ true) same passes)
-    found_cases x w xs false passes is later = let rest = later is in (in_later w x xs rest.0, rest.1)
-
-    found_passes : (x : A) (xs : List A) → find p xs ≡ Some x → Contains xs x × (p x ≡ true)
-    found_passes x [] is = absurd (cc)
-    found_passes x (w ∷ xs) is = found_cases x w xs (p w) refl is (λ later. found_passes x xs later)
-
-named_so : (d : TypeSystemOf Span) (text : Text) → is_type_named text d ≡ true → type_name_in d ≡ text
-named_so (schema extends description directives roots place) text is = absurd (cc)
-named_so (type_definition true description name directives body place) text is = absurd (cc)
-named_so (type_definition false description name directives body place) text is = sym ((bytes_decides text name.text).0 is)
-named_so (directive_definition description name arguments repeatable locations place) text is = absurd (cc)
-
--- the entry of a name's number has the name
-type_name_is : (es : List EntryOf) (text : Text) (number : ℕ) → type_number es text ≡ Some number → type_name_at es number ≡ text
-type_name_is [] text number is = absurd (cc)
-type_name_is (e ∷ es) text number is =
-    let at = position-Some (λ e. is_type_named text e.definition) (e ∷ es) number e is in
-    ap (λ o. option_map_or (λ e. type_name_in e.definition) o []) (get_is (e ∷ es) number e at.0) ∙ named_so (get_or (e ∷ es) number e).definition text at.1
-
 -- a field that a name means is one of its type
 field_of_name : (es : List EntryOf) (field : InputField) (input : InputOf Span) → input_named es field.type_name field.name ≡ Some input
     → (number : ℕ) × (type_number es field.type_name ≡ Some number) × Contains (fields_at es number) field
-field_of_name es field input is = by (type_number es field.type_name) refl is
-  where
-    by_found : (number : ℕ) → type_number es field.type_name ≡ Some number → (o : Option (In (InputOf Span))) → find (λ (i : In (InputOf Span)). bytes_eq field.name i.it.name.text) (inputs_of es number) ≡ o
-        → option_map (λ (i : In (InputOf Span)). i.it) o ≡ Some input → Contains (fields_at es number) field
-    by_found number meant None is none = absurd (cc)
-    by_found number meant (Some i) is some =
-        let found = found_passes (λ (i : In (InputOf Span)). bytes_eq field.name i.it.name.text) i (inputs_of es number) is in
-        let entry = from_inputs es number i found.0 in
-        let put = to_flat (named_fields_at es (type_name_at es number)) (joined_numbers es number) entry.0 (named_field (type_name_at es number) i.it) entry.1
-        (to_map (named_field (type_name_at es number)) (inputs_at es entry.0) i.it entry.2) in
-        let same : named_field (type_name_at es number) i.it ≡ field =
-        (λ j. record { type_name = type_name_is es field.type_name number meant j; name = sym ((bytes_decides field.name i.it.name.text).0 found.1) j }) in
-        subst (λ f. Contains (fields_at es number) f) same put
-
-    by : (o : Option ℕ) → type_number es field.type_name ≡ o
-        → option_and_then (λ number. option_map (λ (i : In (InputOf Span)). i.it) (find (λ (i : In (InputOf Span)). bytes_eq field.name i.it.name.text) (inputs_of es number))) o ≡ Some input
-        → (number : ℕ) × (type_number es field.type_name ≡ Some number) × Contains (fields_at es number) field
-    by None meant is = absurd (cc)
-    by (Some number) meant is = (number, meant, by_found number meant (find (λ (i : In (InputOf Span)). bytes_eq field.name i.it.name.text) (inputs_of es number)) refl is)
+field_of_name es field input is =
+    let meant = input_of_name es field.type_name field.name input is in
+    let entry = from_inputs es meant.0 meant.2 meant.3 in
+    let put = to_flat (named_fields_at es (type_name_at es meant.0)) (joined_numbers es meant.0) entry.0 (named_field (type_name_at es meant.0) meant.2.it) entry.1
+    (to_map (named_field (type_name_at es meant.0)) (inputs_at es entry.0) meant.2.it entry.2) in
+    let name = ap (λ (i : InputOf Span). i.name.text) meant.4 ∙ sym meant.5 in
+    let same : named_field (type_name_at es meant.0) meant.2.it ≡ field =
+    (λ j. record { type_name = type_name_is es field.type_name meant.0 meant.1 j; name = name j }) in
+    (meant.0, meant.1, subst (λ f. Contains (fields_at es meant.0) f) same put)
 
 -- a field of a type has the type's name
 type_of_field : (es : List EntryOf) (number : ℕ) (field : InputField) → Contains (fields_at es number) field → field.type_name ≡ type_name_at es number

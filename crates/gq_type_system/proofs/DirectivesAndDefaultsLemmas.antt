@@ -13,7 +13,7 @@ use Rattle.gq_types.specs.Entries.{Text, EntryOf, Numbered, numbered}
 use Rattle.gq_types.specs.BuiltIn.{defines_built_in}
 use Rattle.gq_types.specs.Kinds.{kind_of, same_kind}
 use Rattle.gq_types.specs.Joined.{is_schema, is_type_named, kind_named, type_number, owner_of, owner, joined, judged}
-use Rattle.gq_values.specs.Literals.{at_type}
+use Rattle.gq_values.specs.Literals.{default_at}
 use Rattle.gq_values.specs.LiteralFaults.{IsLiteralFault}
 use Rattle.gq_values.specs.LiteralPlaces.{literal_faults}
 use Rattle.gq_values.specs.DirectiveFaults.{IsDirectiveFault}
@@ -156,10 +156,10 @@ module _ (es : List EntryOf) (fault : Item) where
         ((directive_faults_are es g.0.one.entry.file site.location (names_of g.0.before) site.directives fault).0 own.1.2) is
 
     from_default : (n : Numbered) → Contains (judged es) n → (input : InputOf Span) → Contains (all_inputs n.entry.definition) input → (o : Option (Val Span)) → input.default ≡ o →
-        Contains (option_map_or (λ value. literal_faults es n.entry.file (at_type input.type_ref) value) o []) fault → IsBadDirectiveOrDefault es item
+        Contains (option_map_or (λ value. literal_faults es n.entry.file (default_at es input.type_ref) value) o []) fault → IsBadDirectiveOrDefault es item
     from_default n j input stands None e c = absurd (contains_none fault c)
     from_default n j input stands (Some default) e c =
-        in_default {n = n} {input = input} {default = default} {fault = fault} j stands e ((literal_faults_are es n.entry.file fault (at_type input.type_ref) default).0 c) is
+        in_default {n = n} {input = input} {default = default} {fault = fault} j stands e ((literal_faults_are es n.entry.file fault (default_at es input.type_ref) default).0 c) is
 
     from_inner : Contains (inner_faults es) fault → IsBadDirectiveOrDefault es item
     from_inner c =
@@ -193,12 +193,12 @@ module _ (es : List EntryOf) (fault : Item) where
         (to_flat (site_fault es n.entry.file) (sites_in n.entry.definition) site fault stands ((directive_faults_are es n.entry.file site.location [] site.directives fault).1 wrong)))
 
     to_default : (n : Numbered) (input : InputOf Span) (default : Val Span) → Contains (judged es) n → Contains (all_inputs n.entry.definition) input → input.default ≡ Some default →
-        IsLiteralFault es n.entry.file (at_type input.type_ref) default fault → Contains (bad_directives_and_defaults es) item
+        IsLiteralFault es n.entry.file (default_at es input.type_ref) default fault → Contains (bad_directives_and_defaults es) item
     to_default n input default j stands has wrong =
-        let told_there = (literal_faults_are es n.entry.file fault (at_type input.type_ref) default).1 wrong in
+        let told_there = (literal_faults_are es n.entry.file fault (default_at es input.type_ref) default).1 wrong in
         to_inner n j (Contains-append_right (site_faults es n.entry.file (sites_in n.entry.definition)) (default_faults es n.entry.file (all_inputs n.entry.definition)) fault
         (to_flat (default_fault es n.entry.file) (all_inputs n.entry.definition) input fault stands
-        (subst (λ o. Contains (option_map_or (λ value. literal_faults es n.entry.file (at_type input.type_ref) value) o []) fault) (sym has) told_there)))
+        (subst (λ o. Contains (option_map_or (λ value. literal_faults es n.entry.file (default_at es input.type_ref) value) o []) fault) (sym has) told_there)))
 
     to_entry : (before : List Numbered) (n : Numbered) (after : List Numbered) (site : Site) → Contains (judged es) n → joined es (owner es n) ≡ before ++ n ∷ after → own_site n.entry.definition ≡ Some site →
         IsDirectiveFault es n.entry.file site.location (names_of before) site.directives fault → Contains (bad_directives_and_defaults es) item

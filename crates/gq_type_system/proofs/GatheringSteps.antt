@@ -8,13 +8,13 @@ use Rattle.gq_tree.specs.declared.value.Value.{Value}
 use Rattle.gq_tree.specs.declared.value.ObjectField.{ObjectField}
 use Rattle.gq_tree.proofs.ValueLemmas.{value_key}
 use Rattle.gq_types.specs.Entries.{EntryOf}
-use Rattle.gq_values.specs.Literals.{items_of_type, field_of_type}
+use Rattle.gq_values.specs.Literals.{items_of_type, at_field, input_object_at}
 use Rattle.gq_type_system.specs.DefaultValuesPlaces.{type_in, below_of, gathered, gathered_of}
 
 module _ (es : List EntryOf) (at : TypeOf Span → Says Span → Vals Span → List ℕ) (t : TypeOf Span) where
   -- an item of a list literal
   pub items_more : (items : List Value) (i : ℕ) (x : Value) → i < length items → x ≡ get_or items i x
-      → gathered es at (below_of es t) (values_view (drop i items)) ≡ gathered_of es at (type_in (items_of_type es t)) (value_view x) ++ gathered es at (below_of es t) (values_view (drop (i + 1) items))
+      → gathered es at (below_of es t) (values_view (drop i items)) ≡ gathered_of es at (type_in (items_of_type t)) (value_view x) ++ gathered es at (below_of es t) (values_view (drop (i + 1) items))
   items_more items i x below is =
       at_drop_more (λ rest. gathered es at (below_of es t) (values_view rest)) items i x below
       ∙ ap (λ y. gathered_of es at (type_in (below_of es t (value_view y).label.key)) (value_view y) ++ gathered es at (below_of es t) (values_view (drop (i + 1) items))) (sym is)
@@ -22,7 +22,7 @@ module _ (es : List EntryOf) (at : TypeOf Span → Says Span → Vals Span → L
 
   -- a field of an object literal
   pub fields_more : (given : List ObjectField) (i : ℕ) (x : ObjectField) → i < length given → x ≡ get_or given i x
-      → gathered es at (below_of es t) (entries_view (drop i given)) ≡ gathered_of es at (type_in (field_of_type es t (name_of x.name).text)) (value_view x.value) ++ gathered es at (below_of es t) (entries_view (drop (i + 1) given))
+      → gathered es at (below_of es t) (entries_view (drop i given)) ≡ gathered_of es at (type_in (at_field es (input_object_at es t) (name_of x.name).text)) (value_view x.value) ++ gathered es at (below_of es t) (entries_view (drop (i + 1) given))
   fields_more given i x below is =
       at_drop_more (λ rest. gathered es at (below_of es t) (entries_view rest)) given i x below
-      ∙ ap (λ (y : ObjectField). gathered_of es at (type_in (field_of_type es t (name_of y.name).text)) (value_view y.value) ++ gathered es at (below_of es t) (entries_view (drop (i + 1) given))) (sym is)
+      ∙ ap (λ (y : ObjectField). gathered_of es at (type_in (at_field es (input_object_at es t) (name_of y.name).text)) (value_view y.value) ++ gathered es at (below_of es t) (entries_view (drop (i + 1) given))) (sym is)

@@ -7,19 +7,20 @@ use Rattle.std.specs.Cmp.Lexicographic.{bytes_decides}
 use Rattle.gq_text.specs.declared.place.Span.{Span}
 use Rattle.gq_found.specs.declared.code.Code.TheVariants.{BadImplementation}
 use Rattle.gq_found.specs.declared.item.Item.{Item}
-use Rattle.gq_tree.specs.Plain.{NameOf, DirectiveOf, TypeOf, named, list_of, non_null, InputOf, FieldDefinitionOf, BodyOf, scalar_type, object_type, interface_type, union_type, enum_type, input_type, TypeSystemOf, schema, type_definition, directive_definition}
+use Rattle.gq_tree.specs.Plain.{NameOf, DirectiveOf, InputOf, FieldDefinitionOf, BodyOf, scalar_type, object_type, interface_type, union_type, enum_type, input_type, TypeSystemOf, schema, type_definition, directive_definition}
 use Rattle.gq_tree.specs.Same.{same_types}
 use Rattle.gq_tree.proofs.Sameness.{types_decide}
 use Rattle.gq_types.specs.declared.entry.TypeKind.TheVariants as kind
 use Rattle.gq_types.specs.BuiltIn.{defines_built_in}
 use Rattle.gq_types.specs.Entries.{Text, EntryOf, Numbered, numbered}
-use Rattle.gq_type_system.specs.Implementations.{Implements, Inherits, IsRequired, BreaksField, has_no_subtype, lacks_argument, has_other_type, requires_argument, BreaksImplementation, declares_itself, lacks_interface, lacks_field, breaks_field, IsBadImplementation}
-use Rattle.gq_type_system.specs.ImplementationsPlaces.{is_non_null, is_required, breaks_argument, breaks_argument_named, breaks_arguments, requires_further, breaks_own_field, breaks_inherited, breaks_field_named, breaks_fields, lacks_further, lacks_interfaces, breaks_interface_at, breaks_interface, breaks_implementation, told_of, bad_implementation, bad_implementation_at, bad_implementations}
+use Rattle.gq_type_system.specs.Implementations.{Implements, Inherits, BreaksField, has_no_subtype, lacks_argument, has_other_type, requires_argument, BreaksImplementation, declares_itself, lacks_interface, lacks_field, breaks_field, IsBadImplementation}
+use Rattle.gq_type_system.specs.ImplementationsPlaces.{breaks_argument, breaks_argument_named, breaks_arguments, requires_named, requires_further, breaks_own_field, breaks_inherited, breaks_field_named, breaks_fields, lacks_further, lacks_interfaces, breaks_interface_at, breaks_interface, breaks_implementation, told_of, bad_implementation, bad_implementation_at, bad_implementations}
 use Rattle.gq_type_system.specs.Items.{item_at}
 use Rattle.gq_types.specs.Joined.{In, type_number, judged, fields_in_body, interfaces_in_body, fields_of, interfaces_of}
 use Rattle.gq_types.specs.Kinds.{kind_of}
 use Rattle.gq_types.specs.LookUps.{has_kind, field_in, declares_in}
 use Rattle.gq_types.specs.Names.{field_named, argument_named}
+use Rattle.gq_types.specs.Required.{is_required}
 use Rattle.gq_types.specs.Subtypes.{MayBeSubtypeName}
 use Rattle.gq_types.specs.SubtypesTests.{covers, may_be_subtype_name}
 use Rattle.gq_types.proofs.Gathered.{or_cases, or_left, or_right, and_parts, and_both, not_true, not_false, nothing_in, first, only, from_flat, to_flat, from_filter, to_filter, from_any, to_any, found, mapped, tested}
@@ -31,21 +32,6 @@ is_none_true : {A : Type 0} (o : Option A) → is_none o ≡ true → o ≡ None
 is_none_true None h = refl
 is_none_true (Some x) h = absurd (cc)
 
--- required arguments
-to_required : (a : InputOf Span) → is_required a ≡ true → IsRequired a
-to_required a h =
-    let parts = and_parts (is_non_null a.type_ref) (is_none a.default) h in
-    let t = by_type a.type_ref parts.0 in
-    (t.0, t.1, is_none_true a.default parts.1)
-  where
-    by_type : (t : TypeOf Span) → is_non_null t ≡ true → (inner : TypeOf Span) × (t ≡ non_null inner)
-    by_type (named name) e = absurd (cc)
-    by_type (list_of item) e = absurd (cc)
-    by_type (non_null inner) e = (inner, refl)
-
-from_required : (a : InputOf Span) → IsRequired a → is_required a ≡ true
-from_required a (inner, t, d) = and_both (is_non_null a.type_ref) (is_none a.default) (ap is_non_null t) (ap is_none d)
-
 -- arguments
 module _ (es : List EntryOf) (wanted own : FieldDefinitionOf Span) where
   to_argument : (text : Text) (w o : Option (InputOf Span)) → argument_named wanted.arguments text ≡ w → argument_named own.arguments text ≡ o → breaks_argument w o ≡ true → BreaksField es wanted own
@@ -55,19 +41,20 @@ module _ (es : List EntryOf) (wanted own : FieldDefinitionOf Span) where
       has_other_type text w o we oe (λ same. let yes = (types_decide w.type_ref o.type_ref).1 same in let differs = not_true (same_types w.type_ref o.type_ref) h in absurd (cc))
 
   to_own_field : breaks_own_field es wanted own ≡ true → BreaksField es wanted own
-  to_own_field h = elim (or_cases (not (covers (may_be_subtype_name es) own.type_ref wanted.type_ref)) (breaks_arguments wanted.arguments own.arguments wanted.arguments || requires_further wanted.arguments own.arguments) h) [
+  to_own_field h = elim (or_cases (not (covers (may_be_subtype_name es) own.type_ref wanted.type_ref)) (breaks_arguments wanted.arguments own.arguments wanted.arguments || requires_further wanted.arguments own.arguments own.arguments) h) [
     | inl refused ↦ has_no_subtype (λ c.
         let yes = (covers_decides (may_be_subtype_name es) (MayBeSubtypeName es) (may_be_subtype_name_decides es) own.type_ref wanted.type_ref).1 c in
         let is_false = not_true (covers (may_be_subtype_name es) own.type_ref wanted.type_ref) refused in
         absurd (cc))
-    | inr rest ↦ elim (or_cases (breaks_arguments wanted.arguments own.arguments wanted.arguments) (requires_further wanted.arguments own.arguments) rest) [
+    | inr rest ↦ elim (or_cases (breaks_arguments wanted.arguments own.arguments wanted.arguments) (requires_further wanted.arguments own.arguments own.arguments) rest) [
       | inl a ↦
           let x = from_any (λ (a : InputOf Span). breaks_argument_named wanted.arguments own.arguments a.name.text) wanted.arguments a in
           to_argument x.0.name.text (argument_named wanted.arguments x.0.name.text) (argument_named own.arguments x.0.name.text) refl refl x.2
       | inr r ↦
-          let x = from_any (λ (a : InputOf Span). is_required a && is_none (argument_named wanted.arguments a.name.text)) own.arguments r in
-          let parts = and_parts (is_required x.0) (is_none (argument_named wanted.arguments x.0.name.text)) x.2 in
-          requires_argument x.0 x.1 (to_required x.0 parts.0) (is_none_true (argument_named wanted.arguments x.0.name.text) parts.1)
+          let x = from_any (λ (a : InputOf Span). requires_named wanted.arguments own.arguments a.name.text) own.arguments r in
+          let parts = and_parts (option_map_or is_required (argument_named own.arguments x.0.name.text) false) (is_none (argument_named wanted.arguments x.0.name.text)) x.2 in
+          let meant = tested is_required (argument_named own.arguments x.0.name.text) parts.0 in
+          requires_argument x.0.name.text meant.0 meant.1 meant.2 (is_none_true (argument_named wanted.arguments x.0.name.text) parts.1)
     ]
   ]
 
@@ -75,14 +62,14 @@ module _ (es : List EntryOf) (wanted own : FieldDefinitionOf Span) where
   from_named text a e h =
       let f = found (λ (b : InputOf Span). bytes_eq text b.name.text) wanted.arguments a e in
       let same = (bytes_decides text a.name.text).0 f.1 in
-      or_right (not (covers (may_be_subtype_name es) own.type_ref wanted.type_ref)) (breaks_arguments wanted.arguments own.arguments wanted.arguments || requires_further wanted.arguments own.arguments)
-      (or_left (breaks_arguments wanted.arguments own.arguments wanted.arguments) (requires_further wanted.arguments own.arguments)
+      or_right (not (covers (may_be_subtype_name es) own.type_ref wanted.type_ref)) (breaks_arguments wanted.arguments own.arguments wanted.arguments || requires_further wanted.arguments own.arguments own.arguments)
+      (or_left (breaks_arguments wanted.arguments own.arguments wanted.arguments) (requires_further wanted.arguments own.arguments own.arguments)
       (to_any (λ (b : InputOf Span). breaks_argument_named wanted.arguments own.arguments b.name.text) wanted.arguments a f.0
       (subst (λ t. breaks_argument_named wanted.arguments own.arguments t ≡ true) same h)))
 
   from_own_field : BreaksField es wanted own → breaks_own_field es wanted own ≡ true
   from_own_field (has_no_subtype n) =
-      or_left (not (covers (may_be_subtype_name es) own.type_ref wanted.type_ref)) (breaks_arguments wanted.arguments own.arguments wanted.arguments || requires_further wanted.arguments own.arguments)
+      or_left (not (covers (may_be_subtype_name es) own.type_ref wanted.type_ref)) (breaks_arguments wanted.arguments own.arguments wanted.arguments || requires_further wanted.arguments own.arguments own.arguments)
       (by_test (covers (may_be_subtype_name es) own.type_ref wanted.type_ref) refl)
     where
       by_test : (t : Bool) → covers (may_be_subtype_name es) own.type_ref wanted.type_ref ≡ t → not t ≡ true
@@ -96,11 +83,14 @@ module _ (es : List EntryOf) (wanted own : FieldDefinitionOf Span) where
       by_test : (t : Bool) → same_types a.type_ref b.type_ref ≡ t → not t ≡ true
       by_test true e = absurd (n ((types_decide a.type_ref b.type_ref).0 e))
       by_test false e = refl
-  from_own_field (requires_argument a c r n) =
-      or_right (not (covers (may_be_subtype_name es) own.type_ref wanted.type_ref)) (breaks_arguments wanted.arguments own.arguments wanted.arguments || requires_further wanted.arguments own.arguments)
-      (or_right (breaks_arguments wanted.arguments own.arguments wanted.arguments) (requires_further wanted.arguments own.arguments)
-      (to_any (λ (b : InputOf Span). is_required b && is_none (argument_named wanted.arguments b.name.text)) own.arguments a c
-      (and_both (is_required a) (is_none (argument_named wanted.arguments a.name.text)) (from_required a r) (ap is_none n))))
+  from_own_field (requires_argument text a oe r n) =
+      let f = found (λ (b : InputOf Span). bytes_eq text b.name.text) own.arguments a oe in
+      let same = (bytes_decides text a.name.text).0 f.1 in
+      let here = and_both (option_map_or is_required (argument_named own.arguments text) false) (is_none (argument_named wanted.arguments text)) (ap (λ o. option_map_or is_required o false) oe ∙ r) (ap is_none n) in
+      or_right (not (covers (may_be_subtype_name es) own.type_ref wanted.type_ref)) (breaks_arguments wanted.arguments own.arguments wanted.arguments || requires_further wanted.arguments own.arguments own.arguments)
+      (or_right (breaks_arguments wanted.arguments own.arguments wanted.arguments) (requires_further wanted.arguments own.arguments own.arguments)
+      (to_any (λ (b : InputOf Span). requires_named wanted.arguments own.arguments b.name.text) own.arguments a f.0
+      (subst (λ t. requires_named wanted.arguments own.arguments t ≡ true) same here)))
 
 -- interfaces
 module _ (es : List EntryOf) (number : ℕ) (name : Text) where

@@ -1,81 +1,39 @@
 -- What literals are read at, as types.
-use Rattle.std.proofs.Common.{◌≡◌, ℕ, Bool, true, false, cond, List, [], ◌++◌, refl, ap, sym, ◌∙◌, subst, Contains, ⊎_elim, Option, Some, None}
+use Rattle.std.proofs.Common.{◌≡◌, ℕ, List, [], ◌++◌, refl, ap, sym, subst, Contains, ⊎_elim, Option, Some, None}
 use Rattle.std.specs.Option.{option_map, option_map_or}
 use Rattle.gq_text.specs.declared.place.Span.{Span}
 use Rattle.gq_tree.specs.Forest.{none, more}
-use Rattle.gq_tree.specs.Plain.{NameOf, Says, Part, Val, Vals, TypeOf, named, list_of, non_null, InputOf}
-use Rattle.gq_types.specs.declared.entry.TypeKind.{TypeKind}
-use Rattle.gq_types.specs.declared.entry.TypeKind.TheVariants as kind
+use Rattle.gq_tree.specs.Plain.{NameOf, Says, Part, Val, Vals, TypeOf, InputOf}
 use Rattle.gq_types.specs.Entries.{Text, EntryOf}
-use Rattle.gq_types.specs.Joined.{kind_named}
 use Rattle.gq_types.specs.Names.{input_named}
-use Rattle.gq_values.specs.Literals.{Reading, at_type, at_any, not_read, below_kind, is_built_in_scalar, at_input, part_at, items_of_type, field_of_type, StandsIn, here, within, after, is_input_object, input_object_at}
+use Rattle.gq_values.specs.Literals.{Reading, at_type, at_any, at_input, at_field, part_at, StandsIn, here, within, after}
 use Rattle.gq_type_system.specs.DefaultValuesPlaces.{type_in, field_type, below_of, gathered}
 use Rattle.gq_type_system.proofs.Gathered.{in_none}
 use Rattle.std.proofs.lemmas.List.Elements.{Contains-append_left, Contains-append_right, Contains-append_cases}
-
-no_type : (b : Bool) → type_in (cond b not_read at_any) ≡ None
-no_type true = refl
-no_type false = refl
-
--- where nothing is read at the fields, no type is read at
-no_type_below : (text : Text) (k : Option TypeKind) → type_in (below_kind text k not_read) ≡ None
-no_type_below text (Some kind.Scalar) = no_type (is_built_in_scalar text)
-no_type_below text (Some kind.Enum) = refl
-no_type_below text (Some kind.InputObject) = refl
-no_type_below text (Some kind.Object) = refl
-no_type_below text (Some kind.Interface) = refl
-no_type_below text (Some kind.Union) = refl
-no_type_below text None = refl
-
-pub nothing_below_names : (es : List EntryOf) (name : NameOf Span) → type_in (items_of_type es (named name)) ≡ None
-nothing_below_names es name = no_type_below name.text (kind_named es name.text)
-
--- the type of a field in an object literal
-by_kind : (text : Text) (k : Option TypeKind) (reading : Reading) → type_in (below_kind text k reading) ≡ cond (is_input_object k) (type_in reading) None
-by_kind text (Some kind.Scalar) reading = no_type (is_built_in_scalar text)
-by_kind text (Some kind.Enum) reading = refl
-by_kind text (Some kind.InputObject) reading = refl
-by_kind text (Some kind.Object) reading = refl
-by_kind text (Some kind.Interface) reading = refl
-by_kind text (Some kind.Union) reading = refl
-by_kind text None reading = refl
 
 input_type : (o : Option (InputOf Span)) → type_in (at_input o) ≡ option_map (λ i. i.type_ref) o
 input_type (Some i) = refl
 input_type None = refl
 
 -- the type of a field in an object literal, by the input object that the literal is of
-pub field_type_is : (es : List EntryOf) (t : TypeOf Span) (text : Text) → type_in (field_of_type es t text) ≡ field_type es (input_object_at es t) text
-field_type_is es (named name) text = by_kind name.text (kind_named es name.text) (at_input (input_named es name.text text)) ∙ by (is_input_object (kind_named es name.text))
-  where
-    by : (b : Bool) → cond b (type_in (at_input (input_named es name.text text))) None ≡ field_type es (cond b (Some name.text) None) text
-    by true = input_type (input_named es name.text text)
-    by false = refl
-field_type_is es (list_of item) text = field_type_is es item text
-field_type_is es (non_null inner) text = field_type_is es inner text
-
-same_below : (es : List EntryOf) (t : TypeOf Span) (says : Says Span) (key : Option (NameOf Span)) → part_at es (at_type t) says key ≡ below_of es t key
-same_below es t says None = refl
-same_below es t says (Some key) = refl
+pub field_type_is : (es : List EntryOf) (type_name : Option Text) (text : Text) → type_in (at_field es type_name text) ≡ field_type es type_name text
+field_type_is es (Some type_name) text = input_type (input_named es type_name text)
+field_type_is es None text = refl
 
 typed : (r : Reading) (t : TypeOf Span) → type_in r ≡ Some t → r ≡ at_type t
 typed (at_type s) t is = let same : s ≡ t = cc in ap at_type same
 typed at_any t is = absurd (cc)
-typed not_read t is = absurd (cc)
 
 -- inside what is read at no type nothing is
-no_type_inside : (es : List EntryOf) (r : Reading) (says : Says Span) (key : Option (NameOf Span)) → type_in r ≡ None → type_in (part_at es r says key) ≡ None
-no_type_inside es (at_type t) says key is = absurd (cc)
-no_type_inside es at_any says None is = refl
-no_type_inside es at_any says (Some key) is = refl
-no_type_inside es not_read says None is = refl
-no_type_inside es not_read says (Some key) is = refl
+no_type_inside : (es : List EntryOf) (r : Reading) (key : Option (NameOf Span)) → type_in r ≡ None → type_in (part_at es r key) ≡ None
+no_type_inside es (at_type t) key is = absurd (cc)
+no_type_inside es at_any None is = refl
+no_type_inside es at_any (Some key) is = refl
 
 nothing_typed : (es : List EntryOf) {read : Option (NameOf Span) → Reading} {vs : Vals Span} {reading : Reading} {value : Val Span} → ((key : Option (NameOf Span)) → type_in (read key) ≡ None)
     → StandsIn es read vs reading value → type_in reading ≡ None
 nothing_typed es untyped (here {part = part}) = untyped part.key
-nothing_typed es {read} untyped (within {part = part} w) = nothing_typed es (λ key. no_type_inside es (read part.key) part.says key (untyped part.key)) w
+nothing_typed es {read} untyped (within {part = part} w) = nothing_typed es (λ key. no_type_inside es (read part.key) key (untyped part.key)) w
 nothing_typed es untyped (after w) = nothing_typed es untyped w
 
 module _ (es : List EntryOf) (at : TypeOf Span → Says Span → Vals Span → List ℕ) where
@@ -87,11 +45,8 @@ module _ (es : List EntryOf) (at : TypeOf Span → Says Span → Vals Span → L
     pub found : Contains (at type_ref value.label.says value.below) i
 
   -- the readings in a literal that is read at a type
-  same_readings : (t : TypeOf Span) (r : Reading) (says : Says Span) → type_in r ≡ Some t → below_of es t ≡ part_at es r says
-  same_readings t r says is =
-      let each : (key : Option (NameOf Span)) → below_of es t key ≡ part_at es r says key =
-      λ key. sym (same_below es t says key) ∙ ap (λ q. part_at es q says key) (sym (typed r t is)) in
-      λ j key. each key j
+  same_readings : (t : TypeOf Span) (r : Reading) → type_in r ≡ Some t → below_of es t ≡ part_at es r
+  same_readings t r is = ap (part_at es) (sym (typed r t is))
 
   from_part : (read : Option (NameOf Span) → Reading) (part : Part Span) (below rest : Vals Span) (i : ℕ)
       → ((inner : Option (NameOf Span) → Reading) → Contains (gathered es at inner below) i → Found inner below i)
@@ -108,7 +63,7 @@ module _ (es : List EntryOf) (at : TypeOf Span → Says Span → Vals Span → L
       (λ deep. let inner = deeper (below_of es t) deep in record {
         type_ref = inner.type_ref;
         value = inner.value;
-        stands = within (subst (λ f. StandsIn es f below (at_type inner.type_ref) inner.value) (same_readings t (read part.key) part.says is) inner.stands);
+        stands = within (subst (λ f. StandsIn es f below (at_type inner.type_ref) inner.value) (same_readings t (read part.key) is) inner.stands);
         found = inner.found;
       })
       (Contains-append_cases (at t part.says below) (gathered es at (below_of es t) below) i found)
@@ -133,14 +88,14 @@ module _ (es : List EntryOf) (at : TypeOf Span → Says Span → Vals Span → L
       Contains-append_left (option_map_or (λ t. at t part.says below ++ gathered es at (below_of es t) below) (type_in (read part.key)) []) (gathered es at read rest) i
       (by_type (type_in (read part.key)) refl (to_gathered t i w is found))
     where
-      by_type : (o : Option (TypeOf Span)) → type_in (read part.key) ≡ o → Contains (gathered es at (part_at es (read part.key) part.says) below) i
+      by_type : (o : Option (TypeOf Span)) → type_in (read part.key) ≡ o → Contains (gathered es at (part_at es (read part.key)) below) i
           → Contains (option_map_or (λ t. at t part.says below ++ gathered es at (below_of es t) below) (type_in (read part.key)) []) i
       by_type None is_none deep =
-          let none_read = nothing_typed es (λ key. no_type_inside es (read part.key) part.says key is_none) w in
+          let none_read = nothing_typed es (λ key. no_type_inside es (read part.key) key is_none) w in
           let some_read = ap type_in is in
           absurd (cc)
       by_type (Some s) is_some deep = to_part part below s i (type_in (read part.key)) is_some
           (Contains-append_right (at s part.says below) (gathered es at (below_of es s) below) i
-          (subst (λ f. Contains (gathered es at f below) i) (sym (same_readings s (read part.key) part.says is_some)) deep))
+          (subst (λ f. Contains (gathered es at f below) i) (sym (same_readings s (read part.key) is_some)) deep))
   to_gathered {read} t i (after {part = part} {below = below} {rest = rest} w) is found =
       Contains-append_right (option_map_or (λ t. at t part.says below ++ gathered es at (below_of es t) below) (type_in (read part.key)) []) (gathered es at read rest) i (to_gathered t i w is found)

@@ -6,7 +6,7 @@ use Rattle.std.specs.Option.{option_map, option_map_or}
 use Rattle.std.specs.Str.{bytes_eq}
 use Rattle.gq_text.specs.declared.place.Span.{Span}
 use Rattle.gq_tree.specs.Forest.{none, more}
-use Rattle.gq_tree.specs.Plain.{NameOf, Says, Val, Vals, TypeOf, InputOf, TypeSystemOf, schema, type_definition, directive_definition, variable, int, float, string, boolean, null, enum, list, object}
+use Rattle.gq_tree.specs.Plain.{NameOf, Says, Val, Vals, TypeOf, InputOf, variable, int, float, string, boolean, null, enum, list, object}
 use Rattle.gq_tree.specs.Views.{type_view}
 use Rattle.gq_tree.specs.declared.types.TypeRef.{TypeRef}
 use Rattle.gq_type_system.specs.declared.input_fields.Field.{Field}
@@ -15,9 +15,9 @@ use Rattle.gq_types.specs.Entries.{Text, EntryOf, numbered_from}
 use Rattle.gq_types.specs.Joined.{type_number}
 use Rattle.gq_types.specs.Look.{joined_numbers}
 use Rattle.gq_types.specs.Names.{input_named}
-use Rattle.gq_values.specs.Literals.{Reading, at_type, at_any, not_read, items_of_type, field_of_type, input_object_at}
+use Rattle.gq_values.specs.Literals.{Reading, at_type, at_any, part_at, input_object_at}
 use Rattle.gq_type_system.specs.EndlessInputs.{InputField}
-use Rattle.gq_type_system.specs.EndlessInputsPlaces.{inputs_at, row_items}
+use Rattle.gq_type_system.specs.EndlessInputsPlaces.{inputs_at, row_items, type_name_at}
 
 -- the field that the code's field stands for
 abbrev pub field_view : Field → InputField
@@ -25,15 +25,6 @@ field_view f = record { type_name = f.type_name.now; name = f.name.now }
 
 abbrev pub fields_view : List Field → List InputField
 fields_view fs = map field_view fs
-
--- the name of the type that a definition or extension defines or extends
-abbrev pub type_name_in : TypeSystemOf Span → Text
-type_name_in (schema extends description directives roots place) = []
-type_name_in (type_definition extends description name directives body place) = name.text
-type_name_in (directive_definition description name arguments repeatable locations place) = []
-
-abbrev pub type_name_at : List EntryOf → ℕ → Text
-type_name_at es number = option_map_or (λ e. type_name_in e.definition) (slice_get es number) []
 
 -- the input fields of the type of a number
 abbrev pub named_field : Text → InputOf Span → InputField
@@ -74,7 +65,6 @@ field_numbers es = number_rows 0 (field_rows es)
 abbrev pub type_in : Reading → Option (TypeOf Span)
 type_in (at_type t) = Some t
 type_in at_any = None
-type_in not_read = None
 
 abbrev pub type_at : Option (Bor TypeRef) → Option (TypeOf Span)
 type_at o = option_map (λ r. type_view r.now) o
@@ -114,8 +104,7 @@ absent_at es fields rows t (enum name) below = []
 
 -- what stands in the braces or brackets of a literal at a type
 abbrev pub below_of : List EntryOf → TypeOf Span → Option (NameOf Span) → Reading
-below_of es t None = items_of_type es t
-below_of es t (Some key) = field_of_type es t key.text
+below_of es t = part_at es (at_type t)
 
 -- the type of the field of that name of an input object
 abbrev pub field_type : List EntryOf → Option Text → Text → Option (TypeOf Span)

@@ -11,7 +11,7 @@ use Rattle.gq_tree.specs.declared.type_system.DirectiveLocation.TheVariants as l
 use Rattle.gq_tree.specs.Plain.{Val, DirectiveOf, InputOf, FieldDefinitionOf, EnumValueOf, BodyOf, scalar_type, object_type, interface_type, union_type, enum_type, input_type, TypeSystemOf, schema, type_definition, directive_definition}
 use Rattle.gq_types.specs.Entries.{Text, EntryOf, Numbered}
 use Rattle.gq_types.specs.Joined.{fields_in_body, values_in_body, inputs_in_body, owner, joined, judged}
-use Rattle.gq_values.specs.Literals.{at_type}
+use Rattle.gq_values.specs.Literals.{default_at}
 use Rattle.gq_values.specs.LiteralFaults.{IsLiteralFault}
 use Rattle.gq_values.specs.DirectiveFaults.{IsDirectiveFault}
 
@@ -89,5 +89,5 @@ pub data IsBadDirectiveOrDefault (es : List EntryOf) (item : Item) : Type 0 wher
   -- of the default value of an argument or of an input field
   in_default : {n : Numbered} {input : InputOf Span} {default : Val Span} {fault : Item} →
       Contains (judged es) n → Contains (all_inputs n.entry.definition) input → input.default ≡ Some default →
-      IsLiteralFault es n.entry.file (at_type input.type_ref) default fault →
+      IsLiteralFault es n.entry.file (default_at es input.type_ref) default fault →
       item ≡ told fault → IsBadDirectiveOrDefault es item

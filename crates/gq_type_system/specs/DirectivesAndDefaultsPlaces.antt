@@ -11,7 +11,7 @@ use Rattle.gq_types.specs.declared.entry.Entry.{Entry}
 use Rattle.gq_types.specs.Entries.{Text, EntryOf, Numbered, entry_view}
 use Rattle.gq_types.specs.BuiltIn.{defines_built_in}
 use Rattle.gq_types.specs.Joined.{joined, judged}
-use Rattle.gq_values.specs.Literals.{at_type}
+use Rattle.gq_values.specs.Literals.{default_at}
 use Rattle.gq_values.specs.LiteralPlaces.{literal_faults}
 use Rattle.gq_values.specs.DirectivePlaces.{directive_faults}
 use Rattle.gq_type_system.specs.declared.directive_sites.DirectiveSite.{DirectiveSite}
@@ -39,7 +39,7 @@ abbrev pub site_faults : List EntryOf → ℕ → List Site → List Item
 site_faults es file sites = flat_map (site_fault es file) sites
 
 abbrev pub default_fault : List EntryOf → ℕ → InputOf Span → List Item
-default_fault es file input = option_map_or (λ value. literal_faults es file (at_type input.type_ref) value) input.default []
+default_fault es file input = option_map_or (λ value. literal_faults es file (default_at es input.type_ref) value) input.default []
 
 abbrev pub default_faults : List EntryOf → ℕ → List (InputOf Span) → List Item
 default_faults es file inputs = flat_map (default_fault es file) inputs

@@ -1,5 +1,5 @@
 -- Circular references of input objects (section 3.10, Circular References), and the same through default values.
-use Rattle.std.specs.Prelude.{◌≡◌, ℕ, Bool, true, false, if◌then◌else◌, Option, Some, None, List, Contains, is_some}
+use Rattle.std.specs.Prelude.{◌≡◌, Bool, true, false, if◌then◌else◌, Option, Some, None, List, Contains, is_some}
 use Rattle.std.specs.Option.{option_map_or}
 use Rattle.std.specs.Str.{bytes_eq}
 use Rattle.gq_text.specs.declared.place.Span.{Span}
@@ -8,7 +8,7 @@ use Rattle.gq_found.specs.declared.item.Item.{Item}
 use Rattle.gq_tree.specs.Forest.{none, more}
 use Rattle.gq_tree.specs.Plain.{NameOf, Val, Vals, TypeOf, named, non_null, InputOf, BodyOf, scalar_type, object_type, interface_type, union_type, enum_type, input_type, TypeSystemOf, schema, type_definition, directive_definition}
 use Rattle.gq_types.specs.Entries.{Text, EntryOf, Numbered}
-use Rattle.gq_types.specs.Joined.{In, type_number, inputs_of, judged}
+use Rattle.gq_types.specs.Joined.{type_number, judged}
 use Rattle.gq_types.specs.Names.{input_named}
 use Rattle.gq_values.specs.Literals.{at_type, is_object_literal, Holds, input_object_at}
 use Rattle.gq_type_system.specs.Items.{item_at}
@@ -21,12 +21,11 @@ pub data Way {V : Type 0} (Leads : V → V → Type 0) : V → V → Type 0 wher
 -- A type leads to another by an input field that it has itself or by an extension, the type of which is the other type
 -- without null, and no list. Only input objects have input fields.
 pub record LeadsByNonNull (es : List EntryOf) (from to : Text) : Type 0 where
-  pub number : ℕ
-  pub field : In (InputOf Span)
+  pub text : Text
+  pub field : InputOf Span
   pub name : NameOf Span
-  pub is_number : type_number es from ≡ Some number
-  pub has_field : Contains (inputs_of es number) field
-  pub is_non_null : field.it.type_ref ≡ non_null (named name)
+  pub is_field : input_named es from text ≡ Some field
+  pub is_non_null : field.type_ref ≡ non_null (named name)
   pub is_other : name.text ≡ to
 
 -- an input field, by the name of its type and its own name

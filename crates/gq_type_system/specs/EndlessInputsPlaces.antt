@@ -9,10 +9,11 @@ use Rattle.gq_found.specs.declared.item.Item.{Item}
 use Rattle.std.specs.Borrow.{Bor}
 use Rattle.gq_tree.specs.declared.tree.Name.{Name}
 use Rattle.gq_tree.specs.Views.{name_of}
-use Rattle.gq_tree.specs.Plain.{NameOf, TypeOf, named, list_of, non_null, InputOf}
+use Rattle.gq_tree.specs.Plain.{NameOf, TypeOf, named, list_of, non_null, InputOf, TypeSystemOf, schema, type_definition, directive_definition}
 use Rattle.gq_types.specs.Entries.{Text, EntryOf, Numbered, numbered}
 use Rattle.gq_types.specs.Joined.{type_number, body_in, inputs_in_body}
 use Rattle.gq_types.specs.Look.{joined_numbers}
+use Rattle.gq_types.specs.Names.{input_named}
 use Rattle.gq_type_system.specs.Items.{item_at}
 use Rattle.gq_type_system.specs.EndlessInputs.{input_object_in, Way, LeadsByNonNull, InputField, LeadsByDefault}
 
@@ -39,19 +40,32 @@ one (Some number) = number ∷ []
 abbrev pub required_number : List EntryOf → InputOf Span → List ℕ
 required_number es field = one (option_and_then (λ name. type_number es name.text) (required_name field.type_ref))
 
-abbrev pub required_numbers : List EntryOf → List (InputOf Span) → List ℕ
-required_numbers es fields = flat_map (required_number es) fields
+-- the same of the input field of that name of the type of that name
+abbrev pub required_named : List EntryOf → (type_name text : Text) → List ℕ
+required_named es type_name text = option_map_or (required_number es) (input_named es type_name text) []
+
+abbrev pub required_numbers : List EntryOf → (type_name : Text) → List (InputOf Span) → List ℕ
+required_numbers es type_name fields = flat_map (λ i. required_named es type_name i.name.text) fields
 
 -- the input fields that the entry of a number says itself
 abbrev pub inputs_at : List EntryOf → ℕ → List (InputOf Span)
 inputs_at es number = option_map_or (λ e. inputs_in_body (body_in e.definition)) (slice_get es number) []
 
-abbrev pub required_at : List EntryOf → ℕ → List ℕ
-required_at es number = required_numbers es (inputs_at es number)
+-- the name of the type that a definition or extension defines or extends
+abbrev pub type_name_in : TypeSystemOf Span → Text
+type_name_in (schema extends description directives roots place) = []
+type_name_in (type_definition extends description name directives body place) = name.text
+type_name_in (directive_definition description name arguments repeatable locations place) = []
+
+abbrev pub type_name_at : List EntryOf → ℕ → Text
+type_name_at es number = option_map_or (λ e. type_name_in e.definition) (slice_get es number) []
 
 -- what the type of a number leads to
+abbrev pub required_at : List EntryOf → (type_name : Text) → ℕ → List ℕ
+required_at es type_name number = required_numbers es type_name (inputs_at es number)
+
 abbrev pub required_of : List EntryOf → ℕ → List ℕ
-required_of es number = flat_map (required_at es) (joined_numbers es number)
+required_of es number = flat_map (required_at es (type_name_at es number)) (joined_numbers es number)
 
 -- a table with a row for each entry
 abbrev pub row_items : List (Vec ℕ Global) → List (List ℕ)

@@ -3,7 +3,7 @@ use Rattle.std.specs.Prelude.{◌≡◌, ◌≢◌, ◌⊎◌, ℕ, true, false,
 use Rattle.gq_text.specs.declared.place.Span.{Span}
 use Rattle.gq_found.specs.declared.code.Code.TheVariants.{BadImplementation}
 use Rattle.gq_found.specs.declared.item.Item.{Item}
-use Rattle.gq_tree.specs.Plain.{NameOf, DirectiveOf, TypeOf, non_null, InputOf, FieldDefinitionOf, BodyOf, type_definition, place_type, no_place}
+use Rattle.gq_tree.specs.Plain.{NameOf, DirectiveOf, InputOf, FieldDefinitionOf, BodyOf, type_definition, place_type, no_place}
 use Rattle.gq_types.specs.declared.entry.TypeKind.TheVariants as kind
 use Rattle.gq_types.specs.Entries.{Text, EntryOf, Numbered}
 use Rattle.gq_type_system.specs.Items.{item_at}
@@ -12,6 +12,7 @@ use Rattle.gq_types.specs.Kinds.{kind_of}
 use Rattle.gq_types.specs.LookUps.{field_in, declares_in}
 use Rattle.gq_types.specs.Names.{field_named, declares, argument_named}
 use Rattle.gq_types.specs.Possible.{Covers}
+use Rattle.gq_types.specs.Required.{is_required}
 use Rattle.gq_types.specs.Subtypes.{MayBeSubtypeName}
 
 -- the type with that number declares the interface
@@ -24,10 +25,6 @@ pub record Inherits (es : List EntryOf) (number : ℕ) (text : Text) (field : Fi
   pub implements : Implements es number interface
   pub has : field_named es interface text ≡ Some field
 
--- an argument that must be given (section 3.6.1)
-abbrev pub IsRequired : InputOf Span → Type 0
-IsRequired argument = (inner : TypeOf Span) × (argument.type_ref ≡ non_null inner) × (argument.default ≡ None)
-
 -- What is wrong with a field, where an interface wants it. Its type must be a subtype of what is wanted. It must have
 -- each argument that is wanted, of the very same type; of its further arguments none may be required.
 pub data BreaksField (es : List EntryOf) (wanted own : FieldDefinitionOf Span) : Type 0 where
@@ -36,8 +33,8 @@ pub data BreaksField (es : List EntryOf) (wanted own : FieldDefinitionOf Span) :
       argument_named own.arguments text ≡ None → BreaksField es wanted own
   has_other_type : (text : Text) (argument other : InputOf Span) → argument_named wanted.arguments text ≡ Some argument →
       argument_named own.arguments text ≡ Some other → place_type no_place argument.type_ref ≢ place_type no_place other.type_ref → BreaksField es wanted own
-  requires_argument : (argument : InputOf Span) → Contains own.arguments argument → IsRequired argument →
-      argument_named wanted.arguments argument.name.text ≡ None → BreaksField es wanted own
+  requires_argument : (text : Text) (argument : InputOf Span) → argument_named own.arguments text ≡ Some argument →
+      is_required argument ≡ true → argument_named wanted.arguments text ≡ None → BreaksField es wanted own
 
 -- What is wrong with the type with that number, which has that name. It must not declare itself. It must declare each
 -- interface that one of its interfaces declares, and have each field of its interfaces.

@@ -1,11 +1,12 @@
 -- What is told of implementations, in the order of the entries. Computed; nothing here must be believed.
 use Rattle.std.specs.Prelude.{ℕ, Bool, true, false, List, [], ◌∷◌, Option, Some, None, is_none, not, flat_map, if◌then◌else◌, ◌||◌, ◌&&◌}
 use Rattle.std.specs.List.{list_any}
+use Rattle.std.specs.Option.{option_map_or}
 use Rattle.std.specs.Str.{bytes_eq}
 use Rattle.gq_text.specs.declared.place.Span.{Span}
 use Rattle.gq_found.specs.declared.code.Code.TheVariants.{BadImplementation}
 use Rattle.gq_found.specs.declared.item.Item.{Item}
-use Rattle.gq_tree.specs.Plain.{NameOf, TypeOf, named, list_of, non_null, InputOf, FieldDefinitionOf, scalar_type, object_type, interface_type, union_type, enum_type, input_type, TypeSystemOf, schema, type_definition, directive_definition}
+use Rattle.gq_tree.specs.Plain.{NameOf, InputOf, FieldDefinitionOf, scalar_type, object_type, interface_type, union_type, enum_type, input_type, TypeSystemOf, schema, type_definition, directive_definition}
 use Rattle.gq_tree.specs.Same.{same_types}
 use Rattle.gq_types.specs.declared.entry.TypeKind.TheVariants as kind
 use Rattle.gq_types.specs.Entries.{Text, EntryOf, Numbered, numbered}
@@ -14,15 +15,8 @@ use Rattle.gq_types.specs.Joined.{type_number, fields_in_body, interfaces_in_bod
 use Rattle.gq_types.specs.Look.{joined_numbers}
 use Rattle.gq_types.specs.LookUps.{has_kind, field_in, declares_in, any_part}
 use Rattle.gq_types.specs.Names.{field_named, argument_named}
+use Rattle.gq_types.specs.Required.{is_required}
 use Rattle.gq_types.specs.SubtypesTests.{may_be_subtype_name, covers}
-
-abbrev pub is_non_null : TypeOf Span → Bool
-is_non_null (named name) = false
-is_non_null (list_of item) = false
-is_non_null (non_null inner) = true
-
-abbrev pub is_required : InputOf Span → Bool
-is_required argument = is_non_null argument.type_ref && is_none argument.default
 
 -- arguments: what is wanted, and what the field has
 abbrev pub breaks_argument : (wanted own : Option (InputOf Span)) → Bool
@@ -36,13 +30,17 @@ breaks_argument_named wanted own text = breaks_argument (argument_named wanted t
 abbrev pub breaks_arguments : (wanted own : List (InputOf Span)) → List (InputOf Span) → Bool
 breaks_arguments wanted own arguments = list_any (λ a. breaks_argument_named wanted own a.name.text) arguments
 
-abbrev pub requires_further : (wanted own : List (InputOf Span)) → Bool
-requires_further wanted own = list_any (λ a. is_required a && is_none (argument_named wanted a.name.text)) own
+-- whether the field requires the argument of that name, and it is not wanted
+abbrev pub requires_named : (wanted own : List (InputOf Span)) → Text → Bool
+requires_named wanted own text = option_map_or is_required (argument_named own text) false && is_none (argument_named wanted text)
+
+abbrev pub requires_further : (wanted own : List (InputOf Span)) → List (InputOf Span) → Bool
+requires_further wanted own arguments = list_any (λ a. requires_named wanted own a.name.text) arguments
 
 -- fields
 abbrev pub breaks_own_field : List EntryOf → (wanted own : FieldDefinitionOf Span) → Bool
 breaks_own_field es wanted own =
-    not (covers (may_be_subtype_name es) own.type_ref wanted.type_ref) || (breaks_arguments wanted.arguments own.arguments wanted.arguments || requires_further wanted.arguments own.arguments)
+    not (covers (may_be_subtype_name es) own.type_ref wanted.type_ref) || (breaks_arguments wanted.arguments own.arguments wanted.arguments || requires_further wanted.arguments own.arguments own.arguments)
 
 abbrev pub breaks_inherited : List EntryOf → (wanted own : Option (FieldDefinitionOf Span)) → Bool
 breaks_inherited es None own = false

@@ -15,7 +15,8 @@ use gq_names::NameList;
 use gq_text::NoMemory;
 use gq_tree::{Directive, InputValueDefinition};
 use gq_types::{Entry, Types};
-use gq_values::{Read, put_directive_faults, put_literal_faults};
+use gq_values::reading::default_at;
+use gq_values::{put_directive_faults, put_literal_faults};
 use std::alloc::Global;
 
 fn put_site_fault(
@@ -66,7 +67,7 @@ fn put_default_fault(
 {
     match &input.default {
         Some(value) => {
-            let reading = Read::AtType(&input.type_ref);
+            let reading = default_at(types, &input.type_ref);
             put_literal_faults(alloc, types, file, reading, value, faults)
         }
         None => Ok(()),

@@ -4,17 +4,15 @@ ghost use Rattle.std.specs.List.{list_any};
 ghost use Rattle.std.specs.Option.{option_map};
 ghost use Rattle.gq_tree.specs.Same.{same_types};
 ghost use Rattle.gq_tree.specs.Views.{name_of, type_view, input_view, field_definition_view, type_system_view};
-ghost use Rattle.gq_type_system.specs.ImplementationsPlaces.{is_required, breaks_argument_named, breaks_arguments, requires_further, breaks_own_field, breaks_field_named, breaks_fields, lacks_further, lacks_interfaces, breaks_interface, breaks_implementation, told_of, bad_implementation, bad_implementations};
+ghost use Rattle.gq_type_system.specs.ImplementationsPlaces.{breaks_argument_named, breaks_arguments, requires_named, requires_further, breaks_own_field, breaks_field_named, breaks_fields, lacks_further, lacks_interfaces, breaks_interface, breaks_implementation, told_of, bad_implementation, bad_implementations};
 ghost use Rattle.gq_types.specs.Look.{types_view};
 ghost use Rattle.gq_types.specs.Names.{field_named};
 ghost use Rattle.gq_types.specs.SubtypesTests.{covers, may_be_subtype_name};
 
 use gq_found::{Code, Item};
 use gq_text::NoMemory;
-use gq_tree::{
-    FieldDefinition, InputValueDefinition, Name, TypeBody, TypeRef, TypeSystemDefinition,
-};
-use gq_types::{Arguments, DefinedField, Entry, TypeKind, Types};
+use gq_tree::{FieldDefinition, Name, TypeBody, TypeRef, TypeSystemDefinition};
+use gq_types::{Arguments, DefinedField, Entry, TypeKind, Types, is_required};
 
 /// Each object type and interface that does not implement an interface as it must. The work for a type is the sum over
 /// its interfaces of their fields and interfaces.
@@ -234,24 +232,23 @@ fn breaks_argument_named(wanted: Arguments<'_>, own: Arguments<'_>, name: &str) 
 }
 
 fn requires_further(wanted: Arguments<'_>, own: Arguments<'_>) -> bool
-    ensures { result ≡ requires_further (map input_view wanted.entry.all.now) (map input_view own.entry.all.now) }
+    ensures { result ≡ requires_further (map input_view wanted.entry.all.now) (map input_view own.entry.all.now) (map input_view own.entry.all.now) }
 {
     let all = own.all();
     for further in all {
-        if is_required(further) && wanted.named(further.name.text.as_str()).is_none() {
+        if requires_named(wanted, own, further.name.text.as_str()) {
             return true;
         }
     }
     false
 }
 
-#[tactic(auto, using(gq_tree::proofs::Trees::types))]
-fn is_required(argument: &InputValueDefinition) -> bool
-    ensures { result ≡ is_required (input_view argument.now) }
+fn requires_named(wanted: Arguments<'_>, own: Arguments<'_>, name: &str) -> bool
+    ensures { result ≡ requires_named (map input_view wanted.entry.all.now) (map input_view own.entry.all.now) name.now }
 {
-    match argument.type_ref {
-        TypeRef::NonNull(_) => argument.default.is_none(),
-        TypeRef::Named(_) | TypeRef::List(_) => false,
+    match own.named(name) {
+        Some(argument) => is_required(argument) && wanted.named(name).is_none(),
+        None => false,
     }
 }
 

@@ -1,10 +1,10 @@
 //! The types that lead back to themselves by input fields without null (section 3.10, Circular References).
 ghost use Rattle.std.specs.Prelude.{◌≡◌, ◌++◌, map, IfOk, OnOk};
 ghost use Rattle.gq_tree.specs.Views.{type_view, input_view};
-ghost use Rattle.gq_type_system.specs.EndlessInputsPlaces.{name_at, name_in, required_name, required_number, required_numbers, required_of, required_rows, row_items, MarksNonNull};
+ghost use Rattle.gq_type_system.specs.EndlessInputsPlaces.{name_at, name_in, required_name, required_number, required_named, required_numbers, required_of, required_rows, row_items, MarksNonNull};
 ghost use Rattle.gq_types.specs.Look.{types_view};
 
-use crate::input_fields::inputs_at;
+use crate::input_fields::{inputs_at, type_name};
 use gq_reach::on_cycles;
 use gq_text::NoMemory;
 use gq_tree::{InputValueDefinition, Name, TypeRef};
@@ -51,28 +51,45 @@ fn put_required(
     Ok(())
 }
 
+/// The same for the field that the type has of that name.
+fn put_required_named(
+    types: &Types,
+    type_name: &str,
+    name: &str,
+    row: &mut Vec<usize>,
+) -> Result<(), NoMemory>
+    ensures { OnOk result (row.new.items ≡ row.old.items ++ required_named (types_view types.now) type_name.now name.now) }
+{
+    match types.input_field(type_name, name) {
+        Some(field) => put_required(types, field, row),
+        None => Ok(()),
+    }
+}
+
 #[tactic(auto, using(gq_tree::proofs::Trees::gathers))]
 fn put_all_required(
     types: &Types,
+    type_name: &str,
     fields: &[InputValueDefinition],
     row: &mut Vec<usize>,
 ) -> Result<(), NoMemory>
-    ensures { OnOk result (row.new.items ≡ row.old.items ++ required_numbers (types_view types.now) (map input_view fields.now)) }
+    ensures { OnOk result (row.new.items ≡ row.old.items ++ required_numbers (types_view types.now) type_name.now (map input_view fields.now)) }
 {
     for field in fields {
-        put_required(types, field, row)?;
+        put_required_named(types, type_name, field.name.text.as_str(), row)?;
     }
     Ok(())
 }
 
-/// The numbers of the types that the type of that number leads to.
+/// The numbers of the types that the type of that number leads to. Of fields of one name the first is meant.
 #[tactic(auto, using(gq_tree::proofs::Trees::gathers))]
 fn required_of(alloc: Global, types: &Types, number: usize) -> Result<Vec<usize>, NoMemory>
     ensures { IfOk result (λ row. row.items ≡ required_of (types_view types.now) number) }
 {
     let mut row = Vec::new(alloc);
+    let type_name = type_name(types, number);
     for joined in types.joined(number) {
-        put_all_required(types, inputs_at(types, *joined), &mut row)?;
+        put_all_required(types, type_name, inputs_at(types, *joined), &mut row)?;
     }
     Ok(row)
 }

@@ -1,5 +1,5 @@
 -- The items of arguments are their faults.
-use Rattle.std.proofs.Common.{◌≡◌, ℕ, List, [], ◌∷◌, ◌++◌, inl, inr, ◌↔◌, Contains, refl, sym, ap, subst, ◌∙◌, Option, Some, None}
+use Rattle.std.proofs.Common.{◌≡◌, ℕ, List, [], ◌∷◌, ◌++◌, inl, inr, ◌↔◌, Contains, refl, sym, subst, Option, Some, None}
 use Rattle.std.specs.Option.{option_map_or}
 use Rattle.std.proofs.lemmas.List.Elements.{Contains-append_left, Contains-append_right, Contains-append_cases}
 use Rattle.gq_text.specs.declared.place.Span.{Span}
@@ -8,7 +8,7 @@ use Rattle.gq_names.specs.Repeats.{repeated}
 use Rattle.gq_names.proofs.RepeatLemmas.{contains_none, contains_first, repeated_is}
 use Rattle.gq_found.specs.declared.code.Code.TheVariants.{UnknownArgument, ArgumentNotUnique, ArgumentMissing}
 use Rattle.gq_found.specs.declared.item.Item.{Item}
-use Rattle.gq_types.specs.Entries.{Text, EntryOf}
+use Rattle.gq_types.specs.Entries.{EntryOf}
 use Rattle.gq_types.specs.Names.{argument_named}
 use Rattle.gq_types.specs.Required.{is_any_missing}
 use Rattle.gq_values.specs.Items.{item_at}

@@ -22,10 +22,10 @@ use Rattle.gq_types.specs.Entries.{Text, EntryOf}
 use Rattle.gq_types.specs.Joined.{In, type_number, kind_named, inputs_of}
 use Rattle.gq_types.specs.Names.{input_named, argument_named}
 use Rattle.gq_types.specs.Required.{is_required, is_missing, is_missing_by, is_any_missing, is_field_missing}
-use Rattle.gq_values.specs.Literals.{fits, fits_kind, Reading, at_type, at_any, not_read, part_at, StandsIn, here, within, after, is_input_object, input_object_at}
+use Rattle.gq_values.specs.Literals.{fits, fits_kind, Reading, at_type, at_any, part_at, StandsIn, here, within, after, is_input_object, input_object_at}
 use Rattle.gq_values.specs.Items.{item_at, item_over}
-use Rattle.gq_values.specs.LiteralFaults.{entry_names, HasNone, literal_place, first_byte, is_read, IsFaultOf, wrong_value, unknown_field, field_not_unique, field_missing, IsLiteralFault}
-use Rattle.gq_values.specs.LiteralPlaces.{texts, repeated_fields, unknown_field_at, unknown_fields, missing_fields, field_faults, object_faults, entry_faults, own_faults, faults_in, literal_faults}
+use Rattle.gq_values.specs.LiteralFaults.{entry_names, HasNone, literal_place, first_byte, IsFaultOf, wrong_value, unknown_field, field_not_unique, field_missing, IsLiteralFault}
+use Rattle.gq_values.specs.LiteralPlaces.{texts, repeated_fields, unknown_field_at, unknown_fields, missing_fields, field_faults, names_in, entry_faults, type_faults, own_faults, faults_in, literal_faults}
 use Rattle.gq_values.proofs.FoundLemmas.{only, from_if, to_if, from_find, from_any, to_any, from_flat, to_flat, from_map, to_map}
 
 -- a name that is not among the texts of names
@@ -161,76 +161,80 @@ module _ (es : List EntryOf) (file : ℕ) (item : Item) where
             field_missing read on says one.2 one.3 one.4 told.1)
       ]
 
-  object_is : (reading : Reading) (w : Val Span) (place : Span) → is_read es reading w.label.says ≡ true → w.label.says ≡ object place → (on : Option Text) → AreFieldsOf reading on →
-      Contains (object_faults es file on place (entry_names w.below)) item → IsFaultOf es file reading w item
-  object_is reading w place read says on fields found =
-      elim (Contains-append_cases (repeated_fields file [] (entry_names w.below)) (field_faults es file on place (entry_names w.below)) item found) [
-        | inl again ↦ (let one = from_map (item_at file InputFieldNotUnique) (repeated (λ n. n.text) (entry_names w.below)) item again in
-            field_not_unique read says ((repeated_is (λ n. n.text) (entry_names w.below) one.0).0 one.1) one.2)
-        | inr rest ↦ by_object on fields rest
-      ]
-    where
-      by_object : (o : Option Text) → AreFieldsOf reading o → Contains (field_faults es file o place (entry_names w.below)) item → IsFaultOf es file reading w item
-      by_object None fields rest = absurd (contains_none item rest)
-      by_object (Some type_name) fields rest = let at = fields type_name refl in field_is reading w type_name place at.0 at.1 at.2 says rest
+  object_is : (reading : Reading) (w : Val Span) (place : Span) → w.label.says ≡ object place → (on : Option Text) → AreFieldsOf reading on →
+      Contains (field_faults es file on place (entry_names w.below)) item → IsFaultOf es file reading w item
+  object_is reading w place says None fields found = absurd (contains_none item found)
+  object_is reading w place says (Some type_name) fields found = let at = fields type_name refl in field_is reading w type_name place at.0 at.1 at.2 says found
 
-  entry_is : (reading : Reading) (w : Val Span) → is_read es reading w.label.says ≡ true → (on : Option Text) → AreFieldsOf reading on → (says : Says Span) → w.label.says ≡ says →
+  entry_is : (reading : Reading) (w : Val Span) → (on : Option Text) → AreFieldsOf reading on → (says : Says Span) → w.label.says ≡ says →
       Contains (entry_faults es file on says w.below) item → IsFaultOf es file reading w item
-  entry_is reading w read on fields (object place) is found = object_is reading w place read is on fields found
-  entry_is reading w read on fields (variable name place) is found = absurd (contains_none item found)
-  entry_is reading w read on fields (int text place) is found = absurd (contains_none item found)
-  entry_is reading w read on fields (float text place) is found = absurd (contains_none item found)
-  entry_is reading w read on fields (string text place) is found = absurd (contains_none item found)
-  entry_is reading w read on fields (boolean value place) is found = absurd (contains_none item found)
-  entry_is reading w read on fields (null place) is found = absurd (contains_none item found)
-  entry_is reading w read on fields (enum name) is found = absurd (contains_none item found)
-  entry_is reading w read on fields (list place) is found = absurd (contains_none item found)
+  entry_is reading w on fields (object place) is found = object_is reading w place is on fields found
+  entry_is reading w on fields (variable name place) is found = absurd (contains_none item found)
+  entry_is reading w on fields (int text place) is found = absurd (contains_none item found)
+  entry_is reading w on fields (float text place) is found = absurd (contains_none item found)
+  entry_is reading w on fields (string text place) is found = absurd (contains_none item found)
+  entry_is reading w on fields (boolean value place) is found = absurd (contains_none item found)
+  entry_is reading w on fields (null place) is found = absurd (contains_none item found)
+  entry_is reading w on fields (enum name) is found = absurd (contains_none item found)
+  entry_is reading w on fields (list place) is found = absurd (contains_none item found)
 
-  own_is : (reading : Reading) (w : Val Span) → Contains (own_faults es file reading w.label.says w.below) item → IsFaultOf es file reading w item
-  own_is not_read w found = absurd (contains_none item found)
-  own_is at_any w found = entry_is at_any w refl None (λ type_name is. absurd (none-some type_name is)) w.label.says refl found
-  own_is (at_type t) w found = by_fit (fits es t w.label.says) refl found
+  type_is : (reading : Reading) (w : Val Span) → Contains (type_faults es file reading w.label.says w.below) item → IsFaultOf es file reading w item
+  type_is at_any w found = absurd (contains_none item found)
+  type_is (at_type t) w found = by_fit (fits es t w.label.says) refl found
     where
       by_fit : (b : Bool) → fits es t w.label.says ≡ b →
           Contains (if b then entry_faults es file (input_object_at es t) w.label.says w.below else item_over file WrongValue (literal_place w.label.says) ∷ []) item → IsFaultOf es file (at_type t) w item
-      by_fit true fit told = entry_is (at_type t) w fit (input_object_at es t) (λ type_name on. (t, refl, on)) w.label.says refl told
+      by_fit true fit told = entry_is (at_type t) w (input_object_at es t) (λ type_name on. (t, refl, on)) w.label.says refl told
       by_fit false fit told = wrong_value refl fit (only (item_over file WrongValue (literal_place w.label.says)) item told)
 
-  -- the items of an object literal that is read are among its own
-  of_object : (reading : Reading) (w : Val Span) (place : Span) → is_read es reading w.label.says ≡ true → w.label.says ≡ object place →
-      ((on : Option Text) → AreFieldsOf reading on → Contains (object_faults es file on place (entry_names w.below)) item) → Contains (own_faults es file reading w.label.says w.below) item
-  of_object not_read w place read says found = absurd (cc)
-  of_object at_any w place read says found =
-      subst (λ s. Contains (entry_faults es file None s w.below) item) (sym says) (found None (λ type_name is. absurd (none-some type_name is)))
-  of_object (at_type t) w place read says found =
-      subst (λ b. Contains (if b then entry_faults es file (input_object_at es t) w.label.says w.below else item_over file WrongValue (literal_place w.label.says) ∷ []) item) (sym read)
-      (subst (λ s. Contains (entry_faults es file (input_object_at es t) s w.below) item) (sym says) (found (input_object_at es t) (λ type_name on. (t, refl, on))))
+  again_is : (reading : Reading) (w : Val Span) (says : Says Span) → w.label.says ≡ says → Contains (repeated_fields file [] (names_in says w.below)) item → IsFaultOf es file reading w item
+  again_is reading w (object place) is found =
+      let one = from_map (item_at file InputFieldNotUnique) (repeated (λ n. n.text) (entry_names w.below)) item found in
+      field_not_unique is ((repeated_is (λ n. n.text) (entry_names w.below) one.0).0 one.1) one.2
+  again_is reading w (variable name place) is found = absurd (contains_none item found)
+  again_is reading w (int text place) is found = absurd (contains_none item found)
+  again_is reading w (float text place) is found = absurd (contains_none item found)
+  again_is reading w (string text place) is found = absurd (contains_none item found)
+  again_is reading w (boolean value place) is found = absurd (contains_none item found)
+  again_is reading w (null place) is found = absurd (contains_none item found)
+  again_is reading w (enum name) is found = absurd (contains_none item found)
+  again_is reading w (list place) is found = absurd (contains_none item found)
+
+  own_is : (reading : Reading) (w : Val Span) → Contains (own_faults es file reading w.label.says w.below) item → IsFaultOf es file reading w item
+  own_is reading w found =
+      elim (Contains-append_cases (repeated_fields file [] (names_in w.label.says w.below)) (type_faults es file reading w.label.says w.below) item found) [
+        | inl again ↦ again_is reading w w.label.says refl again
+        | inr typed ↦ type_is reading w typed
+      ]
+
+  -- the items at a literal's type are among its own
+  at_its_type : (reading : Reading) (w : Val Span) → Contains (type_faults es file reading w.label.says w.below) item → Contains (own_faults es file reading w.label.says w.below) item
+  at_its_type reading w found = Contains-append_right (repeated_fields file [] (names_in w.label.says w.below)) (type_faults es file reading w.label.says w.below) item found
 
   -- the items of the fields of an input object are among a literal's own
   of_fields : (reading : Reading) (w : Val Span) (place : Span) (t : TypeOf Span) (type_name : Text) → reading ≡ at_type t → input_object_at es t ≡ Some type_name → w.label.says ≡ object place →
       Contains (field_faults es file (Some type_name) place (entry_names w.below)) item → Contains (own_faults es file reading w.label.says w.below) item
   of_fields reading w place t type_name read on says found =
       let fit : fits es t w.label.says ≡ true = ap (fits es t) says ∙ object_fits es type_name place t on in
-      let told = Contains-append_right (repeated_fields file [] (entry_names w.below)) (field_faults es file (Some type_name) place (entry_names w.below)) item found in
-      let entry = subst (λ o. Contains (object_faults es file o place (entry_names w.below)) item) (sym on) told in
-      subst (λ r. Contains (own_faults es file r w.label.says w.below) item) (sym read)
+      let entry = subst (λ o. Contains (field_faults es file o place (entry_names w.below)) item) (sym on) found in
+      at_its_type reading w (subst (λ r. Contains (type_faults es file r w.label.says w.below) item) (sym read)
       (subst (λ b. Contains (if b then entry_faults es file (input_object_at es t) w.label.says w.below else item_over file WrongValue (literal_place w.label.says) ∷ []) item) (sym fit)
-      (subst (λ s. Contains (entry_faults es file (input_object_at es t) s w.below) item) (sym says) entry))
+      (subst (λ s. Contains (entry_faults es file (input_object_at es t) s w.below) item) (sym says) entry)))
 
   is_own : {reading : Reading} {w : Val Span} → IsFaultOf es file reading w item → Contains (own_faults es file reading w.label.says w.below) item
   is_own {reading} {w} (wrong_value {t} read fit told) =
-      subst (λ r. Contains (own_faults es file r w.label.says w.below) item) (sym read)
+      at_its_type reading w (subst (λ r. Contains (type_faults es file r w.label.says w.below) item) (sym read)
       (subst (λ b. Contains (if b then entry_faults es file (input_object_at es t) w.label.says w.below else item_over file WrongValue (literal_place w.label.says) ∷ []) item) (sym fit)
-      (contains_first (item_over file WrongValue (literal_place w.label.says)) [] item (sym told)))
+      (contains_first (item_over file WrongValue (literal_place w.label.says)) [] item (sym told))))
   is_own {reading} {w} (unknown_field {t} {type_name} {place} {name} read on says stands unknown told) =
       let one = subst (λ o. Contains (option_map_or (λ (i : InputOf Span). []) o (item_at file UnknownInputField name ∷ [])) item) (sym unknown) (contains_first (item_at file UnknownInputField name) [] item (sym told)) in
       let all = to_flat (unknown_field_at es file type_name) (entry_names w.below) name item stands one in
       of_fields reading w place t type_name read on says
       (Contains-append_left (unknown_fields es file type_name (entry_names w.below)) (missing_fields es file type_name (texts (entry_names w.below)) place) item all)
-  is_own {reading} {w} (field_not_unique {place} {name} read says again told) =
+  is_own {reading} {w} (field_not_unique {place} {name} says again told) =
       let found = to_map (item_at file InputFieldNotUnique) (repeated (λ n. n.text) (entry_names w.below)) name item ((repeated_is (λ n. n.text) (entry_names w.below) name).1 again) told in
-      of_object reading w place read says
-      (λ on fields. Contains-append_left (repeated_fields file [] (entry_names w.below)) (field_faults es file on place (entry_names w.below)) item found)
+      Contains-append_left (repeated_fields file [] (names_in w.label.says w.below)) (type_faults es file reading w.label.says w.below) item
+      (subst (λ s. Contains (repeated_fields file [] (names_in s w.below)) item) (sym says) found)
   is_own {reading} {w} (field_missing {t} {type_name} {text} {place} {i} read on says is required absent told) =
       of_fields reading w place t type_name read on says
       (Contains-append_right (unknown_fields es file type_name (entry_names w.below)) (missing_fields es file type_name (texts (entry_names w.below)) place) item
@@ -244,10 +248,10 @@ module _ (es : List EntryOf) (file : ℕ) (item : Item) where
   from_row : (read : Option (NameOf Span) → Reading) (vals : Vals Span) → Contains (faults_in es file read vals) item → Found read vals
   from_row read none found = absurd (contains_none item found)
   from_row read (more part below rest) found =
-      elim (Contains-append_cases (own_faults es file (read part.key) part.says below ++ faults_in es file (part_at es (read part.key) part.says) below) (faults_in es file read rest) item found) [
-        | inl first ↦ elim (Contains-append_cases (own_faults es file (read part.key) part.says below) (faults_in es file (part_at es (read part.key) part.says) below) item first) [
+      elim (Contains-append_cases (own_faults es file (read part.key) part.says below ++ faults_in es file (part_at es (read part.key)) below) (faults_in es file read rest) item found) [
+        | inl first ↦ elim (Contains-append_cases (own_faults es file (read part.key) part.says below) (faults_in es file (part_at es (read part.key)) below) item first) [
           | inl own ↦ (read part.key, record { label = part; below = below }, here, own)
-          | inr inner ↦ (let one = from_row (part_at es (read part.key) part.says) below inner in (one.0, one.1, within one.2, one.3))
+          | inr inner ↦ (let one = from_row (part_at es (read part.key)) below inner in (one.0, one.1, within one.2, one.3))
         ]
         | inr later ↦ (let one = from_row read rest later in (one.0, one.1, after one.2, one.3))
       ]
@@ -255,13 +259,13 @@ module _ (es : List EntryOf) (file : ℕ) (item : Item) where
   to_row : {read : Option (NameOf Span) → Reading} {vals : Vals Span} {reading : Reading} {w : Val Span} → StandsIn es read vals reading w → Contains (own_faults es file reading w.label.says w.below) item →
       Contains (faults_in es file read vals) item
   to_row (here {read} {part} {below} {rest}) own =
-      Contains-append_left (own_faults es file (read part.key) part.says below ++ faults_in es file (part_at es (read part.key) part.says) below) (faults_in es file read rest) item
-      (Contains-append_left (own_faults es file (read part.key) part.says below) (faults_in es file (part_at es (read part.key) part.says) below) item own)
+      Contains-append_left (own_faults es file (read part.key) part.says below ++ faults_in es file (part_at es (read part.key)) below) (faults_in es file read rest) item
+      (Contains-append_left (own_faults es file (read part.key) part.says below) (faults_in es file (part_at es (read part.key)) below) item own)
   to_row (within {read} {part} {below} {rest} inner) own =
-      Contains-append_left (own_faults es file (read part.key) part.says below ++ faults_in es file (part_at es (read part.key) part.says) below) (faults_in es file read rest) item
-      (Contains-append_right (own_faults es file (read part.key) part.says below) (faults_in es file (part_at es (read part.key) part.says) below) item (to_row inner own))
+      Contains-append_left (own_faults es file (read part.key) part.says below ++ faults_in es file (part_at es (read part.key)) below) (faults_in es file read rest) item
+      (Contains-append_right (own_faults es file (read part.key) part.says below) (faults_in es file (part_at es (read part.key)) below) item (to_row inner own))
   to_row (after {read} {part} {below} {rest} later) own =
-      Contains-append_right (own_faults es file (read part.key) part.says below ++ faults_in es file (part_at es (read part.key) part.says) below) (faults_in es file read rest) item (to_row later own)
+      Contains-append_right (own_faults es file (read part.key) part.says below ++ faults_in es file (part_at es (read part.key)) below) (faults_in es file read rest) item (to_row later own)
 
   -- what is told of a literal is what is wrong with it or with one that stands in it
   pub literal_faults_are : (reading : Reading) (value : Val Span) → Contains (literal_faults es file reading value) item ↔ IsLiteralFault es file reading value item

@@ -1,5 +1,5 @@
 -- Faults of directives: their names, places and uniqueness, and their arguments (sections 5.4 and 5.7).
-use Rattle.std.specs.Prelude.{◌≡◌, ℕ, Bool, false, List, [], Some, None, Contains}
+use Rattle.std.specs.Prelude.{◌≡◌, ℕ, Bool, false, List, Some, None, Contains}
 use Rattle.std.specs.List.{list_any}
 use Rattle.gq_text.specs.declared.place.Span.{Span}
 use Rattle.gq_tree.specs.declared.type_system.DirectiveLocation.{DirectiveLocation}

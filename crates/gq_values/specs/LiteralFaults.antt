@@ -1,5 +1,5 @@
 -- Faults of literals: their types, and the names, the uniqueness and the presence of input fields (section 5.6).
-use Rattle.std.specs.Prelude.{◌≡◌, ◌≢◌, ℕ, ◌+◌, Bool, true, false, List, [], ◌∷◌, ◌++◌, Option, Some, None, Contains, nat_lt, if◌then◌else◌}
+use Rattle.std.specs.Prelude.{◌≡◌, ◌≢◌, ℕ, ◌+◌, true, false, List, [], ◌∷◌, ◌++◌, Option, Some, None, Contains, nat_lt, if◌then◌else◌}
 use Rattle.gq_text.specs.declared.place.Span.{Span}
 use Rattle.gq_tree.specs.Forest.{none, more}
 use Rattle.gq_tree.specs.Plain.{NameOf, Says, Val, Vals, TypeOf, InputOf, variable, int, float, string, boolean, null, enum, list, object}
@@ -9,7 +9,7 @@ use Rattle.gq_found.specs.declared.item.Item.{Item}
 use Rattle.gq_types.specs.Entries.{Text, EntryOf}
 use Rattle.gq_types.specs.Names.{input_named}
 use Rattle.gq_types.specs.Required.{is_required}
-use Rattle.gq_values.specs.Literals.{fits, Reading, at_type, at_any, not_read, Holds, input_object_at}
+use Rattle.gq_values.specs.Literals.{fits, Reading, at_type, Holds, input_object_at}
 use Rattle.gq_values.specs.Items.{item_at, item_over}
 
 abbrev pub key_in : Option (NameOf Span) → List (NameOf Span)
@@ -41,12 +41,6 @@ literal_place (object place) = place
 abbrev pub first_byte : Span → Span
 first_byte place = record { start = place.start; end = if nat_lt place.start place.end then place.start + 1 else place.end }
 
--- whether the entries of an object literal are looked at: not those of a literal that does not fit, or stands in one
-abbrev pub is_read : List EntryOf → Reading → Says Span → Bool
-is_read es (at_type t) says = fits es t says
-is_read es at_any says = true
-is_read es not_read says = false
-
 -- what is wrong with a literal itself, whatever stands in it
 pub data IsFaultOf (es : List EntryOf) (file : ℕ) (reading : Reading) (value : Val Span) (item : Item) : Type 0 where
   -- section 5.6.1, over the whole literal
@@ -57,9 +51,9 @@ pub data IsFaultOf (es : List EntryOf) (file : ℕ) (reading : Reading) (value :
       reading ≡ at_type t → input_object_at es t ≡ Some type_name → value.label.says ≡ object place →
       Contains (entry_names value.below) name → input_named es type_name name.text ≡ None →
       item ≡ item_at file UnknownInputField name → IsFaultOf es file reading value item
-  -- section 5.6.3, at the later name
+  -- section 5.6.3, at the later name, whatever the literal is read at
   field_not_unique : {place : Span} {name : NameOf Span} →
-      is_read es reading value.label.says ≡ true → value.label.says ≡ object place →
+      value.label.says ≡ object place →
       IsRepeated (λ n. n.text) (entry_names value.below) name →
       item ≡ item_at file InputFieldNotUnique name → IsFaultOf es file reading value item
   -- section 5.6.4, at the opening brace

@@ -13,7 +13,7 @@ use Rattle.gq_found.specs.declared.item.Item.{Item}
 use Rattle.gq_types.specs.Entries.{Text, EntryOf}
 use Rattle.gq_types.specs.Names.{input_named}
 use Rattle.gq_types.specs.Required.{is_field_missing}
-use Rattle.gq_values.specs.Literals.{is_variable, is_null, is_object_literal, fits, Reading, at_type, at_any, not_read, part_at, field_at, input_object_at}
+use Rattle.gq_values.specs.Literals.{is_variable, is_null, is_object_literal, fits, Reading, at_type, at_any, part_at, field_at, input_object_at}
 use Rattle.gq_values.specs.Items.{item_at, item_over}
 use Rattle.gq_values.specs.LiteralFaults.{entry_names, literal_place, first_byte}
 
@@ -39,11 +39,20 @@ abbrev pub field_faults : List EntryOf → ℕ → Option Text → Span → List
 field_faults es file None place names = []
 field_faults es file (Some type_name) place names = unknown_fields es file type_name names ++ missing_fields es file type_name (texts names) place
 
-abbrev pub object_faults : List EntryOf → ℕ → Option Text → Span → List (NameOf Span) → List Item
-object_faults es file on place names = repeated_fields file [] names ++ field_faults es file on place names
+-- the names of the entries of an object literal; other literals have none
+abbrev pub names_in : Says Span → Vals Span → List (NameOf Span)
+names_in (object place) below = entry_names below
+names_in (variable name place) below = []
+names_in (int text place) below = []
+names_in (float text place) below = []
+names_in (string text place) below = []
+names_in (boolean value place) below = []
+names_in (null place) below = []
+names_in (enum name) below = []
+names_in (list place) below = []
 
 abbrev pub entry_faults : List EntryOf → ℕ → Option Text → Says Span → Vals Span → List Item
-entry_faults es file on (object place) below = object_faults es file on place (entry_names below)
+entry_faults es file on (object place) below = field_faults es file on place (entry_names below)
 entry_faults es file on (variable name place) below = []
 entry_faults es file on (int text place) below = []
 entry_faults es file on (float text place) below = []
@@ -53,23 +62,26 @@ entry_faults es file on (null place) below = []
 entry_faults es file on (enum name) below = []
 entry_faults es file on (list place) below = []
 
+-- what is told of a literal itself at a type
+abbrev pub type_faults : List EntryOf → ℕ → Reading → Says Span → Vals Span → List Item
+type_faults es file (at_type t) says below =
+    if fits es t says then entry_faults es file (input_object_at es t) says below else item_over file WrongValue (literal_place says) ∷ []
+type_faults es file at_any says below = []
+
 -- what is told of a literal itself
 abbrev pub own_faults : List EntryOf → ℕ → Reading → Says Span → Vals Span → List Item
-own_faults es file (at_type t) says below =
-    if fits es t says then entry_faults es file (input_object_at es t) says below else item_over file WrongValue (literal_place says) ∷ []
-own_faults es file at_any says below = entry_faults es file None says below
-own_faults es file not_read says below = []
+own_faults es file reading says below = repeated_fields file [] (names_in says below) ++ type_faults es file reading says below
 
 -- what is told of literals in a row, and of all that stand in them
 abbrev pub faults_in : List EntryOf → ℕ → (Option (NameOf Span) → Reading) → Vals Span → List Item
 faults_in es file read none = []
 faults_in es file read (more part below rest) =
-    (own_faults es file (read part.key) part.says below ++ faults_in es file (part_at es (read part.key) part.says) below) ++ faults_in es file read rest
+    (own_faults es file (read part.key) part.says below ++ faults_in es file (part_at es (read part.key)) below) ++ faults_in es file read rest
 
 -- what is told of a literal, and of all that stand in it
 abbrev pub literal_faults : List EntryOf → ℕ → Reading → Val Span → List Item
 literal_faults es file reading value =
-    own_faults es file reading value.label.says value.below ++ faults_in es file (part_at es reading value.label.says) value.below
+    own_faults es file reading value.label.says value.below ++ faults_in es file (part_at es reading) value.below
 
 abbrev pub fits_input_object : Says Span → Bool
 fits_input_object says = is_object_literal says || is_variable says || is_null says

@@ -1,6 +1,7 @@
 -- Literals read at types: values of correct type (section 5.6.1), with the coercion of literals of sections 3.5, 3.9 to 3.12.
 use Rattle.std.specs.Prelude.{ℕ, ◌+◌, ◌*◌, ◌-◌, ◌^◌, Bool, true, false, List, [], ◌∷◌, Option, Some, None, codes, nat_eq, nat_le, nat_lt, bytes_eq, if◌then◌else◌, ◌||◌, ◌&&◌}
 use Rattle.std.specs.List.{list_any}
+use Rattle.std.specs.Option.{option_map_or}
 use Rattle.gq_text.specs.declared.place.Span.{Span}
 use Rattle.gq_tree.specs.Forest.{none, more}
 use Rattle.gq_tree.specs.Plain.{NameOf, Says, Part, Val, Vals, TypeOf, named, list_of, non_null, InputOf, variable, int, float, string, boolean, null, enum, list, object}
@@ -9,6 +10,7 @@ use Rattle.gq_types.specs.declared.entry.TypeKind.TheVariants as kind
 use Rattle.gq_types.specs.Entries.{Text, EntryOf}
 use Rattle.gq_types.specs.BuiltIn.{built_in_scalars}
 use Rattle.gq_types.specs.Joined.{kind_named}
+use Rattle.gq_types.specs.Kinds.{is_input}
 use Rattle.gq_types.specs.Names.{input_named, has_value}
 
 -- the number that decimal digits spell
@@ -81,67 +83,31 @@ fits es (named name) says = fits_kind es name.text (kind_named es name.text) say
 fits es (list_of item) says = is_list says || is_null says || fits es item says
 fits es (non_null inner) says = if is_null says then false else fits es inner says
 
--- What a literal is read at. Inside the literal of a custom scalar, of an unknown type, field, argument or directive it
--- is read at any type; inside a literal that does not fit nothing is read.
+-- What a literal is read at: a type, or any. It is read at any type where none is known, and inside the literal of a custom
+-- scalar or one that does not fit: then nothing that needs a type is asked of it.
 pub data Reading : Type 0 where
   at_type : TypeOf Span → Reading
   at_any : Reading
-  not_read : Reading
 
--- a list or an object at the type of that name, which is no list type
-abbrev pub below_kind : Text → Option TypeKind → (object_fields : Reading) → Reading
-below_kind text (Some kind.Scalar) object_fields = if is_built_in_scalar text then not_read else at_any
-below_kind text (Some kind.Enum) object_fields = not_read
-below_kind text (Some kind.InputObject) object_fields = object_fields
-below_kind text (Some kind.Object) object_fields = at_any
-below_kind text (Some kind.Interface) object_fields = at_any
-below_kind text (Some kind.Union) object_fields = at_any
-below_kind text None object_fields = at_any
+-- IsInputType (section 3.4.2); not of what is not known
+abbrev pub is_input_type : List EntryOf → TypeOf Span → Bool
+is_input_type es (named name) = option_map_or is_input (kind_named es name.text) false
+is_input_type es (list_of item) = is_input_type es item
+is_input_type es (non_null inner) = is_input_type es inner
+
+-- a default value of that type
+abbrev pub default_at : List EntryOf → TypeOf Span → Reading
+default_at es t = if is_input_type es t then at_type t else at_any
 
 -- the items of a list literal
-abbrev pub items_of_type : List EntryOf → TypeOf Span → Reading
-items_of_type es (named name) = below_kind name.text (kind_named es name.text) not_read
-items_of_type es (list_of item) = at_type item
-items_of_type es (non_null inner) = items_of_type es inner
+abbrev pub items_of_type : TypeOf Span → Reading
+items_of_type (named name) = at_any
+items_of_type (list_of item) = at_type item
+items_of_type (non_null inner) = items_of_type inner
 
-abbrev pub items_at : List EntryOf → Reading → Reading
-items_at es (at_type t) = items_of_type es t
-items_at es at_any = at_any
-items_at es not_read = not_read
-
--- the type of an input field; what is in an unknown one is read at any type
-abbrev pub at_input : Option (InputOf Span) → Reading
-at_input (Some i) = at_type i.type_ref
-at_input None = at_any
-
--- the value of the field of that name in an object literal
-abbrev pub field_of_type : List EntryOf → TypeOf Span → Text → Reading
-field_of_type es (named name) text = below_kind name.text (kind_named es name.text) (at_input (input_named es name.text text))
-field_of_type es (list_of item) text = field_of_type es item text
-field_of_type es (non_null inner) text = field_of_type es inner text
-
-abbrev pub field_at : List EntryOf → Reading → Text → Reading
-field_at es (at_type t) text = field_of_type es t text
-field_at es at_any text = at_any
-field_at es not_read text = not_read
-
--- what stands at a place in the braces or brackets of a literal that says so
-abbrev pub part_at : {P : Type 0} → List EntryOf → Reading → Says P → Option (NameOf P) → Reading
-part_at es reading says None = items_at es reading
-part_at es reading says (Some key) = field_at es reading key.text
-
--- A literal that stands in literals in a row, at any depth, and what it is read at, where those in the row are read as given.
-pub data StandsIn (es : List EntryOf) : (Option (NameOf Span) → Reading) → Vals Span → Reading → Val Span → Type 0 where
-  here : {read : Option (NameOf Span) → Reading} {part : Part Span} {below rest : Vals Span} →
-      StandsIn es read (more part below rest) (read part.key) (record { label = part; below = below })
-  within : {read : Option (NameOf Span) → Reading} {part : Part Span} {below rest : Vals Span} {reading : Reading} {value : Val Span} →
-      StandsIn es (part_at es (read part.key) part.says) below reading value → StandsIn es read (more part below rest) reading value
-  after : {read : Option (NameOf Span) → Reading} {part : Part Span} {below rest : Vals Span} {reading : Reading} {value : Val Span} →
-      StandsIn es read rest reading value → StandsIn es read (more part below rest) reading value
-
--- a literal, or one that stands in it, and what it is read at
-abbrev pub Holds : List EntryOf → Reading → Val Span → Reading → Val Span → Type 0
-Holds es reading value inner part = StandsIn es (λ key. reading) (more value.label value.below none) inner part
+abbrev pub items_at : Reading → Reading
+items_at (at_type t) = items_of_type t
+items_at at_any = at_any
 
 abbrev pub is_input_object : Option TypeKind → Bool
 is_input_object (Some kind.InputObject) = true
@@ -152,3 +118,35 @@ abbrev pub input_object_at : List EntryOf → TypeOf Span → Option Text
 input_object_at es (named name) = if is_input_object (kind_named es name.text) then Some name.text else None
 input_object_at es (list_of item) = input_object_at es item
 input_object_at es (non_null inner) = input_object_at es inner
+
+-- the type of an input field; what is in an unknown one is read at any type
+abbrev pub at_input : Option (InputOf Span) → Reading
+at_input (Some i) = at_type i.type_ref
+at_input None = at_any
+
+-- the value of the field of that name in an object literal, by the input object at whose fields it is read
+abbrev pub at_field : List EntryOf → (type_name : Option Text) → Text → Reading
+at_field es (Some type_name) text = at_input (input_named es type_name text)
+at_field es None text = at_any
+
+abbrev pub field_at : List EntryOf → Reading → Text → Reading
+field_at es (at_type t) text = at_field es (input_object_at es t) text
+field_at es at_any text = at_any
+
+-- what stands at a place in the braces or brackets of a literal
+abbrev pub part_at : {P : Type 0} → List EntryOf → Reading → Option (NameOf P) → Reading
+part_at es reading None = items_at reading
+part_at es reading (Some key) = field_at es reading key.text
+
+-- A literal that stands in literals in a row, at any depth, and what it is read at, where those in the row are read as given.
+pub data StandsIn (es : List EntryOf) : (Option (NameOf Span) → Reading) → Vals Span → Reading → Val Span → Type 0 where
+  here : {read : Option (NameOf Span) → Reading} {part : Part Span} {below rest : Vals Span} →
+      StandsIn es read (more part below rest) (read part.key) (record { label = part; below = below })
+  within : {read : Option (NameOf Span) → Reading} {part : Part Span} {below rest : Vals Span} {reading : Reading} {value : Val Span} →
+      StandsIn es (part_at es (read part.key)) below reading value → StandsIn es read (more part below rest) reading value
+  after : {read : Option (NameOf Span) → Reading} {part : Part Span} {below rest : Vals Span} {reading : Reading} {value : Val Span} →
+      StandsIn es read rest reading value → StandsIn es read (more part below rest) reading value
+
+-- a literal, or one that stands in it, and what it is read at
+abbrev pub Holds : List EntryOf → Reading → Val Span → Reading → Val Span → Type 0
+Holds es reading value inner part = StandsIn es (λ key. reading) (more value.label value.below none) inner part

@@ -3,7 +3,7 @@ ghost use Rattle.std.specs.Prelude.{◌≡◌, ◌++◌, OnOk};
 ghost use Rattle.gq_tree.specs.Views.{value_view, entries_view};
 ghost use Rattle.gq_types.specs.Look.{types_view, text_of};
 ghost use Rattle.gq_values.specs.LiteralFaults.{entry_names, literal_place, first_byte};
-ghost use Rattle.gq_values.specs.LiteralPlaces.{texts, repeated_fields, unknown_fields, missing_fields, object_faults, entry_faults, own_faults, literal_faults, item_faults, faults_of_field, value_faults};
+ghost use Rattle.gq_values.specs.LiteralPlaces.{texts, repeated_fields, unknown_fields, missing_fields, field_faults, names_in, entry_faults, type_faults, own_faults, literal_faults, item_faults, faults_of_field, value_faults};
 ghost use Rattle.gq_values.specs.Readings.{reading_view};
 
 use crate::fitting::fits;
@@ -105,24 +105,43 @@ fn put_missing_fields(
     Ok(())
 }
 
+/// The entries of an object literal; other literals have none.
 #[tactic(auto, using(gq_tree::proofs::Trees::gathers))]
-fn put_object_faults(
-    alloc: Global,
+fn entries_of(value: &Value) -> &[ObjectField]
+    ensures { entry_names (entries_view result.now) ≡ names_in (value_view value.now).label.says (value_view value.now).below }
+{
+    match value {
+        Value::Object { fields, .. } => fields.as_slice(),
+        Value::Variable(_) => &[],
+        Value::Int(_) => &[],
+        Value::Float(_) => &[],
+        Value::String(_) => &[],
+        Value::Boolean { .. } => &[],
+        Value::Null { .. } => &[],
+        Value::Enum(_) => &[],
+        Value::List { .. } => &[],
+    }
+}
+
+/// Puts what is wrong with the entries of an object literal as fields of an input object, if it is read at one. `names`
+/// are theirs.
+#[tactic(auto, using(gq_tree::proofs::Trees::gathers))]
+fn put_field_faults(
     types: &Types,
     file: usize,
     type_name: Option<&str>,
-    place: Span,
     fields: &[ObjectField],
+    names: &NameList,
+    place: Span,
     items: &mut Vec<Item>,
 ) -> Result<(), NoMemory>
-    ensures { OnOk result (items.new.items ≡ items.old.items ++ object_faults (types_view types.now) file (text_of type_name.entry) place (entry_names (entries_view fields.now))) }
+    requires { names.now ≡ texts (entry_names (entries_view fields.now)) }
+    ensures { OnOk result (items.new.items ≡ items.old.items ++ field_faults (types_view types.now) file (text_of type_name.entry) place (entry_names (entries_view fields.now))) }
 {
-    let mut names = NameList::new(alloc);
-    put_repeated_fields(file, fields, &mut names, items)?;
     match type_name {
         Some(type_name) => {
             put_unknown_fields(types, file, type_name, fields, items)?;
-            put_missing_fields(types, file, type_name, &names, place, items)
+            put_missing_fields(types, file, type_name, names, place, items)
         }
         None => Ok(()),
     }
@@ -130,18 +149,19 @@ fn put_object_faults(
 
 #[tactic(auto, using(gq_tree::proofs::Trees::gathers))]
 fn put_entry_faults(
-    alloc: Global,
     types: &Types,
     file: usize,
     type_name: Option<&str>,
     value: &Value,
+    names: &NameList,
     items: &mut Vec<Item>,
 ) -> Result<(), NoMemory>
+    requires { names.now ≡ texts (names_in (value_view value.now).label.says (value_view value.now).below) }
     ensures { OnOk result (items.new.items ≡ items.old.items ++ entry_faults (types_view types.now) file (text_of type_name.entry) (value_view value.now).label.says (value_view value.now).below) }
 {
     match value {
         Value::Object { fields, span } => {
-            put_object_faults(alloc, types, file, type_name, *span, fields, items)
+            put_field_faults(types, file, type_name, fields, names, *span, items)
         }
         Value::Variable(_) => Ok(()),
         Value::Int(_) => Ok(()),
@@ -154,7 +174,32 @@ fn put_entry_faults(
     }
 }
 
-#[tactic(auto, using(gq_tree::proofs::Trees::gathers))]
+/// Puts what is wrong with a literal at its type. `names` are those of its entries.
+fn put_type_faults(
+    types: &Types,
+    file: usize,
+    reading: Read<'_>,
+    value: &Value,
+    names: &NameList,
+    items: &mut Vec<Item>,
+) -> Result<(), NoMemory>
+    requires { names.now ≡ texts (names_in (value_view value.now).label.says (value_view value.now).below) }
+    ensures { OnOk result (items.new.items ≡ items.old.items ++ type_faults (types_view types.now) file (reading_view reading.entry) (value_view value.now).label.says (value_view value.now).below) }
+{
+    match reading {
+        Read::AtType(type_ref) => {
+            if !fits(types, type_ref, value) {
+                let fault = item_over(file, Code::WrongValue, literal_place(value));
+                return put(fault, items);
+            }
+            let type_name = input_object_at(types, type_ref);
+            put_entry_faults(types, file, type_name, value, names, items)
+        }
+        Read::AtAny => Ok(()),
+    }
+}
+
+/// Puts what is wrong with a literal itself. That its entries repeat a name is asked whatever it is read at.
 fn put_own_faults(
     alloc: Global,
     types: &Types,
@@ -165,25 +210,14 @@ fn put_own_faults(
 ) -> Result<(), NoMemory>
     ensures { OnOk result (items.new.items ≡ items.old.items ++ own_faults (types_view types.now) file (reading_view reading.entry) (value_view value.now).label.says (value_view value.now).below) }
 {
-    match reading {
-        Read::AtType(type_ref) => {
-            if !fits(types, type_ref, value) {
-                return put(
-                    item_over(file, Code::WrongValue, literal_place(value)),
-                    items,
-                );
-            }
-            let type_name = input_object_at(types, type_ref);
-            put_entry_faults(alloc, types, file, type_name, value, items)
-        }
-        Read::AtAny => put_entry_faults(alloc, types, file, None, value, items),
-        Read::NotRead => Ok(()),
-    }
+    let mut names = NameList::new(alloc);
+    put_repeated_fields(file, entries_of(value), &mut names, items)?;
+    put_type_faults(types, file, reading, value, &names, items)
 }
 
 /// Puts an item for each fault of the literal and of the literals in it, where it is read so: a literal that does not fit
-/// its type, an input field that is unknown or given twice or missing. `file` is the number of the document that it
-/// stands in.
+/// its type, an input field that is unknown or missing; and a name that an object literal gives twice, whatever that is
+/// read at. `file` is the number of the document that it stands in.
 #[cycle(literals)]
 #[tactic(auto, using(gq_tree::proofs::Trees::gathers))]
 pub fn put_literal_faults(
@@ -199,7 +233,7 @@ pub fn put_literal_faults(
     put_own_faults(alloc, types, file, reading, value, items)?;
     match value {
         Value::List { items: values, .. } => {
-            put_item_faults(alloc, types, file, items_at(types, reading), values, items)
+            put_item_faults(alloc, types, file, items_at(reading), values, items)
         }
         Value::Object { fields, .. } => {
             put_value_faults(alloc, types, file, reading, fields, items)

@@ -16,15 +16,15 @@ use Rattle.gq_variables.specs.UsesPlaces.{own_uses, uses_among, value_uses, item
 -- an item of a list literal has no key
 at_item : (es : List EntryOf) (file : ℕ) (place : PlaceOf) (v : Value) → (key : Option (NameOf Span)) → key ≡ None →
     own_uses file (part_place es place key) (value_view v).label.says ++ uses_among es file (part_place es (part_place es place key)) (value_view v).below
-    ≡ value_uses es file (items_place es place) (value_view v)
+    ≡ value_uses es file (items_place place) (value_view v)
 at_item es file place v None e = refl
 at_item es file place v (Some key) e = absurd (none-some key (sym e))
 
-row_of_items : (es : List EntryOf) (file : ℕ) (place : PlaceOf) (vs : List Value) → uses_among es file (part_place es place) (values_view vs) ≡ item_uses es file (items_place es place) vs
+row_of_items : (es : List EntryOf) (file : ℕ) (place : PlaceOf) (vs : List Value) → uses_among es file (part_place es place) (values_view vs) ≡ item_uses es file (items_place place) vs
 row_of_items es file place [] = refl
 row_of_items es file place (v ∷ vs) =
     ap (λ (f : List UseOf). f ++ uses_among es file (part_place es place) (values_view vs)) (at_item es file place v (value_view v).label.key (value_key v))
-    ∙ ap (λ (f : List UseOf). value_uses es file (items_place es place) (value_view v) ++ f) (row_of_items es file place vs)
+    ∙ ap (λ (f : List UseOf). value_uses es file (items_place place) (value_view v) ++ f) (row_of_items es file place vs)
 
 row_of_fields : (es : List EntryOf) (file : ℕ) (place : PlaceOf) (fs : List ObjectField) → uses_among es file (part_place es place) (entries_view fs) ≡ field_uses es file place fs
 row_of_fields es file place [] = refl
@@ -32,12 +32,12 @@ row_of_fields es file place (f ∷ fs) = ap (λ (r : List UseOf). value_uses es 
 
 -- what is put for a list literal are its uses
 pub list_done : (es : List EntryOf) (file : ℕ) (place inner : PlaceOf) (v : Value) (vs : Vec Value Global) (span : Span) (now : List Value) (old new : List UseOf) →
-    v ≡ value_variant.List vs span → inner ≡ items_place es place → now ≡ vs.items →
+    v ≡ value_variant.List vs span → inner ≡ items_place place → now ≡ vs.items →
     new ≡ old ++ item_uses es file inner now → new ≡ old ++ value_uses es file place (value_view v)
 list_done es file place inner v vs span now old new is read behind below =
     let seen = ap value_view is ∙ view_list vs span in
     let row = ap (λ (w : Val Span). own_uses file place w.label.says ++ uses_among es file (part_place es place) w.below) seen ∙ row_of_items es file place vs.items in
-    let same = ap (λ (p : PlaceOf). item_uses es file p now) read ∙ ap (item_uses es file (items_place es place)) behind in
+    let same = ap (λ (p : PlaceOf). item_uses es file p now) read ∙ ap (item_uses es file (items_place place)) behind in
     below ∙ ap (λ (x : List UseOf). old ++ x) (same ∙ sym row)
 
 -- what is put for an object literal are its uses

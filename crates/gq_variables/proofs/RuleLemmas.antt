@@ -17,7 +17,7 @@ use Rattle.gq_types.specs.Entries.{Text, EntryOf}
 use Rattle.gq_types.specs.Joined.{kind_named}
 use Rattle.gq_types.specs.Kinds.{is_input}
 use Rattle.gq_types.proofs.Gathered.{or_cases, or_left, or_right, and_parts, and_both, not_true, not_false, from_any, to_any, found, tested}
-use Rattle.gq_values.specs.Literals.{Reading, at_type, at_any, not_read}
+use Rattle.gq_values.specs.Literals.{Reading, at_type, at_any}
 use Rattle.gq_values.specs.Items.{item_at}
 use Rattle.gq_values.proofs.FoundLemmas.{only, from_if, to_if, from_flat, to_flat, from_map, to_map}
 use Rattle.gq_document.specs.Definitions.{OperationOf}
@@ -225,7 +225,6 @@ module _ (x : ExecutableOf) (o : OperationOf) (uses : List UseOf) (are : (u : Us
             is = is;
           }
       by_reading at_any e = (let h = subst (λ r. is_wrong_reading x.entries w.variable u.place.has_default r ≡ true) e w.wrong in absurd (cc))
-      by_reading not_read e = (let h = subst (λ r. is_wrong_reading x.entries w.variable u.place.has_default r ≡ true) e w.wrong in absurd (cc))
 
   pub not_allowed_are : Contains (not_allowed x.entries o.variables (repeated_variables [] o.variables) uses) item ↔ IsNotAllowed x o item
   not_allowed_are = (from, to)

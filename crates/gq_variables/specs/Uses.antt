@@ -6,7 +6,7 @@ use Rattle.gq_tree.specs.Forest.{none, more}
 use Rattle.gq_tree.specs.Plain.{NameOf, Part, Val, Vals, InputOf, DirectiveOf, VariableOf, Head, field, spread, inline, variable}
 use Rattle.gq_types.specs.Entries.{Text, EntryOf}
 use Rattle.gq_types.specs.Names.{input_named, argument_named}
-use Rattle.gq_values.specs.Literals.{Reading, at_type, at_any, not_read, items_at, field_at, input_object_at}
+use Rattle.gq_values.specs.Literals.{Reading, at_type, at_any, items_at, field_at, input_object_at}
 use Rattle.gq_values.specs.ArgumentFaults.{argument_at}
 use Rattle.gq_types.specs.Arguments.{directive_arguments}
 use Rattle.gq_document.specs.Definitions.{OperationOf, FragmentOf}
@@ -25,11 +25,10 @@ is_defaulted input = option_map_or (λ i. is_some i.default) input false
 abbrev pub input_field_at : List EntryOf → Reading → Text → Option (InputOf Span)
 input_field_at es (at_type t) text = option_and_then (λ type_name. input_named es type_name text) (input_object_at es t)
 input_field_at es at_any text = None
-input_field_at es not_read text = None
 
 -- the items of a list literal have no default value
-abbrev pub items_place : List EntryOf → PlaceOf → PlaceOf
-items_place es place = record { reading = items_at es place.reading; has_default = false }
+abbrev pub items_place : PlaceOf → PlaceOf
+items_place place = record { reading = items_at place.reading; has_default = false }
 
 -- the value of the field of that name in an object literal
 abbrev pub field_place : List EntryOf → PlaceOf → Text → PlaceOf
@@ -37,7 +36,7 @@ field_place es place text = record { reading = field_at es place.reading text; h
 
 -- what stands in the brackets or braces of a literal at a place
 abbrev pub part_place : List EntryOf → PlaceOf → Option (NameOf Span) → PlaceOf
-part_place es place None = items_place es place
+part_place es place None = items_place place
 part_place es place (Some key) = field_place es place key.text
 
 -- The argument of that name, where the definitions are those of its field or directive; none are given where that is not

@@ -11,7 +11,7 @@ use Rattle.gq_found.specs.declared.item.Item.{Item}
 use Rattle.gq_types.specs.Entries.{Text, EntryOf}
 use Rattle.gq_types.specs.Joined.{kind_named}
 use Rattle.gq_types.specs.Kinds.{is_input}
-use Rattle.gq_values.specs.Literals.{Reading, at_type, at_any, not_read}
+use Rattle.gq_values.specs.Literals.{Reading, at_type, at_any}
 use Rattle.gq_types.specs.Required.{is_non_null}
 use Rattle.gq_values.specs.Items.{item_at}
 use Rattle.gq_document.specs.Definitions.{OperationOf}
@@ -86,7 +86,6 @@ is_wrong_type es v place_has_default location = is_known es v.type_ref && (is_kn
 abbrev pub is_wrong_reading : List EntryOf → VariableOf Span → Bool → Reading → Bool
 is_wrong_reading es v place_has_default (at_type location) = is_wrong_type es v place_has_default location
 is_wrong_reading es v place_has_default at_any = false
-is_wrong_reading es v place_has_default not_read = false
 
 -- whether the variable may not stand at the place
 abbrev pub is_wrong_at : List EntryOf → PlaceOf → VariableOf Span → Bool

@@ -35,7 +35,6 @@ fn is_wrong_at(types: &Types, place: Place<'_>, variable: &VariableDefinition) -
                 && !is_allowed(variable, place.has_default, location)
         }
         Read::AtAny => false,
-        Read::NotRead => false,
     }
 }
 

@@ -35,16 +35,15 @@ fn input_field_at<'a>(
             None => None,
         },
         Read::AtAny => None,
-        Read::NotRead => None,
     }
 }
 
 /// The place of each item of a list literal.
-pub(crate) fn items_place<'a>(types: &'a Types, place: Place<'a>) -> Place<'a>
-    ensures { place_view result ≡ items_place (types_view types.now) (place_view place.entry) }
+pub(crate) fn items_place(place: Place<'_>) -> Place<'_>
+    ensures { place_view result ≡ items_place (place_view place.entry) }
 {
     Place {
-        reading: items_at(types, place.reading),
+        reading: items_at(place.reading),
         has_default: false,
     }
 }

@@ -33,7 +33,7 @@ fn put_uses_of_value<'a>(
             Ok(())
         }
         Value::List { items, .. } => {
-            put_uses_of_items(types, file, items_place(types, place), items, uses)
+            put_uses_of_items(types, file, items_place(place), items, uses)
         }
         Value::Object { fields, .. } => put_uses_of_fields(types, file, place, fields, uses),
         Value::Int(_) => Ok(()),

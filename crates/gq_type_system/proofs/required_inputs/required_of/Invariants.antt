@@ -5,5 +5,5 @@ use Rattle.gq_type_system.proofs.required_inputs.required_of.Given as goal
 
 abbrev pub invariant-loop-joined : goal.invariant-loop-joined
 invariant-loop-joined l =
-    l.row.items ++ flat_map (required_at (types_view l.types)) (drop l.joined-index l.joined-items)
-    ≡ flat_map (required_at (types_view l.types)) l.joined-items
+    l.row.items ++ flat_map (required_at (types_view l.types) l.type_name) (drop l.joined-index l.joined-items)
+    ≡ flat_map (required_at (types_view l.types) l.type_name) l.joined-items
