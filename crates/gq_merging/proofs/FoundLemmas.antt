@@ -131,10 +131,10 @@ module _ (w : LookOf) (passed : List Bool) (square : w.size ≡ w.count * w.coun
   met_found p = (
     (λ g. let q = sound g.one g.these in record { number = q.from; reached = q.reached; met = met_at g.one p q g.gives }),
     (λ h.
-      let l = reached_within w passed h.number h.reached in
-      record {
-        one = h.met.left.reached * w.count + h.met.right.reached;
-        these = all_of h.number h.met.left.reached h.met.right.reached l (complete h.number h.reached) h.met.left.reach h.met.right.reach;
-        gives = met_in h.number p l h.met;
-      }),
+        let l = reached_within w passed h.number h.reached in
+        record {
+          one = h.met.left.reached * w.count + h.met.right.reached;
+          these = all_of h.number h.met.left.reached h.met.right.reached l (complete h.number h.reached) h.met.left.reach h.met.right.reach;
+          gives = met_in h.number p l h.met;
+        }),
   )

@@ -1,8 +1,8 @@
 -- What is put and what is found where pairs of fields are looked at.
-use Rattle.std.proofs.Common.{◌≡◌, ◌↔◌, ◌⊎◌, ⊎_elim, ℕ, zero, suc, ◌+◌, ◌/◌, ◌%◌, ◌<◌, Bool, true, false, if◌then◌else◌, nat_eq, List, [], ◌∷◌, ◌++◌, length, take, get_or, Contains, refl, sym, ◌∙◌, ap, subst, inl, inr, append_assoc, arith}
+use Rattle.std.proofs.Common.{◌≡◌, ◌↔◌, ◌⊎◌, ⊎_elim, ℕ, zero, suc, ◌+◌, ◌/◌, ◌%◌, ◌<◌, ◌≤◌, Bool, true, false, if◌then◌else◌, nat_eq, List, [], ◌∷◌, ◌++◌, length, take, get_or, Contains, refl, sym, ◌∙◌, ap, subst, inl, inr, append_assoc, arith}
 use Rattle.std.specs.List.{list_any}
 use Rattle.std.proofs.lemmas.Bool.Decides.{Decides-eqb}
-use Rattle.std.proofs.lemmas.List.{take_more, map-append, append-nil}
+use Rattle.std.proofs.lemmas.List.{take_all, take_more, map-append, append-nil}
 use Rattle.std.proofs.lemmas.List.Elements.{Contains-append_left, Contains-append_right, Contains-append_cases, Contains-push}
 use Rattle.indexmap.specs.IndexSet.{insert_key}
 use Rattle.indexmap.proofs.CallerLemmas.{Contains-list_any}
@@ -122,7 +122,7 @@ module _ {B : Type 0} (Gives : MetOf → B → Type 0) where
     (λ g. record { one = g.one; these = (h g.one).1 g.these; gives = g.gives }),
   )
 
-  given_either : (A C : MetOf → Type 0) (b : B) → (IsGiven A Gives b ⊎ IsGiven C Gives b) ↔ IsGiven (λ p. A p ⊎ C p) Gives b
+  pub given_either : (A C : MetOf → Type 0) (b : B) → (IsGiven A Gives b ⊎ IsGiven C Gives b) ↔ IsGiven (λ p. A p ⊎ C p) Gives b
   given_either A C b = (
     (λ s. ⊎_elim (λ g. record { one = g.one; these = inl g.these; gives = g.gives }) (λ g. record { one = g.one; these = inr g.these; gives = g.gives }) s),
     (λ g. ⊎_elim (λ l. inl (record { one = g.one; these = l; gives = g.gives })) (λ r. inr (record { one = g.one; these = r; gives = g.gives })) g.these),
@@ -305,13 +305,16 @@ one_more Gives xs d b = (
 pub gains_none : (Gives : ℕ → ℕ → Type 0) (xs : List ℕ) (old : List ℕ) → Gains (IsGiven (Contains (take 0 xs)) Gives) old old
 gains_none Gives xs old = gains_nothing (IsGiven (Contains (take 0 xs)) Gives) old (λ n g. contains_none g.one g.these)
 
-pub gains_more : (Gives : ℕ → ℕ → Type 0) (xs : List ℕ) (i d : ℕ) (old between new : List ℕ) → i < length xs → get_or xs i d ≡ d →
-    Gains (IsGiven (Contains (take i xs)) Gives) old between → Gains (Gives d) between new → Gains (IsGiven (Contains (take (i + 1) xs)) Gives) old new
-gains_more Gives xs i d old between new l e a b =
-    let front : take (i + 1) xs ≡ take i xs ++ d ∷ [] = take_more xs i d l ∙ ap (λ x. take i xs ++ x ∷ []) e in
-    subst (λ ys. Gains (IsGiven (Contains ys) Gives) old new) (sym front)
+pub gains_more : (Gives : ℕ → ℕ → Type 0) (xs : List ℕ) (i : ℕ) (old between new : List ℕ) → i < length xs →
+    Gains (IsGiven (Contains (take i xs)) Gives) old between → Gains (Gives (get_or xs i 0)) between new → Gains (IsGiven (Contains (take (i + 1) xs)) Gives) old new
+gains_more Gives xs i old between new l a b =
+    let d = get_or xs i 0 in
+    subst (λ ys. Gains (IsGiven (Contains ys) Gives) old new) (sym (take_more xs i 0 l))
     (gains_as (λ n. IsGiven (Contains (take i xs)) Gives n ⊎ Gives d n) (IsGiven (Contains (take i xs ++ d ∷ [])) Gives) old new (one_more Gives (take i xs) d)
     (gains_both (IsGiven (Contains (take i xs)) Gives) (Gives d) old between new a b))
+
+pub gains_all : (Gives : ℕ → ℕ → Type 0) (xs : List ℕ) (i : ℕ) (old new : List ℕ) → length xs ≤ i → Gains (IsGiven (Contains (take i xs)) Gives) old new → Gains (IsGiven (Contains xs) Gives) old new
+gains_all Gives xs i old new past g = subst (λ ys. Gains (IsGiven (Contains ys) Gives) old new) (take_all i xs past) g
 
 -- what is found after a pair
 pub gains_after : (w : LookOf) (m : ℕ) (items items' : List Item) (old second third new : List ℕ) →

@@ -175,7 +175,7 @@ fn look_at_sets(
     requires typename { type_view look.typename_type.now ≡ typename_field.type_ref }
     requires left { left < length look.rows.now }
     requires right { right < length look.rows.now }
-    ensures { OnOk result (Looked (look_view look.entry) (AreMet (members_at (rows_view look.entry.rows.now) left.entry) (members_at (rows_view look.entry.rows.now) right.entry)) items.old.items items.new.items found.old.keys found.new.keys) }
+    ensures { OnOk result (Looked (look_view look.entry) (AreMet (members_at (rows_view look.entry.rows.now) left) (members_at (rows_view look.entry.rows.now) right)) items.old.items items.new.items found.old.keys found.new.keys) }
 {
     let left = own_members(look.rows, left);
     let right = own_members(look.rows, right);
@@ -304,7 +304,15 @@ pub fn put_merging_faults(
     let spreads = all_spreads(alloc, &rows)?;
     let string_type = typename_type(alloc)?;
     let marks = merged_rows(alloc, executable, &string_type, &rows, &spreads)?;
-    put_unmarked_faults(alloc, executable, &string_type, &rows, &spreads, &marks, items)?;
+    put_unmarked_faults(
+        alloc,
+        executable,
+        &string_type,
+        &rows,
+        &spreads,
+        &marks,
+        items,
+    )?;
     Ok(())
 }
 
@@ -321,6 +329,14 @@ pub fn put_merging_faults_by_threads<R: Threads + Sync>(
     let spreads = all_spreads(alloc, &rows)?;
     let string_type = typename_type(alloc)?;
     let marks = merged_rows_by_threads(rt, alloc, executable, &string_type, &rows, &spreads)?;
-    put_unmarked_faults(alloc, executable, &string_type, &rows, &spreads, &marks, items)?;
+    put_unmarked_faults(
+        alloc,
+        executable,
+        &string_type,
+        &rows,
+        &spreads,
+        &marks,
+        items,
+    )?;
     Ok(())
 }

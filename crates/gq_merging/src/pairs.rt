@@ -56,11 +56,7 @@ fn put_number(
 }
 
 /// The pairs of each set with itself that is not passed over.
-pub(crate) fn starts(
-    alloc: Global,
-    passed: &[bool],
-    size: u128,
-) -> Result<IndexSet<u128>, NoMemory>
+pub(crate) fn starts(alloc: Global, passed: &[bool], size: u128) -> Result<IndexSet<u128>, NoMemory>
     ensures { IfOk result (λ found. Gains (IsStart passed.now (length passed.now) size (length passed.now)) [] found.keys) }
 {
     let mut found = IndexSet::new(alloc);
@@ -100,7 +96,7 @@ pub(crate) fn put_lefts(
     right: usize,
     found: &mut IndexSet<u128>,
 ) -> Result<(), NoMemory>
-    ensures { OnOk result (Gains (IsGiven (Contains lefts.now) (λ left. IsNumber (length look.entry.rows.now) look.entry.size left right.entry)) found.old.keys found.new.keys) }
+    ensures { OnOk result (Gains (IsGiven (Contains lefts.now) (λ left. IsNumber (length look.entry.rows.now) look.entry.size left right)) found.old.keys found.new.keys) }
 {
     for left in lefts {
         put_number(look.rows.len(), look.size, *left, right, found)?;
@@ -115,7 +111,7 @@ pub(crate) fn put_rights(
     rights: &[usize],
     found: &mut IndexSet<u128>,
 ) -> Result<(), NoMemory>
-    ensures { OnOk result (Gains (IsGiven (Contains rights.now) (λ right. IsNumber (length look.entry.rows.now) look.entry.size left.entry right)) found.old.keys found.new.keys) }
+    ensures { OnOk result (Gains (IsGiven (Contains rights.now) (λ right. IsNumber (length look.entry.rows.now) look.entry.size left right)) found.old.keys found.new.keys) }
 {
     for right in rights {
         put_number(look.rows.len(), look.size, left, *right, found)?;
