@@ -11,7 +11,7 @@ use gq_document::Executable;
 use gq_fields::put_field_faults;
 use gq_found::Item;
 use gq_fragments::{put_fragment_faults, put_operation_faults};
-use gq_merging::put_merging_faults;
+use gq_merging::put_merging_faults_by_threads;
 use gq_spreads::{Spreads, put_spread_faults};
 use gq_text::NoMemory;
 use gq_variables::put_variable_faults;
@@ -27,7 +27,7 @@ fn merging_faults<R: Threads + Sync>(
     ensures { IfOk result (λ items. Puts (IsMergingFault (executable_view executable.now)) [] items.items) }
 {
     let mut items = Vec::new(alloc);
-    put_merging_faults(rt, alloc, executable, &mut items)?;
+    put_merging_faults_by_threads(rt, alloc, executable, &mut items)?;
     Ok(items)
 }
 
