@@ -1,8 +1,11 @@
 //! The documents of a project as they are read, what they define, and their selections.
+use crate::items::documents_of;
 use crate::no_answer::NoAnswer;
 use crate::row::{Row, project_of};
 use crate::telling::Telling;
-use gq_document::{Definitions, Selected, fragment_selections, operation_selections};
+use gq_document::{
+    Definitions, FragmentEntry, OperationEntry, Selected, fragment_selections, operation_selections,
+};
 use gq_project::{Doc, Project};
 use gq_read::{Reading, read, read_by_threads};
 use gq_tree::Selection;
@@ -52,14 +55,6 @@ fn definitions(alloc: Global, project: &Project) -> Result<Definitions, NoAnswer
     Ok(Definitions::of(alloc, read(alloc, project.documents())?)?)
 }
 
-/// Tells the document of a definition.
-fn tell_definition(kind: &str, file: usize, telling: &mut Telling) {
-    telling.put(if telling.is_empty() { "" } else { " " });
-    telling.put(kind);
-    telling.put(" ");
-    telling.put_number(file);
-}
-
 /// Tells the number of the document of each definition, one kind behind the other.
 pub fn tell_definitions(
     alloc: Global,
@@ -68,15 +63,20 @@ pub fn tell_definitions(
 ) -> Result<(), NoAnswer> {
     let project = project_of(alloc, &row.entries)?;
     let all = definitions(alloc, &project)?;
-    for entry in &all.entries {
-        tell_definition("type system", entry.file, telling);
-    }
-    for operation in &all.operations {
-        tell_definition("operation", operation.file, telling);
-    }
-    for fragment in &all.fragments {
-        tell_definition("fragment", fragment.file, telling);
-    }
+    tell_files(alloc, &all, telling)
+}
+
+/// Tells the numbers of the documents of definitions.
+fn tell_files(alloc: Global, all: &Definitions, telling: &mut Telling) -> Result<(), NoAnswer> {
+    let entries: Vec<usize> = all.entries.iter().map(|one| one.file).collect(alloc)?;
+    let operations: Vec<usize> = all.operations.iter().map(|one| one.file).collect(alloc)?;
+    let fragments: Vec<usize> = all.fragments.iter().map(|one| one.file).collect(alloc)?;
+    telling.put("type system ");
+    telling.put_debug(&entries);
+    telling.put(", operations ");
+    telling.put_debug(&operations);
+    telling.put(", fragments ");
+    telling.put_debug(&fragments);
     Ok(())
 }
 
@@ -94,24 +94,40 @@ fn tell_selected(selections: &[Selected<'_>], telling: &mut Telling) {
     }
 }
 
+/// Tells the selections of operations.
+fn tell_operations(
+    alloc: Global,
+    types: &Types,
+    operations: &[OperationEntry],
+    telling: &mut Telling,
+) -> Result<(), NoAnswer> {
+    for operation in operations {
+        tell_selected(&operation_selections(alloc, types, operation)?, telling);
+    }
+    Ok(())
+}
+
+/// Tells the selections of fragments.
+fn tell_fragments(
+    alloc: Global,
+    types: &Types,
+    fragments: &[FragmentEntry],
+    telling: &mut Telling,
+) -> Result<(), NoAnswer> {
+    for fragment in fragments {
+        tell_selected(&fragment_selections(alloc, types, fragment)?, telling);
+    }
+    Ok(())
+}
+
 /// Tells the selections of all operations and then of all fragments.
 pub fn tell_selections(
     alloc: Global,
     row: &Row<'_>,
     telling: &mut Telling,
 ) -> Result<(), NoAnswer> {
-    let project = project_of(alloc, &row.entries)?;
-    let Definitions {
-        entries,
-        operations,
-        fragments,
-    } = definitions(alloc, &project)?;
-    let types = Types::of(alloc, entries)?;
-    for operation in &operations {
-        tell_selected(&operation_selections(alloc, &types, operation)?, telling);
-    }
-    for fragment in &fragments {
-        tell_selected(&fragment_selections(alloc, &types, fragment)?, telling);
-    }
-    Ok(())
+    let documents = documents_of(alloc, &row.entries)?;
+    let types = &documents.types;
+    tell_operations(alloc, types, &documents.operations, telling)?;
+    tell_fragments(alloc, types, &documents.fragments, telling)
 }
