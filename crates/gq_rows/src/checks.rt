@@ -4,7 +4,7 @@ ghost use Rattle.std.specs.Prelude.{◌≡◌, false};
 use crate::no_answer::NoAnswer;
 use crate::row::{Row, project_of};
 use crate::telling::Telling;
-use gq_check::{File, check};
+use gq_check::{File, check, check_by_threads};
 use gq_found::Found;
 use gq_rpc::Sink;
 use gq_rules::{Valid, Why, validate};
@@ -58,7 +58,53 @@ fn files_of(alloc: Global, row: &Row<'_>) -> Result<Vec<File>, NoAnswer> {
     Ok(files)
 }
 
-/// Tells what the check of the files writes, first to its output and then to its errors, and its status.
+/// What a check of files writes to its output and to its errors, and its status.
+#[derive(Drop)]
+struct Checked {
+    output: Page,
+    errors: Page,
+    status: u8,
+}
+
+impl Checked {
+    fn is_same(&self, other: &Checked) -> bool {
+        self.status == other.status
+            && self.output.bytes == other.output.bytes
+            && self.errors.bytes == other.errors.bytes
+    }
+
+    fn tell(&self, telling: &mut Telling) -> Result<(), NoAnswer> {
+        telling.put(str::from_utf8(&self.output.bytes)?);
+        telling.put(str::from_utf8(&self.errors.bytes)?);
+        telling.put_number(usize::from(self.status));
+        Ok(())
+    }
+}
+
+fn checked(alloc: Global, files: &[File]) -> Checked {
+    let mut output = Page::new(alloc);
+    let mut errors = Page::new(alloc);
+    let status = check(alloc, files, &mut output, &mut errors);
+    Checked {
+        output,
+        errors,
+        status,
+    }
+}
+
+fn checked_by_threads<R: Threads + Sync>(threads: &R, alloc: Global, files: &[File]) -> Checked {
+    let mut output = Page::new(alloc);
+    let mut errors = Page::new(alloc);
+    let status = check_by_threads(threads, alloc, files, &mut output, &mut errors);
+    Checked {
+        output,
+        errors,
+        status,
+    }
+}
+
+/// Tells what the check of the files writes, first to its output and then to its errors, and its status; and what the check
+/// by threads does, where that differs.
 pub fn tell_check<R: Threads + Sync>(
     threads: &R,
     alloc: Global,
@@ -66,12 +112,13 @@ pub fn tell_check<R: Threads + Sync>(
     telling: &mut Telling,
 ) -> Result<(), NoAnswer> {
     let files = files_of(alloc, row)?;
-    let mut output = Page::new(alloc);
-    let mut errors = Page::new(alloc);
-    let status = check(threads, alloc, &files, &mut output, &mut errors);
-    telling.put(str::from_utf8(&output.bytes)?);
-    telling.put(str::from_utf8(&errors.bytes)?);
-    telling.put_number(usize::from(status));
+    let one = checked(alloc, &files);
+    let other = checked_by_threads(threads, alloc, &files);
+    one.tell(telling)?;
+    if !one.is_same(&other) {
+        telling.put(" by threads: ");
+        other.tell(telling)?;
+    }
     Ok(())
 }
 
@@ -91,14 +138,9 @@ fn tell_found(found: &[Found], telling: &mut Telling) {
 }
 
 /// Tells the report of the project, or `none` where it is empty.
-pub fn tell_report<R: Threads + Sync>(
-    threads: &R,
-    alloc: Global,
-    row: &Row<'_>,
-    telling: &mut Telling,
-) -> Result<(), NoAnswer> {
+pub fn tell_report(alloc: Global, row: &Row<'_>, telling: &mut Telling) -> Result<(), NoAnswer> {
     let project = project_of(alloc, &row.entries)?;
-    let report = validate(threads, alloc, &project)?;
+    let report = validate(alloc, &project)?;
     tell_found(&report.found, telling);
     if telling.is_empty() {
         telling.put("none");
@@ -107,14 +149,9 @@ pub fn tell_report<R: Threads + Sync>(
 }
 
 /// Tells whether the project is valid; else why it is not, and how many documents are handed back.
-pub fn tell_validity<R: Threads + Sync>(
-    threads: &R,
-    alloc: Global,
-    row: &Row<'_>,
-    telling: &mut Telling,
-) -> Result<(), NoAnswer> {
+pub fn tell_validity(alloc: Global, row: &Row<'_>, telling: &mut Telling) -> Result<(), NoAnswer> {
     let project = project_of(alloc, &row.entries)?;
-    match Valid::new(threads, alloc, project) {
+    match Valid::new(alloc, project) {
         Ok(valid) => {
             telling.put_number(valid.project().documents().len());
             telling.put(" valid");

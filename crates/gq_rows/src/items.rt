@@ -14,7 +14,6 @@ use gq_type_system::schema_faults;
 use gq_types::{Entry, Types};
 use gq_variables::put_variable_faults;
 use std::alloc::Global;
-use std::thread::Threads;
 
 /// The rules of a crate.
 #[derive(Clone, Copy)]
@@ -101,8 +100,7 @@ pub fn documents_of(alloc: Global, texts: &[row::Entry<'_>]) -> Result<Documents
 }
 
 /// Puts what the rules find.
-fn put_faults<R: Threads + Sync>(
-    threads: &R,
+fn put_faults(
     alloc: Global,
     rules: Rules,
     documents: &Documents,
@@ -121,7 +119,7 @@ fn put_faults<R: Threads + Sync>(
             let spreads = Spreads::of(alloc, &executable)?;
             put_variable_faults(alloc, &executable, &spreads, items)
         }
-        Rules::Merging => put_merging_faults(threads, alloc, &executable, items),
+        Rules::Merging => put_merging_faults(alloc, &executable, items),
         Rules::TypeSystem => {
             *items = schema_faults(alloc, &documents.types)?;
             Ok(())
@@ -154,8 +152,7 @@ pub fn tell_items(row: &Row<'_>, items: &mut Vec<Item>, telling: &mut Telling) {
 }
 
 /// Tells what the rules find in the texts of a row.
-pub fn tell_faults<R: Threads + Sync>(
-    threads: &R,
+pub fn tell_faults(
     alloc: Global,
     rules: Rules,
     row: &Row<'_>,
@@ -163,7 +160,7 @@ pub fn tell_faults<R: Threads + Sync>(
 ) -> Result<(), NoAnswer> {
     let documents = documents_of(alloc, &row.entries)?;
     let mut items = Vec::new(alloc);
-    put_faults(threads, alloc, rules, &documents, &mut items)?;
+    put_faults(alloc, rules, &documents, &mut items)?;
     tell_items(row, &mut items, telling);
     Ok(())
 }

@@ -89,9 +89,9 @@ impl Question {
     ) -> Result<(), NoAnswer> {
         match self {
             Question::Check => tell_check(threads, alloc, row, telling),
-            Question::Report => tell_report(threads, alloc, row, telling),
-            Question::Validity => tell_validity(threads, alloc, row, telling),
-            Question::Faults(rules) => tell_faults(threads, alloc, rules, row, telling),
+            Question::Report => tell_report(alloc, row, telling),
+            Question::Validity => tell_validity(alloc, row, telling),
+            Question::Faults(rules) => tell_faults(alloc, rules, row, telling),
             Question::Index => tell_index(alloc, row, telling),
             Question::Definitions => tell_definitions(alloc, row, telling),
             Question::Readings => tell_readings(alloc, row, telling),
