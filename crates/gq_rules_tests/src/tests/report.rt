@@ -1,7 +1,7 @@
 //! The report of a project, and whether it is valid.
 use gq_found::Found;
 use gq_project::{Doc, Project};
-use gq_rules::{Valid, Why, validate};
+use gq_rules::{Valid, Why, validate_by_threads};
 use gq_text::OwnedText;
 use std::alloc::Global;
 use std::process::Abort;
@@ -50,7 +50,7 @@ fn told(
     operations: &str,
 ) -> Result<String, Fail> {
     let project = project(alloc, schema, operations)?;
-    let report = validate(rt, alloc, &project)?;
+    let report = validate_by_threads(rt, alloc, &project)?;
     lines(alloc, &report.found)
 }
 
@@ -172,7 +172,7 @@ fn outcome(
     operations: &str,
 ) -> Result<String, Fail> {
     let project = project(alloc, schema, operations)?;
-    match Valid::new(rt, alloc, project) {
+    match Valid::new_by_threads(rt, alloc, project) {
         Ok(valid) => {
             let count = valid.project().documents().len();
             Ok(format!(in alloc; "{count} valid")?)

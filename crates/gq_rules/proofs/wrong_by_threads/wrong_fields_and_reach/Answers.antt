@@ -8,7 +8,7 @@ use Rattle.gq_found.specs.Puts.{Puts}
 use Rattle.gq_rules.specs.RuleGroups.{IsReachFault}
 use Rattle.gq_rules.specs.Wrongs.{IsWrong}
 use Rattle.gq_rules.proofs.RuleLemmas.{puts_then_found}
-use Rattle.gq_rules.proofs.wrong.wrong_fields_and_reach.Goals as goal
+use Rattle.gq_rules.proofs.wrong_by_threads.wrong_fields_and_reach.Goals as goal
 
 pub join-reach-requires-send-F : goal.join-reach-requires-send-F
 join-reach-requires-send-F g c κs within = search (sendable, crosses, Executable-sync) depth 12

@@ -7,7 +7,7 @@ use Rattle.gq_found.specs.Puts.{Puts}
 use Rattle.gq_merging.specs.FieldsMerge.{IsMergingFault}
 use Rattle.gq_rules.specs.RuleGroups.{IsDefinitionFault}
 use Rattle.gq_rules.proofs.RuleLemmas.{puts_then_found}
-use Rattle.gq_rules.proofs.rule_faults.definition_and_merging_faults.Goals as goal
+use Rattle.gq_rules.proofs.wrong_by_threads.definition_and_merging_faults.Goals as goal
 
 pub join-definitions-requires-send-F : goal.join-definitions-requires-send-F
 join-definitions-requires-send-F g c κs within = search (sendable, crosses, Executable-sync) depth 12

@@ -4,7 +4,7 @@ use Rattle.std.specs.Vec.{vec_len}
 use Rattle.std.proofs.lemmas.List.{nil_from_length}
 use Rattle.std.proofs.lemmas.Bool.Decides.{nat_tests}
 use Rattle.gq_names.proofs.RepeatLemmas.{contains_none}
-use Rattle.gq_rules.proofs.wrong.wrong_fields.Goals as goal
+use Rattle.gq_rules.proofs.wrong_by_threads.wrong_fields.Goals as goal
 
 -- as many as none
 none_told : (n : ℕ) (b : Bool) → b ≡ (n == 0) → b ≡ true → n ≡ 0
