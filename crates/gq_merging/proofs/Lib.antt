@@ -5,6 +5,7 @@ pub mod MemberLemmas
 pub mod MemberSteps
 pub mod CompareLemmas
 pub mod PairNumbers
+pub mod FoundLemmas
 pub mod PairLemmas
 pub mod StartLemmas
 pub mod LookLemmas

@@ -12,9 +12,9 @@ use Rattle.gq_found.specs.Puts.{Puts}
 use Rattle.gq_found.proofs.PutLemmas.{puts_both, puts_as}
 use Rattle.gq_merging.specs.FieldSets.{key}
 use Rattle.gq_merging.specs.FieldsMerge.{leads_on}
-use Rattle.gq_merging.specs.SetTables.{MemberOf, IsMember}
+use Rattle.gq_merging.specs.SetTables.{MemberOf, spreads_at}
 use Rattle.gq_merging.specs.NameTables.{ByNameOf, fields_with, AreByKey, AreMetByKey}
-use Rattle.gq_merging.specs.PairTables.{MetOf, LookOf, AreMet, IsMetAt, IsNumber, IsStart, IsBelow, IsGiven, IsFaultOf, Gains, Looked}
+use Rattle.gq_merging.specs.PairTables.{MetOf, LookOf, AreMet, IsMetIn, IsNumber, IsStart, IsBelow, IsGiven, IsFaultOf, IsAfter, below, by_left, by_right, Gains, Looked}
 use Rattle.gq_merging.specs.Views.{member_view, members_view}
 use Rattle.gq_merging.specs.declared.rows.Member.{Member}
 
@@ -275,22 +275,60 @@ look_keyed_more w right xs i d items middle items' old between new l e a b =
     (looked_both w (AreMetByKey front right) (AreMetByKey (member_view d ∷ []) right) items middle items' old between new a b))
 
 -- the fields of the two sets of a pair
-pub look_pair_keyed : (w : LookOf) (number : ℕ) (left right : List MemberOf) (t : ByNameOf) (items items' : List Item) (old new : List ℕ) →
-    ((m : MemberOf) → Contains left m ↔ IsMember w.rows (number / w.count) m) → ((m : MemberOf) → Contains right m ↔ IsMember w.rows (number % w.count) m) → AreByKey t right →
-    Looked w (AreMetByKey left t) items items' old new → Looked w (IsMetAt w number) items items' old new
-look_pair_keyed w number left right t items items' old new are are' by_key l =
-    looked_as w (AreMetByKey left t) (IsMetAt w number) items items' old new
+pub look_all_keyed : (w : LookOf) (left right : List MemberOf) (t : ByNameOf) (items items' : List Item) (old new : List ℕ) → AreByKey t right →
+    Looked w (AreMetByKey left t) items items' old new → Looked w (AreMet left right) items items' old new
+look_all_keyed w left right t items items' old new by_key l =
+    looked_as w (AreMetByKey left t) (AreMet left right) items items' old new
     (λ p. (
-      (λ h. record { left = (are p.left).0 h.stands_left; right = (are' p.right).0 ((by_key.each (key p.left.field_at) p.right).0 h.stands_right).0; one_key = h.one_key }),
-      (λ h. record { stands_left = (are p.left).1 h.left; stands_right = (by_key.each (key p.left.field_at) p.right).1 ((are' p.right).1 h.right, sym h.one_key); one_key = h.one_key }),
+      (λ h. record { stands_left = h.stands_left; stands_right = ((by_key.each (key p.left.field_at) p.right).0 h.stands_right).0; one_key = h.one_key }),
+      (λ h. record { stands_left = h.stands_left; stands_right = (by_key.each (key p.left.field_at) p.right).1 (h.stands_right, sym h.one_key); one_key = h.one_key }),
     )) l
 
-pub look_pair : (w : LookOf) (number : ℕ) (left right : List MemberOf) (items items' : List Item) (old new : List ℕ) →
-    ((m : MemberOf) → Contains left m ↔ IsMember w.rows (number / w.count) m) → ((m : MemberOf) → Contains right m ↔ IsMember w.rows (number % w.count) m) →
-    Looked w (AreMet left right) items items' old new → Looked w (IsMetAt w number) items items' old new
-look_pair w number left right items items' old new are are' l =
-    looked_as w (AreMet left right) (IsMetAt w number) items items' old new
-    (λ p. (
-      (λ h. record { left = (are p.left).0 h.stands_left; right = (are' p.right).0 h.stands_right; one_key = h.one_key }),
-      (λ h. record { stands_left = (are p.left).1 h.left; stands_right = (are' p.right).1 h.right; one_key = h.one_key }),
-    )) l
+pub looked_alike : (w : LookOf) (left left' right right' : List MemberOf) (items items' : List Item) (old new : List ℕ) → left ≡ left' → right ≡ right' →
+    Looked w (AreMet left right) items items' old new → Looked w (AreMet left' right') items items' old new
+looked_alike w left left' right right' items items' old new e f l =
+    subst (λ ms. Looked w (AreMet left' ms) items items' old new) f (subst (λ ms. Looked w (AreMet ms right) items items' old new) e l)
+
+-- one of some numbers gives it, or one more
+pub one_more : {B : Type 0} (Gives : ℕ → B → Type 0) (xs : List ℕ) (d : ℕ) (b : B) → (IsGiven (Contains xs) Gives b ⊎ Gives d b) ↔ IsGiven (Contains (xs ++ d ∷ [])) Gives b
+one_more Gives xs d b = (
+  (λ s. ⊎_elim
+      (λ g. record { one = g.one; these = Contains-append_left xs (d ∷ []) g.one g.these; gives = g.gives })
+      (λ h. record { one = d; these = Contains-append_right xs (d ∷ []) d (contains_first d [] d refl); gives = h }) s),
+  (λ g. ⊎_elim
+      (λ c. inl (record { one = g.one; these = c; gives = g.gives }))
+      (λ c. ⊎_elim (λ q. inr (subst (λ k. Gives k b) (sym q) g.gives)) (λ f. absurd (contains_none g.one f)) (contains_cases d [] g.one c))
+      (Contains-append_cases xs (d ∷ []) g.one g.these)),
+)
+
+-- what the first of some numbers give is found
+pub gains_none : (Gives : ℕ → ℕ → Type 0) (xs : List ℕ) (old : List ℕ) → Gains (IsGiven (Contains (take 0 xs)) Gives) old old
+gains_none Gives xs old = gains_nothing (IsGiven (Contains (take 0 xs)) Gives) old (λ n g. contains_none g.one g.these)
+
+pub gains_more : (Gives : ℕ → ℕ → Type 0) (xs : List ℕ) (i d : ℕ) (old between new : List ℕ) → i < length xs → get_or xs i d ≡ d →
+    Gains (IsGiven (Contains (take i xs)) Gives) old between → Gains (Gives d) between new → Gains (IsGiven (Contains (take (i + 1) xs)) Gives) old new
+gains_more Gives xs i d old between new l e a b =
+    let front : take (i + 1) xs ≡ take i xs ++ d ∷ [] = take_more xs i d l ∙ ap (λ x. take i xs ++ x ∷ []) e in
+    subst (λ ys. Gains (IsGiven (Contains ys) Gives) old new) (sym front)
+    (gains_as (λ n. IsGiven (Contains (take i xs)) Gives n ⊎ Gives d n) (IsGiven (Contains (take i xs ++ d ∷ [])) Gives) old new (one_more Gives (take i xs) d)
+    (gains_both (IsGiven (Contains (take i xs)) Gives) (Gives d) old between new a b))
+
+-- what is found after a pair
+pub gains_after : (w : LookOf) (m : ℕ) (items items' : List Item) (old second third new : List ℕ) →
+    Looked w (IsMetIn w m) items items' old second →
+    Gains (IsGiven (Contains (spreads_at w.rows (m / w.count))) (λ left. IsNumber w.count w.size left (m % w.count))) second third →
+    Gains (IsGiven (Contains (spreads_at w.rows (m % w.count))) (λ right. IsNumber w.count w.size (m / w.count) right)) third new →
+    Gains (IsAfter w m) old new
+gains_after w m items items' old second third new a b c =
+    let Below = IsGiven (IsMetIn w m) (IsBelow w) in
+    let Lefts = IsGiven (Contains (spreads_at w.rows (m / w.count))) (λ left. IsNumber w.count w.size left (m % w.count)) in
+    let Rights = IsGiven (Contains (spreads_at w.rows (m % w.count))) (λ right. IsNumber w.count w.size (m / w.count) right) in
+    gains_as (λ n. (Below n ⊎ Lefts n) ⊎ Rights n) (IsAfter w m) old new
+    (λ n. ((λ s. ⊎_elim (λ t. ⊎_elim below by_left t) by_right s), after_cases n))
+    (gains_both (λ n. Below n ⊎ Lefts n) Rights old third new (gains_both Below Lefts old second third a.gains b) c)
+  where
+    after_cases : (n : ℕ) → IsAfter w m n → (IsGiven (IsMetIn w m) (IsBelow w) n ⊎ IsGiven (Contains (spreads_at w.rows (m / w.count))) (λ left. IsNumber w.count w.size left (m % w.count)) n)
+        ⊎ IsGiven (Contains (spreads_at w.rows (m % w.count))) (λ right. IsNumber w.count w.size (m / w.count) right) n
+    after_cases n (below g) = inl (inl g)
+    after_cases n (by_left g) = inl (inr g)
+    after_cases n (by_right g) = inr g

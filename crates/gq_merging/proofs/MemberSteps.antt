@@ -63,6 +63,11 @@ to_flat f (w ∷ xs) x y c d = elim (contains_cases w xs x c) [
   | inr b ↦ Contains-append_right (f w) (flat_map f xs) y (to_flat f xs x y b d)
 ]
 
+row_there : (table : List (Vec ℕ Global)) (m k : ℕ) → Contains (row table m) k → (v : Vec ℕ Global) × Contains table v × Contains v.items k
+row_there [] m k c = absurd (contains_none k c)
+row_there (v ∷ table) zero k c = (v, contains_first v table v refl, c)
+row_there (v ∷ table) (suc m) k c = let r = row_there table m k c in (r.0, contains_later v table r.0 r.1, r.2)
+
 module _ (rows : List Row) (table : List (Vec ℕ Global)) (same : map (λ v. v.items) table ≡ map (λ r. r.spreads.items) rows) where
   pub alike : (n : ℕ) → row table n ≡ spreads_at (rows_view rows) n
   alike n = row_is table n ∙ ap (λ ls. unwrap_or (slice_get ls n) []) same ∙ sym (spreads_are rows n)
@@ -78,21 +83,12 @@ module _ (rows : List Row) (table : List (Vec ℕ Global)) (same : map (λ v. v.
         (p.why n e);
   }
 
-  pub members_are : (n : ℕ) (found : List ℕ) (ms : List Member) →
-      All (λ k. Reach (n ∷ []) (row table) k) found → ((k : ℕ) → Reach (n ∷ []) (row table) k → Contains found k) →
-      members_view ms ≡ flat_map (members_at (rows_view rows)) found →
-      (m : MemberOf) → Contains (members_view ms) m ↔ IsMember (rows_view rows) n m
-  members_are n found ms sound complete is m = (
-    λ c. let q = from_flat (members_at (rows_view rows)) found m (subst (λ ls. Contains ls m) is c) in
-        record {
-          reached = q.0;
-          reach = reach_alike (row table) (spreads_at (rows_view rows)) (n ∷ []) alike q.0 (All-contains (λ k. Reach (n ∷ []) (row table) k) found q.0 sound q.1);
-          stands = q.2;
-        },
-    λ h. subst (λ ls. Contains ls m) (sym is)
-        (to_flat (members_at (rows_view rows)) found h.reached m
-        (complete h.reached (reach_alike (spreads_at (rows_view rows)) (row table) (n ∷ []) (λ k. sym (alike k)) h.reached h.reach)) h.stands),
-  )
+  -- a set leads to sets that have rows
+  pub spreads_inside : InRange table → (n k : ℕ) → Contains (spreads_at (rows_view rows) n) k → k < length rows
+  spreads_inside range n k c =
+      let v = row_there table n k (subst (λ ns. Contains ns k) (sym (alike n)) c) in
+      subst (λ m. k < m) (count_alike ∙ length-map rows row_view)
+      (All-contains (λ n. n < length table) v.0.items k (All-contains (λ v. All (λ n. n < length table) v.items) table v.0 range v.1) v.2)
 
   pub spreads_in_range : (x : ExecutableOf) → AreRows x (rows_view rows) → InRange table
   spreads_in_range x a =

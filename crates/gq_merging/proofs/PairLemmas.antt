@@ -16,7 +16,7 @@ use Rattle.gq_merging.specs.PairTables.{MetOf, LookOf, IsMetAt, IsGiven, IsReach
 use Rattle.gq_merging.specs.declared.purpose.Purpose.{Purpose}
 use Rattle.gq_merging.proofs.MemberLemmas.{alike_in, alike_back, get_contains, get_below, set_numbered, field_member, member_field, reached_field}
 use Rattle.gq_merging.proofs.PairNumbers.{pair_below, left_below, right_below, left_of, right_of}
-use Rattle.gq_merging.proofs.SearchLemmas.{within}
+use Rattle.gq_merging.proofs.FoundLemmas.{reached_within as within}
 
 -- fields that meet meet from a set that stands
 pub record MeetSomewhere (x : ExecutableOf) (purpose : Purpose) (a b : FieldAt) : Type 0 where

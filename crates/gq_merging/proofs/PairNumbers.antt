@@ -27,3 +27,6 @@ right_of count left right n r e = ap (λ k. k % count) e ∙ mod-mul-add left co
 
 pub is_number : (count size left right first number : ℕ) → first ≡ left * count → number ≡ first + right → number < size → IsNumber count size left right number
 is_number count size left right first number e f l = record { is = f ∙ ap (λ k. k + right) e; within = l }
+
+pub both_of : (count n : ℕ) → n < count * count → n ≡ n / count * count + n % count
+both_of count n l = let c = some_set count n l in omega (arith, c)

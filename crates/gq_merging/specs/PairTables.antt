@@ -6,7 +6,7 @@ use Rattle.gq_found.specs.Puts.{Puts}
 use Rattle.gq_types.specs.Entries.{EntryOf}
 use Rattle.gq_merging.specs.FieldSets.{key}
 use Rattle.gq_merging.specs.FieldsMerge.{leads_on, Differ, IsNoLater, item_of}
-use Rattle.gq_merging.specs.SetTables.{MemberOf, RowOf, IsMember}
+use Rattle.gq_merging.specs.SetTables.{MemberOf, RowOf, IsMember, members_at, spreads_at}
 use Rattle.gq_merging.specs.declared.purpose.Purpose.{Purpose}
 
 -- two fields that meet
@@ -33,12 +33,6 @@ pub record IsMetAt (w : LookOf) (number : ℕ) (p : MetOf) : Type 0 where
   pub left : IsMember w.rows (number / w.count) p.left
   pub right : IsMember w.rows (number % w.count) p.right
   pub one_key : key p.left.field_at ≡ key p.right.field_at
-
--- the same for one of the numbers
-pub record IsMetAmong (w : LookOf) (numbers : List ℕ) (p : MetOf) : Type 0 where
-  pub number : ℕ
-  pub stands : Contains numbers number
-  pub met : IsMetAt w number p
 
 -- the number of a pair of sets
 pub record IsNumber (count size left right n : ℕ) : Type 0 where
@@ -80,6 +74,21 @@ pub record IsFaultOf (w : LookOf) (p : MetOf) (item : Item) : Type 0 where
   pub differ : Differ w.entries w.purpose p.left.field_at p.right.field_at
   pub is_no_later : IsNoLater p.left.field_at p.right.field_at
   pub is : item ≡ item_of p.right.field_at
+
+-- two fields of one key, the one standing in the first and the other in the second of the two sets themselves
+abbrev pub IsMetIn : LookOf → ℕ → MetOf → Type 0
+IsMetIn w number p = AreMet (members_at w.rows (number / w.count)) (members_at w.rows (number % w.count)) p
+
+-- The pairs of sets that are looked at after a pair: those of the sets in the braces of two fields that meet in it, and those of
+-- a fragment that is spread in the one with the other.
+pub data IsAfter (w : LookOf) (m n : ℕ) : Type 0 where
+  below : IsGiven (IsMetIn w m) (IsBelow w) n → IsAfter w m n
+  by_left : IsGiven (Contains (spreads_at w.rows (m / w.count))) (λ left. IsNumber w.count w.size left (m % w.count)) n → IsAfter w m n
+  by_right : IsGiven (Contains (spreads_at w.rows (m % w.count))) (λ right. IsNumber w.count w.size (m / w.count) right) n → IsAfter w m n
+
+pub data IsFound (w : LookOf) (passed : List Bool) : ℕ → Type 0 where
+  begins : {n : ℕ} → IsStart passed w.count w.size (length passed) n → IsFound w passed n
+  leads : {m n : ℕ} → IsFound w passed m → IsAfter w m n → IsFound w passed n
 
 -- The list afterwards: longer by some numbers of which that is true, and holding each such number.
 pub record Gains (Is : ℕ → Type 0) (old new : List ℕ) : Type 0 where

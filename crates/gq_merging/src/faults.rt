@@ -7,23 +7,26 @@ ghost use Rattle.gq_reach.specs.Reach.{InRange};
 ghost use Rattle.gq_document.specs.Selections.{typename_field};
 ghost use Rattle.gq_document.specs.Executable.{executable_view};
 ghost use Rattle.gq_merging.specs.FieldsMerge.{IsMergingFault};
+ghost use Rattle.gq_merging.specs.Groups.{AreMerged};
 ghost use Rattle.gq_merging.specs.NameTables.{AreMetByKey, by_name_view};
-ghost use Rattle.gq_merging.specs.PairTables.{AreMet, IsMetAt, IsMetReached, IsGiven, IsFaultOf, Looked};
+ghost use Rattle.gq_merging.specs.PairTables.{AreMet, IsMetIn, IsAfter, IsMetReached, IsGiven, IsFaultOf, Gains, Looked};
 ghost use Rattle.gq_merging.specs.SearchTables.{HaveSets};
+ghost use Rattle.gq_merging.specs.SetTables.{AreRows, members_at};
 ghost use Rattle.gq_merging.specs.Views.{member_view, members_view, rows_view, met_view, look_view};
 
 use crate::by_name::FieldsByName;
 use crate::comparing::{differ, is_no_later, key, typename_type};
-use crate::groups::merged_rows;
-use crate::members::{all_spreads, members_of};
-use crate::pairs::{Look, Met, put_below, starts};
+use crate::groups::{merged_rows, merged_rows_by_threads};
+use crate::members::{all_spreads, own_members, own_spreads};
+use crate::pairs::{Look, Met, put_below, put_lefts, put_rights, starts};
 use crate::passed::passed_rows;
 use crate::purpose::Purpose;
-use crate::rows::{Member, all_rows};
+use crate::rows::{Member, Row, all_rows};
 use crate::search::search_groups;
 use gq_document::Executable;
 use gq_found::{Code, Item};
 use gq_text::{NoMemory, Span};
+use gq_tree::TypeRef;
 use indexmap::IndexSet;
 use std::alloc::Global;
 use std::thread::Threads;
@@ -78,7 +81,7 @@ fn look_at(
     left: &Member<'_>,
     right: &Member<'_>,
     items: &mut Vec<Item>,
-    found: &mut IndexSet<usize>,
+    found: &mut IndexSet<u128>,
 ) -> Result<(), NoMemory>
     requires { type_view look.typename_type.now ≡ typename_field.type_ref }
     ensures { OnOk result (Looked (look_view look.entry) (AreMet (member_view left.now ∷ []) (member_view right.now ∷ [])) items.old.items items.new.items found.old.keys found.new.keys) }
@@ -99,7 +102,7 @@ fn look_with(
     left: &Member<'_>,
     right: &[Member<'_>],
     items: &mut Vec<Item>,
-    found: &mut IndexSet<usize>,
+    found: &mut IndexSet<u128>,
 ) -> Result<(), NoMemory>
     requires { type_view look.typename_type.now ≡ typename_field.type_ref }
     ensures { OnOk result (Looked (look_view look.entry) (AreMet (member_view left.now ∷ []) (members_view right.now)) items.old.items items.new.items found.old.keys found.new.keys) }
@@ -116,7 +119,7 @@ fn look_among(
     left: &[Member<'_>],
     right: &[Member<'_>],
     items: &mut Vec<Item>,
-    found: &mut IndexSet<usize>,
+    found: &mut IndexSet<u128>,
 ) -> Result<(), NoMemory>
     requires { type_view look.typename_type.now ≡ typename_field.type_ref }
     ensures { OnOk result (Looked (look_view look.entry) (AreMet (members_view left.now) (members_view right.now)) items.old.items items.new.items found.old.keys found.new.keys) }
@@ -133,7 +136,7 @@ fn look_by_key(
     left: &Member<'_>,
     right: &FieldsByName<'_>,
     items: &mut Vec<Item>,
-    found: &mut IndexSet<usize>,
+    found: &mut IndexSet<u128>,
 ) -> Result<(), NoMemory>
     requires { type_view look.typename_type.now ≡ typename_field.type_ref }
     ensures { OnOk result (Looked (look_view look.entry) (AreMetByKey (member_view left.now ∷ []) (by_name_view right.now)) items.old.items items.new.items found.old.keys found.new.keys) }
@@ -150,7 +153,7 @@ fn look_among_keyed(
     left: &[Member<'_>],
     right: &FieldsByName<'_>,
     items: &mut Vec<Item>,
-    found: &mut IndexSet<usize>,
+    found: &mut IndexSet<u128>,
 ) -> Result<(), NoMemory>
     requires { type_view look.typename_type.now ≡ typename_field.type_ref }
     ensures { OnOk result (Looked (look_view look.entry) (AreMetByKey (members_view left.now) (by_name_view right.now)) items.old.items items.new.items found.old.keys found.new.keys) }
@@ -161,27 +164,48 @@ fn look_among_keyed(
     Ok(())
 }
 
-/// Looks at the fields of the pair of sets with that number.
-fn look_at_pair(
+/// Looks at the fields that stand in the one set with those that stand in the other.
+fn look_at_sets(
     look: Look<'_>,
-    number: usize,
+    left: usize,
+    right: usize,
     items: &mut Vec<Item>,
-    found: &mut IndexSet<usize>,
+    found: &mut IndexSet<u128>,
 ) -> Result<(), NoMemory>
     requires typename { type_view look.typename_type.now ≡ typename_field.type_ref }
-    requires range { InRange look.spreads.now }
-    requires spreads { map (λ v. v.items) look.spreads.now ≡ map (λ r. r.spreads.items) look.rows.now }
-    requires number { number < length look.rows.now * length look.rows.now }
-    ensures { OnOk result (Looked (look_view look.entry) (IsMetAt (look_view look.entry) number) items.old.items items.new.items found.old.keys found.new.keys) }
+    requires left { left < length look.rows.now }
+    requires right { right < length look.rows.now }
+    ensures { OnOk result (Looked (look_view look.entry) (AreMet (members_at (rows_view look.entry.rows.now) left.entry) (members_at (rows_view look.entry.rows.now) right.entry)) items.old.items items.new.items found.old.keys found.new.keys) }
 {
-    let count = look.rows.len();
-    let left = members_of(look.alloc, look.rows, look.spreads, number / count)?;
-    let right = members_of(look.alloc, look.rows, look.spreads, number % count)?;
+    let left = own_members(look.rows, left);
+    let right = own_members(look.rows, right);
     if right.len() <= FEW {
-        return look_among(look, &left, &right, items, found);
+        return look_among(look, left, right, items, found);
     }
-    let by_key = FieldsByName::by_key(look.alloc, &right)?;
-    look_among_keyed(look, &left, &by_key, items, found)
+    let by_key = FieldsByName::by_key(look.alloc, right)?;
+    look_among_keyed(look, left, &by_key, items, found)
+}
+
+/// Looks at the pair of sets with that number: at the fields that stand in them, and puts the pairs of the fragments that are
+/// spread in the one with the other.
+fn look_at_pair(
+    look: Look<'_>,
+    number: u128,
+    items: &mut Vec<Item>,
+    found: &mut IndexSet<u128>,
+) -> Result<(), NoMemory>
+    requires typename { type_view look.typename_type.now ≡ typename_field.type_ref }
+    requires number { number < length look.rows.now * length look.rows.now }
+    ensures puts { OnOk result (Puts (IsGiven (IsMetIn (look_view look.entry) number) (IsFaultOf (look_view look.entry))) items.old.items items.new.items) }
+    ensures gains { OnOk result (Gains (IsAfter (look_view look.entry) number) found.old.keys found.new.keys) }
+{
+    let count = look.rows.len() as u128;
+    let left = (number / count) as usize;
+    let right = (number % count) as usize;
+    look_at_sets(look, left, right, items, found)?;
+    put_lefts(look, own_spreads(look.rows, left), right, found)?;
+    put_rights(look, left, own_spreads(look.rows, right), found)?;
+    Ok(())
 }
 
 /// The items of all fields that meet in a set that is not passed over, or under it, pair by pair. A pair of sets is looked at once.
@@ -226,14 +250,66 @@ fn put_faults_for(look: Look<'_>, passed: &[bool], items: &mut Vec<Item>) -> Res
     }
 }
 
+/// The items of all fields that do not merge, where it is known of the marked sets that the fields under them do.
+fn put_unmarked_faults(
+    alloc: Global,
+    executable: &Executable<'_>,
+    typename_type: &TypeRef,
+    rows: &[Row<'_>],
+    spreads: &[Vec<usize>],
+    marks: &[bool],
+    items: &mut Vec<Item>,
+) -> Result<(), NoMemory>
+    requires typename { type_view typename_type.now ≡ typename_field.type_ref }
+    requires rows { AreRows (executable_view executable.now) (rows_view rows.now) }
+    requires range { InRange spreads.now }
+    requires spreads { map (λ v. v.items) spreads.now ≡ map (λ r. r.spreads.items) rows.now }
+    requires merged { AreMerged (executable_view executable.now) (rows_view rows.now) marks.now }
+    ensures { OnOk result (Puts (IsMergingFault (executable_view executable.now)) items.old.items items.new.items) }
+{
+    let passed = passed_rows(alloc, spreads, marks)?;
+    let count = rows.len() as u128;
+    let shapes = Look {
+        alloc,
+        types: executable.types,
+        typename_type,
+        purpose: Purpose::Shapes,
+        rows,
+        spreads,
+        size: count * count,
+    };
+    put_faults_for(shapes, &passed, items)?;
+    let names = Look {
+        purpose: Purpose::Names,
+        ..shapes
+    };
+    put_faults_for(names, &passed, items)?;
+    Ok(())
+}
+
 /// Each field that does not merge with one that stands no later, in any selection set of the project, at its name.
 ///
 /// Selection sets of which it is known that all fields under them merge are passed over. Under the others fields are looked at in
 /// groups, which takes time for the fields that each operation reaches. Only where the groups would be too many are pairs of
-/// fields looked at, each pair of sets once: that takes time for the pairs of fields in them, and memory for the pairs
-/// of sets. Past 2^64 pairs of sets in the project it answers `NoMemory`. Identical arguments in one order take linear time,
-/// others time for each pair of values in them. What is known of the sets is found by two threads.
-pub fn put_merging_faults<R: Threads + Sync>(
+/// fields looked at, each pair of sets once: that takes time for the pairs of fields that stand in them, and memory for the pairs
+/// of sets. Identical arguments in one order take linear time, others time for each pair of values in them.
+pub fn put_merging_faults(
+    alloc: Global,
+    executable: &Executable<'_>,
+    items: &mut Vec<Item>,
+) -> Result<(), NoMemory>
+    ensures { OnOk result (Puts (IsMergingFault (executable_view executable.now)) items.old.items items.new.items) }
+{
+    let rows = all_rows(alloc, executable)?;
+    let spreads = all_spreads(alloc, &rows)?;
+    let string_type = typename_type(alloc)?;
+    let marks = merged_rows(alloc, executable, &string_type, &rows, &spreads)?;
+    put_unmarked_faults(alloc, executable, &string_type, &rows, &spreads, &marks, items)?;
+    Ok(())
+}
+
+/// The same, where two threads find of which sets it is known that the fields under them merge.
+pub fn put_merging_faults_by_threads<R: Threads + Sync>(
     rt: &R,
     alloc: Global,
     executable: &Executable<'_>,
@@ -244,25 +320,7 @@ pub fn put_merging_faults<R: Threads + Sync>(
     let rows = all_rows(alloc, executable)?;
     let spreads = all_spreads(alloc, &rows)?;
     let string_type = typename_type(alloc)?;
-    let marks = merged_rows(rt, alloc, executable, &string_type, &rows, &spreads)?;
-    let passed = passed_rows(alloc, &spreads, &marks)?;
-    let Some(size) = rows.len().checked_mul(rows.len()) else {
-        return Err(NoMemory);
-    };
-    let shapes = Look {
-        alloc,
-        types: executable.types,
-        typename_type: &string_type,
-        purpose: Purpose::Shapes,
-        rows: &rows,
-        spreads: &spreads,
-        size,
-    };
-    put_faults_for(shapes, &passed, items)?;
-    let names = Look {
-        purpose: Purpose::Names,
-        ..shapes
-    };
-    put_faults_for(names, &passed, items)?;
+    let marks = merged_rows_by_threads(rt, alloc, executable, &string_type, &rows, &spreads)?;
+    put_unmarked_faults(alloc, executable, &string_type, &rows, &spreads, &marks, items)?;
     Ok(())
 }

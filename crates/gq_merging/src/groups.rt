@@ -7,10 +7,8 @@
 //! is passed over if it was there already, or if it is one set of which this is known. A set in which one spread stands alone
 //! has the fields of that fragment, and is known with it.
 //!
-//! Where a test fails, the fragments that are spread in its set are tested, and no other set that spreads one that fails.
-//!
-//! Where many sets reach the same fragments, each with fields of its own, their tests take too many steps. Then they are tested
-//! as one group, and where that fails, by halves.
+//! Where a test fails, the fragments that are spread in its set are tested, and no other set that spreads one that fails. After a
+//! number of steps in proportion to the project the tests end.
 ghost use Rattle.std.specs.Prelude.{◌≡◌, ◌<◌, ◌+◌, ◌⊎◌, ℕ, List, All, Some, IsTrue, IfOk, OnOk, true, false, length, map, slice_get, slice_index_or};
 ghost use Rattle.std.specs.List.{flat_map};
 ghost use Rattle.gq_reach.specs.Reach.{InRange, row};
@@ -27,6 +25,7 @@ ghost use Rattle.gq_merging.specs.GroupViews.{groups_view};
 
 use crate::classes::{Tables, groups_below, has_selections, is_through};
 use crate::members::{gathered, own_members, reached_sets};
+use crate::passed::named_rows;
 use crate::rows::{Member, Row};
 use gq_document::Executable;
 use gq_text::NoMemory;
@@ -355,36 +354,6 @@ fn mark_with_spreads(
     Ok(())
 }
 
-/// Tests these sets together, and where that fails, by halves, as long as steps are left. Marks what the tests find.
-fn mark_together(
-    tables: Tables<'_>,
-    starts: &[usize],
-    marks: &mut Vec<bool>,
-    groups: &mut Vec<Vec<usize>>,
-    notes: &mut Notes,
-) -> Result<(), NoMemory>
-    requires typename { type_view tables.typename_type.now ≡ typename_field.type_ref }
-    requires range { InRange tables.spreads.now }
-    requires spreads { map (λ v. v.items) tables.spreads.now ≡ map (λ r. r.spreads.items) tables.rows.now }
-    requires starts { All (λ n. n < length tables.rows.now) starts.now }
-    requires tested { AreTested (types_view tables.types.now) (rows_view tables.rows.now) marks.old.items }
-    requires groups { ArePassed (types_view tables.types.now) (rows_view tables.rows.now) (groups_view groups.old.items) }
-    ensures tested { OnOk result (AreTested (types_view tables.entry.types.now) (rows_view tables.entry.rows.now) marks.new.items) }
-    ensures groups { OnOk result (ArePassed (types_view tables.entry.types.now) (rows_view tables.entry.rows.now) (groups_view groups.new.items)) }
-{
-    if starts.is_empty() || notes.left.steps == 0 {
-        return Ok(());
-    }
-    let tested = tested_from(tables, marks, starts, groups, notes)?;
-    mark_all(marks, &tested);
-    if starts.len() == 1 || !tested.is_empty() {
-        return Ok(());
-    }
-    let (front, back) = starts.split_at(starts.len() / 2);
-    mark_together(tables, front, marks, groups, notes)?;
-    mark_together(tables, back, marks, groups, notes)
-}
-
 /// Tests these sets one by one, in order.
 fn mark_each(
     tables: Tables<'_>,
@@ -406,81 +375,6 @@ fn mark_each(
         mark_with_spreads(tables, *number, marks, groups, notes)?;
     }
     Ok(())
-}
-
-/// Tests the sets that are not marked together, and what is left then one by one in more steps.
-fn mark_the_rest(
-    tables: Tables<'_>,
-    starts: &[usize],
-    marks: &mut Vec<bool>,
-    groups: &mut Vec<Vec<usize>>,
-) -> Result<(), NoMemory>
-    requires typename { type_view tables.typename_type.now ≡ typename_field.type_ref }
-    requires range { InRange tables.spreads.now }
-    requires spreads { map (λ v. v.items) tables.spreads.now ≡ map (λ r. r.spreads.items) tables.rows.now }
-    requires starts { All (λ n. n < length tables.rows.now) starts.now }
-    requires tested { AreTested (types_view tables.types.now) (rows_view tables.rows.now) marks.old.items }
-    requires groups { ArePassed (types_view tables.types.now) (rows_view tables.rows.now) (groups_view groups.old.items) }
-    ensures tested { OnOk result (AreTested (types_view tables.entry.types.now) (rows_view tables.entry.rows.now) marks.new.items) }
-    ensures groups { OnOk result (ArePassed (types_view tables.entry.types.now) (rows_view tables.entry.rows.now) (groups_view groups.new.items)) }
-{
-    let rest = unmarked_of(tables.alloc, starts, marks)?;
-    let mut notes = no_notes(tables.alloc, tables.rows, 0)?;
-    mark_together(tables, &rest, marks, groups, &mut notes)?;
-    let mut notes = no_notes(tables.alloc, tables.rows, MORE_STEPS)?;
-    mark_each(tables, &rest, marks, groups, &mut notes)
-}
-
-/// Those of the numbers that are not marked.
-fn unmarked_of(alloc: Global, numbers: &[usize], marks: &[bool]) -> Result<Vec<usize>, NoMemory>
-    requires { All (λ n. n < length marks.now) numbers.now }
-    ensures { IfOk result (λ found. All (λ n. n < length marks.now) found.items) }
-{
-    let mut found = Vec::new(alloc);
-    for number in numbers {
-        if !marks[*number] {
-            found.push(*number)?;
-        }
-    }
-    Ok(found)
-}
-
-/// Tests the sets that spreads name, or those that none names, in order.
-fn mark_those(
-    tables: Tables<'_>,
-    named: &[bool],
-    are_named: bool,
-    marks: &mut Vec<bool>,
-    groups: &mut Vec<Vec<usize>>,
-    notes: &mut Notes,
-) -> Result<(), NoMemory>
-    requires typename { type_view tables.typename_type.now ≡ typename_field.type_ref }
-    requires range { InRange tables.spreads.now }
-    requires spreads { map (λ v. v.items) tables.spreads.now ≡ map (λ r. r.spreads.items) tables.rows.now }
-    requires named { length named.now ≡ length tables.rows.now }
-    requires tested { AreTested (types_view tables.types.now) (rows_view tables.rows.now) marks.old.items }
-    requires groups { ArePassed (types_view tables.types.now) (rows_view tables.rows.now) (groups_view groups.old.items) }
-    ensures tested { OnOk result (AreTested (types_view tables.entry.types.now) (rows_view tables.entry.rows.now) marks.new.items) }
-    ensures groups { OnOk result (ArePassed (types_view tables.entry.types.now) (rows_view tables.entry.rows.now) (groups_view groups.new.items)) }
-{
-    for number in 0..named.len() {
-        if named[number] == are_named {
-            mark_with_spreads(tables, number, marks, groups, notes)?;
-        }
-    }
-    Ok(())
-}
-
-/// A mark at each set that spreads name.
-fn named_sets(alloc: Global, spreads: &[Vec<usize>]) -> Result<Vec<bool>, NoMemory>
-    requires { InRange spreads.now }
-    ensures { IfOk result (λ marks. length marks.items ≡ length spreads.now) }
-{
-    let mut marks = vec![in alloc; false; spreads.len()]?;
-    for numbers in spreads {
-        mark_all(&mut marks, numbers);
-    }
-    Ok(marks)
 }
 
 /// How many groups and numbers in them may be kept: some for each set, field and spread. Fields that double at each level of
@@ -508,23 +402,38 @@ fn unmarked_below(alloc: Global, marks: &[bool], count: usize) -> Result<Vec<usi
     Ok(numbers)
 }
 
-/// Notes of no test. The tests may take four steps for each place of the room, and these more.
-fn no_notes(alloc: Global, rows: &[Row<'_>], more: usize) -> Result<Notes, NoMemory> {
+/// Notes of no test. The tests may take four steps for each place of the room.
+fn no_notes(alloc: Global, rows: &[Row<'_>]) -> Result<Notes, NoMemory> {
     let room = all_room(rows);
     Ok(Notes {
         places: vec![in alloc; 0; rows.len()]?,
         failed: vec![in alloc; false; rows.len()]?,
         left: Budget {
-            steps: room.saturating_mul(4).saturating_add(more),
+            steps: room.saturating_mul(4),
             room,
         },
         room,
     })
 }
 
-/// How many steps each thread may take beyond those in proportion to the rows. In so many a hundred sets that all reach some
-/// thousands of fragments are tested one by one, and they take a tenth of a second.
-const MORE_STEPS: usize = 1_000_000;
+/// The numbers of the sets that are tested: those of operations, and of fragments that no spread names, since they reach the
+/// others.
+fn tested_numbers(
+    alloc: Global,
+    executable: &Executable<'_>,
+    spreads: &[Vec<usize>],
+) -> Result<Vec<usize>, NoMemory>
+    requires { InRange spreads.now }
+    ensures { IfOk result (λ numbers. All (λ n. n < length spreads.now) numbers.items) }
+{
+    let named = named_rows(alloc, spreads)?;
+    let firsts = executable
+        .fragments
+        .len()
+        .saturating_add(executable.operations.len());
+    let numbers = unmarked_below(alloc, &named, firsts)?;
+    Ok(numbers)
+}
 
 /// The marks that tests leave which begin with these sets, in order.
 fn marks_from(tables: Tables<'_>, starts: &[usize]) -> Result<Vec<bool>, NoMemory>
@@ -535,12 +444,9 @@ fn marks_from(tables: Tables<'_>, starts: &[usize]) -> Result<Vec<bool>, NoMemor
     ensures { IfOk result (λ marks. AreTested (types_view tables.entry.types.now) (rows_view tables.entry.rows.now) marks.items) }
 {
     let mut marks = vec![in tables.alloc; false; tables.rows.len()]?;
-    let mut notes = no_notes(tables.alloc, tables.rows, 0)?;
+    let mut notes = no_notes(tables.alloc, tables.rows)?;
     let mut groups = Vec::new(tables.alloc);
     mark_each(tables, starts, &mut marks, &mut groups, &mut notes)?;
-    if notes.left.steps == 0 {
-        mark_the_rest(tables, starts, &mut marks, &mut groups)?;
-    }
     Ok(marks)
 }
 
@@ -592,13 +498,35 @@ fn marks_by_threads<R: Threads + Sync>(
     Ok(marks)
 }
 
-/// A mark at each row of whose set it is known that the fields under it merge.
-///
-/// First those of operations are tested, and of fragments that no spread names, since they reach the others: two threads take
-/// half of them each. Then what they left is tested, a set that no spread names before the others. What is not marked may
-/// merge as well: the test asks for more than the rule, and it takes no more steps than in proportion to the rows and what
-/// stands in them.
-pub(crate) fn merged_rows<R: Threads + Sync>(
+/// A mark at each row of whose set it is known that the fields under it merge. What is not marked may merge as well: the test
+/// asks for more than the rule, and it takes no more steps than in proportion to the rows and what stands in them.
+pub(crate) fn merged_rows(
+    alloc: Global,
+    executable: &Executable<'_>,
+    typename_type: &TypeRef,
+    rows: &[Row<'_>],
+    spreads: &[Vec<usize>],
+) -> Result<Vec<bool>, NoMemory>
+    requires typename { type_view typename_type.now ≡ typename_field.type_ref }
+    requires rows { AreRows (executable_view executable.now) (rows_view rows.now) }
+    requires range { InRange spreads.now }
+    requires spreads { map (λ v. v.items) spreads.now ≡ map (λ r. r.spreads.items) rows.now }
+    ensures { IfOk result (λ marks. AreMerged (executable_view executable.now) (rows_view rows.now) marks.items) }
+{
+    let tables = Tables {
+        alloc,
+        types: executable.types,
+        typename_type,
+        rows,
+        spreads,
+    };
+    let starts = tested_numbers(alloc, executable, spreads)?;
+    let marks = marks_from(tables, &starts)?;
+    Ok(marks)
+}
+
+/// The same, by two threads.
+pub(crate) fn merged_rows_by_threads<R: Threads + Sync>(
     rt: &R,
     alloc: Global,
     executable: &Executable<'_>,
@@ -619,16 +547,7 @@ pub(crate) fn merged_rows<R: Threads + Sync>(
         rows,
         spreads,
     };
-    let named = named_sets(alloc, spreads)?;
-    let firsts = executable
-        .fragments
-        .len()
-        .saturating_add(executable.operations.len());
-    let starts = unmarked_below(alloc, &named, firsts)?;
-    let mut marks = marks_by_threads(rt, tables, &starts)?;
-    let mut notes = no_notes(alloc, rows, 0)?;
-    let mut groups = Vec::new(alloc);
-    mark_those(tables, &named, false, &mut marks, &mut groups, &mut notes)?;
-    mark_those(tables, &named, true, &mut marks, &mut groups, &mut notes)?;
+    let starts = tested_numbers(alloc, executable, spreads)?;
+    let marks = marks_by_threads(rt, tables, &starts)?;
     Ok(marks)
 }

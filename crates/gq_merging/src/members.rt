@@ -1,8 +1,8 @@
 //! The fields of a selection set, those of the fragments that it reaches by spreads among them.
-ghost use Rattle.std.specs.Prelude.{◌≡◌, ℕ, ◌++◌, ◌↔◌, ◌<◌, All, IfOk, OnOk, length, map, Contains};
+ghost use Rattle.std.specs.Prelude.{◌≡◌, ℕ, ◌++◌, ◌<◌, All, IfOk, OnOk, length, map, Contains};
 ghost use Rattle.std.specs.List.{flat_map};
 ghost use Rattle.gq_reach.specs.Reach.{Reach, InRange, row};
-ghost use Rattle.gq_merging.specs.SetTables.{MemberOf, members_at, spreads_at, IsMember};
+ghost use Rattle.gq_merging.specs.SetTables.{members_at, spreads_at};
 ghost use Rattle.gq_merging.specs.Views.{members_view, rows_view};
 
 use crate::rows::{Member, Row};
@@ -72,6 +72,14 @@ pub(crate) fn own_members<'r, 'a>(rows: &'r [Row<'a>], number: usize) -> &'r [Me
     rows[number].members.as_slice()
 }
 
+/// The numbers of the fragments that are spread in the set with that number.
+pub(crate) fn own_spreads<'r>(rows: &'r [Row<'_>], number: usize) -> &'r [usize]
+    requires { number < length rows.now }
+    ensures { result.now ≡ spreads_at (rows_view rows.now) number }
+{
+    rows[number].spreads.as_slice()
+}
+
 fn put_members<'a>(
     rows: &[Row<'a>],
     number: usize,
@@ -111,21 +119,4 @@ fn put_spreads_of(
         fragments.extend_from_slice(&rows[number].spreads)?;
     }
     Ok(())
-}
-
-/// The fields of the set with that number and of the fragments that it reaches.
-pub(crate) fn members_of<'a>(
-    alloc: Global,
-    rows: &[Row<'a>],
-    spreads: &[Vec<usize>],
-    number: usize,
-) -> Result<Vec<Member<'a>>, NoMemory>
-    requires number { number < length spreads.now }
-    requires range { InRange spreads.now }
-    requires spreads { map (λ v. v.items) spreads.now ≡ map (λ r. r.spreads.items) rows.now }
-    ensures { IfOk result (λ members. (m : MemberOf) → Contains (members_view members.items) m ↔ IsMember (rows_view rows.now) number m) }
-{
-    let found = reached_sets(alloc, spreads, &[number])?;
-    let members = gathered(alloc, rows, &found)?;
-    Ok(members)
 }

@@ -1,7 +1,7 @@
 //! Pairs of selection sets whose fields meet. Of `count` sets, the pair of the sets `i` and `j` has the number
-//! `i * count + j`.
-ghost use Rattle.std.specs.Prelude.{[], IfOk, OnOk, length};
-ghost use Rattle.gq_merging.specs.PairTables.{IsNumber, IsStart, IsBelow, Gains};
+//! `i * count + j`, which 128 bits hold.
+ghost use Rattle.std.specs.Prelude.{[], Contains, IfOk, OnOk, length};
+ghost use Rattle.gq_merging.specs.PairTables.{IsNumber, IsStart, IsBelow, IsGiven, Gains};
 ghost use Rattle.gq_merging.specs.Views.{met_view, look_view};
 
 use crate::comparing::leads_on;
@@ -23,7 +23,7 @@ pub(crate) struct Look<'a> {
     pub(crate) rows: &'a [Row<'a>],
     pub(crate) spreads: &'a [Vec<usize>],
     /// How many pairs of sets there are.
-    pub(crate) size: usize,
+    pub(crate) size: u128,
 }
 
 /// Two fields of one response key.
@@ -36,17 +36,17 @@ pub(crate) struct Met<'a> {
 /// Puts the number of a pair of sets among the others, where it is below the size.
 fn put_number(
     count: usize,
-    size: usize,
+    size: u128,
     left: usize,
     right: usize,
-    found: &mut IndexSet<usize>,
+    found: &mut IndexSet<u128>,
 ) -> Result<(), NoMemory>
     ensures { OnOk result (Gains (IsNumber count size left right) found.old.keys found.new.keys) }
 {
-    let Some(first) = left.checked_mul(count) else {
+    let Some(first) = (left as u128).checked_mul(count as u128) else {
         return Ok(());
     };
-    let Some(number) = first.checked_add(right) else {
+    let Some(number) = first.checked_add(right as u128) else {
         return Ok(());
     };
     if number < size {
@@ -59,8 +59,8 @@ fn put_number(
 pub(crate) fn starts(
     alloc: Global,
     passed: &[bool],
-    size: usize,
-) -> Result<IndexSet<usize>, NoMemory>
+    size: u128,
+) -> Result<IndexSet<u128>, NoMemory>
     ensures { IfOk result (λ found. Gains (IsStart passed.now (length passed.now) size (length passed.now)) [] found.keys) }
 {
     let mut found = IndexSet::new(alloc);
@@ -77,7 +77,7 @@ pub(crate) fn starts(
 pub(crate) fn put_below(
     look: Look<'_>,
     one: &Met<'_>,
-    found: &mut IndexSet<usize>,
+    found: &mut IndexSet<u128>,
 ) -> Result<(), NoMemory>
     ensures { OnOk result (Gains (IsBelow (look_view look.entry) (met_view one.now)) found.old.keys found.new.keys) }
 {
@@ -89,6 +89,36 @@ pub(crate) fn put_below(
             one.right.below,
             found,
         )?;
+    }
+    Ok(())
+}
+
+/// The pairs of each of these sets with that one.
+pub(crate) fn put_lefts(
+    look: Look<'_>,
+    lefts: &[usize],
+    right: usize,
+    found: &mut IndexSet<u128>,
+) -> Result<(), NoMemory>
+    ensures { OnOk result (Gains (IsGiven (Contains lefts.now) (λ left. IsNumber (length look.entry.rows.now) look.entry.size left right.entry)) found.old.keys found.new.keys) }
+{
+    for left in lefts {
+        put_number(look.rows.len(), look.size, *left, right, found)?;
+    }
+    Ok(())
+}
+
+/// The pairs of that set with each of these.
+pub(crate) fn put_rights(
+    look: Look<'_>,
+    left: usize,
+    rights: &[usize],
+    found: &mut IndexSet<u128>,
+) -> Result<(), NoMemory>
+    ensures { OnOk result (Gains (IsGiven (Contains rights.now) (λ right. IsNumber (length look.entry.rows.now) look.entry.size left.entry right)) found.old.keys found.new.keys) }
+{
+    for right in rights {
+        put_number(look.rows.len(), look.size, left, *right, found)?;
     }
     Ok(())
 }

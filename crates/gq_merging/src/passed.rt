@@ -19,7 +19,7 @@ fn put_marks(numbers: &[usize], mark: bool, marks: &mut Vec<bool>)
 }
 
 /// A mark at each set that is spread somewhere.
-fn named_rows(alloc: Global, spreads: &[Vec<usize>]) -> Result<Vec<bool>, NoMemory>
+pub(crate) fn named_rows(alloc: Global, spreads: &[Vec<usize>]) -> Result<Vec<bool>, NoMemory>
     requires { InRange spreads.now }
     ensures { IfOk result (λ named. length named.items ≡ length spreads.now) }
 {

@@ -4,7 +4,7 @@
 //! reach by spreads. Among those of one key the faults are put, and the sets in the braces of those of which what stands there
 //! meets are a group again. Any two fields that meet stand together in a group, and two of one key in a group meet, so these are
 //! all faults. A group that was there already is passed over. The number of groups can double at each level of
-//! fragments: after a number of steps the search gives up.
+//! fragments, and in a cycle they can grow without end: after a number of steps the search gives up.
 ghost use Rattle.std.specs.Prelude.{◌≡◌, ◌↔◌, ◌<◌, ◌+◌, ◌*◌, ℕ, Bool, List, [], All, Some, Contains, IsTrue, IfSome, IfOk, OnOk, length, map, slice_get};
 ghost use Rattle.gq_found.specs.declared.item.Item.{Item};
 ghost use Rattle.gq_reach.specs.Reach.{InRange};
@@ -29,7 +29,7 @@ use gq_text::NoMemory;
 use std::alloc::Global;
 
 /// What keeps the search short: the place of the last group that has each number, tables of what fragments reach, how many steps are
-/// left for groups of several sets, and how many items may stand there before they are put in order, each once.
+/// left, and how many items may stand there before they are put in order, each once.
 #[derive(Drop)]
 struct Notes<'a> {
     places: Vec<usize>,
@@ -38,11 +38,24 @@ struct Notes<'a> {
     most_items: usize,
 }
 
-/// How many steps the search may take beyond those in proportion to the rows.
-const MORE_STEPS: usize = 30_000_000;
+/// A project with no more room than this has some millions of pairs of sets at most. There the search takes no more steps than in
+/// proportion to the project, and then pairs are looked at.
+const SMALL_ROOM: usize = 33_000;
+
+/// How many times more steps it may take where the pairs could be more.
+const MORE_STEPS: usize = 128;
 
 /// How many items may be put before repeated ones among them are dropped, beyond as many again as stand there.
 const MORE_ITEMS: usize = 1000;
+
+/// How many steps the search may take.
+fn all_steps(rows: &[Row<'_>]) -> usize {
+    let room = all_room(rows);
+    if room <= SMALL_ROOM {
+        return room;
+    }
+    room.saturating_mul(MORE_STEPS)
+}
 
 /// Notes of no group.
 fn no_notes<'a>(look: Look<'a>) -> Result<Notes<'a>, NoMemory>
@@ -51,7 +64,7 @@ fn no_notes<'a>(look: Look<'a>) -> Result<Notes<'a>, NoMemory>
     Ok(Notes {
         places: vec![in look.alloc; 0; look.rows.len().saturating_mul(2)]?,
         kept: no_tables(look.alloc, look.rows)?,
-        steps: all_room(look.rows).saturating_add(MORE_STEPS),
+        steps: all_steps(look.rows),
         most_items: MORE_ITEMS,
     })
 }
@@ -97,14 +110,6 @@ fn first_groups(
         }
     }
     Ok(groups)
-}
-
-/// How many steps the search may take in a group, if so many are left. Those in one set are not counted: by pairs there are no fewer.
-fn steps_for(group: &[usize], left: usize) -> usize {
-    if group.len() == 1 {
-        return usize::MAX;
-    }
-    left
 }
 
 /// Looks at the fields of the group at that place: those of its sets, and those that the fragments reach which are spread in them.
@@ -169,9 +174,14 @@ fn search_on<'a>(
     if was_there(groups, place, &mut notes.places) {
         return Ok(true);
     }
-    let mut steps = steps_for(&groups[place], notes.steps);
-    let done = look_at_group(look, place, items, groups, &mut notes.kept, &mut steps)?;
-    notes.steps = notes.steps.min(steps);
+    let done = look_at_group(
+        look,
+        place,
+        items,
+        groups,
+        &mut notes.kept,
+        &mut notes.steps,
+    )?;
     drop_repeated(items, &mut notes.most_items);
     Ok(done)
 }

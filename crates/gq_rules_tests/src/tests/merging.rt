@@ -6,7 +6,7 @@ mod shared;
 
 use super::documents::{Documents, placed, read_over};
 use gq_found::Item;
-use gq_merging::put_merging_faults;
+use gq_merging::put_merging_faults_by_threads;
 use gq_text::NoMemory;
 use std::alloc::Global;
 use std::process::Abort;
@@ -19,7 +19,7 @@ fn items(
     documents: &Documents,
 ) -> Result<Vec<Item>, NoMemory> {
     let mut items = Vec::new(alloc);
-    put_merging_faults(rt, alloc, &documents.executable(), &mut items)?;
+    put_merging_faults_by_threads(rt, alloc, &documents.executable(), &mut items)?;
     Ok(items)
 }
 
