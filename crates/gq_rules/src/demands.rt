@@ -78,7 +78,7 @@ fn items_of_texts(alloc: Global, readings: &[Reading]) -> Result<Vec<Item>, NoMe
 /// The items in their order, each once.
 fn in_order(mut items: Vec<Item>) -> Vec<Item>
     ensures sorted { IsStrictlySortedBy item_cmp result.items }
-    ensures same { (item : Item) → Contains result.items item ↔ Contains items.entry.items item }
+    ensures same { (item : Item) → Contains result.items item ↔ Contains items.items item }
 {
     put_in_order(&mut items);
     items

@@ -64,7 +64,8 @@ fn put_definition_faults(
     ensures { OnOk result (Puts (IsDefinitionFault (executable_view executable.now)) items.old.items items.new.items) }
 {
     put_operation_faults(alloc, executable, items)?;
-    put_fragment_faults(alloc, executable, items)
+    put_fragment_faults(alloc, executable, items)?;
+    Ok(())
 }
 
 /// Puts what is wrong with spreads, and with variables, whose uses stand in the fragments that an operation reaches by them.
