@@ -1,11 +1,14 @@
 //! A check: files in, lines and a status out.
-ghost use Rattle.std.specs.Prelude.{◌≡◌, false};
-ghost use Rattle.gq_check.specs.Faults.{fault_line};
+ghost use Rattle.std.specs.Prelude.{◌≡◌, false, List, IfOk, IfErr};
+ghost use Rattle.gq_check.specs.declared.files.File.{File};
 ghost use Rattle.gq_check.specs.Checks.{Checks, Tells};
+ghost use Rattle.gq_check.specs.Faults.{IsFaultOr, fault_line};
+ghost use Rattle.gq_check.specs.Files.{files_fault};
+ghost use Rattle.gq_check.specs.Verdicts.{IsVerdict};
 
 use crate::fault::CheckFault;
 use crate::files::File;
-use crate::judging::judge;
+use crate::judging::{Verdict, judge, judge_by_threads};
 use gq_rpc::{Sink, send};
 use std::alloc::Global;
 use std::thread::Threads;
@@ -15,7 +18,17 @@ const FAULT_STATUS: u8 = 3;
 
 /// Checks the project of these files: tells what was found on `out` and what is at fault on `err`, and answers the status
 /// of the process. All that goes to `out` is made before any of it is written.
-pub fn check<R: Threads + Sync, O: Sink, E: Sink>(
+pub fn check<O: Sink, E: Sink>(alloc: Global, files: &[File], out: &mut O, err: &mut E) -> u8
+    requires out_works { O.failed out.old ≡ false }
+    requires err_works { E.failed err.old ≡ false }
+    ensures { Checks files.now (O.held out.old) (record { held = O.held out.new; failed = O.failed out.new })
+        (E.held err.old) (record { held = E.held err.new; failed = E.failed err.new }) result }
+{
+    tell_all(judge(alloc, files), out, err)
+}
+
+/// The same, by four threads.
+pub fn check_by_threads<R: Threads + Sync, O: Sink, E: Sink>(
     rt: &R,
     alloc: Global,
     files: &[File],
@@ -27,7 +40,18 @@ pub fn check<R: Threads + Sync, O: Sink, E: Sink>(
     ensures { Checks files.now (O.held out.old) (record { held = O.held out.new; failed = O.failed out.new })
         (E.held err.old) (record { held = E.held err.new; failed = E.failed err.new }) result }
 {
-    match judge(rt, alloc, files) {
+    tell_all(judge_by_threads(rt, alloc, files), out, err)
+}
+
+/// Tells what files come to, and answers the status.
+fn tell_all<O: Sink, E: Sink>(judged: Result<Verdict, CheckFault>, out: &mut O, err: &mut E) -> u8
+    requires out_works { O.failed out.old ≡ false }
+    requires err_works { E.failed err.old ≡ false }
+    ensures { (files : List File) → IfOk judged (IsVerdict files) → IfErr judged (IsFaultOr (files_fault files))
+        → Checks files (O.held out.old) (record { held = O.held out.new; failed = O.failed out.new })
+        (E.held err.old) (record { held = E.held err.new; failed = E.failed err.new }) result }
+{
+    match judged {
         Ok(verdict) => match send(out, verdict.text.as_str().as_bytes()) {
             Ok(()) => verdict.status,
             Err(_) => tell(CheckFault::Device, err),

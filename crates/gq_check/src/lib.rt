@@ -7,6 +7,6 @@ pub mod files;
 mod judging;
 mod lines;
 
-pub use checking::check;
+pub use checking::{check, check_by_threads};
 pub use fault::CheckFault;
 pub use files::File;

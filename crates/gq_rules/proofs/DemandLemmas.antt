@@ -70,14 +70,13 @@ module _ (readings : List Reading) (schema : List Item) (are : (item : Item) →
 
 -- the same, step by step as the code has it
 module _ (readings : List Reading) (es : List EntryOf) (is : es ≡ type_system_of readings) (schema : List Item)
-    (exact : (item : Item) → Contains schema item ↔ IsSchemaFault es item) (start unread_too mixed_too all : List Item)
-    (empty : start ≡ []) (one : unread_too ≡ start ++ each_from unread_at 0 readings) (two : mixed_too ≡ unread_too ++ each_from mixed_at 0 readings)
-    (three : all ≡ mixed_too ++ schema) where
+    (exact : (item : Item) → Contains schema item ↔ IsSchemaFault es item) (texts all : List Item)
+    (one : texts ≡ each_from unread_at 0 readings ++ each_from mixed_at 0 readings) (two : all ≡ texts ++ schema) where
   of_project : (item : Item) → Contains schema item ↔ IsSchemaFault (type_system_of readings) item
   of_project item = subst (λ t. Contains schema item ↔ IsSchemaFault t item) is (exact item)
 
   all_is : all ≡ told_first readings schema of_project
-  all_is = three ∙ ap (λ xs. xs ++ schema) (two ∙ ap (λ xs. xs ++ each_from mixed_at 0 readings) (one ∙ ap (λ xs. xs ++ each_from unread_at 0 readings) empty))
+  all_is = two ∙ ap (λ xs. xs ++ schema) one
 
   pub first_alone : (all ≡ [] → ⊥) → (item : Item) → Contains all item ↔ IsDemanded readings item
   first_alone n item = subst (λ xs. Contains xs item ↔ IsDemanded readings item) (sym all_is)
@@ -100,31 +99,18 @@ executable_is readings es os fs a b c =
 is_one : (x : Item) (xs : List Item) → x ∷ xs ≡ [] → ⊥
 is_one x xs e = cc
 
--- all that is put, one after the other
-pub all_are : (readings : List Reading) (x : ExecutableOf) → x ≡ executable_of readings → (start unread_too mixed_too final : List Item) →
-    start ≡ [] → unread_too ≡ start ++ each_from unread_at 0 readings → mixed_too ≡ unread_too ++ each_from mixed_at 0 readings →
-    PutsWrong x mixed_too final → (item : Item) → Contains final item ↔ IsDemanded readings item
-all_are readings x same start unread_too mixed_too final empty one two w item = cases (mixed_too ++ w.schema) refl
+-- what is told of the texts, and what is put behind it
+pub all_are : (readings : List Reading) (x : ExecutableOf) → x ≡ executable_of readings → (texts final : List Item) →
+    texts ≡ each_from unread_at 0 readings ++ each_from mixed_at 0 readings → PutsWrong x texts final →
+    (item : Item) → Contains final item ↔ IsDemanded readings item
+all_are readings x same texts final one w item = cases (texts ++ w.schema) refl
   where
-    cases : (xs : List Item) → mixed_too ++ w.schema ≡ xs → Contains final item ↔ IsDemanded readings item
-    cases [] e = rules_too readings x.entries (ap (λ y. y.entries) same) w.schema w.exact start unread_too mixed_too (mixed_too ++ w.schema)
-        empty one two refl x same e final (w.rules e) item
+    cases : (xs : List Item) → texts ++ w.schema ≡ xs → Contains final item ↔ IsDemanded readings item
+    cases [] e = rules_too readings x.entries (ap (λ y. y.entries) same) w.schema w.exact texts (texts ++ w.schema)
+        one refl x same e final (w.rules e) item
     cases (y ∷ ys) e = subst (λ zs. Contains zs item ↔ IsDemanded readings item) (sym (w.alone some))
-        (first_alone readings x.entries (ap (λ z. z.entries) same) w.schema w.exact start unread_too mixed_too (mixed_too ++ w.schema)
-        empty one two refl some item)
+        (first_alone readings x.entries (ap (λ z. z.entries) same) w.schema w.exact texts (texts ++ w.schema)
+        one refl some item)
       where
-        some : mixed_too ++ w.schema ≡ [] → ⊥
+        some : texts ++ w.schema ≡ [] → ⊥
         some n = is_one y ys (sym e ∙ n)
-
--- what the rules tell is put where nothing stands yet and nothing is wrong with the type system
-pub rules_put : (x : ExecutableOf) (old final : List Item) → old ≡ [] → ((item : Item) → IsSchemaFault x.entries item → ⊥) →
-    Puts (IsRuleFault x) old final → PutsWrong x old final
-rules_put x old final empty none p = record {
-  schema = [];
-  exact = λ item. ((λ c. absurd (contains_none item c)), (λ f. absurd (none item f)));
-  alone = λ some. absurd (some (nothing ∙ empty));
-  rules = λ _. subst (λ xs. Puts (IsRuleFault x) xs final) (sym nothing) p;
-}
-  where
-    nothing : old ++ [] ≡ old
-    nothing = append-nil old

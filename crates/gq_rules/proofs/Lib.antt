@@ -1,6 +1,8 @@
 pub mod ItemLemmas
 pub mod DemandLemmas
+pub mod WrongLemmas
 pub mod ValidityLemmas
 pub mod RuleLemmas
 pub mod OneReading
 pub mod OneReport
+pub mod TreeLemmas

@@ -1,11 +1,13 @@
--- What was found apart and put behind one another is what all rules tell.
+-- What was found group by group is what all rules tell.
 use Rattle.std.proofs.Common.{◌≡◌, ◌↔◌, ◌⊎◌, ⊎_elim, inl, inr, List, [], ◌++◌, ◌∙◌, ap}
+use Rattle.gq_fields.specs.FieldFaults.{IsFieldFault}
 use Rattle.gq_found.specs.declared.item.Item.{Item}
 use Rattle.gq_found.specs.Puts.{Puts}
 use Rattle.gq_found.proofs.PutLemmas.{puts_both, puts_as}
 use Rattle.gq_document.specs.Executable.{ExecutableOf}
+use Rattle.gq_merging.specs.FieldsMerge.{IsMergingFault}
 use Rattle.gq_rules.specs.RuleFaults.{IsRuleFault, of_operations, of_fields, of_fragments, of_spreads, of_variables, of_merging}
-use Rattle.gq_rules.specs.RuleGroups.{IsDefinitionOrMergingFault, IsOtherFault}
+use Rattle.gq_rules.specs.RuleGroups.{IsDefinitionFault, IsDefinitionOrMergingFault, IsReachFault, IsOtherFault}
 
 -- what was found apart, behind others
 puts_found : (Is : Item → Type 0) (old found new : List Item) → Puts Is [] found → new ≡ old ++ found → Puts Is old new
@@ -30,8 +32,15 @@ module _ (x : ExecutableOf) where
       back (of_spreads f) = inr (inr (inl f))
       back (of_variables f) = inr (inr (inr f))
 
-  -- both parts put behind the others
-  pub puts_rules : (old middle definitions others new : List Item) → Puts (IsDefinitionOrMergingFault x) [] definitions → Puts (IsOtherFault x) [] others →
-      middle ≡ old ++ definitions → new ≡ middle ++ others → Puts (IsRuleFault x) old new
-  puts_rules old middle definitions others new m o e f = puts_as _ (IsRuleFault x) old new told_are
-      (puts_then_found (IsDefinitionOrMergingFault x) (IsOtherFault x) old middle others new (puts_found (IsDefinitionOrMergingFault x) old definitions middle m e) o f)
+  -- two halves that were found apart
+  pub puts_rules : (definitions others new : List Item) → Puts (IsDefinitionOrMergingFault x) [] definitions → Puts (IsOtherFault x) [] others →
+      new ≡ definitions ++ others → Puts (IsRuleFault x) [] new
+  puts_rules definitions others new d o e = puts_as _ (IsRuleFault x) [] new told_are
+      (puts_then_found (IsDefinitionOrMergingFault x) (IsOtherFault x) [] definitions others new d o e)
+
+  -- one group behind the other
+  pub puts_groups : (old a b c new : List Item) → Puts (IsDefinitionFault x) old a → Puts (IsMergingFault x) a b → Puts (IsFieldFault x) b c →
+      Puts (IsReachFault x) c new → Puts (IsRuleFault x) old new
+  puts_groups old a b c new p q r s = puts_as _ (IsRuleFault x) old new told_are
+      (puts_both (IsDefinitionOrMergingFault x) (IsOtherFault x) old b new (puts_both (IsDefinitionFault x) (IsMergingFault x) old a b p q)
+      (puts_both (IsFieldFault x) (IsReachFault x) b c new r s))

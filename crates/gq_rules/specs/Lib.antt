@@ -4,8 +4,10 @@ pub mod ExecutableDefinitions
 pub mod RuleFaults
 pub mod RuleGroups
 pub mod Demands
+pub mod Demanded
 pub mod Places
 pub mod Wrongs
 pub mod Validity
 pub mod ValidityViews
 pub mod Reported
+pub mod Trees

@@ -6,8 +6,8 @@ use Rattle.gq_found.specs.Puts.{Puts}
 use Rattle.gq_document.specs.Executable.{ExecutableOf}
 use Rattle.gq_type_system.specs.SchemaFaults.{IsSchemaFault}
 use Rattle.gq_rules.specs.RuleFaults.{IsRuleFault}
-use Rattle.gq_rules.specs.declared.wrong.Wrong.{Wrong}
-use Rattle.gq_rules.specs.declared.wrong.Wrong.TheVariants as wrong
+use Rattle.gq_rules.specs.declared.wrong_by_threads.Wrong.{Wrong}
+use Rattle.gq_rules.specs.declared.wrong_by_threads.Wrong.TheVariants as wrong
 
 pub record PutsWrong (x : ExecutableOf) (old new : List Item) : Type 0 where
   pub schema : List Item

@@ -1,7 +1,9 @@
 //! Laws of the validation of projects.
 ghost use Rattle.std.specs.Prelude.{◌≡◌, List};
+ghost use Rattle.std.specs.List.{AllByRecursion};
 ghost use Rattle.gq_project.specs.declared.document.Doc.{Doc};
 ghost use Rattle.gq_found.specs.declared.found.Found.{Found};
+ghost use Rattle.gq_rules.specs.Trees.{HasTree};
 ghost use Rattle.gq_rules.specs.Validity.{IsReportOf, IsValid, IsInvalid};
 
 use gq_parse::laws::{one_fault, one_tree};
@@ -20,3 +22,8 @@ pub fn a_project_has_one_report()
     one_tree();
     one_fault();
 }
+
+/// Each document of a valid project has a tree.
+pub fn valid_documents_have_trees()
+    ensures { (documents : List Doc) → IsValid documents → AllByRecursion (λ document. HasTree document.text) documents }
+{}

@@ -1,12 +1,13 @@
 //! Projects with which nothing is wrong.
 ghost use Rattle.std.specs.Prelude.{◌≡◌, IfOk, IfErr};
-ghost use Rattle.gq_rules.specs.Validity.{IsValid};
+ghost use Rattle.gq_rules.specs.Demanded.{AreDemanded};
 ghost use Rattle.gq_rules.specs.Reported.{IsReported};
+ghost use Rattle.gq_rules.specs.Validity.{IsValid};
 
-use crate::report::{Report, demanded};
-use gq_found::found_at;
+use crate::demands::{demanded, demanded_by_threads};
+use crate::report::{Report, report_of};
+use gq_found::Item;
 use gq_project::Project;
-use gq_read::read_by_threads;
 use gq_text::NoMemory;
 use std::alloc::Global;
 use std::marker::Model;
@@ -52,13 +53,40 @@ impl Valid {
     ghost use Rattle.gq_rules.specs.ValidityViews.{IsWhy};
 
     /// The project, if nothing is wrong with it; else it is handed back with all that is.
-    pub fn new<R: Threads + Sync>(rt: &R, alloc: Global, project: Project) -> Result<Valid, Invalid>
+    pub fn new(alloc: Global, project: Project) -> Result<Valid, Invalid>
         ensures same { IfOk result (λ valid. valid ≡ project) }
         ensures valid { IfOk result (λ valid. ∥ IsValid valid ∥₁) }
         ensures handed_back { IfErr result (λ invalid. invalid.project ≡ project) }
         ensures why { IfErr result (λ invalid. IsWhy project invalid.why) }
     {
-        match why_not(rt, alloc, &project) {
+        let told = why_not(alloc, &project);
+        Valid::judged(project, told)
+    }
+
+    /// The same, looked at by four threads.
+    pub fn new_by_threads<R: Threads + Sync>(
+        rt: &R,
+        alloc: Global,
+        project: Project,
+    ) -> Result<Valid, Invalid>
+        ensures same { IfOk result (λ valid. valid ≡ project) }
+        ensures valid { IfOk result (λ valid. ∥ IsValid valid ∥₁) }
+        ensures handed_back { IfErr result (λ invalid. invalid.project ≡ project) }
+        ensures why { IfErr result (λ invalid. IsWhy project invalid.why) }
+    {
+        let told = why_not_by_threads(rt, alloc, &project);
+        Valid::judged(project, told)
+    }
+
+    /// The project, if nothing is told of it.
+    fn judged(project: Project, told: Result<Option<Report>, NoMemory>) -> Result<Valid, Invalid>
+        requires { IfOk told (IsReported project) }
+        ensures same { IfOk result (λ valid. valid ≡ project) }
+        ensures valid { IfOk result (λ valid. ∥ IsValid valid ∥₁) }
+        ensures handed_back { IfErr result (λ invalid. invalid.project ≡ project) }
+        ensures why { IfErr result (λ invalid. IsWhy project invalid.why) }
+    {
+        match told {
             Ok(None) => Ok(Valid { project }),
             Ok(Some(report)) => Err(Invalid {
                 project,
@@ -81,18 +109,37 @@ impl Valid {
 }
 
 /// The report on a project, if something is told of it.
-fn why_not<R: Threads + Sync>(
+fn why_not(alloc: Global, project: &Project) -> Result<Option<Report>, NoMemory>
+    ensures { IfOk result (λ report. IsReported project.now report) }
+{
+    let items = demanded(alloc, project.documents())?;
+    report_if_any(alloc, project, &items)
+}
+
+/// The same, by threads.
+fn why_not_by_threads<R: Threads + Sync>(
     rt: &R,
     alloc: Global,
     project: &Project,
 ) -> Result<Option<Report>, NoMemory>
     ensures { IfOk result (λ report. IsReported project.now report) }
 {
-    let readings = read_by_threads(rt, alloc, project.documents())?;
-    let items = demanded(rt, alloc, readings)?;
+    let items = demanded_by_threads(rt, alloc, project.documents())?;
+    report_if_any(alloc, project, &items)
+}
+
+/// The report on a project of which these items are told, if there are any.
+fn report_if_any(
+    alloc: Global,
+    project: &Project,
+    items: &[Item],
+) -> Result<Option<Report>, NoMemory>
+    requires { AreDemanded project.now items.now }
+    ensures { IfOk result (λ report. IsReported project.now report) }
+{
     if items.is_empty() {
         return Ok(None);
     }
-    let found = found_at(alloc, &items, project.documents())?;
-    Ok(Some(Report { found }))
+    let report = report_of(alloc, project, items)?;
+    Ok(Some(report))
 }

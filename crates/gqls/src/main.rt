@@ -5,7 +5,7 @@
 use clap::error::ErrorKind;
 use clap::{Arg, ArgAction, ArgMatches, Command, Error, value_parser};
 use gq_check::files::FILES_MAX;
-use gq_check::{File, check};
+use gq_check::{File, check_by_threads};
 use gq_crew::{Ended, RunFault, run_one};
 use gq_rpc::Flagged;
 use gq_text::text::TEXT_MAX;
@@ -73,15 +73,25 @@ fn check_command<'a>(alloc: Global) -> Result<Command<'a>, AllocError> {
         .arg(files)
 }
 
-/// What the words say.
-fn parse_words<'a>(alloc: Global, words: &'a [String]) -> Result<ArgMatches<'a>, Error> {
-    let command = Command::new(alloc, "gqls")
+/// The program, with its commands.
+fn gqls_command<'a>(alloc: Global) -> Result<Command<'a>, AllocError> {
+    Command::new(alloc, "gqls")
         .about("A language server for GraphQL")
         .after_help(EXAMPLE)
         .subcommand_required(true)
         .subcommand(serve_command(alloc)?)?
-        .subcommand(check_command(alloc)?)?;
-    command.try_get_matches_from(words)
+        .subcommand(check_command(alloc)?)
+}
+
+/// What the words say.
+fn parse_words<'a>(alloc: Global, words: &'a [String]) -> Result<ArgMatches<'a>, Error> {
+    gqls_command(alloc)?.try_get_matches_from(words)
+}
+
+/// That a word is no text, with how the program is called.
+fn not_utf8(alloc: Global) -> Result<Error, AllocError> {
+    let mut command = gqls_command(alloc)?;
+    command.error(ErrorKind::UnknownArgument, "a word is not UTF-8")
 }
 
 /// Tells a fault on the standard error, and answers the status.
@@ -99,6 +109,17 @@ fn explain(rt: &HostRuntime, error: &Error) -> u8 {
         Ok(()) if error.use_stderr() => USAGE_STATUS,
         Ok(()) => 0,
         Err(_) => tell_fault(rt, RunFault::Device),
+    }
+}
+
+/// Tells why the words cannot be read, and answers the status. One that is not UTF-8 is no command, whatever stands beside it.
+fn explain_unread(rt: &HostRuntime, error: &io::Error) -> u8 {
+    if error.kind() == io::ErrorKind::OutOfMemory {
+        return tell_fault(rt, RunFault::NoMemory);
+    }
+    match not_utf8(rt.alloc()) {
+        Ok(error) => explain(rt, &error),
+        Err(_) => tell_fault(rt, RunFault::NoMemory),
     }
 }
 
@@ -168,7 +189,7 @@ fn check_files<R: Threads + Sync>(threads: &R, rt: &HostRuntime, names: &[&str])
     };
     let mut output = Flagged::new(rt.stdout());
     let mut errors = Flagged::new(rt.stderr());
-    check(threads, rt.alloc(), &files, &mut output, &mut errors)
+    check_by_threads(threads, rt.alloc(), &files, &mut output, &mut errors)
 }
 
 /// Does what the words say, and answers the status.
@@ -192,7 +213,7 @@ fn main(rt: HostRuntime) -> ExitCode {
             Ok(matches) => run(&rt, &rt, &matches),
             Err(error) => explain(&rt, &error),
         },
-        Err(_) => tell_fault(&rt, RunFault::NoMemory),
+        Err(error) => explain_unread(&rt, &error),
     };
     ExitCode::from(status)
 }

@@ -1,8 +1,20 @@
-use Rattle.std.proofs.Common.{◌∙◌}
-use Rattle.gq_check.proofs.VerdictLemmas.{verdict_told}
+use Rattle.std.proofs.Common.{◌≤◌, ◌^◌, All, length, sym, subst}
+use Rattle.std.proofs.lemmas.Result.{IfErr-weaker}
+use Rattle.gq_check.specs.Files.{files_fault, documents_of}
+use Rattle.gq_check.proofs.VerdictLemmas.{no_memory, valid_as, invalid_as}
 use Rattle.gq_check.proofs.judging.judge.Goals as goal
 
-pub returns-in-Report-clause-ok : goal.returns-in-Report-clause-ok
-returns-in-Report-clause-ok g c =
-    verdict_told c.args.files.now c.in_ok-project.project c.in-Err.invalid.project c.in-Err.invalid.why c.in-Report.report c.deref.result.now c.from_string.result c.in_ok-project.ensures.accepted
-    c.in_ok-project.ensures.documents c.in-Err.ensures.why c.in-Report.is c.in-Err.ensures.handed_back c.deref.ensures.value (c.from_string.ensures ∙ c.in_ok-write_lines-in-Report.ensures)
+pub verdict_on-requires : goal.verdict_on-requires
+verdict_on-requires c =
+    IfErr-weaker c.new.result _ _ (λ invalid back. subst (All (λ doc. length doc.text ≤ 2 ^ 22)) (sym back) c.in_ok-project.ensures.texts) c.new.ensures.handed_back
+
+pub returns-clause-ok : goal.returns-clause-ok
+returns-clause-ok c =
+    let project = c.in_ok-project.project in
+    let documents = documents_of c.args.files.now in
+    let are = c.in_ok-project.ensures.documents in
+    c.verdict_on.ensures.ok c.args.files.now c.in_ok-project.ensures.accepted (valid_as project documents are c.new.result c.new.ensures.same c.new.ensures.valid)
+    (invalid_as project documents are c.new.result c.new.ensures.handed_back c.new.ensures.why)
+
+pub returns-clause-err : goal.returns-clause-err
+returns-clause-err c = IfErr-weaker c.verdict_on.result _ _ (λ f is. no_memory (files_fault c.args.files.now) f is) c.verdict_on.ensures.err

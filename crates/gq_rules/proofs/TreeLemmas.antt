@@ -1,0 +1,28 @@
+-- The documents of a valid project have trees.
+use Rattle.std.proofs.Common.{◌≡◌, ℕ, zero, suc, List, [], ◌∷◌, Some, refl, slice_get}
+use Rattle.std.specs.List.{AllByRecursion}
+use Rattle.gq_tree.specs.Views.{document_view}
+use Rattle.gq_project.specs.declared.document.Doc.{Doc}
+use Rattle.gq_found.specs.declared.code.Code.TheVariants.{Syntax, OverLimit}
+use Rattle.gq_read.specs.declared.reader.Reading.{Reading}
+use Rattle.gq_read.specs.declared.reader.Reading.TheVariants as reading
+use Rattle.gq_read.specs.Readings.{AreReadings}
+use Rattle.gq_read.specs.Readings as readings
+use Rattle.gq_rules.specs.Demands.{first, unread}
+use Rattle.gq_rules.specs.Trees.{HasTree}
+use Rattle.gq_rules.specs.Unread.{item_before, syntax, limit}
+use Rattle.gq_rules.specs.Validity.{IsValid}
+
+-- where no reading is a fault
+all_have : {documents : List Doc} {rs : List Reading} → AreReadings documents rs → ((file place : ℕ) → slice_get rs file ≡ Some (reading.Syntax place) → ⊥) →
+    ((file place : ℕ) → slice_get rs file ≡ Some (reading.Limit place) → ⊥) → AllByRecursion (λ document. HasTree document.text) documents
+all_have readings.none no_syntax no_limit = tt
+all_have (readings.more {one = reading.Tree d} p ps) no_syntax no_limit =
+    (record { tree = document_view d; derives = p }, all_have ps (λ file place at. no_syntax (suc file) place at) (λ file place at. no_limit (suc file) place at))
+all_have (readings.more {one = reading.Syntax place} p ps) no_syntax no_limit = absurd (no_syntax zero place refl)
+all_have (readings.more {one = reading.Limit place} p ps) no_syntax no_limit = absurd (no_limit zero place refl)
+
+pub have_trees : (documents : List Doc) → IsValid documents → AllByRecursion (λ document. HasTree document.text) documents
+have_trees documents v = all_have v.are_readings
+    (λ file place at. v.none (item_before file Syntax place) (first (unread (syntax at refl))))
+    (λ file place at. v.none (item_before file OverLimit place) (first (unread (limit at refl))))

@@ -1,0 +1,32 @@
+use Rattle.std.proofs.Common.{rules, ◌≡◌, ℕ, Bool, true, false, Contains, [], ap, subst, sym, ◌∙◌, length, arith}
+use Rattle.std.specs.Bool.{◌==◌}
+use Rattle.std.specs.Vec.{vec_len}
+use Rattle.std.proofs.lemmas.List.{nil_from_length}
+use Rattle.std.proofs.lemmas.Result.{IfOk-weaker}
+use Rattle.std.proofs.lemmas.Bool.Decides.{nat_tests}
+use Rattle.gq_document.specs.Executable.{executable_view}
+use Rattle.gq_names.proofs.RepeatLemmas.{contains_none}
+use Rattle.gq_rules.proofs.WrongLemmas.{schema_wrong, rules_wrong}
+use Rattle.gq_rules.proofs.wrong.first_wrong.Goals as goal
+
+-- as many as none
+none_told : (n : ℕ) (b : Bool) → b ≡ (n == 0) → b ≡ true → n ≡ 0
+none_told n b is holds = grind (arith, nat_tests)
+
+some_told : (n : ℕ) (b : Bool) → b ≡ (n == 0) → b ≡ false → n ≡ 0 → ⊥
+some_told n b is fails e = grind (arith, nat_tests)
+
+-- nothing is wrong with the type system
+pub returns-then-is_empty : goal.returns-then-is_empty
+returns-then-is_empty c =
+    let count : vec_len c.in_ok-wrong.wrong ≡ length c.in_ok-wrong.wrong.items = search rules in
+    let none = nil_from_length c.in_ok-wrong.wrong.items (sym count ∙ none_told (vec_len c.in_ok-wrong.wrong) c.is_empty.result c.is_empty.ensures c.if-is_empty.true) in
+    IfOk-weaker c.rule_faults.result _ _
+    (λ items. rules_wrong (executable_view c.args.executable.now) items.items
+    (λ item f. contains_none item (subst (λ xs. Contains xs item) none ((c.in_ok-wrong.ensures.exact item).1 f)))) c.rule_faults.ensures
+
+pub returns : goal.returns
+returns c =
+    let count : vec_len c.in_ok-wrong.wrong ≡ length c.in_ok-wrong.wrong.items = search rules in
+    schema_wrong (executable_view c.args.executable.now) c.in_ok-wrong.wrong.items c.in_ok-wrong.ensures.exact
+    (λ e. some_told (vec_len c.in_ok-wrong.wrong) c.is_empty.result c.is_empty.ensures c.if-is_empty.false (count ∙ ap length e))
