@@ -2,3 +2,8 @@ pub mod Refusals
 pub mod Offers
 pub mod Asks
 pub mod Rename
+pub mod Sound
+pub mod Found
+pub mod Defines
+pub mod NameRefusals
+pub mod Checked

@@ -1,7 +1,10 @@
 //! Renames of fragments and of variables, in all documents of a project.
 #![tactic(auto)]
 
+mod checking;
 pub mod laws;
+mod names;
+mod offers;
 pub mod refusal;
 pub mod rename;
 pub mod target;
@@ -11,4 +14,3 @@ pub use gq_target::{Target, TargetKind};
 pub use refusal::Refusal;
 pub use rename::{rename, rename_fragment, rename_variable};
 pub use target::target;
-

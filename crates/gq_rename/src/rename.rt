@@ -1,6 +1,7 @@
 //! Renames in all documents of a project.
-ghost use Rattle.std.specs.Prelude.{◌≡◌, ◌⊎◌, Err, IfOk};
+ghost use Rattle.std.specs.Prelude.{◌≡◌, ◌⊎◌, ℕ, List, Err, IfOk};
 ghost use Rattle.gq_edit.specs.Edits.{FitDocuments, after_edit};
+ghost use Rattle.gq_index.specs.Indexed.{IsIndexOfProject};
 ghost use Rattle.gq_rules.specs.Validity.{IsValid};
 ghost use Rattle.gq_target.specs.declared.target.Target.{Target};
 ghost use Rattle.gq_target.specs.declared.target.TargetKind.TheVariants as kind;
@@ -8,9 +9,13 @@ ghost use Rattle.gq_rename.specs.declared.refusal.Refusal.TheVariants as refusal
 ghost use Rattle.gq_rename.specs.Asks.{IsTarget};
 ghost use Rattle.gq_rename.specs.Rename.{IsRenameAnswer, KeepsTrees};
 
+use crate::offers::{offer_fragment, offer_variable};
 use crate::refusal::Refusal;
+use crate::target::target_by;
 use gq_edit::Edit;
+use gq_index::Index;
 use gq_rules::Valid;
+use gq_target::{Target, TargetKind};
 use std::alloc::Global;
 
 /// The edit that gives what the offset means, in bytes of the document of that key, another name: a fragment at its definition and at every spread of it, a
@@ -32,8 +37,31 @@ pub fn rename(
     ensures kept { IfOk result (KeepsTrees valid.now key.now offset new_name.now) }
     ensures valid { IfOk result (λ edit. ∥ IsValid (after_edit edit valid.now) ∥₁) }
 {
-    let _ = (alloc, valid, key, offset, new_name);
-    Err(Refusal::NoMemory)
+    let index = Index::of(alloc, valid.project())?;
+    match target_by(alloc, valid.project(), &index, key, offset)? {
+        Some(target) => offer(alloc, valid, &index, &target, new_name),
+        None => Err(Refusal::NothingHere),
+    }
+}
+
+/// The answer to the rename of a target, by its kind.
+fn offer(
+    alloc: Global,
+    valid: &Valid,
+    index: &Index,
+    target: &Target,
+    new_name: &str,
+) -> Result<Edit, Refusal>
+    requires { IsIndexOfProject valid.now index.now }
+    ensures answer { (key : List ℕ) (offset : ℕ) → IsTarget valid.now key offset target.now → (result ≡ Err refusal.NoMemory) ⊎ IsRenameAnswer valid.now key offset new_name.now result }
+    ensures fits { IfOk result (FitDocuments valid.now) }
+    ensures kept { (key : List ℕ) (offset : ℕ) → IsTarget valid.now key offset target.now → IfOk result (KeepsTrees valid.now key offset new_name.now) }
+    ensures valid { IfOk result (λ edit. ∥ IsValid (after_edit edit valid.now) ∥₁) }
+{
+    match target.kind {
+        TargetKind::Fragment => offer_fragment(alloc, valid, index, target, new_name),
+        TargetKind::Variable => offer_variable(alloc, valid, index, target, new_name),
+    }
 }
 
 /// The same where a fragment's name is at the offset, or nothing.
@@ -50,8 +78,11 @@ pub fn rename_fragment(
     ensures kept { IfOk result (KeepsTrees valid.now key.now offset new_name.now) }
     ensures valid { IfOk result (λ edit. ∥ IsValid (after_edit edit valid.now) ∥₁) }
 {
-    let _ = (alloc, valid, key, offset, new_name);
-    Err(Refusal::NoMemory)
+    let index = Index::of(alloc, valid.project())?;
+    match target_by(alloc, valid.project(), &index, key, offset)? {
+        Some(target) => offer_fragment(alloc, valid, &index, &target, new_name),
+        None => Err(Refusal::NothingHere),
+    }
 }
 
 /// The same where a variable is at the offset, or nothing.
@@ -68,6 +99,9 @@ pub fn rename_variable(
     ensures kept { IfOk result (KeepsTrees valid.now key.now offset new_name.now) }
     ensures valid { IfOk result (λ edit. ∥ IsValid (after_edit edit valid.now) ∥₁) }
 {
-    let _ = (alloc, valid, key, offset, new_name);
-    Err(Refusal::NoMemory)
+    let index = Index::of(alloc, valid.project())?;
+    match target_by(alloc, valid.project(), &index, key, offset)? {
+        Some(target) => offer_variable(alloc, valid, &index, &target, new_name),
+        None => Err(Refusal::NothingHere),
+    }
 }
