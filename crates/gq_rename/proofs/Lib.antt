@@ -4,5 +4,6 @@ mod Below
 mod Edited
 mod Taken
 mod Groups
+mod Targeting
 mod Answering
 mod Soundness

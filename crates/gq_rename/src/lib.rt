@@ -6,11 +6,11 @@ pub mod laws;
 mod names;
 mod offers;
 pub mod refusal;
-pub mod rename;
-pub mod target;
+pub mod renames;
+pub mod targets;
 
 pub use gq_rewrite::{is_fragment_name, is_name};
 pub use gq_target::{Target, TargetKind};
 pub use refusal::Refusal;
-pub use rename::{rename, rename_fragment, rename_variable};
-pub use target::target;
+pub use renames::{rename, rename_fragment, rename_variable};
+pub use targets::target;

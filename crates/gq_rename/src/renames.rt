@@ -11,7 +11,7 @@ ghost use Rattle.gq_rename.specs.Rename.{IsRenameAnswer, KeepsTrees};
 
 use crate::offers::{offer_fragment, offer_variable};
 use crate::refusal::Refusal;
-use crate::target::target_by;
+use crate::targets::target_by;
 use gq_edit::Edit;
 use gq_index::Index;
 use gq_rules::Valid;
@@ -37,8 +37,9 @@ pub fn rename(
     ensures kept { IfOk result (KeepsTrees valid.now key.now offset new_name.now) }
     ensures valid { IfOk result (λ edit. ∥ IsValid (after_edit edit valid.now) ∥₁) }
 {
-    let index = Index::of(alloc, valid.project())?;
-    match target_by(alloc, valid.project(), &index, key, offset)? {
+    let project = valid.project();
+    let index = Index::of(alloc, project)?;
+    match target_by(alloc, project, &index, key, offset)? {
         Some(target) => offer(alloc, valid, &index, &target, new_name),
         None => Err(Refusal::NothingHere),
     }
@@ -78,8 +79,9 @@ pub fn rename_fragment(
     ensures kept { IfOk result (KeepsTrees valid.now key.now offset new_name.now) }
     ensures valid { IfOk result (λ edit. ∥ IsValid (after_edit edit valid.now) ∥₁) }
 {
-    let index = Index::of(alloc, valid.project())?;
-    match target_by(alloc, valid.project(), &index, key, offset)? {
+    let project = valid.project();
+    let index = Index::of(alloc, project)?;
+    match target_by(alloc, project, &index, key, offset)? {
         Some(target) => offer_fragment(alloc, valid, &index, &target, new_name),
         None => Err(Refusal::NothingHere),
     }
@@ -99,8 +101,9 @@ pub fn rename_variable(
     ensures kept { IfOk result (KeepsTrees valid.now key.now offset new_name.now) }
     ensures valid { IfOk result (λ edit. ∥ IsValid (after_edit edit valid.now) ∥₁) }
 {
-    let index = Index::of(alloc, valid.project())?;
-    match target_by(alloc, valid.project(), &index, key, offset)? {
+    let project = valid.project();
+    let index = Index::of(alloc, project)?;
+    match target_by(alloc, project, &index, key, offset)? {
         Some(target) => offer_variable(alloc, valid, &index, &target, new_name),
         None => Err(Refusal::NothingHere),
     }

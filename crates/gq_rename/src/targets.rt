@@ -34,8 +34,9 @@ pub fn target(
     ensures { IfOk result (λ found. (t : Target) → (found ≡ Some t) ↔ IsTarget valid.now key.now offset t) }
 {
     offsets_mean_one_target();
-    let index = Index::of(alloc, valid.project())?;
-    let found = target_by(alloc, valid.project(), &index, key, offset)?;
+    let project = valid.project();
+    let index = Index::of(alloc, project)?;
+    let found = target_by(alloc, project, &index, key, offset)?;
     Ok(found)
 }
 
