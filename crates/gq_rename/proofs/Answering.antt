@@ -144,6 +144,7 @@ module _ (documents : List Doc) (rs : List Reading) (key : List ℕ) (offset : �
       -- an edit that was checked
       pub answered : IsNameRefusal (executables rs) t.kind t.name.text t.definition new None → (edits : List DocumentEdit) → edits ≡ Edits → (result : Result (List DocumentEdit) Refusal) → IsChecked documents edits result →
           (result ≡ Err NoMemory) ⊎ IsRenameAnswer documents key offset new result
+      unfolding own
       answered name edits is (Ok made) h =
           let large : find (is_too_large documents) Edits ≡ None = subst (λ (es : List DocumentEdit). find (is_too_large documents) es ≡ None) is h.1 in
           let after : ∥ IsValid (after_edit Edits documents) ∥₁ = subst (λ (es : List DocumentEdit). ∥ IsValid (after_edit es documents) ∥₁) is h.2 in
@@ -176,6 +177,7 @@ module _ (documents : List Doc) (rs : List Reading) (key : List ℕ) (offset : �
 
       -- what an edit keeps
       pub keeps : (edits : List DocumentEdit) → edits ≡ Edits → (result : Result (List DocumentEdit) Refusal) → IsChecked documents edits result → IfOk result (KeepsTrees documents key offset new)
+      unfolding own
       keeps edits is (Ok made) h =
           let R : List DocumentEdit → Type 0 = λ es. ReadsAsRenamed documents (trees_of rs) rule new es in
           record { readings = rs; are_readings = are; renames = own; reads = subst R (sym (h.0 ∙ is)) sound.reads }

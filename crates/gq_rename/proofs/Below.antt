@@ -109,23 +109,23 @@ count_in j k (type_system one ∷ ds) rest = count_in j k ds rest
 project_below : (key : List ℕ) (j k : ℕ) (documents : List Doc) (rs : List Reading) → AllByRecursion (Below (length (executables_from j rs) + k)) (renameables_of key k documents (trees_of rs))
 project_below key j k [] rs = tt
 project_below key j k (document ∷ documents) [] = tt
-project_below key j k (document ∷ documents) (r ∷ rs) = by (has_key key document)
+project_below key j k (document ∷ documents) (r ∷ rs) = by (has_key key document) (project_below key (j + 1) (number_behind (definitions_read r) k) documents rs)
   where
-    by : (b : Bool) → AllByRecursion (Below (length (executables_from j (r ∷ rs)) + k)) (if b then renameables k (definitions_read r) else renameables_of key (number_behind (definitions_read r) k) documents (trees_of rs))
-    by true =
+    by : (b : Bool) → AllByRecursion (Below (length (executables_from (j + 1) rs) + number_behind (definitions_read r) k)) (renameables_of key (number_behind (definitions_read r) k) documents (trees_of rs)) → AllByRecursion (Below (length (executables_from j (r ∷ rs)) + k)) (if b then renameables k (definitions_read r) else renameables_of key (number_behind (definitions_read r) k) documents (trees_of rs))
+    by true others =
         let e = count_in j k (definitions_read r) (executables_from (j + 1) rs) in
         document_below k (length (executables_from j (r ∷ rs)) + k) (definitions_read r) (omega (arith, e))
-    by false =
+    by false others =
         let e = count_in j k (definitions_read r) (executables_from (j + 1) rs) in
-        subst (λ (most : ℕ). AllByRecursion (Below most) (renameables_of key (number_behind (definitions_read r) k) documents (trees_of rs))) (sym e) (project_below key (j + 1) (number_behind (definitions_read r) k) documents rs)
+        subst (λ (most : ℕ). AllByRecursion (Below most) (renameables_of key (number_behind (definitions_read r) k) documents (trees_of rs))) (sym e) others
 
 found_in : {X : Type 0} (P : X → Type 0) (p : X → Bool) (xs : List X) (x : X) → AllByRecursion P xs → find p xs ≡ Some x → P x
 found_in P p [] x h e = absurd (cc)
-found_in {X} P p (y ∷ ys) x h e = by (p y) e
+found_in {X} P p (y ∷ ys) x h e = by (p y) e (found_in P p ys x h.1)
   where
-    by : (b : Bool) → (if b then Some y else find p ys) ≡ Some x → P x
-    by true g = let same : y ≡ x = cc in subst P same h.0
-    by false g = found_in P p ys x h.1 g
+    by : (b : Bool) → (if b then Some y else find p ys) ≡ Some x → (find p ys ≡ Some x → P x) → P x
+    by true g later = let same : y ≡ x = cc in subst P same h.0
+    by false g later = later g
 
 meant_in : (P : Target → Type 0) (offset : ℕ) (ts : List Target) (t : Target) → AllByRecursion P ts → target offset ts ≡ Some t → P t
 meant_in P offset ts t h e = by (find (holds offset) ts) refl e

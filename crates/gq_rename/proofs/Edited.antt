@@ -18,7 +18,7 @@ use Rattle.gq_project.specs.declared.document.Doc.{Doc}
 use Rattle.gq_project.specs.Documents.{IsInOrder}
 use Rattle.gq_parse.specs.Derives.{Derives}
 use Rattle.gq_parse.specs.Limits.{PassesLimitAt}
-use Rattle.gq_types.proofs.Gathered.{and_both, found}
+use Rattle.gq_types.proofs.Gathered.{nothing_in, cases_cons, and_both, found}
 use Rattle.gq_edit.specs.declared.edit.DocumentEdit.{DocumentEdit}
 use Rattle.gq_edit.specs.Edits.{is_of, document_of, edited_text, is_moved, is_too_large}
 use Rattle.gq_edit.proofs.Fitting.{document_of-itself}
@@ -84,17 +84,16 @@ edited_tree documents edits in_order h edit document stands of =
     (one.tree, subst D same one.derives)
 
 not_found : {X : Type 0} (p : X → Bool) (xs : List X) (x : X) → find p xs ≡ None → Contains xs x → p x ≡ true → ⊥
-not_found p xs x e stands passes =
-    let h : AllByRecursion (λ y. p y ≡ true → ⊥) xs = none_passes xs e in
-    All-contains (λ y. p y ≡ true → ⊥) xs x (All-from_recursion (λ y. p y ≡ true → ⊥) xs h) stands passes
+not_found p [] x e stands passes = nothing_in x stands
+not_found {X} p (y ∷ ys) x e stands passes = by (p y) refl e (λ f d. not_found p ys x f d passes)
   where
-    none_passes : (ys : List X) → find p ys ≡ None → AllByRecursion (λ y. p y ≡ true → ⊥) ys
-    none_passes [] e = tt
-    none_passes (y ∷ ys) e = by (p y) refl e
-      where
-        by : (b : Bool) → p y ≡ b → Rattle.std.specs.Prelude.cond b (Some y) (find p ys) ≡ None → AllByRecursion (λ z. p z ≡ true → ⊥) (y ∷ ys)
-        by true t f = absurd (cc)
-        by false t f = ((λ g. let x : true ≡ false = sym g ∙ t in cc), none_passes ys f)
+    by : (b : Bool) → p y ≡ b → Rattle.std.specs.Prelude.cond b (Some y) (find p ys) ≡ None → (find p ys ≡ None → Contains ys x → ⊥) → ⊥
+    by true t f later = absurd (cc)
+    by false t f later =
+        ⊎_elim
+        (λ same. let g : true ≡ false = sym passes ∙ ap p (sym same) ∙ t in cc)
+        (λ d. later f d)
+        (cases_cons y x ys stands)
 
 -- the first edit that is too large
 pub too_large : (documents : List Doc) (edits : List DocumentEdit) (edit : DocumentEdit) → find (is_too_large documents) edits ≡ Some edit → IsTooLarge documents edits

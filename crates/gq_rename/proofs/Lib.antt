@@ -4,6 +4,8 @@ mod Below
 mod Edited
 mod Taken
 mod Groups
+mod Naming
 mod Targeting
 mod Answering
+mod Offering
 mod Soundness

@@ -69,10 +69,10 @@ pub record ReadAt (key : List ℕ) (i j k : ℕ) (documents : List Doc) (rs : Li
 pub read_at : (key : List ℕ) (i j k : ℕ) (documents : List Doc) (rs : List Reading) (document : Doc) → AreReadings documents rs → position_or_len (has_key key) documents ≡ i → slice_get documents i ≡ Some document → ReadAt key i j k documents rs document
 read_at key i j k [] rs document p e at = absurd (cc)
 read_at key i j k (first ∷ documents) [] document p e at = elim p [ ]
-read_at key i j k (first ∷ documents) (r ∷ rs) document (readings.more p ps) e at = by (has_key key first) refl e
+read_at key i j k (first ∷ documents) (r ∷ rs) document (readings.more p ps) e at = by (has_key key first) refl e (λ n there. read_at key n (j + 1) (number_behind (definitions_read r) k) documents rs document ps there)
   where
-    by : (b : Bool) → has_key key first ≡ b → cond (not b) (1 + position_or_len (has_key key) documents) 0 ≡ i → ReadAt key i j k (first ∷ documents) (r ∷ rs) document
-    by true t here =
+    by : (b : Bool) → has_key key first ≡ b → cond (not b) (1 + position_or_len (has_key key) documents) 0 ≡ i → ((n : ℕ) → position_or_len (has_key key) documents ≡ n → slice_get documents n ≡ Some document → ReadAt key n (j + 1) (number_behind (definitions_read r) k) documents rs document) → ReadAt key i j k (first ∷ documents) (r ∷ rs) document
+    by true t here later =
         let zero_is : 0 ≡ i = here in
         let same : first ≡ document = (let h = ap (λ (n : ℕ). slice_get (first ∷ documents) n) zero_is ∙ at in cc) in
         let D : Doc → Type 0 = λ d. IsReading d.text r in
@@ -82,11 +82,11 @@ read_at key i j k (first ∷ documents) (r ∷ rs) document (readings.more p ps)
           same = ap (λ (b : Bool). if b then renameables k (definitions_read r) else renameables_of key (number_behind (definitions_read r) k) documents (trees_of rs)) t
               ∙ ap (λ (n : ℕ). renameables n (definitions_read r)) (sym (before_here j k (r ∷ rs)) ∙ ap (λ (n : ℕ). before (n + j) (executables_from j (r ∷ rs)) + k) zero_is);
         }
-    by false t here =
+    by false t here later =
         let rest : ℕ = position_or_len (has_key key) documents in
         let next : suc rest ≡ i = omega (arith, here) in
         let there : slice_get documents rest ≡ Some document = ap (λ (n : ℕ). slice_get (first ∷ documents) n) next ∙ at in
-        let w = read_at key rest (j + 1) (number_behind (definitions_read r) k) documents rs document ps refl there in
+        let w = later rest refl there in
         record {
           one = w.one;
           is_reading = w.is_reading;
@@ -99,13 +99,13 @@ read_at key i j k (first ∷ documents) (r ∷ rs) document (readings.more p ps)
 pub read_nowhere : (key : List ℕ) (k : ℕ) (documents : List Doc) (rs : List Reading) → AreReadings documents rs → length documents ≤ position_or_len (has_key key) documents → renameables_of key k documents (trees_of rs) ≡ []
 read_nowhere key k [] rs p past = refl
 read_nowhere key k (first ∷ documents) [] p past = elim p [ ]
-read_nowhere key k (first ∷ documents) (r ∷ rs) (readings.more p ps) past = by (has_key key first) refl past
+read_nowhere key k (first ∷ documents) (r ∷ rs) (readings.more p ps) past = by (has_key key first) refl past (read_nowhere key (number_behind (definitions_read r) k) documents rs ps)
   where
-    by : (b : Bool) → has_key key first ≡ b → length (first ∷ documents) ≤ cond (not b) (1 + position_or_len (has_key key) documents) 0 → renameables_of key k (first ∷ documents) (trees_of (r ∷ rs)) ≡ []
-    by true t here = absurd (omega (arith, here))
-    by false t here =
+    by : (b : Bool) → has_key key first ≡ b → length (first ∷ documents) ≤ cond (not b) (1 + position_or_len (has_key key) documents) 0 → (length documents ≤ position_or_len (has_key key) documents → renameables_of key (number_behind (definitions_read r) k) documents (trees_of rs) ≡ []) → renameables_of key k (first ∷ documents) (trees_of (r ∷ rs)) ≡ []
+    by true t here later = absurd (omega (arith, here))
+    by false t here later =
         ap (λ (b : Bool). if b then renameables k (definitions_read r) else renameables_of key (number_behind (definitions_read r) k) documents (trees_of rs)) t
-        ∙ read_nowhere key (number_behind (definitions_read r) k) documents rs ps (omega (arith, here))
+        ∙ later (omega (arith, here))
 
 -- the first place at which a test passes, if there is one
 pub some_place : {X : Type 0} (p : X → Bool) (xs : List X) (i : ℕ) → position p xs ≡ Some i → position_or_len p xs ≡ i

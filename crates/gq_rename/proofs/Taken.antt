@@ -93,7 +93,7 @@ variable_there file new (type_system one) o is v h named = absurd (cc)
 -- where something stands in a list, it is not empty
 some_in : {X : Type 0} (xs : List X) (x : X) → Contains xs x → not (nat_eq (length xs) 0) ≡ true
 some_in [] x h = nothing_in x h
-some_in (y ∷ ys) x h = refl
+some_in (y ∷ ys) x h = grind (arith, nat_tests)
 
 one_of : {X : Type 0} (xs : List X) → not (nat_eq (length xs) 0) ≡ true → (x : X) × Contains xs x
 one_of [] h = absurd (cc)

@@ -1,7 +1,8 @@
 -- What is found at an offset is the target that it means.
-use Rattle.std.proofs.Common.{◌≡◌, ◌↔◌, ℕ, ◌+◌, ◌<◌, List, [], Option, Some, None, length, refl, sym, ap, subst, ◌∙◌, arith}
-use Rattle.std.specs.Prelude.{slice_get, position}
-use Rattle.std.specs.List.{prefix_len}
+use Rattle.std.proofs.Common.{◌≡◌, ◌↔◌, ℕ, ◌+◌, ◌<◌, Bool, true, false, cond, List, [], Option, Some, None, length, get_or, refl, sym, ap, subst, ◌∙◌, arith}
+use Rattle.std.specs.Prelude.{nat_lt, slice_get, position}
+use Rattle.std.specs.List.{prefix_len, position_or_len}
+use Rattle.std.proofs.lemmas.Bool.Decides.{nat_tests}
 use Rattle.std.proofs.lemmas.Option.{slice_get-get_or}
 use Rattle.gq_project.specs.declared.document.Doc.{Doc}
 use Rattle.gq_project.specs.Documents.{has_key}
@@ -52,6 +53,17 @@ found_there listed documents key offset rs ds places file first document found s
     of w.one w.is_reading
     ∙ ap (λ (n : ℕ). target offset (renameables n (definitions_read w.one))) count
     ∙ ap (target offset) (sym w.same)
+
+-- the document at a place that was found
+pub place_at : (documents : List Doc) (key : List ℕ) (file : ℕ) (document : Doc) → Some file ≡ position (has_key key) documents → document ≡ get_or documents file document → slice_get documents file ≡ Some document
+place_at documents key file document at is = by (nat_lt (position_or_len (has_key key) documents) (length documents)) refl (sym at)
+  where
+    by : (b : Bool) → nat_lt (position_or_len (has_key key) documents) (length documents) ≡ b → cond b (Some (position_or_len (has_key key) documents)) None ≡ Some file → slice_get documents file ≡ Some document
+    by true t e =
+        let same : position_or_len (has_key key) documents ≡ file = cc in
+        let inside : file < length documents = grind (arith, nat_tests) in
+        slice_get-get_or documents file document inside ∙ ap Some (sym is)
+    by false t e = absurd (cc)
 
 -- a text without a tree has nothing that can be renamed
 pub nothing_in_none : (offset first : ℕ) → None ≡ target offset (renameables first [])

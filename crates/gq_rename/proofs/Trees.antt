@@ -41,16 +41,16 @@ module _ (one_tree : OneTree) where
   same_definitions text (reading.Limit place) (reading.Syntax other) p q = refl
   same_definitions text (reading.Limit place) (reading.Limit other) p q = refl
 
-  pub same_trees : (documents : List Doc) (as bs : List Reading) → AreReadings documents as → AreReadings documents bs → trees_of as ≡ trees_of bs
+  pub same_trees : (documents : List Doc) (xs ys : List Reading) → AreReadings documents xs → AreReadings documents ys → trees_of xs ≡ trees_of ys
   same_trees [] [] [] p q = refl
-  same_trees [] [] (b ∷ bs) p q = elim q [ ]
-  same_trees [] (a ∷ as) bs p q = elim p [ ]
-  same_trees (document ∷ documents) [] bs p q = elim p [ ]
-  same_trees (document ∷ documents) (a ∷ as) [] p q = elim q [ ]
-  same_trees (document ∷ documents) (a ∷ as) (b ∷ bs) (readings.more p ps) (readings.more q qs) =
-      ap (λ (t : List (Def Span)). t ∷ trees_of as) (same_definitions document.text a b p q) ∙ ap (λ (ts : List (List (Def Span))). definitions_read b ∷ ts) (same_trees documents as bs ps qs)
+  same_trees [] [] (b ∷ ys) p q = elim q [ ]
+  same_trees [] (a ∷ xs) ys p q = elim p [ ]
+  same_trees (document ∷ documents) [] ys p q = elim p [ ]
+  same_trees (document ∷ documents) (a ∷ xs) [] p q = elim q [ ]
+  same_trees (document ∷ documents) (a ∷ xs) (b ∷ ys) (readings.more p ps) (readings.more q qs) =
+      ap (λ (t : List (Def Span)). t ∷ trees_of xs) (same_definitions document.text a b p q) ∙ ap (λ (ts : List (List (Def Span))). definitions_read b ∷ ts) (same_trees documents xs ys ps qs)
 
   -- so an offset means the same
-  pub same_target : (documents : List Doc) (as bs : List Reading) (key : List ℕ) (offset : ℕ) → AreReadings documents as → AreReadings documents bs → target_of documents as key offset ≡ target_of documents bs key offset
-  same_target documents as bs key offset p q =
-      ap (λ (ts : List (List (Def Span))). Rattle.gq_target.specs.Targets.target offset (Rattle.gq_rename.specs.Asks.renameables_of key 0 documents ts)) (same_trees documents as bs p q)
+  pub same_target : (documents : List Doc) (xs ys : List Reading) (key : List ℕ) (offset : ℕ) → AreReadings documents xs → AreReadings documents ys → target_of documents xs key offset ≡ target_of documents ys key offset
+  same_target documents xs ys key offset p q =
+      ap (λ (ts : List (List (Def Span))). Rattle.gq_target.specs.Targets.target offset (Rattle.gq_rename.specs.Asks.renameables_of key 0 documents ts)) (same_trees documents xs ys p q)

@@ -1,12 +1,13 @@
 //! Whether a new name may be given.
-ghost use Rattle.std.specs.Prelude.{◌≡◌, ℕ, List};
+ghost use Rattle.std.specs.Prelude.{◌≡◌, ℕ, List, None};
 ghost use Rattle.std.specs.List.{list_any};
 ghost use Rattle.gq_index.specs.Indexed.{IsIndexOf};
 ghost use Rattle.gq_index.specs.Occurrences.{DefinitionOf};
+ghost use Rattle.gq_rewrite.specs.Names.{IsNameText, IsFragmentNameText};
 ghost use Rattle.gq_target.specs.declared.target.TargetKind.TheVariants as kind;
 ghost use Rattle.gq_rename.specs.Asks.{IsGroup};
 ghost use Rattle.gq_rename.specs.Defines.{defines};
-ghost use Rattle.gq_rename.specs.NameRefusals.{IsNameRefusal};
+ghost use Rattle.gq_rename.specs.NameRefusals.{IsNameRefusal, first_refusal};
 
 use crate::refusal::Refusal;
 use gq_index::Index;
@@ -14,18 +15,14 @@ use gq_rewrite::{is_fragment_name, is_name};
 
 /// Why a fragment of the old name may not have the new one.
 pub(crate) fn fragment_refusal(index: &Index, old_name: &str, new_name: &str) -> Option<Refusal>
-    ensures { (ds : List DefinitionOf) (definition : ℕ) → IsIndexOf ds index.now → IsNameRefusal ds kind.Fragment old_name.now definition new_name.now result }
+    ensures refusal { (ds : List DefinitionOf) (definition : ℕ) → IsIndexOf ds index.now → IsNameRefusal ds kind.Fragment old_name.now definition new_name.now result }
+    ensures named { result ≡ None → IsFragmentNameText new_name.now }
 {
-    if !is_fragment_name(new_name) {
-        return Some(Refusal::BadName);
-    }
-    if old_name == new_name {
-        return Some(Refusal::SameName);
-    }
-    if index.definitions(new_name).is_empty() {
-        return None;
-    }
-    Some(Refusal::NameTaken)
+    first_refusal(
+        is_fragment_name(new_name),
+        old_name == new_name,
+        !index.definitions(new_name).is_empty(),
+    )
 }
 
 /// Why a variable of the old name may not have the new one in the definitions of its group.
@@ -35,18 +32,29 @@ pub(crate) fn variable_refusal(
     old_name: &str,
     new_name: &str,
 ) -> Option<Refusal>
-    ensures { (ds : List DefinitionOf) (definition : ℕ) → IsIndexOf ds index.now → IsGroup ds old_name.now definition group.now → IsNameRefusal ds kind.Variable old_name.now definition new_name.now result }
+    ensures refusal { (ds : List DefinitionOf) (definition : ℕ) → IsIndexOf ds index.now → IsGroup ds old_name.now definition group.now → IsNameRefusal ds kind.Variable old_name.now definition new_name.now result }
+    ensures named { result ≡ None → IsNameText new_name.now }
 {
-    if !is_name(new_name) {
-        return Some(Refusal::BadName);
+    first_refusal(
+        is_name(new_name),
+        old_name == new_name,
+        is_defined_in(index, group, new_name),
+    )
+}
+
+/// The first refusal of a new name: where it may not be called so, is called so already, or another one is.
+fn first_refusal(may_be_called: bool, is_same: bool, is_taken: bool) -> Option<Refusal>
+    ensures { result ≡ first_refusal may_be_called is_same is_taken }
+{
+    if !may_be_called {
+        Some(Refusal::BadName)
+    } else if is_same {
+        Some(Refusal::SameName)
+    } else if is_taken {
+        Some(Refusal::NameTaken)
+    } else {
+        None
     }
-    if old_name == new_name {
-        return Some(Refusal::SameName);
-    }
-    if is_defined_in(index, group, new_name) {
-        return Some(Refusal::NameTaken);
-    }
-    None
 }
 
 /// Whether one of the definitions of these numbers defines a variable of the name.

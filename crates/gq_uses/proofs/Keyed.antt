@@ -1,5 +1,5 @@
 -- Each argument in a document has its name (section 2.6).
-use Rattle.std.proofs.Common.{◌≡◌, List, [], ◌∷◌, ◌++◌, Option, Some, None, refl}
+use Rattle.std.proofs.Common.{◌≡◌, true, false, List, [], ◌∷◌, ◌++◌, Option, Some, None, refl}
 use Rattle.std.specs.List.{AllByRecursion}
 use Rattle.gq_text.specs.declared.place.Span.{Span}
 use Rattle.gq_lex.specs.declared.token.Kind.{Kind}
@@ -19,9 +19,9 @@ abbrev pub KeyedDirectives : List (DirectiveOf Span) → Type 0
 KeyedDirectives ds = AllByRecursion (λ d. KeyedArguments d.arguments) ds
 
 abbrev pub KeyedHead : Head Span → Type 0
-KeyedHead (field alias name arguments directives braces place) = KeyedArguments arguments × KeyedDirectives directives
+KeyedHead (field alias name arguments directives span place) = KeyedArguments arguments × KeyedDirectives directives
 KeyedHead (spread name directives place) = KeyedDirectives directives
-KeyedHead (inline on directives braces place) = KeyedDirectives directives
+KeyedHead (inline on directives span place) = KeyedDirectives directives
 
 abbrev pub KeyedSelections : Sels Span → Type 0
 KeyedSelections ss = AllByRecursion KeyedHead (labels ss)
@@ -30,8 +30,8 @@ abbrev pub KeyedVariables : List (VariableOf Span) → Type 0
 KeyedVariables vs = AllByRecursion (λ v. KeyedDirectives v.directives) vs
 
 abbrev pub KeyedDef : Def Span → Type 0
-KeyedDef (operation kind name variables directives set braces place) = KeyedVariables variables × KeyedDirectives directives × KeyedSelections set
-KeyedDef (fragment name on directives set braces place) = KeyedDirectives directives × KeyedSelections set
+KeyedDef (operation kind name variables directives set span place) = KeyedVariables variables × KeyedDirectives directives × KeyedSelections set
+KeyedDef (fragment name on directives set span place) = KeyedDirectives directives × KeyedSelections set
 KeyedDef (type_system one) = Unit {0}
 
 closed_all : {A : Type 0} {X : A → Tokens → Tokens → Type 0} (P : A → Type 0) {k : Kind} {xs : List A} {tokens rest : Tokens} → ((x : A) (t r : Tokens) → X x t r → P x) → Closed X k xs tokens rest → AllByRecursion P xs
