@@ -158,3 +158,12 @@ refusal_of ds t of old new refusal k o h =
     let K : TargetKind → Type 0 = λ x. IsNameRefusal ds x t.name.text t.definition new refusal in
     let N : List ℕ → Type 0 = λ text. IsNameRefusal ds of text t.definition new refusal in
     subst K (sym k) (subst N o h)
+
+pub group_named : (ds : List DefinitionOf) (t : Target) (old group : List ℕ) → old ≡ t.name.text → IsGroup ds t.name.text t.definition group → IsGroup ds old t.definition group
+group_named ds t old group is g = let N : List ℕ → Type 0 = λ text. IsGroup ds text t.definition group in subst N (sym is) g
+
+pub members_of : (ds : List DefinitionOf) (t : Target) (old group items : List ℕ) → old ≡ t.name.text → group ≡ items → ((n : ℕ) → Contains items n ↔ VariableGroup ds old t.definition n) → (n : ℕ) → Contains group n ↔ VariableGroup ds t.name.text t.definition n
+members_of ds t old group items is same members =
+    let G : List ℕ → Type 0 = λ l. (n : ℕ) → Contains l n ↔ VariableGroup ds t.name.text t.definition n in
+    let N : List ℕ → Type 0 = λ text. (n : ℕ) → Contains items n ↔ VariableGroup ds text t.definition n in
+    subst G (sym same) (subst N is members)

@@ -37,10 +37,27 @@ pub fn rename(
     ensures kept { IfOk result (KeepsTrees valid.now key.now offset new_name.now) }
     ensures valid { IfOk result (λ edit. ∥ IsValid (after_edit edit valid.now) ∥₁) }
 {
-    let project = valid.project();
-    let index = Index::of(alloc, project)?;
-    match target_by(alloc, project, &index, key, offset)? {
-        Some(target) => offer(alloc, valid, &index, &target, new_name),
+    let index = Index::of(alloc, valid.project())?;
+    rename_by(alloc, valid, &index, key, offset, new_name)
+}
+
+/// The same, with the index of the project.
+fn rename_by(
+    alloc: Global,
+    valid: &Valid,
+    index: &Index,
+    key: &str,
+    offset: usize,
+    new_name: &str,
+) -> Result<Edit, Refusal>
+    requires { IsIndexOfProject valid.now index.now }
+    ensures answer { (result ≡ Err refusal.NoMemory) ⊎ IsRenameAnswer valid.now key.now offset new_name.now result }
+    ensures fits { IfOk result (FitDocuments valid.now) }
+    ensures kept { IfOk result (KeepsTrees valid.now key.now offset new_name.now) }
+    ensures valid { IfOk result (λ edit. ∥ IsValid (after_edit edit valid.now) ∥₁) }
+{
+    match target_by(alloc, valid.project(), index, key, offset)? {
+        Some(target) => offer(alloc, valid, index, &target, new_name),
         None => Err(Refusal::NothingHere),
     }
 }
@@ -79,12 +96,7 @@ pub fn rename_fragment(
     ensures kept { IfOk result (KeepsTrees valid.now key.now offset new_name.now) }
     ensures valid { IfOk result (λ edit. ∥ IsValid (after_edit edit valid.now) ∥₁) }
 {
-    let project = valid.project();
-    let index = Index::of(alloc, project)?;
-    match target_by(alloc, project, &index, key, offset)? {
-        Some(target) => offer_fragment(alloc, valid, &index, &target, new_name),
-        None => Err(Refusal::NothingHere),
-    }
+    rename(alloc, valid, key, offset, new_name)
 }
 
 /// The same where a variable is at the offset, or nothing.
@@ -101,10 +113,5 @@ pub fn rename_variable(
     ensures kept { IfOk result (KeepsTrees valid.now key.now offset new_name.now) }
     ensures valid { IfOk result (λ edit. ∥ IsValid (after_edit edit valid.now) ∥₁) }
 {
-    let project = valid.project();
-    let index = Index::of(alloc, project)?;
-    match target_by(alloc, project, &index, key, offset)? {
-        Some(target) => offer_variable(alloc, valid, &index, &target, new_name),
-        None => Err(Refusal::NothingHere),
-    }
+    rename(alloc, valid, key, offset, new_name)
 }
