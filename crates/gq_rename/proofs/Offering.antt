@@ -167,3 +167,6 @@ members_of ds t old group items is same members =
     let G : List ℕ → Type 0 = λ l. (n : ℕ) → Contains l n ↔ VariableGroup ds t.name.text t.definition n in
     let N : List ℕ → Type 0 = λ text. (n : ℕ) → Contains items n ↔ VariableGroup ds text t.definition n in
     subst G (sym same) (subst N is members)
+
+pub index_listed : (listed documents : List Doc) (index : Index) → listed ≡ documents → IsIndexOfProject documents index → IsIndexOfProject listed index
+index_listed listed documents index same i = let I : List Doc → Type 0 = λ ds. IsIndexOfProject ds index in subst I (sym same) i

@@ -84,9 +84,11 @@ variable_there : (file : ℕ) (new : Text) (x : Def Span) (o : OperationOf) → 
 variable_there file new (operation kind name variables directives set braces place) o is v h named =
     let own : OperationOf = record { file = file; kind = kind; name = name; variables = variables; directives = directives; set = set; braces = braces; place = place } in
     let same : own ≡ o = cc in
-    let here : Contains variables v = subst (λ (p : OperationOf). Contains p.variables v) (sym same) h in
-    (v.name.place, to_map (λ (m : NameOf Span). m.place) (called new (map (λ (w : VariableOf Span). w.name) variables)) v.name
-    (to_filter (λ (m : NameOf Span). bytes_eq new m.text) (map (λ (w : VariableOf Span). w.name) variables) v.name (to_map (λ (w : VariableOf Span). w.name) variables v here) ((bytes_decides new v.name.text).1 (sym named))))
+    let here : Contains variables v = subst (λ (p : OperationOf). Contains p.variables v) (sym same) h in (
+      v.name.place,
+      to_map (λ (m : NameOf Span). m.place) (called new (map (λ (w : VariableOf Span). w.name) variables)) v.name
+          (to_filter (λ (m : NameOf Span). bytes_eq new m.text) (map (λ (w : VariableOf Span). w.name) variables) v.name (to_map (λ (w : VariableOf Span). w.name) variables v here) ((bytes_decides new v.name.text).1 (sym named))),
+    )
 variable_there file new (fragment name on directives set braces place) o is v h named = absurd (cc)
 variable_there file new (type_system one) o is v h named = absurd (cc)
 

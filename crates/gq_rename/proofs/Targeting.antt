@@ -27,8 +27,8 @@ pub is_target : (listed documents : List Doc) (key : List ℕ) (offset : ℕ) (f
 is_target listed documents key offset found rs same are of t = (
   (λ e. let T : List Doc → Type 0 = λ ds. IsTarget ds key offset t in subst T same (record { readings = rs; are_readings = are; here = sym (of rs are) ∙ e })),
   (λ w. let A : List Doc → Type 0 = λ ds. AreReadings ds w.readings in
-  let of_them : found ≡ target_of listed w.readings key offset = of w.readings (subst A (sym same) w.are_readings) in
-  of_them ∙ ap (λ (ds : List Doc). target_of ds w.readings key offset) same ∙ w.here),
+      let of_them : found ≡ target_of listed w.readings key offset = of w.readings (subst A (sym same) w.are_readings) in
+      of_them ∙ ap (λ (ds : List Doc). target_of ds w.readings key offset) same ∙ w.here),
 )
 
 -- under a key that no document has
