@@ -1,127 +1,192 @@
--- What the steps of a rename come to.
-use Rattle.std.proofs.Common.{◌≡◌, ◌≢◌, ℕ, ◌^◌, ◌<◌, ◌≤◌, List, [], ◌∷◌, length, Bool, true, false, Some, None, refl, sym, ap, subst, ◌∙◌, arith}
-use Rattle.std.specs.Prelude.{IsTrue, ◌↔◌, find, nat_le, if◌then◌else◌}
-use Rattle.std.specs.Ordering.{int_eq}
-use Rattle.gq_project.specs.Documents.{IsInOrder}
-use Rattle.gq_edit.specs.Edits.{FitDocuments, document_of}
-use Rattle.gq_edit.proofs.Naming.{document_of-found}
-use Rattle.std.proofs.lemmas.Bool.Decides.{nat_tests, Decides-int_eq}
-use Rattle.std.specs.Str.{IsUtf8, bytes_eq}
-use Rattle.std.proofs.lemmas.Slice.Eq.{bytes_eq-Decides}
-use Rattle.gq_text.specs.declared.place.Span.{Span}
-use Rattle.gq_text.specs.declared.replacement.Replacement.{Replacement}
-use Rattle.gq_text.specs.Replaced.{replaced}
-use Rattle.gq_tree.specs.Plain.{NameOf, Def}
-use Rattle.gq_tree.specs.Names.{fragment_names}
-use Rattle.gq_parse.specs.Derives.{Derives}
+-- The answer to a rename, from what is known of its target, its new name and its edit.
+use Rattle.std.proofs.Common.{◌≡◌, ◌≢◌, ℕ, ◌<◌, List, [], Option, Some, None, Result, Ok, Err, refl, sym, ap, subst, ◌∙◌, arith, inl, inr, ◌⊎◌}
+use Rattle.std.specs.Prelude.{find, codes, IfOk}
+use Rattle.std.proofs.lemmas.Grind.{not_there}
+use Rattle.gq_lex.specs.declared.token.Kind.TheVariants as kind_of_token
 use Rattle.gq_project.specs.declared.document.Doc.{Doc}
-use Rattle.gq_project.specs.Documents.{has_key}
 use Rattle.gq_edit.specs.declared.edit.DocumentEdit.{DocumentEdit}
-use Rattle.gq_edit.specs.Replacements.{AreDisjoint, FitText}
-use Rattle.gq_rewrite.specs.Names.{IsFragmentNameText}
-use Rattle.gq_rename.specs.Names.{target, called}
-use Rattle.gq_rewrite.specs.Changed.{replacements_of}
-use Rattle.gq_rename.specs.Rename.{Target, MayRename, Renames, rename_replacements, rename_edit}
-use Rattle.gq_rename.proofs.Renaming.{rename_keeps, rename_disjoint, rename_fits}
+use Rattle.gq_edit.specs.Edits.{FitDocuments, after_edit, is_too_large}
+use Rattle.gq_read.specs.declared.reader.Reading.{Reading}
+use Rattle.gq_read.specs.Readings.{AreReadings}
+use Rattle.gq_index.specs.Occurrences.{DefinitionOf, executables}
+use Rattle.gq_rewrite.specs.Names.{IsNameText}
+use Rattle.gq_rewrite.specs.Renamings.{Renaming, MayName}
+use Rattle.gq_cut.proofs.VariableCut.{may_name}
+use Rattle.gq_rules.specs.Validity.{IsValid}
+use Rattle.gq_target.specs.declared.target.Target.{Target}
+use Rattle.gq_target.specs.declared.target.TargetKind.{TargetKind}
+use Rattle.gq_target.specs.declared.target.TargetKind.TheVariants as kind
+use Rattle.gq_rename.specs.declared.refusal.Refusal.{Refusal}
+use Rattle.gq_rename.specs.declared.refusal.Refusal.TheVariants.{ProjectInvalid, NothingHere, BadName, SameName, NameTaken, TooLarge, SelfCheck, NoMemory}
+use Rattle.gq_rename.specs.Refusals.{number_of}
+use Rattle.gq_rename.specs.Asks.{RenameAsk, trees_of, target_of, MayBeCalled, IsTaken, Changes, fragments, variables}
+use Rattle.gq_rename.specs.Rename.{Renames, cut, AtTarget, IsTooLarge, ReadsAsRenamed, PassesCheck, Refuses, IsRenameAnswer, KeepsTrees}
+use Rattle.gq_rename.specs.Sound.{IsSound, edits_by}
+use Rattle.gq_rename.specs.NameRefusals.{IsNameRefusal}
+use Rattle.gq_rename.specs.Checked.{IsChecked}
+use Rattle.gq_rename.proofs.Edited.{too_large}
+use Rattle.gq_rename.proofs.Groups.{one_rule}
 
--- the document, its tree and the name that were found
-pub record Found (project : List Doc) (key : List ℕ) (offset : ℕ) : Type 0 where
-  pub document : Doc
-  pub tree : List (Def Span)
-  pub names : List (NameOf Span)
-  pub name : NameOf Span
-  pub there : Some document ≡ find (has_key key) project
-  pub derives : Derives document.text tree
-  pub names_are : names ≡ fragment_names tree
-  pub here : Some name ≡ target offset names
+-- what a new name has to be for both kinds
+pub name_text : (of : TargetKind) (new : List ℕ) → MayBeCalled of new → IsNameText new
+name_text kind.Fragment new may = may.is_name
+name_text kind.Variable new may = may
 
-abbrev pub found_by : (project : List Doc) (key : List ℕ) (offset : ℕ) (document : Doc) (tree : List (Def Span)) (names : List (NameOf Span)) (name : NameOf Span) → Some document ≡ find (has_key key) project → Derives document.text tree → names ≡ fragment_names tree → Some name ≡ target offset names → Found project key offset
-found_by project key offset document tree names name there derives names_are here = record { document = document; tree = tree; names = names; name = name; there = there; derives = derives; names_are = names_are; here = here }
+pub may_name_each : {ds : List DefinitionOf} {old : List ℕ} {definition : ℕ} {of : TargetKind} {rule : ℕ → Renaming} (new : List ℕ) → Changes ds old definition of rule → MayBeCalled of new → (n : ℕ) → MayName (rule n) new
+may_name_each new fragments may = λ n text marked. may.not_on
+may_name_each {old = old} new (variables {group = group} is) may = may_name group old new
 
--- the name is the one that is wanted, or not
-pub same_name_is : (text old new : List ℕ) (b : Bool) → b ≡ bytes_eq text new → text ≡ old → b ≡ true → old ≡ new
-same_name_is text old new b e is t = sym is ∙ (bytes_eq-Decides text new).0 (sym e ∙ t)
+abbrev pub ask_of : List ℕ → ℕ → List ℕ → RenameAsk
+ask_of key offset new = record { key = key; offset = offset; new = new }
 
-pub other_name_is : (text old new : List ℕ) (b : Bool) → b ≡ bytes_eq text new → text ≡ old → b ≡ false → old ≢ new
-other_name_is text old new b e is f same =
-    let t = (bytes_eq-Decides text new).1 (is ∙ same) in
-    let x : true ≡ false = sym t ∙ sym e ∙ f in cc
+module _ (documents : List Doc) (rs : List Reading) (key : List ℕ) (offset : ℕ) (new : List ℕ) (are : AreReadings documents rs) (valid : ∥ IsValid documents ∥₁) where
+  abbrev Refused : Refusal → Type 0
+  Refused = Refuses documents rs (ask_of key offset new)
 
-abbrev pub target_in : {project : List Doc} {key : List ℕ} {offset : ℕ} → Found project key offset → Target project key offset
-target_in {offset = offset} f = record {
-  document = f.document;
-  tree = f.tree;
-  name = f.name;
-  found = sym f.there;
-  derives = f.derives;
-  here = sym (f.here ∙ ap (λ (ns : List (NameOf Span)). target offset ns) f.names_are);
-}
+  -- nothing is at the offset
+  nothing_earlier : (why : Refusal) → number_of why < 2 → Refused why → ⊥
+  nothing_earlier ProjectInvalid less h = not_there valid h
+  nothing_earlier NothingHere less h = absurd (omega (arith, less))
+  nothing_earlier BadName less h = absurd (omega (arith, less))
+  nothing_earlier SameName less h = absurd (omega (arith, less))
+  nothing_earlier NameTaken less h = absurd (omega (arith, less))
+  nothing_earlier TooLarge less h = absurd (omega (arith, less))
+  nothing_earlier SelfCheck less h = absurd (omega (arith, less))
+  nothing_earlier NoMemory less h = absurd (omega (arith, less))
 
--- the replacements that were made of them
-pub made_are : {project : List Doc} {key : List ℕ} {offset : ℕ} (f : Found project key offset) (old new : List ℕ) (names : List (NameOf Span)) (made : List Replacement) → old ≡ f.name.text → names ≡ f.names → made ≡ replacements_of new (called old names) → made ≡ rename_replacements f.name.text new f.tree
-made_are f old new names made old_is names_is made_is =
-    made_is
-    ∙ ap (λ (o : List ℕ). replacements_of new (called o names)) old_is
-    ∙ ap (λ (ns : List (NameOf Span)). replacements_of new (called f.name.text ns)) (names_is ∙ f.names_are)
+  pub nothing_here : target_of documents rs key offset ≡ None → IsRenameAnswer documents key offset new (Err NothingHere)
+  nothing_here none = record { readings = rs; are_readings = are; offer = (none, nothing_earlier) }
 
-pub made_disjoint : {project : List Doc} {key : List ℕ} {offset : ℕ} (f : Found project key offset) (new : List ℕ) (made : List Replacement) → IsFragmentNameText new → made ≡ rename_replacements f.name.text new f.tree → AreDisjoint made
-made_disjoint f new made named is = subst AreDisjoint (sym is) (rename_disjoint f.name.text new f.document.text f.tree f.derives named.is_name named.not_on)
+  module _ (t : Target) (here : target_of documents rs key offset ≡ Some t) where
+    at : (P : Target → Type 0) → AtTarget documents rs (ask_of key offset new) P → P t
+    at P a = let same : a.target ≡ t = (let e = sym a.here ∙ here in cc) in subst P same a.holds
 
-pub made_fit : {project : List Doc} {key : List ℕ} {offset : ℕ} (f : Found project key offset) (new text : List ℕ) (made : List Replacement) → IsFragmentNameText new → text ≡ f.document.text → IsUtf8 text → made ≡ rename_replacements f.name.text new f.tree → FitText text made
-made_fit f new text made named text_is utf8 is =
-    let e : FitText f.document.text made = subst (FitText f.document.text) (sym is) (rename_fits f.name.text new f.document.text f.tree (subst IsUtf8 text_is utf8) f.derives named.is_name named.not_on) in
-    let P : List ℕ → Type 0 = λ t. FitText t made in
-    subst P (sym text_is) e
+    -- what is refuted by what is known so far
+    none_before : (n : ℕ) → (3 < n → MayBeCalled t.kind new) → (4 < n → t.name.text ≡ new → ⊥) → (5 < n → IsTaken (executables rs) t.kind t.name.text t.definition new → ⊥) →
+        (10 < n → (r : Renames documents rs (ask_of key offset new)) → IsTooLarge documents (cut r) → ⊥) → (11 < n → (r : Renames documents rs (ask_of key offset new)) → (PassesCheck r → ⊥) → ⊥) →
+        (why : Refusal) → number_of why < n → Refused why → ⊥
+    none_before n may other free fits checks ProjectInvalid less h = not_there valid h
+    none_before n may other free fits checks NothingHere less h = (let e : Some t ≡ None = sym here ∙ h in cc)
+    none_before n may other free fits checks BadName less h = at (λ u. MayBeCalled u.kind new → ⊥) h (may less)
+    none_before n may other free fits checks SameName less h = other less (at (λ u. u.name.text ≡ new) h)
+    none_before n may other free fits checks NameTaken less h = free less (at (λ u. IsTaken (executables rs) u.kind u.name.text u.definition new) h)
+    none_before n may other free fits checks TooLarge less h = fits less h.0 h.1
+    none_before n may other free fits checks SelfCheck less h = checks less h.0 h.1
+    none_before n may other free fits checks NoMemory less h = h
 
-abbrev pub may_in : {project : List Doc} {key : List ℕ} {offset : ℕ} {new : List ℕ} (f : Found project key offset) → IsFragmentNameText new → f.name.text ≢ new → MayRename project key offset new
-may_in f named other = record { at = target_in f; named = named; other = other }
+    -- a new name that is refused
+    pub name_refused : (why : Refusal) → IsNameRefusal (executables rs) t.kind t.name.text t.definition new (Some why) → IsRenameAnswer documents key offset new (Err why)
+    name_refused ProjectInvalid h = absurd h
+    name_refused NothingHere h = absurd h
+    name_refused BadName h = record {
+      readings = rs;
+      are_readings = are;
+      offer = (
+        record { target = t; here = here; holds = h },
+        none_before 3 (λ l. absurd (omega (arith, l))) (λ l. absurd (omega (arith, l))) (λ l. absurd (omega (arith, l))) (λ l. absurd (omega (arith, l))) (λ l. absurd (omega (arith, l))),
+      );
+    }
+    name_refused SameName h = record {
+      readings = rs;
+      are_readings = are;
+      offer = (
+        record { target = t; here = here; holds = h.1 },
+        none_before 4 (λ l. h.0) (λ l. absurd (omega (arith, l))) (λ l. absurd (omega (arith, l))) (λ l. absurd (omega (arith, l))) (λ l. absurd (omega (arith, l))),
+      );
+    }
+    name_refused NameTaken h = record {
+      readings = rs;
+      are_readings = are;
+      offer = (
+        record { target = t; here = here; holds = h.2 },
+        none_before 5 (λ l. h.0) (λ l. h.1) (λ l. absurd (omega (arith, l))) (λ l. absurd (omega (arith, l))) (λ l. absurd (omega (arith, l))),
+      );
+    }
+    name_refused TooLarge h = absurd h
+    name_refused SelfCheck h = absurd h
+    name_refused NoMemory h = absurd h
 
--- the length that was measured is that of the edited text
-pub length_is : {project : List Doc} {key : List ℕ} {offset : ℕ} (f : Found project key offset) (new text : List ℕ) (made : List Replacement) → text ≡ f.document.text → made ≡ rename_replacements f.name.text new f.tree → length (replaced made text) ≡ length (replaced (rename_replacements f.name.text new f.tree) f.document.text)
-length_is f new text made text_is is =
-    ap (λ (t : List ℕ). length (replaced made t)) text_is ∙ ap (λ (rs : List Replacement). length (replaced rs f.document.text)) is
+    module _ (rule : ℕ → Renaming) (changes : Changes (executables rs) t.name.text t.definition t.kind rule) (sound : IsSound documents rs rule new) where
+      abbrev Edits : List DocumentEdit
+      Edits = edits_by rule new documents rs
 
-pub not_fits : (b : Bool) (made edited : ℕ) → IsTrue b ↔ (made ≤ 2 ^ 22) → b ≡ false → made ≡ edited → 2 ^ 22 < edited
-not_fits b made edited tells f same = by_order (nat_le made (2 ^ 22)) refl
-  where
-    by_order : (t : Bool) → nat_le made (2 ^ 22) ≡ t → 2 ^ 22 < edited
-    by_order true t = let h : made ≤ 2 ^ 22 = grind (arith, nat_tests) in absurd (let x = tells.1 h in cc)
-    by_order false t = let h : 2 ^ 22 < made = grind (arith, nat_tests) in omega arith
+      own : Renames documents rs (ask_of key offset new)
+      own = record { target = t; here = here; rule = rule; changes = changes }
 
--- the one document that is edited
-pub edit_with : (document : Doc) (made rs : List Replacement) → made ≡ rs → ◌≡◌ {A = List DocumentEdit} (record { key = document.key; version = document.version; replacements = made } ∷ []) (record { key = document.key; version = document.version; replacements = rs } ∷ [])
-edit_with document made rs e = ap (λ (r : List Replacement). let d : DocumentEdit = record { key = document.key; version = document.version; replacements = r } in d ∷ []) e
+      -- there is no other rename
+      same_rule : (r : Renames documents rs (ask_of key offset new)) → rule ≡ r.rule
+      same_rule r =
+          let same : r.target ≡ t = (let e = sym r.here ∙ here in cc) in
+          let C : Target → Type 0 = λ u. Changes (executables rs) u.name.text u.definition u.kind r.rule in
+          one_rule changes (subst C same r.changes)
 
-pub renames_in : {project : List Doc} {key : List ℕ} {offset : ℕ} (f : Found project key offset) (new : List ℕ) (edit : List DocumentEdit) → IsFragmentNameText new → f.name.text ≢ new → edit ≡ rename_edit f.document f.name.text new f.tree ∷ [] → Renames project key offset new edit
-renames_in f new edit named other is = record {
-  at = target_in f;
-  only = rename_edit f.document f.name.text new f.tree;
-  is = is;
-  kept = rename_keeps f.name.text new f.document.text f.tree f.derives named.is_name named.not_on (λ e. other (sym e));
-}
+      of_each : (P : (ℕ → Renaming) → Type 0) → P rule → (r : Renames documents rs (ask_of key offset new)) → P r.rule
+      of_each P h r = subst P (same_rule r) h
 
-found_passes : {X : Type 0} (p : X → Bool) (xs : List X) (x : X) → find p xs ≡ Some x → p x ≡ true
-found_passes p [] x e = absurd (cc)
-found_passes p (y ∷ ys) x e = by_test (p y) refl e (found_passes p ys x)
-  where
-    by_test : (b : Bool) → p y ≡ b → (if b then Some y else find p ys) ≡ Some x → (find p ys ≡ Some x → p x ≡ true) → p x ≡ true
-    by_test true t f later = let same : y ≡ x = cc in ap p (sym same) ∙ t
-    by_test false t f later = later f
+      fits_each : find (is_too_large documents) Edits ≡ None → (r : Renames documents rs (ask_of key offset new)) → IsTooLarge documents (cut r) → ⊥
+      fits_each none r = of_each (λ f. IsTooLarge documents (edits_by f new documents rs) → ⊥) (sound.limits none) r
 
--- the document of an edit of the one that was found is that one
-edited_is : {project : List Doc} {key : List ℕ} {offset : ℕ} (f : Found project key offset) (edit : DocumentEdit) → IsInOrder project → edit.key ≡ f.document.key → edit.version ≡ f.document.version → document_of project edit ≡ Some f.document
-edited_is {project} {key} f edit in_order key_is version_is =
-    let passes = found_passes (has_key key) project f.document (sym f.there) in
-    let same : key ≡ f.document.key = sym ((bytes_eq-Decides f.document.key key).0 passes) in
-    let version : int_eq f.document.version edit.version ≡ true = (Decides-int_eq f.document.version edit.version).1 (sym version_is) in
-    document_of-found project edit key (Some f.document) in_order (same ∙ sym key_is) f.there
-    ∙ ap (λ (b : Bool). if b then Some f.document else None) version
+      checks_each : ∥ IsValid (after_edit Edits documents) ∥₁ → (r : Renames documents rs (ask_of key offset new)) → (PassesCheck r → ⊥) → ⊥
+      checks_each after r =
+          of_each (λ f. (ReadsAsRenamed documents (trees_of rs) f new (edits_by f new documents rs) × IsValid (after_edit (edits_by f new documents rs) documents) → ⊥) → ⊥)
+          (λ no. not_there after (λ v. no (sound.reads, v))) r
 
--- the edit of a rename fits the project
-pub fits_in : {project : List Doc} {key : List ℕ} {offset : ℕ} (f : Found project key offset) (new : List ℕ) (edit : List DocumentEdit) → IsInOrder project → IsUtf8 f.document.text → IsFragmentNameText new → edit ≡ rename_edit f.document f.name.text new f.tree ∷ [] → FitDocuments project edit
-fits_in {project} f new edit in_order utf8 named is =
-    let one : DocumentEdit = rename_edit f.document f.name.text new f.tree in
-    let there = edited_is f one in_order refl refl in
-    let fit = rename_fits f.name.text new f.document.text f.tree utf8 f.derives named.is_name named.not_on in
-    subst (FitDocuments project) (sym is)
-    (λ doc e. let same : f.document ≡ doc = (let h = sym there ∙ e in cc) in let P : Doc → Type 0 = λ d. FitText d.text one.replacements in subst P same fit, tt)
+      below : (why : Refusal) → number_of why < 13
+      below ProjectInvalid = omega arith
+      below NothingHere = omega arith
+      below BadName = omega arith
+      below SameName = omega arith
+      below NameTaken = omega arith
+      below TooLarge = omega arith
+      below SelfCheck = omega arith
+      below NoMemory = omega arith
+
+      -- an edit that was checked
+      pub answered : IsNameRefusal (executables rs) t.kind t.name.text t.definition new None → (edits : List DocumentEdit) → edits ≡ Edits → (result : Result (List DocumentEdit) Refusal) → IsChecked documents edits result →
+          (result ≡ Err NoMemory) ⊎ IsRenameAnswer documents key offset new result
+      unfolding own
+      answered name edits is (Ok made) h =
+          let large : find (is_too_large documents) Edits ≡ None = subst (λ (es : List DocumentEdit). find (is_too_large documents) es ≡ None) is h.1 in
+          let after : ∥ IsValid (after_edit Edits documents) ∥₁ = subst (λ (es : List DocumentEdit). ∥ IsValid (after_edit es documents) ∥₁) is h.2 in
+          inr (record {
+            readings = rs;
+            are_readings = are;
+            offer = ((λ why. none_before 13 (λ l. name.0) (λ l. name.1) (λ l. name.2) (λ l. fits_each large) (λ l. checks_each after) why (below why)), (own, h.0 ∙ is));
+          })
+      answered name edits is (Err ProjectInvalid) h = absurd h
+      answered name edits is (Err NothingHere) h = absurd h
+      answered name edits is (Err BadName) h = absurd h
+      answered name edits is (Err SameName) h = absurd h
+      answered name edits is (Err NameTaken) h = absurd h
+      answered name edits is (Err TooLarge) h =
+          let large : find (is_too_large documents) Edits ≡ Some h.0 = subst (λ (es : List DocumentEdit). find (is_too_large documents) es ≡ Some h.0) is h.1 in
+          inr (record {
+            readings = rs;
+            are_readings = are;
+            offer = ((own, too_large documents Edits h.0 large), none_before 10 (λ l. name.0) (λ l. name.1) (λ l. name.2) (λ l. absurd (omega (arith, l))) (λ l. absurd (omega (arith, l))));
+          })
+      answered name edits is (Err SelfCheck) h =
+          let large : find (is_too_large documents) Edits ≡ None = subst (λ (es : List DocumentEdit). find (is_too_large documents) es ≡ None) is h.0 in
+          let no : IsValid (after_edit Edits documents) → ⊥ = subst (λ (es : List DocumentEdit). IsValid (after_edit es documents) → ⊥) is h.1 in
+          inr (record {
+            readings = rs;
+            are_readings = are;
+            offer = ((own, (λ passes. no passes.1)), none_before 11 (λ l. name.0) (λ l. name.1) (λ l. name.2) (λ l. fits_each large) (λ l. absurd (omega (arith, l))));
+          })
+      answered name edits is (Err NoMemory) h = inl refl
+
+      -- what an edit keeps
+      pub keeps : (edits : List DocumentEdit) → edits ≡ Edits → (result : Result (List DocumentEdit) Refusal) → IsChecked documents edits result → IfOk result (KeepsTrees documents key offset new)
+      unfolding own
+      keeps edits is (Ok made) h =
+          let R : List DocumentEdit → Type 0 = λ es. ReadsAsRenamed documents (trees_of rs) rule new es in
+          record { readings = rs; are_readings = are; renames = own; reads = subst R (sym (h.0 ∙ is)) sound.reads }
+      keeps edits is (Err why) h = tt
+
+pub valid_after : (documents : List Doc) (edits : List DocumentEdit) (result : Result (List DocumentEdit) Refusal) → IsChecked documents edits result → IfOk result (λ made. ∥ IsValid (after_edit made documents) ∥₁)
+valid_after documents edits (Ok made) h = subst (λ (es : List DocumentEdit). ∥ IsValid (after_edit es documents) ∥₁) (sym h.0) h.2
+valid_after documents edits (Err why) h = tt
+
+pub fits_after : (documents : List Doc) (edits : List DocumentEdit) (result : Result (List DocumentEdit) Refusal) → FitDocuments documents edits → IsChecked documents edits result → IfOk result (FitDocuments documents)
+fits_after documents edits (Ok made) fit h = subst (FitDocuments documents) (sym h.0) fit
+fits_after documents edits (Err why) fit h = tt

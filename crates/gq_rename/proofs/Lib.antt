@@ -1,2 +1,11 @@
-pub mod Renaming
-pub mod Answering
+mod Trees
+mod Numbering
+mod Below
+mod Edited
+mod Taken
+mod Groups
+mod Naming
+mod Targeting
+mod Answering
+mod Offering
+mod Soundness

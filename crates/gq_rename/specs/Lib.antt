@@ -1,4 +1,9 @@
-pub mod Names
 pub mod Refusals
+pub mod Offers
+pub mod Asks
 pub mod Rename
-pub mod Kept
+pub mod Sound
+pub mod Found
+pub mod Defines
+pub mod NameRefusals
+pub mod Checked

@@ -1,86 +1,85 @@
--- A rename of a fragment in one document of a project.
-use Rattle.std.specs.Prelude.{◌≡◌, ◌≢◌, ℕ, ◌^◌, ◌<◌, ◌≤◌, List, [], ◌∷◌, length, Some, None, Result, Ok, Err, find, ◌⊎◌}
+-- The answer to a rename.
+use Rattle.std.specs.Prelude.{◌≡◌, ℕ, ◌<◌, ◌^◌, List, Contains, Some, None, length, map, Result, ◌⊎◌}
 use Rattle.gq_text.specs.declared.place.Span.{Span}
-use Rattle.gq_text.specs.declared.replacement.Replacement.{Replacement}
-use Rattle.gq_text.specs.Replaced.{replaced}
-use Rattle.gq_tree.specs.Plain.{NameOf, Def}
-use Rattle.gq_tree.specs.Names.{fragment_names}
-use Rattle.gq_parse.specs.Derives.{Derives}
+use Rattle.gq_tree.specs.Plain.{Def, erase_document}
+use Rattle.gq_parse.specs.Limits.{PassesLimitAt}
 use Rattle.gq_project.specs.declared.document.Doc.{Doc}
-use Rattle.gq_project.specs.Documents.{has_key}
 use Rattle.gq_edit.specs.declared.edit.DocumentEdit.{DocumentEdit}
-use Rattle.gq_edit.specs.Edits.{edited_text}
-use Rattle.gq_rewrite.specs.Changed.{replacements_of}
+use Rattle.gq_edit.specs.Edits.{document_of, edited_text, after_edit}
+use Rattle.gq_read.specs.declared.reader.Reading.{Reading}
+use Rattle.gq_read.specs.Readings.{AreReadings}
+use Rattle.gq_index.specs.Occurrences.{executables}
+use Rattle.gq_rewrite.specs.Renamings.{Renaming}
+use Rattle.gq_rewrite.specs.Projects.{AreTrees, rename_edits, rename_trees}
+use Rattle.gq_rules.specs.Validity.{IsValid}
+use Rattle.gq_target.specs.declared.target.Target.{Target}
 use Rattle.gq_rename.specs.declared.refusal.Refusal.{Refusal}
-use Rattle.gq_rename.specs.declared.refusal.Refusal.TheVariants.{ProjectInvalid, NothingHere, BadName, SameName, TooLarge, NoMemory}
-use Rattle.gq_rewrite.specs.Names.{IsFragmentNameText}
-use Rattle.gq_rename.specs.Names.{target, called}
-use Rattle.gq_rename.specs.Kept.{KeepsDocument}
+use Rattle.gq_rename.specs.declared.refusal.Refusal.TheVariants.{ProjectInvalid, NothingHere, BadName, SameName, NameTaken, TooLarge, SelfCheck, NoMemory}
+use Rattle.gq_rename.specs.Offers.{IsOffer}
+use Rattle.gq_rename.specs.Asks.{RenameAsk, trees_of, target_of, MayBeCalled, IsTaken, Changes}
 
--- the document of the key, its tree, and the name at the offset
-pub record Target (project : List Doc) (key : List ℕ) (offset : ℕ) : Type 0 where
+-- What a rename would do to documents that are read so: the target that the ask means, which names change, and the edit that changes them.
+pub record Renames (documents : List Doc) (readings : List Reading) (ask : RenameAsk) : Type 0 where
+  pub target : Target
+  pub here : target_of documents readings ask.key ask.offset ≡ Some target
+  pub rule : ℕ → Renaming
+  pub changes : Changes (executables readings) target.name.text target.definition target.kind rule
+
+-- the exact edit: in each document the name tokens that change, each replaced by the new name
+abbrev pub cut : {documents : List Doc} {readings : List Reading} {ask : RenameAsk} → Renames documents readings ask → List DocumentEdit
+cut {documents} {readings} {ask} r = rename_edits r.rule 0 ask.new documents (trees_of readings)
+
+-- the target that the ask means, of which something holds
+pub record AtTarget (documents : List Doc) (readings : List Reading) (ask : RenameAsk) (Holds : Target → Type 0) : Type 0 where
+  pub target : Target
+  pub here : target_of documents readings ask.key ask.offset ≡ Some target
+  pub holds : Holds target
+
+-- the text has more than 4 MiB, too many tokens, or too deep a nesting
+abbrev pub PassesLimit : List ℕ → Type 0
+PassesLimit text = (2 ^ 22 < length text) ⊎ ((place : ℕ) × PassesLimitAt text place)
+
+-- an edited text passes a limit
+pub record IsTooLarge (documents : List Doc) (edits : List DocumentEdit) : Type 0 where
+  pub edit : DocumentEdit
+  pub stands : Contains edits edit
   pub document : Doc
-  pub tree : List (Def Span)
-  pub name : NameOf Span
-  pub found : find (has_key key) project ≡ Some document
-  pub derives : Derives document.text tree
-  pub here : target offset (fragment_names tree) ≡ Some name
+  pub of : document_of documents edit ≡ Some document
+  pub passes : PassesLimit (edited_text edit document)
 
--- the replacements of a rename: the name token of the fragment's definition and of each spread of it
-abbrev pub rename_replacements : List ℕ → List ℕ → List (Def Span) → List Replacement
-rename_replacements old new tree = replacements_of new (called old (fragment_names tree))
+-- The edited texts read as the trees with the names changed, places forgotten.
+pub record ReadsAsRenamed (documents : List Doc) (trees : List (List (Def Span))) (rule : ℕ → Renaming) (new : List ℕ) (edits : List DocumentEdit) : Type 0 where
+  pub after : List (List (Def Span))
+  pub are_trees : AreTrees (after_edit edits documents) after
+  pub renamed : map erase_document after ≡ rename_trees rule 0 new (map erase_document trees)
 
--- the edit that makes them, of the document at its version
-abbrev pub rename_edit : Doc → List ℕ → List ℕ → List (Def Span) → DocumentEdit
-rename_edit document old new tree = record { key = document.key; version = document.version; replacements = rename_replacements old new tree }
+-- the edited texts read so, and the edited project is valid
+abbrev pub PassesCheck : {documents : List Doc} {readings : List Reading} {ask : RenameAsk} → Renames documents readings ask → Type 0
+PassesCheck {documents} {readings} {ask} r = ReadsAsRenamed documents (trees_of readings) r.rule ask.new (cut r) × IsValid (after_edit (cut r) documents)
 
--- the document has no tree
-pub record HasNoTree (project : List Doc) (key : List ℕ) : Type 0 where
-  pub document : Doc
-  pub found : find (has_key key) project ≡ Some document
-  pub none : (tree : List (Def Span)) → Derives document.text tree → ⊥
+-- the condition of each refusal
+abbrev pub Refuses : List Doc → List Reading → RenameAsk → Refusal → Type 0
+Refuses documents readings ask ProjectInvalid = IsValid documents → ⊥
+Refuses documents readings ask NothingHere = target_of documents readings ask.key ask.offset ≡ None
+Refuses documents readings ask BadName = AtTarget documents readings ask (λ t. MayBeCalled t.kind ask.new → ⊥)
+Refuses documents readings ask SameName = AtTarget documents readings ask (λ t. t.name.text ≡ ask.new)
+Refuses documents readings ask NameTaken = AtTarget documents readings ask (λ t. IsTaken (executables readings) t.kind t.name.text t.definition ask.new)
+Refuses documents readings ask TooLarge = (r : Renames documents readings ask) × IsTooLarge documents (cut r)
+Refuses documents readings ask SelfCheck = (r : Renames documents readings ask) × (PassesCheck r → ⊥)
+Refuses documents readings ask NoMemory = ⊥
 
--- the document has a tree, and no name is at the offset
-pub record HasNoTarget (project : List Doc) (key : List ℕ) (offset : ℕ) : Type 0 where
-  pub document : Doc
-  pub tree : List (Def Span)
-  pub found : find (has_key key) project ≡ Some document
-  pub derives : Derives document.text tree
-  pub nothing : target offset (fragment_names tree) ≡ None
+abbrev pub IsCut : List Doc → List Reading → RenameAsk → List DocumentEdit → Type 0
+IsCut documents readings ask edits = (r : Renames documents readings ask) × (edits ≡ cut r)
 
--- a name is at the offset, and the new name is a FragmentName other than it
-pub record MayRename (project : List Doc) (key : List ℕ) (offset : ℕ) (new : List ℕ) : Type 0 where
-  pub at : Target project key offset
-  pub named : IsFragmentNameText new
-  pub other : at.name.text ≢ new
+-- The answer to a rename in any documents: the first refusal whose condition holds, else the exact edit.
+pub record IsRenameAnswer (documents : List Doc) (key : List ℕ) (offset : ℕ) (new : List ℕ) (result : Result (List DocumentEdit) Refusal) : Type 0 where
+  pub readings : List Reading
+  pub are_readings : AreReadings documents readings
+  pub offer : (let ask : RenameAsk = record { key = key; offset = offset; new = new } in IsOffer (Refuses documents readings ask) (IsCut documents readings ask) result)
 
--- the length of the edited text
-abbrev pub renamed_length : {project : List Doc} {key : List ℕ} {offset : ℕ} {new : List ℕ} → MayRename project key offset new → ℕ
-renamed_length {new = new} may = length (replaced (rename_replacements may.at.name.text new may.at.tree) may.at.document.text)
-
--- why the tree of a text cannot be had
-abbrev pub NoTree : List ℕ → Refusal → Type 0
-NoTree text ProjectInvalid = (tree : List (Def Span)) → Derives text tree → ⊥
-NoTree text NothingHere = ⊥
-NoTree text BadName = ⊥
-NoTree text SameName = ⊥
-NoTree text TooLarge = ⊥
-NoTree text NoMemory = Unit {0}
-
--- The answer to a rename: the first refusal whose condition holds, else the edit.
-abbrev pub IsRename : List Doc → List ℕ → ℕ → List ℕ → Result (List DocumentEdit) Refusal → Type 0
-IsRename project key offset new (Err ProjectInvalid) = HasNoTree project key
-IsRename project key offset new (Err NothingHere) = (find (has_key key) project ≡ None) ⊎ HasNoTarget project key offset
-IsRename project key offset new (Err BadName) = Target project key offset × ¬ IsFragmentNameText new
-IsRename project key offset new (Err SameName) = (at : Target project key offset) × IsFragmentNameText new × (at.name.text ≡ new)
-IsRename project key offset new (Err TooLarge) = (may : MayRename project key offset new) × (2 ^ 22 < renamed_length may)
-IsRename project key offset new (Err NoMemory) = Unit {0}
-IsRename project key offset new (Ok edit) =
-    (may : MayRename project key offset new) × (renamed_length may ≤ 2 ^ 22) × (edit ≡ rename_edit may.at.document may.at.name.text new may.at.tree ∷ [])
-
--- An edit of a rename: one document is edited, and in its edited text the fragment has the new name.
-pub record Renames (project : List Doc) (key : List ℕ) (offset : ℕ) (new : List ℕ) (edit : List DocumentEdit) : Type 0 where
-  pub at : Target project key offset
-  pub only : DocumentEdit
-  pub is : edit ≡ only ∷ []
-  pub kept : KeepsDocument at.name.text new at.tree (edited_text only at.document)
+-- What an edit of a rename does: the edited texts read as the trees with the names of the target changed.
+pub record KeepsTrees (documents : List Doc) (key : List ℕ) (offset : ℕ) (new : List ℕ) (edits : List DocumentEdit) : Type 0 where
+  pub readings : List Reading
+  pub are_readings : AreReadings documents readings
+  pub renames : Renames documents readings (record { key = key; offset = offset; new = new })
+  pub reads : ReadsAsRenamed documents (trees_of readings) renames.rule new edits

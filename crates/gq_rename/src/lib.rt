@@ -1,13 +1,16 @@
-//! Renames of fragments.
+//! Renames of fragments and of variables, in all documents of a project.
 #![tactic(auto)]
 
+mod checking;
+pub mod laws;
+mod names;
+mod offers;
 pub mod refusal;
-pub mod rename;
-mod target;
+pub mod renames;
+pub mod targets;
 
-pub use gq_rewrite::is_fragment_name;
+pub use gq_rewrite::{is_fragment_name, is_name};
+pub use gq_target::{Target, TargetKind};
 pub use refusal::Refusal;
-pub use rename::rename_fragment;
-
-#[cfg(test)]
-mod tests;
+pub use renames::{rename, rename_fragment, rename_variable};
+pub use targets::target;

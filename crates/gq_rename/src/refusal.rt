@@ -4,24 +4,30 @@ ghost use Rattle.std.specs.Prelude.{◌≡◌};
 use gq_text::NoMemory;
 use thiserror::Error;
 
-/// Why a rename is refused. Of several the first in this order is told.
+/// Why a refactoring is refused. Of several the first in this order is told.
 #[derive(Clone, Copy, Debug, PartialEq, Eq, Error)]
 pub enum Refusal {
-    /// The text has no tree.
+    /// The project is not valid.
     #[error("1 ProjectInvalid")]
     ProjectInvalid,
-    /// The offset is at no name token of a fragment.
+    /// The project has no such document, or nothing in it that can be renamed is at the offset.
     #[error("2 NothingHere")]
     NothingHere,
-    /// The new name is no FragmentName.
+    /// The new name is no Name, or is `on` for a fragment.
     #[error("3 BadName")]
     BadName,
     /// The new name is the old one.
     #[error("4 SameName")]
     SameName,
-    /// The edited text would pass 4 MiB.
+    /// A fragment of the new name is defined, or an operation of the variable's group defines a variable of it.
+    #[error("5 NameTaken")]
+    NameTaken,
+    /// An edited text would have more than 4 MiB, too many tokens or too deep a nesting.
     #[error("10 TooLarge")]
     TooLarge,
+    /// The edited texts do not read as wanted, or the edited project is not valid.
+    #[error("11 SelfCheck")]
+    SelfCheck,
     /// A growth was refused.
     #[error("12 NoMemory")]
     NoMemory,
@@ -39,7 +45,9 @@ impl Refusal {
             Refusal::NothingHere => "2 NothingHere",
             Refusal::BadName => "3 BadName",
             Refusal::SameName => "4 SameName",
+            Refusal::NameTaken => "5 NameTaken",
             Refusal::TooLarge => "10 TooLarge",
+            Refusal::SelfCheck => "11 SelfCheck",
             Refusal::NoMemory => "12 NoMemory",
         }
     }

@@ -1,0 +1,172 @@
+-- The answer to the rename of a target, from what its steps answered.
+use Rattle.std.proofs.Common.{◌≡◌, ◌↔◌, ℕ, ◌<◌, List, [], length, Option, Some, None, Result, Ok, Err, Contains, refl, sym, ap, subst, ◌∙◌, inl, inr, ◌⊎◌}
+use Rattle.std.specs.Prelude.{find, IfOk, codes}
+use Rattle.std.specs.List.Sorted.{IsStrictlyIncreasing}
+use Rattle.gq_text.specs.declared.place.Span.{Span}
+use Rattle.gq_tree.specs.Plain.{Def}
+use Rattle.gq_project.specs.declared.document.Doc.{Doc}
+use Rattle.gq_project.specs.Documents.{IsInOrder}
+use Rattle.gq_edit.specs.declared.edit.DocumentEdit.{DocumentEdit}
+use Rattle.gq_edit.specs.Edits.{FitDocuments, is_moved}
+use Rattle.gq_read.specs.declared.reader.Reading.{Reading}
+use Rattle.gq_read.specs.Readings.{AreReadings}
+use Rattle.gq_index.specs.declared.index.Index.{Index}
+use Rattle.gq_index.specs.Indexed.{IsIndexOf, IsIndexOfProject}
+use Rattle.gq_index.specs.Occurrences.{DefinitionOf, AreExecutables, executables}
+use Rattle.gq_index.specs.VariableGroups.{VariableGroup}
+use Rattle.gq_rewrite.specs.Names.{IsNameText}
+use Rattle.gq_rewrite.specs.Renamings.{Renaming, MayName, fragment_called}
+use Rattle.gq_rewrite.specs.Projects.{AreTrees, rename_edits}
+use Rattle.gq_cut.specs.Cut.{HaveTrees, variable_in}
+use Rattle.gq_rules.specs.Validity.{IsValid}
+use Rattle.gq_target.specs.declared.target.Target.{Target}
+use Rattle.gq_target.specs.declared.target.TargetKind.{TargetKind}
+use Rattle.gq_target.specs.declared.target.TargetKind.TheVariants as kind
+use Rattle.gq_rename.specs.declared.refusal.Refusal.{Refusal}
+use Rattle.gq_rename.specs.declared.refusal.Refusal.TheVariants.{NothingHere, NoMemory}
+use Rattle.gq_rename.specs.Asks.{trees_of, target_of, IsTarget, IsGroup, Changes, fragments, variables}
+use Rattle.gq_rename.specs.Rename.{IsRenameAnswer, KeepsTrees}
+use Rattle.gq_rename.specs.Sound.{IsSound, RenamesAreSound, ValidDocumentsAreTrees, AreUtf8, edits_by}
+use Rattle.gq_rename.specs.NameRefusals.{IsNameRefusal}
+use Rattle.gq_rename.specs.Checked.{IsChecked}
+use Rattle.gq_rename.proofs.Below.{target_below}
+use Rattle.gq_rename.proofs.Answering.{nothing_here, name_refused, answered, keeps}
+
+abbrev pub OneList : Type 0
+OneList = (documents : List Doc) (xs ys : List DefinitionOf) → AreExecutables documents xs → AreExecutables documents ys → xs ≡ ys
+
+-- the answer, where no memory is wanted
+abbrev pub Answer : List Doc → List ℕ → ℕ → List ℕ → Result (List DocumentEdit) Refusal → Type 0
+Answer documents key offset new result = (result ≡ Err NoMemory) ⊎ IsRenameAnswer documents key offset new result
+
+abbrev pub Answers : List Doc → Target → List ℕ → Result (List DocumentEdit) Refusal → Type 0
+Answers documents t new result = (key : List ℕ) (offset : ℕ) → IsTarget documents key offset t → Answer documents key offset new result
+
+abbrev pub Keeps : List Doc → Target → List ℕ → Result (List DocumentEdit) Refusal → Type 0
+Keeps documents t new result = (key : List ℕ) (offset : ℕ) → IsTarget documents key offset t → IfOk result (KeepsTrees documents key offset new)
+
+-- want of memory is no answer that is wrong
+pub no_memory : (documents : List Doc) (key : List ℕ) (offset : ℕ) (new : List ℕ) (result : Result (List DocumentEdit) Refusal) → result ≡ Err NoMemory → Answer documents key offset new result
+no_memory documents key offset new result e = inl e
+
+-- nothing is at the offset
+pub nothing_there : (listed documents : List Doc) (index : Index) (key : List ℕ) (offset : ℕ) (new : List ℕ) → listed ≡ documents → IsIndexOfProject listed index → ∥ IsValid documents ∥₁ →
+    ((rs : List Reading) → AreReadings listed rs → None ≡ target_of listed rs key offset) → Answer documents key offset new (Err NothingHere)
+nothing_there listed documents index key offset new same i valid none =
+    let V : List Doc → Type 0 = λ ds. ∥ IsValid ds ∥₁ in
+    let A : List Doc → Type 0 = λ ds. Answer ds key offset new (Err NothingHere) in
+    subst A same (inr (nothing_here listed i.of_documents.readings key offset new i.of_documents.are_readings (subst V (sym same) valid) (sym (none i.of_documents.readings i.of_documents.are_readings))))
+
+-- something is: then what answers its rename answers the ask
+pub something_there : (listed documents : List Doc) (index : Index) (key : List ℕ) (offset : ℕ) (t : Target) → listed ≡ documents → IsIndexOfProject listed index → ((rs : List Reading) → AreReadings listed rs → Some t ≡ target_of listed rs key offset) → IsTarget documents key offset t
+something_there listed documents index key offset t same i some =
+    let T : List Doc → Type 0 = λ ds. IsTarget ds key offset t in
+    subst T same (record { readings = i.of_documents.readings; are_readings = i.of_documents.are_readings; here = sym (some i.of_documents.readings i.of_documents.are_readings) })
+
+module _ (one_list : OneList) (listed documents : List Doc) (same : listed ≡ documents) (index : Index) (i : IsIndexOfProject documents index) (valid : ∥ IsValid documents ∥₁) where
+  -- the index, of any reading of the documents
+  index_of : (rs : List Reading) → AreReadings documents rs → IsIndexOf (executables rs) index
+  index_of rs are =
+      let x : AreExecutables documents (executables rs) = record { readings = rs; are_readings = are; is = refl } in
+      subst (λ (ds : List DefinitionOf). IsIndexOf ds index) (one_list documents i.definitions (executables rs) i.of_documents x) i.is_index
+
+  pub listed_index : IsIndexOfProject listed index
+  listed_index = let I : List Doc → Type 0 = λ ds. IsIndexOfProject ds index in subst I (sym same) i
+
+  pub listed_trees : ValidDocumentsAreTrees → HaveTrees listed
+  listed_trees trees =
+      let H : List Doc → Type 0 = λ ds. HaveTrees ds in
+      let rs : List Reading = i.of_documents.readings in
+      subst H (sym same) (record { trees = trees_of rs; are_trees = trees documents rs i.of_documents.are_readings valid })
+
+  module _ (t : Target) (new : List ℕ) where
+    -- the number of the target's definition is one of the index
+    inside : (key : List ℕ) (offset : ℕ) (w : IsTarget documents key offset t) → t.definition < length (executables w.readings)
+    inside key offset w = target_below documents w.readings key offset t w.here
+
+    -- the new name is refused
+    pub refused : (why : Refusal) → ((ds : List DefinitionOf) → IsIndexOf ds index → t.definition < length ds → IsNameRefusal ds t.kind t.name.text t.definition new (Some why)) → Answers documents t new (Err why)
+    refused why h key offset w =
+        inr (name_refused documents w.readings key offset new w.are_readings valid t w.here why (h (executables w.readings) (index_of w.readings w.are_readings) (inside key offset w)))
+
+    module _ (trees : ValidDocumentsAreTrees) (sound : RenamesAreSound) (in_order : IsInOrder listed) (utf8 : AreUtf8 listed) (rule : ℕ → Renaming) (is_name : IsNameText new) (may : (n : ℕ) → MayName (rule n) new)
+        (edit : List DocumentEdit) (is : (ts : List (List (Def Span))) → AreTrees listed ts → edit ≡ rename_edits rule 0 new listed ts) where
+      sound_of : (rs : List Reading) → AreReadings documents rs → IsSound documents rs rule new
+      sound_of rs are =
+          let O : List Doc → Type 0 = λ ds. IsInOrder ds in
+          let U : List Doc → Type 0 = λ ds. AreUtf8 ds in
+          sound documents rs rule new (subst O same in_order) (subst U same utf8) are valid is_name may
+
+      edit_of : (rs : List Reading) → AreReadings documents rs → edit ≡ edits_by rule new documents rs
+      edit_of rs are =
+          let E : List Doc → Type 0 = λ ds. (ts : List (List (Def Span))) → AreTrees ds ts → edit ≡ rename_edits rule 0 new ds ts in
+          subst E same is (trees_of rs) (trees documents rs are valid)
+
+      Rs : List Reading
+      Rs = i.of_documents.readings
+
+      fit_all : FitDocuments documents edit
+      unfolding Rs
+      fit_all = subst (FitDocuments documents) (sym (edit_of Rs i.of_documents.are_readings)) (sound_of Rs i.of_documents.are_readings).fit
+
+      pub fits : FitDocuments listed edit
+      fits = let F : List Doc → Type 0 = λ ds. FitDocuments ds edit in subst F (sym same) fit_all
+
+      pub stays : find (is_moved listed) edit ≡ None
+      unfolding Rs
+      stays =
+          let M : List Doc → Type 0 = λ ds. find (is_moved ds) edit ≡ None in
+          let N : List DocumentEdit → Type 0 = λ es. find (is_moved documents) es ≡ None in
+          subst M (sym same) (subst N (sym (edit_of Rs i.of_documents.are_readings)) (sound_of Rs i.of_documents.are_readings).there)
+
+      module _ (changes : (ds : List DefinitionOf) → IsIndexOf ds index → t.definition < length ds → Changes ds t.name.text t.definition t.kind rule) (result : Result (List DocumentEdit) Refusal) (checked : IsChecked listed edit result) where
+        checked_there : IsChecked documents edit result
+        checked_there = let C : List Doc → Type 0 = λ ds. IsChecked ds edit result in subst C same checked
+
+        pub made : ((ds : List DefinitionOf) → IsIndexOf ds index → t.definition < length ds → IsNameRefusal ds t.kind t.name.text t.definition new None) → Answers documents t new result
+        made name key offset w =
+            let of = index_of w.readings w.are_readings in
+            let in_range = inside key offset w in
+            answered documents w.readings key offset new w.are_readings valid t w.here rule (changes (executables w.readings) of in_range) (sound_of w.readings w.are_readings)
+            (name (executables w.readings) of in_range) edit (edit_of w.readings w.are_readings) result checked_there
+
+        pub kept : Keeps documents t new result
+        kept key offset w =
+            let of = index_of w.readings w.are_readings in
+            let in_range = inside key offset w in
+            keeps documents w.readings key offset new w.are_readings valid t w.here rule (changes (executables w.readings) of in_range) (sound_of w.readings w.are_readings) edit (edit_of w.readings w.are_readings) result checked_there
+
+-- the names that change, by the kind of the target
+pub fragment_changes : (ds : List DefinitionOf) (t : Target) (old : List ℕ) → t.kind ≡ kind.Fragment → old ≡ t.name.text → Changes ds t.name.text t.definition t.kind (λ n. fragment_called old)
+fragment_changes ds t old of is =
+    let K : TargetKind → Type 0 = λ k. Changes ds t.name.text t.definition k (λ n. fragment_called old) in
+    let N : List ℕ → Type 0 = λ text. Changes ds text t.definition kind.Fragment (λ n. fragment_called old) in
+    subst K (sym of) (subst N is fragments)
+
+pub group_is : (ds : List DefinitionOf) (t : Target) (group : List ℕ) → IsStrictlyIncreasing group → ((n : ℕ) → Contains group n ↔ VariableGroup ds t.name.text t.definition n) → IsGroup ds t.name.text t.definition group
+group_is ds t group ascending members = record { ascending = ascending; members = members }
+
+pub variable_changes : (ds : List DefinitionOf) (t : Target) (old group : List ℕ) → t.kind ≡ kind.Variable → old ≡ t.name.text → IsGroup ds t.name.text t.definition group → Changes ds t.name.text t.definition t.kind (variable_in group old)
+variable_changes ds t old group of is g =
+    let K : TargetKind → Type 0 = λ k. Changes ds t.name.text t.definition k (variable_in group old) in
+    let N : List ℕ → Type 0 = λ text. Changes ds t.name.text t.definition kind.Variable (variable_in group text) in
+    subst K (sym of) (subst N (sym is) (variables g))
+
+-- a refusal that was told under the kind and the text that the target has
+pub refusal_of : (ds : List DefinitionOf) (t : Target) (of : TargetKind) (old new : List ℕ) (refusal : Option Refusal) → t.kind ≡ of → old ≡ t.name.text → IsNameRefusal ds of old t.definition new refusal → IsNameRefusal ds t.kind t.name.text t.definition new refusal
+refusal_of ds t of old new refusal k o h =
+    let K : TargetKind → Type 0 = λ x. IsNameRefusal ds x t.name.text t.definition new refusal in
+    let N : List ℕ → Type 0 = λ text. IsNameRefusal ds of text t.definition new refusal in
+    subst K (sym k) (subst N o h)
+
+pub group_named : (ds : List DefinitionOf) (t : Target) (old group : List ℕ) → old ≡ t.name.text → IsGroup ds t.name.text t.definition group → IsGroup ds old t.definition group
+group_named ds t old group is g = let N : List ℕ → Type 0 = λ text. IsGroup ds text t.definition group in subst N (sym is) g
+
+pub members_of : (ds : List DefinitionOf) (t : Target) (old group items : List ℕ) → old ≡ t.name.text → group ≡ items → ((n : ℕ) → Contains items n ↔ VariableGroup ds old t.definition n) → (n : ℕ) → Contains group n ↔ VariableGroup ds t.name.text t.definition n
+members_of ds t old group items is same members =
+    let G : List ℕ → Type 0 = λ l. (n : ℕ) → Contains l n ↔ VariableGroup ds t.name.text t.definition n in
+    let N : List ℕ → Type 0 = λ text. (n : ℕ) → Contains items n ↔ VariableGroup ds text t.definition n in
+    subst G (sym same) (subst N is members)
+
+pub index_listed : (listed documents : List Doc) (index : Index) → listed ≡ documents → IsIndexOfProject documents index → IsIndexOfProject listed index
+index_listed listed documents index same i = let I : List Doc → Type 0 = λ ds. IsIndexOfProject ds index in subst I (sym same) i

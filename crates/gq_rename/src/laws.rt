@@ -1,0 +1,42 @@
+//! Laws of renames.
+ghost use Rattle.std.specs.Prelude.{ℕ, List, Err};
+ghost use Rattle.gq_project.specs.declared.document.Doc.{Doc};
+ghost use Rattle.gq_rules.specs.Validity.{IsInvalid};
+ghost use Rattle.gq_rename.specs.declared.refusal.Refusal.TheVariants.{ProjectInvalid};
+ghost use Rattle.gq_rename.specs.Rename.{IsRenameAnswer};
+ghost use Rattle.gq_rename.specs.Sound.{RenamesAreSound, ValidDocumentsAreTrees, OffsetsMeanOneTarget};
+
+use gq_parse::laws::{no_tree_past_limits, one_tree};
+use gq_rewrite::laws::{renamed_projects_read, renamed_texts_read};
+use gq_rules::laws::{no_project_is_valid_and_invalid, valid_documents_have_trees};
+
+/// In a project that is not valid every rename is refused as that.
+pub fn renames_of_invalid_projects_are_refused()
+    ensures { (documents : List Doc) (key : List ℕ) (offset : ℕ) (new : List ℕ) → IsInvalid documents → IsRenameAnswer documents key offset new (Err ProjectInvalid) }
+{
+    no_project_is_valid_and_invalid();
+}
+
+/// The edit of a rename in a valid project can be made there, and the edited texts read as the trees with the names changed.
+pub fn renames_are_sound()
+    ensures { RenamesAreSound }
+{
+    valid_documents_are_trees();
+    renamed_projects_read();
+    renamed_texts_read();
+    no_tree_past_limits();
+}
+
+/// What is read of the documents of a valid project are their trees.
+pub fn valid_documents_are_trees()
+    ensures { ValidDocumentsAreTrees }
+{
+    valid_documents_have_trees();
+}
+
+/// However documents are read, an offset in one of them means the same to a rename.
+pub fn offsets_mean_one_target()
+    ensures { OffsetsMeanOneTarget }
+{
+    one_tree();
+}
