@@ -1,2 +1,4 @@
+pub mod Bounds
+pub mod Faults
 pub mod Outputs
 pub mod Joins
