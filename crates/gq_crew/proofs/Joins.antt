@@ -2,66 +2,20 @@
 use Rattle.std.proofs.Common.{◌≡◌, ◌⊎◌, inl, inr, ◌<◌, ◌≤◌, ◌+◌, ◌-◌, ◌^◌, min, ℕ, List, [], ◌∷◌, ◌++◌, length, length-append, Bool, true, false, Option, Some, None, refl, ap, sym, ◌∙◌, subst, append_assoc, append-nil, arith, le_trans}
 use Rattle.std.specs.Prelude.{IfSome}
 use Rattle.std.specs.Io.KnownBytes.{Appends, Consumes}
-use Rattle.std.specs.Option.{MatchOption}
-use Rattle.gq_rpc.specs.Decoding.{message_of}
-use Rattle.gq_rpc.specs.Devices.{Sent}
 use Rattle.gq_rpc.specs.Frames.{Cuts, scan_of}
 use Rattle.gq_rpc.specs.declared.header.Scan.TheVariants.{Partial}
 use Rattle.gq_rpc.proofs.Sends.{Appends-nil, Appends-trans, Consumes-nil, Consumes-trans}
 use Rattle.gq_rpc.proofs.Stable.{Cuts-feed}
-use Rattle.gq_desk.specs.Session.{State, state_after, stop_of}
+use Rattle.gq_desk.specs.Session.{State}
 use Rattle.gq_crew.specs.declared.run.RunFault.{RunFault}
 use Rattle.gq_crew.specs.declared.run.RunFault.TheVariants.{Frame, Device, NoMemory}
 use Rattle.gq_crew.specs.declared.run.Ended.{Ended}
 use Rattle.gq_crew.specs.declared.run.Turn.TheVariants.{Again, Done}
-use Rattle.gq_crew.specs.Output.{written_for, IsOutput, RepliesFirst, first_of, stop_among, state_at, Wrote, WroteInPart}
+use Rattle.gq_crew.specs.Output.{IsOutput, stop_among, state_at, Wrote, WroteBefore, WroteInPart}
 use Rattle.gq_crew.specs.Runs.{SourceAfter, SinkAfter, Reached, AnswersAll, IsEnd, Finishes, FindsNoFrame, SinkFails, SourceFails, Ends, AnswersEarlier, Runs, bodies_max, piece_max}
 use Rattle.gq_crew.specs.Turns.{Turns}
+use Rattle.gq_crew.proofs.Outputs.{stop_among-append, state_at-append, IsOutput-append}
 use Rattle.gq_crew.proofs.Bounds.{to_do, partial_short, turn_smaller}
-
--- ---- bodies and then more bodies
-
-first_none : (o later : Option ℕ) → first_of o later ≡ None → o ≡ None
-first_none None later h = refl
-first_none (Some n) later h = absurd (cc)
-
-later_none : (o later : Option ℕ) → first_of o later ≡ None → later ≡ None
-later_none None later h = h
-later_none (Some n) later h = absurd (cc)
-
-stop_among-append : (s : State) (bodies more : List (List ℕ)) → stop_among s bodies ≡ None → stop_among s (bodies ++ more) ≡ stop_among (state_at s bodies) more
-stop_among-append s [] more h = refl
-stop_among-append s (body ∷ bodies) more h =
-    let m = message_of body in
-    ap (λ (o : Option ℕ). first_of o (stop_among (state_after s m) (bodies ++ more))) (first_none (stop_of s m) _ h)
-    ∙ stop_among-append (state_after s m) bodies more (later_none (stop_of s m) _ h)
-
-state_at-append : (s : State) (bodies more : List (List ℕ)) → state_at s (bodies ++ more) ≡ state_at (state_at s bodies) more
-state_at-append s [] more = refl
-state_at-append s (body ∷ bodies) more = state_at-append (state_after s (message_of body)) bodies more
-
--- without a stop the rest of an output goes on
-goes_on : (o : Option ℕ) (Later : Type 0) (later : List ℕ) → o ≡ None → MatchOption o Later (λ status. later ≡ []) → Later
-goes_on o Later later e h = subst (λ (p : Option ℕ). MatchOption p Later (λ status. later ≡ [])) e h
-
-goes_still : (o : Option ℕ) (Later : Type 0) (later : List ℕ) → o ≡ None → Later → MatchOption o Later (λ status. later ≡ [])
-goes_still o Later later e h = subst (λ (p : Option ℕ). MatchOption p Later (λ status. later ≡ [])) (sym e) h
-
-IsOutput-append : (s : State) (bodies more : List (List ℕ)) (output later : List ℕ) → stop_among s bodies ≡ None → IsOutput s bodies output → IsOutput (state_at s bodies) more later
-    → IsOutput s (bodies ++ more) (output ++ later)
-IsOutput-append s [] more output later h is next = subst (λ (o : List ℕ). IsOutput s more (o ++ later)) (sym is) next
-IsOutput-append s (body ∷ bodies) more output later h r next =
-    let m = message_of body in
-    let t = state_after s m in
-    let go = first_none (stop_of s m) _ h in
-    let front = goes_on (stop_of s m) (IsOutput t bodies r.later) r.later go r.goes_on in
-    record {
-      reply = r.reply;
-      later = r.later ++ later;
-      is_reply = r.is_reply;
-      is = ap (λ (o : List ℕ). o ++ later) r.is ∙ append_assoc (written_for r.reply) r.later later;
-      goes_on = goes_still (stop_of s m) (IsOutput t (bodies ++ more) (r.later ++ later)) (r.later ++ later) go (IsOutput-append t bodies more r.later later (later_none (stop_of s m) _ h) front next);
-    }
 
 -- ---- what was written, and then more
 
@@ -91,6 +45,18 @@ module _ (s now : State) (bodies more : List (List ℕ)) (no_stop : stop_among s
         written = Appends-trans held mid last wrote.output next.sent.front wrote.written next.sent.written;
       };
     }
+
+-- an output for the bodies before one of the later ones
+joined_before : (s now : State) (bodies more : List (List ℕ)) → stop_among s bodies ≡ None → now ≡ state_at s bodies
+    → (held mid last : Option (List ℕ)) → Wrote s bodies held mid → WroteBefore now more mid last → WroteBefore s (bodies ++ more) held last
+joined_before s now bodies more no_stop at held mid last wrote next = record {
+  answered = bodies ++ next.answered;
+  body = next.body;
+  left = next.left;
+  whole = ap (λ (l : List (List ℕ)). bodies ++ l) next.whole ∙ sym (append_assoc bodies next.answered (next.body ∷ next.left));
+  no_stop = joined_stop s now bodies next.answered no_stop at ∙ next.no_stop;
+  wrote = joined_wrote s now bodies next.answered no_stop at held mid last wrote next.wrote;
+}
 
 -- more bodies stand in all than in the last piece
 joined_many : (n : ℕ) (bodies more : List (List ℕ)) → n ≤ length more → n ≤ length (bodies ++ more)
@@ -128,7 +94,7 @@ module _ (s now : State) (bodies more : List (List ℕ)) (rest : List ℕ) (sour
   }
   ends_later status (Some (Frame why)) e = (e.0, record { answers = later_answers e.1.answers; is_fault = e.1.is_fault })
   ends_later status (Some Device) e = (e.0, later_device e.1)
-  ends_later status (Some NoMemory) e = (e.0, joined_part s now bodies more no_stop at held mid sink.held wrote e.1)
+  ends_later status (Some NoMemory) e = (e.0, joined_before s now bodies more no_stop at held mid sink.held wrote e.1)
 
 -- ---- what was written in the last turn
 
@@ -137,7 +103,7 @@ ends_written run status None e = (e.wrote.output, e.wrote.written)
 ends_written run status (Some (Frame why)) e = (e.1.answers.wrote.output, e.1.answers.wrote.written)
 ends_written run status (Some Device) e =
     elim e.1 [ inl f ↦ (f.front.sent.front, f.front.sent.written) | inr f ↦ (f.answers.wrote.output, f.answers.wrote.written) ]
-ends_written run status (Some NoMemory) e = (e.1.sent.front, e.1.sent.written)
+ends_written run status (Some NoMemory) e = (e.1.wrote.output, e.1.wrote.written)
 
 -- ---- what stands so far in a run
 

@@ -9,7 +9,7 @@ use Rattle.gq_desk.specs.Session.{State}
 use Rattle.gq_crew.specs.declared.run.Ended.{Ended}
 use Rattle.gq_crew.specs.declared.run.RunFault.{RunFault}
 use Rattle.gq_crew.specs.declared.run.RunFault.TheVariants.{Frame, Device, NoMemory}
-use Rattle.gq_crew.specs.Output.{IsOutput, Wrote, WroteInPart, stop_among}
+use Rattle.gq_crew.specs.Output.{IsOutput, Wrote, WroteBefore, WroteInPart, stop_among}
 
 -- how a source stands after a run: the bytes that it has left, where they are known, and whether a read has told the
 -- end, or has failed
@@ -86,7 +86,7 @@ abbrev pub Ends : Reached → ℕ → Option RunFault → Type 0
 Ends run status None = Finishes run status
 Ends run status (Some (Frame why)) = (status ≡ 3) × FindsNoFrame run why
 Ends run status (Some Device) = (status ≡ 3) × (SinkFails run ⊎ SourceFails run)
-Ends run status (Some NoMemory) = (status ≡ 3) × WroteInPart run.began run.bodies run.held run.sink.held
+Ends run status (Some NoMemory) = (status ≡ 3) × WroteBefore run.began run.bodies run.held run.sink.held
 
 -- so many bytes one read gives, at most
 abbrev pub piece_max : ℕ

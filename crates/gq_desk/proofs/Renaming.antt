@@ -1,14 +1,19 @@
 -- What a rename of an open document comes to, under the names that its callers have for the project, the key and the new name.
-use Rattle.std.proofs.Common.{◌≡◌, ◌⊎◌, inl, inr, ℕ, List, Result, Ok, Err, subst}
+use Rattle.std.proofs.Common.{◌≡◌, ◌⊎◌, inl, inr, ℕ, List, Result, Ok, Err, subst, ap, ◌∙◌}
 use Rattle.gq_project.specs.declared.document.Doc.{Doc}
 use Rattle.gq_edit.specs.declared.edit.DocumentEdit.{DocumentEdit}
 use Rattle.gq_edit.specs.declared.workspace.WorkspaceEdit.{WorkspaceEdit}
 use Rattle.gq_edit.specs.Workspace.{workspace_edit_of}
 use Rattle.gq_rename.specs.declared.refusal.Refusal.{Refusal}
 use Rattle.gq_rename.specs.declared.refusal.Refusal.TheVariants.{ProjectInvalid, NoMemory}
+use Rattle.gq_rename.specs.Refusals.{message_of}
 use Rattle.gq_rename.specs.Rename.{IsRenameAnswer}
 use Rattle.gq_rules.specs.Validity.{IsInvalid}
+use Rattle.gq_rpc.specs.declared.messages.Id.{Id}
 use Rattle.gq_rpc.specs.declared.messages.RenameParams.{RenameParams}
+use Rattle.gq_rpc.specs.declared.messages.Outgoing.{Outgoing}
+use Rattle.gq_rpc.specs.declared.messages.Outgoing.TheVariants as outgoing
+use Rattle.gq_desk.specs.Replies.{request_failed, TellsRename}
 use Rattle.gq_desk.specs.Renames.{IsEditByPosition, IsRenameResult, IsRefusedProject}
 
 module _ (project : List Doc) (params : RenameParams) (offset : ℕ) (key name : List ℕ) (same_key : key ≡ params.key) (same_name : name ≡ params.new_name) where
@@ -30,3 +35,14 @@ pub refused_project : (project : List Doc) (params : RenameParams) (offset : ℕ
     → IsRefusedProject project why → IsRenameResult project params offset (Err why)
 refused_project project params offset why law (inl none) = inl none
 refused_project project params offset why law (inr h) = rw h.0 (inr (law project params.key offset params.new_name h.1))
+
+-- ---- the response
+
+pub tells_edit : (id : Id) (project : List Doc) (params : RenameParams) (offset : ℕ) (by_position : WorkspaceEdit) → IsEditByPosition project params offset by_position
+    → TellsRename id project params offset (outgoing.Renamed id by_position)
+tells_edit id project params offset by_position h = inr (record { answer = Ok h.edit; is_answer = h.is_answer; is = ap (λ (w : WorkspaceEdit). outgoing.Renamed id w) h.is })
+
+pub tells_refused : (id : Id) (project : List Doc) (params : RenameParams) (offset : ℕ) (why : Refusal) (response : Outgoing)
+    → (why ≡ NoMemory) ⊎ IsRenameAnswer project params.key offset params.new_name (Err why) → response ≡ request_failed id (message_of why) → TellsRename id project params offset response
+tells_refused id project params offset why response (inl none) is = inl (is ∙ ap (λ (w : Refusal). request_failed id (message_of w)) none)
+tells_refused id project params offset why response (inr h) is = inr (record { answer = Err why; is_answer = h; is = is })
