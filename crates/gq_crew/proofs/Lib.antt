@@ -1,2 +1,5 @@
+pub mod Bounds
+pub mod Faults
+pub mod Ends
 pub mod Outputs
 pub mod Joins

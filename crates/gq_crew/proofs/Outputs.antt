@@ -1,19 +1,23 @@
 -- What is written for bodies, one after another.
 use Rattle.std.specs.Prelude.{Vec}
 use Rattle.std.specs.declared.alloc.Global.{Global}
-use Rattle.std.proofs.Common.{◌≡◌, ◌<◌, ◌+◌, length, drop, drop-cons, get_or, add-one, ℕ, List, [], ◌∷◌, ◌++◌, Option, Some, None, refl, ap, sym, ◌∙◌, subst, append_assoc, append-nil}
+use Rattle.std.proofs.Common.{◌≡◌, ◌<◌, ◌+◌, length, drop, drop-cons, get_or, add-one, ℕ, List, [], ◌∷◌, ◌++◌, Option, Some, None, Err, refl, ap, sym, ◌∙◌, subst, append_assoc, append-nil}
 use Rattle.std.specs.Io.KnownBytes.{Appends}
 use Rattle.std.specs.Option.{MatchOption}
 use Rattle.gq_rpc.specs.Decoding.{message_of}
 use Rattle.gq_rpc.specs.Devices.{Sent}
 use Rattle.gq_rpc.specs.Frames.{contents}
 use Rattle.gq_rpc.specs.declared.messages.Incoming.{Incoming}
+use Rattle.gq_rpc.specs.declared.messages.Outgoing.{Outgoing}
 use Rattle.gq_rpc.proofs.Sends.{Appends-nil, Appends-trans}
 use Rattle.gq_desk.specs.Session.{State, state_after, stop_of}
+use Rattle.gq_desk.specs.Replies.{IsReply}
 use Rattle.gq_desk.proofs.Answering.{reply_has}
-use Rattle.gq_crew.specs.Output.{written_for, IsOutput, RepliesFirst, first_of, stop_among, state_at, Wrote, WroteInPart}
-use Rattle.gq_crew.specs.Serving.{Replied, RepliedInPart, ServesOne, ServesAll}
-use Rattle.gq_crew.specs.declared.serving.Served.TheVariants.{Go, Stop}
+use Rattle.gq_crew.specs.Output.{written_for, IsOutput, RepliesFirst, first_of, stop_among, state_at, Wrote, WroteBefore, WroteInPart}
+use Rattle.gq_crew.specs.Serving.{Replied, RepliedInPart, ServesOne, ServesAll, Writes}
+use Rattle.gq_crew.specs.declared.serving.ServeFault.{ServeFault}
+use Rattle.gq_crew.specs.declared.serving.ServeFault.TheVariants as fault
+use Rattle.gq_crew.specs.declared.serving.Served.TheVariants.{Go, Stop, Failed}
 
 -- ---- something may be written
 
@@ -30,84 +34,71 @@ output_has s (body ∷ bodies) =
     let l = later_has (stop_of s m) (IsOutput (state_after s m) bodies) (output_has (state_after s m) bodies) in
     (written_for r.0 ++ l.0, record { reply = r.0; later = l.0; is_reply = r.1; is = refl; goes_on = l.1 })
 
+-- ---- bodies and then more bodies
+
+first_none : (o later : Option ℕ) → first_of o later ≡ None → o ≡ None
+first_none None later h = refl
+first_none (Some n) later h = absurd (cc)
+
+later_none : (o later : Option ℕ) → first_of o later ≡ None → later ≡ None
+later_none None later h = h
+later_none (Some n) later h = absurd (cc)
+
+pub stop_among-append : (s : State) (bodies more : List (List ℕ)) → stop_among s bodies ≡ None → stop_among s (bodies ++ more) ≡ stop_among (state_at s bodies) more
+stop_among-append s [] more h = refl
+stop_among-append s (body ∷ bodies) more h =
+    let m = message_of body in
+    ap (λ (o : Option ℕ). first_of o (stop_among (state_after s m) (bodies ++ more))) (first_none (stop_of s m) _ h)
+    ∙ stop_among-append (state_after s m) bodies more (later_none (stop_of s m) _ h)
+
+pub state_at-append : (s : State) (bodies more : List (List ℕ)) → state_at s (bodies ++ more) ≡ state_at (state_at s bodies) more
+state_at-append s [] more = refl
+state_at-append s (body ∷ bodies) more = state_at-append (state_after s (message_of body)) bodies more
+
+-- without a stop the rest of an output goes on
+goes_on : (o : Option ℕ) (Later : Type 0) (later : List ℕ) → o ≡ None → MatchOption o Later (λ status. later ≡ []) → Later
+goes_on o Later later e h = subst (λ (p : Option ℕ). MatchOption p Later (λ status. later ≡ [])) e h
+
+goes_still : (o : Option ℕ) (Later : Type 0) (later : List ℕ) → o ≡ None → Later → MatchOption o Later (λ status. later ≡ [])
+goes_still o Later later e h = subst (λ (p : Option ℕ). MatchOption p Later (λ status. later ≡ [])) (sym e) h
+
+pub IsOutput-append : (s : State) (bodies more : List (List ℕ)) (output later : List ℕ) → stop_among s bodies ≡ None → IsOutput s bodies output → IsOutput (state_at s bodies) more later
+    → IsOutput s (bodies ++ more) (output ++ later)
+IsOutput-append s [] more output later h is next = subst (λ (o : List ℕ). IsOutput s more (o ++ later)) (sym is) next
+IsOutput-append s (body ∷ bodies) more output later h r next =
+    let m = message_of body in
+    let t = state_after s m in
+    let go = first_none (stop_of s m) _ h in
+    let front = goes_on (stop_of s m) (IsOutput t bodies r.later) r.later go r.goes_on in
+    record {
+      reply = r.reply;
+      later = r.later ++ later;
+      is_reply = r.is_reply;
+      is = ap (λ (o : List ℕ). o ++ later) r.is ∙ append_assoc (written_for r.reply) r.later later;
+      goes_on = goes_still (stop_of s m) (IsOutput t (bodies ++ more) (r.later ++ later)) (r.later ++ later) go (IsOutput-append t bodies more r.later later (later_none (stop_of s m) _ h) front next);
+    }
+
 -- ---- one message
 
--- nothing of the reply was written
-pub unreplied : (s : State) (message : Incoming) (held : Option (List ℕ)) → RepliedInPart s message held held
-unreplied s message held =
-    let r = reply_has s message in
-    record { reply = r.0; is_reply = r.1; sent = record { front = []; back = written_for r.0; whole = refl; written = Appends-nil held } }
-
--- an output whose first body does not stop the session
-output_going : (s : State) (body : List ℕ) (bodies : List (List ℕ)) (held held' : Option (List ℕ)) (later : List ℕ) (r : Replied s (message_of body) held held')
-    → stop_of s (message_of body) ≡ None → IsOutput (state_after s (message_of body)) bodies later → IsOutput s (body ∷ bodies) (written_for r.reply ++ later)
-output_going s body bodies held held' later r go h = record {
-  reply = r.reply;
-  later = later;
-  is_reply = r.is_reply;
-  is = refl;
-  goes_on = subst (λ (stop : Option ℕ). MatchOption stop (IsOutput (state_after s (message_of body)) bodies later) (λ status. later ≡ [])) (sym go) h;
-}
-
--- ---- bodies, one after another
-
--- what was done for the front of the bodies, and what is left
-pub record Going (old now : State) (held held' : Option (List ℕ)) (bodies left : List (List ℕ)) : Type 0 where
-  pub done : List ℕ
-  pub written : Appends held held' done
-  pub output : (later : List ℕ) → IsOutput now left later → IsOutput old bodies (done ++ later)
-  pub stops : stop_among old bodies ≡ stop_among now left
-  pub comes_to : state_at old bodies ≡ state_at now left
-
-pub Going-none : (s : State) (held : Option (List ℕ)) (bodies : List (List ℕ)) → Going s s held held bodies bodies
-Going-none s held bodies = record { done = []; written = Appends-nil held; output = λ later h. h; stops = refl; comes_to = refl }
-
--- one body was served, and the session goes on
-pub Going-one : (old now new : State) (held mid last : Option (List ℕ)) (bodies left : List (List ℕ)) (body : List ℕ)
-    → Going old now held mid bodies (body ∷ left) → ServesOne now new mid last (message_of body) Go → Going old new held last bodies left
-Going-one old now new held mid last bodies left body g served =
-    let m = message_of body in
-    let r = served.2 in
-    let reply = written_for r.reply in
-    record {
-      done = g.done ++ reply;
-      written = Appends-trans held mid last g.done reply g.written r.written;
-      output = λ later h. subst (IsOutput old bodies) (sym (append_assoc g.done reply later))
-          (g.output (reply ++ later) (output_going now body left mid last later r served.0 (subst (λ (t : State). IsOutput t left later) served.1 h)));
-      stops = g.stops ∙ ap (λ (o : Option ℕ). first_of o (stop_among (state_after now m) left)) served.0 ∙ ap (λ (t : State). stop_among t left) (sym served.1);
-      comes_to = g.comes_to ∙ ap (λ (t : State). state_at t left) (sym served.1);
-    }
+-- what the writing of a reply came to, where it failed
+pub unserved : (s new : State) (message : Incoming) (reply : Option Outgoing) (held held' : Option (List ℕ)) (why : ServeFault)
+    → IsReply s message reply → Writes held held' (written_for reply) (Err why) → ServesOne s new held held' message (Failed why)
+unserved s new message reply held held' fault.Device is sent = record { reply = reply; is_reply = is; sent = sent }
+unserved s new message reply held held' fault.NoMemory is nothing = nothing
 
 -- nothing is written after a stop
 stops_there : (stop : Option ℕ) (status : ℕ) (Later : Type 0) (later : List ℕ) → stop ≡ Some status → later ≡ [] → MatchOption stop Later (λ status. later ≡ [])
 stops_there stop status Later later is none = subst (λ (o : Option ℕ). MatchOption o Later (λ status. later ≡ [])) (sym is) none
 
--- all were served
-pub Going-all : (old now : State) (held held' : Option (List ℕ)) (bodies : List (List ℕ)) → Going old now held held' bodies [] → ServesAll old now held held' bodies Go
-Going-all old now held held' bodies g =
-    (g.stops, sym g.comes_to, record { output = g.done ++ []; is_output = g.output [] refl; written = subst (Appends held held') (sym (append-nil g.done)) g.written })
-
--- a body stopped the session
-pub Going-stop : (old now new : State) (held mid last : Option (List ℕ)) (bodies left : List (List ℕ)) (body : List ℕ) (status : ℕ)
-    → Going old now held mid bodies (body ∷ left) → ServesOne now new mid last (message_of body) (Stop status) → ServesAll old new held last bodies (Stop status)
-Going-stop old now new held mid last bodies left body status g served =
-    let m = message_of body in
-    let r = served.1 in
-    let reply = written_for r.reply in
-    let output : IsOutput now (body ∷ left) (reply ++ []) = record {
-      reply = r.reply;
-      later = [];
-      is_reply = r.is_reply;
-      is = refl;
-      goes_on = stops_there (stop_of now m) status (IsOutput (state_after now m) left []) [] served.0 refl;
-    } in (
-      g.stops ∙ ap (λ (o : Option ℕ). first_of o (stop_among (state_after now m) left)) served.0,
-      record {
-        output = g.done ++ (reply ++ []);
-        is_output = g.output (reply ++ []) output;
-        written = subst (λ (l : List ℕ). Appends held last (g.done ++ l)) (sym (append-nil reply)) (Appends-trans held mid last g.done reply g.written r.written);
-      },
-    )
+-- an output for one body
+output_one : (s : State) (body : List ℕ) (held held' : Option (List ℕ)) (r : Replied s (message_of body) held held') → stop_of s (message_of body) ≡ None → IsOutput s (body ∷ []) (written_for r.reply)
+output_one s body held held' r go = record {
+  reply = r.reply;
+  later = [];
+  is_reply = r.is_reply;
+  is = sym (append-nil (written_for r.reply));
+  goes_on = goes_still (stop_of s (message_of body)) ([] ≡ []) [] go refl;
+}
 
 -- a front of the bytes in the middle was written
 Sent-within : (held mid last : Option (List ℕ)) (done bytes later : List ℕ) → Appends held mid done → Sent mid last bytes → Sent held last (done ++ (bytes ++ later))
@@ -118,18 +109,94 @@ Sent-within held mid last done bytes later written s = record {
   written = Appends-trans held mid last done s.front written s.written;
 }
 
--- a fault cut the output
-pub Going-cut : (old now : State) (held mid last : Option (List ℕ)) (bodies left : List (List ℕ)) (body : List ℕ)
-    → Going old now held mid bodies (body ∷ left) → RepliedInPart now (message_of body) mid last → WroteInPart old bodies held last
-Going-cut old now held mid last bodies left body g r =
-    let m = message_of body in
-    let reply = written_for r.reply in
-    let l = later_has (stop_of now m) (IsOutput (state_after now m) left) (output_has (state_after now m) left) in
-    record {
-      output = g.done ++ (reply ++ l.0);
-      is_output = g.output (reply ++ l.0) (record { reply = r.reply; later = l.0; is_reply = r.is_reply; is = refl; goes_on = l.1 });
-      sent = Sent-within held mid last g.done reply l.0 g.written r.sent;
-    }
+-- ---- bodies, one after another
+
+-- what was done for the front of the bodies, and what is left
+pub record Going (old now : State) (held held' : Option (List ℕ)) (bodies left : List (List ℕ)) : Type 0 where
+  pub front : List (List ℕ)
+  pub output : List ℕ
+  pub whole : bodies ≡ front ++ left
+  pub written : Appends held held' output
+  pub is_output : IsOutput old front output
+  pub no_stop : stop_among old front ≡ None
+  pub comes_to : now ≡ state_at old front
+
+pub Going-none : (s : State) (held : Option (List ℕ)) (bodies : List (List ℕ)) → Going s s held held bodies bodies
+Going-none s held bodies = record { front = []; output = []; whole = refl; written = Appends-nil held; is_output = refl; no_stop = refl; comes_to = refl }
+
+-- all were served
+pub Going-all : (old now : State) (held held' : Option (List ℕ)) (bodies : List (List ℕ)) → Going old now held held' bodies [] → ServesAll old now held held' bodies Go
+Going-all old now held held' bodies g =
+    let same : g.front ≡ bodies = sym (g.whole ∙ append-nil g.front) in (
+      subst (λ (b : List (List ℕ)). stop_among old b ≡ None) same g.no_stop,
+      subst (λ (b : List (List ℕ)). now ≡ state_at old b) same g.comes_to,
+      record { output = g.output; is_output = subst (λ (b : List (List ℕ)). IsOutput old b g.output) same g.is_output; written = g.written },
+    )
+
+module _ (old now new : State) (held mid last : Option (List ℕ)) (bodies left : List (List ℕ)) (body : List ℕ) (g : Going old now held mid bodies (body ∷ left)) where
+  -- an output for the bodies from here on makes one for all
+  output_with : (more : List (List ℕ)) (later : List ℕ) → IsOutput now more later → IsOutput old (g.front ++ more) (g.output ++ later)
+  output_with more later h = IsOutput-append old g.front more g.output later g.no_stop g.is_output (subst (λ (t : State). IsOutput t more later) g.comes_to h)
+
+  stop_with : (more : List (List ℕ)) → stop_among old (g.front ++ more) ≡ stop_among now more
+  stop_with more = stop_among-append old g.front more g.no_stop ∙ ap (λ (t : State). stop_among t more) (sym g.comes_to)
+
+  -- one body was served, and the session goes on
+  pub Going-one : ServesOne now new mid last (message_of body) Go → Going old new held last bodies left
+  Going-one served =
+      let m = message_of body in
+      let r = served.2 in
+      record {
+        front = g.front ++ body ∷ [];
+        output = g.output ++ written_for r.reply;
+        whole = g.whole ∙ sym (append_assoc g.front (body ∷ []) left);
+        written = Appends-trans held mid last g.output (written_for r.reply) g.written r.written;
+        is_output = output_with (body ∷ []) (written_for r.reply) (output_one now body mid last r served.0);
+        no_stop = stop_with (body ∷ []) ∙ ap (λ (o : Option ℕ). first_of o None) served.0;
+        comes_to = served.1 ∙ ap (λ (t : State). state_after t m) g.comes_to ∙ sym (state_at-append old g.front (body ∷ []));
+      }
+
+  -- a body stopped the session
+  pub Going-stop : (status : ℕ) → ServesOne now new mid last (message_of body) (Stop status) → ServesAll old new held last bodies (Stop status)
+  Going-stop status served =
+      let m = message_of body in
+      let r = served.1 in
+      let reply = written_for r.reply in
+      let output : IsOutput now (body ∷ left) reply = record {
+        reply = r.reply;
+        later = [];
+        is_reply = r.is_reply;
+        is = sym (append-nil reply);
+        goes_on = stops_there (stop_of now m) status (IsOutput (state_after now m) left []) [] served.0 refl;
+      } in (
+        ap (stop_among old) g.whole ∙ stop_with (body ∷ left) ∙ ap (λ (o : Option ℕ). first_of o (stop_among (state_after now m) left)) served.0,
+        record {
+          output = g.output ++ reply;
+          is_output = subst (λ (b : List (List ℕ)). IsOutput old b (g.output ++ reply)) (sym g.whole) (output_with (body ∷ left) reply output);
+          written = Appends-trans held mid last g.output reply g.written r.written;
+        },
+      )
+
+  -- a fault cut the output
+  pub Going-failed : (why : ServeFault) → ServesOne now new mid last (message_of body) (Failed why) → ServesAll old new held last bodies (Failed why)
+  Going-failed fault.Device r =
+      let m = message_of body in
+      let reply = written_for r.reply in
+      let l = later_has (stop_of now m) (IsOutput (state_after now m) left) (output_has (state_after now m) left) in
+      record {
+        output = g.output ++ (reply ++ l.0);
+        is_output = subst (λ (b : List (List ℕ)). IsOutput old b (g.output ++ (reply ++ l.0))) (sym g.whole)
+            (output_with (body ∷ left) (reply ++ l.0) (record { reply = r.reply; later = l.0; is_reply = r.is_reply; is = refl; goes_on = l.1 }));
+        sent = Sent-within held mid last g.output reply l.0 g.written r.sent;
+      }
+  Going-failed fault.NoMemory nothing = record {
+    answered = g.front;
+    body = body;
+    left = left;
+    whole = g.whole;
+    no_stop = g.no_stop;
+    wrote = record { output = g.output; is_output = g.is_output; written = subst (λ (h : Option (List ℕ)). Appends held h g.output) (sym nothing) g.written };
+  }
 
 -- ---- the vectors that hold the bodies
 

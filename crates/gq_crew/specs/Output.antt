@@ -50,6 +50,15 @@ pub record Wrote (s : State) (bodies : List (List ℕ)) (held held' : Option (Li
   pub is_output : IsOutput s bodies output
   pub written : Appends held held' output
 
+-- one for the bodies before one of them was, and nothing for that one and those behind it
+pub record WroteBefore (s : State) (bodies : List (List ℕ)) (held held' : Option (List ℕ)) : Type 0 where
+  pub answered : List (List ℕ)
+  pub body : List ℕ
+  pub left : List (List ℕ)
+  pub whole : bodies ≡ answered ++ body ∷ left
+  pub no_stop : stop_among s answered ≡ None
+  pub wrote : Wrote s answered held held'
+
 -- a front of one was
 pub record WroteInPart (s : State) (bodies : List (List ℕ)) (held held' : Option (List ℕ)) : Type 0 where
   pub output : List ℕ

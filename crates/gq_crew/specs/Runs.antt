@@ -1,6 +1,6 @@
 -- A run: the bytes that were read, the bodies that stand in them, and how it ended.
-use Rattle.std.specs.Prelude.{◌≡◌, ◌≢◌, ◌⊎◌, ℕ, ◌≤◌, ◌^◌, List, [], length, Bool, true, Option, Some, None}
-use Rattle.std.specs.Io.KnownBytes.{Consumes, IsAtEnd}
+use Rattle.std.specs.Prelude.{◌≡◌, ◌≢◌, ◌⊎◌, ℕ, ◌≤◌, ◌^◌, List, [], ◌++◌, length, Bool, true, Option, Some, None}
+use Rattle.std.specs.Io.KnownBytes.{Appends, Consumes, IsAtEnd}
 use Rattle.gq_rpc.specs.Frames.{Cuts, scan_of}
 use Rattle.gq_rpc.specs.declared.header.Scan.TheVariants.{Partial, Bad}
 use Rattle.gq_rpc.specs.declared.header.FrameFault.{FrameFault}
@@ -9,7 +9,7 @@ use Rattle.gq_desk.specs.Session.{State}
 use Rattle.gq_crew.specs.declared.run.Ended.{Ended}
 use Rattle.gq_crew.specs.declared.run.RunFault.{RunFault}
 use Rattle.gq_crew.specs.declared.run.RunFault.TheVariants.{Frame, Device, NoMemory}
-use Rattle.gq_crew.specs.Output.{Wrote, WroteInPart, stop_among}
+use Rattle.gq_crew.specs.Output.{IsOutput, Wrote, WroteBefore, WroteInPart, stop_among}
 
 -- how a source stands after a run: the bytes that it has left, where they are known, and whether a read has told the
 -- end, or has failed
@@ -28,40 +28,85 @@ pub record TellsEnd (source : SourceAfter) : Type 0 where
   pub told : source.ended ≡ true
   pub nothing_left : IsAtEnd source.left
 
--- a run without a fault ended at a stop, or at the end of the input, which stood behind a whole frame
-abbrev pub Finished : Option ℕ → ℕ → List ℕ → SourceAfter → Type 0
-Finished (Some stop) status rest source = status ≡ stop
-Finished None status rest source = (status ≡ 1) × (rest ≡ []) × TellsEnd source
+-- what a run came to: the bodies that stand in the bytes read, the rest behind them, how the source stands, and what the sink held before and holds then
+pub record Reached : Type 0 where
+  pub began : State
+  pub bodies : List (List ℕ)
+  pub rest : List ℕ
+  pub source : SourceAfter
+  pub held : Option (List ℕ)
+  pub sink : SinkAfter
 
--- no frame can be read from the rest: it is none, or a growth was refused, or the input ended inside it
+-- no body stops the session, and an output for all was written
+pub record AnswersAll (run : Reached) : Type 0 where
+  pub no_stop : stop_among run.began run.bodies ≡ None
+  pub wrote : Wrote run.began run.bodies run.held run.sink.held
+
+-- the status is that of a stop, or of the end of the input, which stood behind a whole frame
+abbrev pub IsEnd : Option ℕ → ℕ → List ℕ → SourceAfter → Type 0
+IsEnd (Some stop) status rest source = status ≡ stop
+IsEnd None status rest source = (status ≡ 1) × (rest ≡ []) × TellsEnd source
+
+-- the run ended without a fault, at the first stop or the end of the input
+pub record Finishes (run : Reached) (status : ℕ) : Type 0 where
+  pub wrote : Wrote run.began run.bodies run.held run.sink.held
+  pub is_end : IsEnd (stop_among run.began run.bodies) status run.rest run.source
+
+-- why no frame can be read from the rest: it begins with none, or the input ended inside one, or a growth was refused
 abbrev pub IsFrameFault : FrameFault → List ℕ → SourceAfter → Type 0
-IsFrameFault why rest source = (scan_of rest ≡ Bad why) ⊎ (why ≡ frame.NoMemory) ⊎ ((why ≡ frame.Truncated) × (rest ≢ []) × TellsEnd source)
+IsFrameFault frame.BadHeader rest source = scan_of rest ≡ Bad frame.BadHeader
+IsFrameFault frame.NoLength rest source = scan_of rest ≡ Bad frame.NoLength
+IsFrameFault frame.TooLong rest source = scan_of rest ≡ Bad frame.TooLong
+IsFrameFault frame.Truncated rest source = (rest ≢ []) × (scan_of rest ≡ Partial) × TellsEnd source
+IsFrameFault frame.NoMemory rest source = Unit {0}
+IsFrameFault frame.Failed rest source = ⊥
 
--- a run reads so often at most
-abbrev pub reads_max : ℕ
-reads_max = 2 ^ 60
+-- it ended at what is no frame; the bodies before were answered
+pub record FindsNoFrame (run : Reached) (why : FrameFault) : Type 0 where
+  pub answers : AnswersAll run
+  pub is_fault : IsFrameFault why run.rest run.source
 
--- a device is at fault: the sink has failed, and a front of an output was written
-pub record SinkFails (s : State) (bodies : List (List ℕ)) (held : Option (List ℕ)) (sink : SinkAfter) : Type 0 where
-  pub failed : sink.failed ≡ true
-  pub front : WroteInPart s bodies held sink.held
+-- the sink has failed; a front of an output was written
+pub record SinkFails (run : Reached) : Type 0 where
+  pub failed : run.sink.failed ≡ true
+  pub front : WroteInPart run.began run.bodies run.held run.sink.held
 
--- or the source has failed, or so many bytes were read; then all bodies were answered, and what is left is less than a frame
-pub record SourceFails (s : State) (read : List ℕ) (bodies : List (List ℕ)) (rest : List ℕ) (source : SourceAfter) (held : Option (List ℕ)) (sink : SinkAfter) : Type 0 where
-  pub failed : (source.failed ≡ true) ⊎ (reads_max ≤ length read)
-  pub no_stop : stop_among s bodies ≡ None
-  pub wrote : Wrote s bodies held sink.held
+-- so many bodies a run answers; then it ends
+abbrev pub bodies_max : ℕ
+bodies_max = 2 ^ 60
+
+-- the source has failed, or so many bodies were read; all were answered, and what is left is less than a frame
+pub record SourceFails (run : Reached) : Type 0 where
+  pub failed : (run.source.failed ≡ true) ⊎ (bodies_max ≤ length run.bodies)
+  pub answers : AnswersAll run
+  pub partial : scan_of run.rest ≡ Partial
+
+-- how a run ended
+abbrev pub Ends : Reached → ℕ → Option RunFault → Type 0
+Ends run status None = Finishes run status
+Ends run status (Some (Frame why)) = (status ≡ 3) × FindsNoFrame run why
+Ends run status (Some Device) = (status ≡ 3) × (SinkFails run ⊎ SourceFails run)
+Ends run status (Some NoMemory) = (status ≡ 3) × WroteBefore run.began run.bodies run.held run.sink.held
+
+-- so many bytes one read gives, at most
+abbrev pub piece_max : ℕ
+piece_max = 16384
+
+-- what stands in the bytes of all reads but the last one was answered, without a stop, and what was written begins with that
+pub record AnswersEarlier (s : State) (read : List ℕ) (held held' : Option (List ℕ)) : Type 0 where
+  pub earlier : List ℕ
+  pub piece : List ℕ
+  pub bodies : List (List ℕ)
+  pub rest : List ℕ
+  pub output : List ℕ
+  pub more : List ℕ
+  pub whole : read ≡ earlier ++ piece
+  pub short : length piece ≤ piece_max
+  pub cuts : Cuts earlier bodies rest
   pub partial : scan_of rest ≡ Partial
-
--- how a session that was in state s ended after these bodies, with this rest
-abbrev pub Ends : State → List ℕ → List (List ℕ) → List ℕ → SourceAfter → Option (List ℕ) → SinkAfter → ℕ → Option RunFault → Type 0
-Ends s read bodies rest source held sink status None =
-    Wrote s bodies held sink.held × Finished (stop_among s bodies) status rest source
-Ends s read bodies rest source held sink status (Some (Frame why)) =
-    (status ≡ 3) × (stop_among s bodies ≡ None) × Wrote s bodies held sink.held × IsFrameFault why rest source
-Ends s read bodies rest source held sink status (Some Device) =
-    (status ≡ 3) × (SinkFails s bodies held sink ⊎ SourceFails s read bodies rest source held sink)
-Ends s read bodies rest source held sink status (Some NoMemory) = (status ≡ 3) × WroteInPart s bodies held sink.held
+  pub no_stop : stop_among s bodies ≡ None
+  pub is_output : IsOutput s bodies output
+  pub written : Appends held held' (output ++ more)
 
 -- a run: the bytes read, the bodies that stand in them, and the frames of replies to these
 pub record Runs (s : State) (left : Option (List ℕ)) (source : SourceAfter) (held : Option (List ℕ)) (sink : SinkAfter) (ended : Ended) : Type 0 where
@@ -70,4 +115,5 @@ pub record Runs (s : State) (left : Option (List ℕ)) (source : SourceAfter) (h
   pub rest : List ℕ
   pub took : Consumes left source.left read
   pub cuts : Cuts read bodies rest
-  pub ends : Ends s read bodies rest source held sink ended.status ended.fault
+  pub earlier : AnswersEarlier s read held sink.held
+  pub ends : Ends (record { began = s; bodies = bodies; rest = rest; source = source; held = held; sink = sink }) ended.status ended.fault

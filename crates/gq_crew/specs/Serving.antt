@@ -10,7 +10,7 @@ use Rattle.gq_crew.specs.declared.serving.ServeFault.{ServeFault}
 use Rattle.gq_crew.specs.declared.serving.ServeFault.TheVariants as fault
 use Rattle.gq_crew.specs.declared.serving.Served.{Served}
 use Rattle.gq_crew.specs.declared.serving.Served.TheVariants.{Go, Stop, Failed}
-use Rattle.gq_crew.specs.Output.{written_for, Wrote, WroteInPart, stop_among, state_at}
+use Rattle.gq_crew.specs.Output.{written_for, Wrote, WroteBefore, WroteInPart, stop_among, state_at}
 
 -- the frame of a reply was written
 pub record Replied (s : State) (message : Incoming) (held held' : Option (List ℕ)) : Type 0 where
@@ -24,22 +24,25 @@ pub record RepliedInPart (s : State) (message : Incoming) (held held' : Option (
   pub is_reply : IsReply s message reply
   pub sent : Sent held held' (written_for reply)
 
--- one message was served
+-- one message was served; where memory is refused nothing is written for it
 abbrev pub ServesOne : State → State → Option (List ℕ) → Option (List ℕ) → Incoming → Served → Type 0
 ServesOne old new held held' message Go = (stop_of old message ≡ None) × (new ≡ state_after old message) × Replied old message held held'
 ServesOne old new held held' message (Stop status) = (stop_of old message ≡ Some status) × Replied old message held held'
-ServesOne old new held held' message (Failed why) = RepliedInPart old message held held'
+ServesOne old new held held' message (Failed fault.Device) = RepliedInPart old message held held'
+ServesOne old new held held' message (Failed fault.NoMemory) = held' ≡ held
 
 -- bodies were served, in order, up to the first stop
 abbrev pub ServesAll : State → State → Option (List ℕ) → Option (List ℕ) → List (List ℕ) → Served → Type 0
 ServesAll old new held held' bodies Go = (stop_among old bodies ≡ None) × (new ≡ state_at old bodies) × Wrote old bodies held held'
 ServesAll old new held held' bodies (Stop status) = (stop_among old bodies ≡ Some status) × Wrote old bodies held held'
-ServesAll old new held held' bodies (Failed why) = WroteInPart old bodies held held'
+ServesAll old new held held' bodies (Failed fault.Device) = WroteInPart old bodies held held'
+ServesAll old new held held' bodies (Failed fault.NoMemory) = WroteBefore old bodies held held'
 
--- the bytes were written, or a front of them where a fault came
+-- the bytes were written, or a front of them where the sink failed, or nothing where memory was refused
 abbrev pub Writes : Option (List ℕ) → Option (List ℕ) → List ℕ → Result (Unit {0}) ServeFault → Type 0
 Writes held held' bytes (Ok u) = Appends held held' bytes
-Writes held held' bytes (Err why) = Sent held held' bytes
+Writes held held' bytes (Err fault.Device) = Sent held held' bytes
+Writes held held' bytes (Err fault.NoMemory) = held' ≡ held
 
 -- the device is at fault
 abbrev pub is_device : ServeFault → Bool

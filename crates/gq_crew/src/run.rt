@@ -15,8 +15,8 @@ use thiserror::Error;
 /// How many bytes are read at once, at most.
 const BUFFER_LEN: usize = 16_384;
 
-/// How often a run reads, at most.
-const READS_MAX: u64 = 1 << 60;
+/// How many bodies a run answers before it ends.
+const BODIES_MAX: u64 = 1 << 60;
 
 /// The status of a run that a fault ended.
 const FAULT_STATUS: u8 = 3;
@@ -30,7 +30,7 @@ pub enum RunFault {
     /// No frame can be read from the input.
     #[error("{0}")]
     Frame(FrameFault),
-    /// The source or the sink has failed, or the source was read 2^60 times.
+    /// The source or the sink has failed, or 2^60 bodies were read.
     #[error("Device")]
     Device,
     /// A growth was refused.
@@ -49,8 +49,8 @@ pub struct Ended {
 /// What one read led to.
 #[derive(Clone, Copy, Debug, PartialEq, Eq)]
 pub enum Turn {
-    /// There is more to read.
-    Again,
+    /// So many bodies were answered, and there is more to read.
+    Again(usize),
     Done(Ended),
 }
 
@@ -86,7 +86,7 @@ fn take_piece<K: Sink>(
     requires some { 0 < length piece.now }
     ensures takes { IfSome framer.old (λ before. (source : SourceAfter) → TakesPiece desk.old desk.new before piece.now framer.new source
         (K.held output.old) (record { held = K.held output.new; failed = K.failed output.new }) result) }
-    ensures sink { TellsFault false (K.failed output.new) result }
+    ensures sink { TellsFault (K.failed output.new) result }
 {
     let mut bodies = Vec::new(alloc);
     let answer = framer.feed(alloc, piece, &mut bodies);
@@ -95,7 +95,7 @@ fn take_piece<K: Sink>(
         Served::Failed(ServeFault::Device) => failed(RunFault::Device),
         Served::Failed(ServeFault::NoMemory) => failed(RunFault::NoMemory),
         Served::Go => match answer {
-            Ok(()) => Turn::Again,
+            Ok(()) => Turn::Again(bodies.len()),
             Err(fault) => failed(RunFault::Frame(fault)),
         },
     }
@@ -110,13 +110,14 @@ fn take_turn<S: Source, K: Sink>(
     input: &mut S,
     output: &mut K,
 ) -> Turn
+    requires sound { S.failed input.old ≡ false }
     requires works { K.failed output.old ≡ false }
     requires room { 0 < length buffer.old }
-    ensures turns { IfSome framer.old (λ before. scan_of before ≡ Partial → Turns desk.old desk.new before framer.new (S.left input.old)
+    ensures turns { IfSome framer.old (λ before. scan_of before ≡ Partial → Turns desk.old desk.new (length buffer.old) before framer.new (S.left input.old)
         (record { left = S.left input.new; ended = S.ended input.new; failed = S.failed input.new })
         (K.held output.old) (record { held = K.held output.new; failed = K.failed output.new }) result) }
-    ensures source { TellsFault (S.failed input.old) (S.failed input.new) result }
-    ensures sink { TellsFault false (K.failed output.new) result }
+    ensures source { TellsFault (S.failed input.new) result }
+    ensures sink { TellsFault (K.failed output.new) result }
 {
     match input.read(buffer) {
         Reading::Bytes(n) => take_piece(alloc, desk, framer, &buffer[..n], output),
@@ -129,20 +130,23 @@ fn take_turn<S: Source, K: Sink>(
 }
 
 /// Reads the input up to `exit`, its end or a fault, and writes the frames of replies to the bodies that stand in it, in
-/// order, however the reads cut it. After a fault of memory or of the sink what was written is a front of these frames.
+/// order, however the reads cut it; what one read completes is answered before the next. After a fault of memory or of the
+/// sink what was written is a front of these frames. Neither device may have failed before.
 pub fn run_one<S: Source, K: Sink>(alloc: Global, input: &mut S, output: &mut K) -> Ended
-    requires { K.failed output.old ≡ false }
+    requires sound { S.failed input.old ≡ false }
+    requires works { K.failed output.old ≡ false }
     ensures runs { Runs start (S.left input.old) (record { left = S.left input.new; ended = S.ended input.new; failed = S.failed input.new })
         (K.held output.old) (record { held = K.held output.new; failed = K.failed output.new }) result }
-    ensures source { S.failed input.old ≡ false → S.failed input.new ≡ true → result.fault ≡ Some RunFault.Device }
+    ensures source { S.failed input.new ≡ true → result.fault ≡ Some RunFault.Device }
     ensures sink { K.failed output.new ≡ true → result.fault ≡ Some RunFault.Device }
 {
     let mut desk = Desk::new(alloc);
     let mut framer = Framer::new(alloc);
     let mut buffer = [0u8; BUFFER_LEN];
-    for reads in 0..READS_MAX {
+    let mut served: u64 = 0;
+    while served < BODIES_MAX {
         match take_turn(alloc, &mut desk, &mut framer, &mut buffer, input, output) {
-            Turn::Again => {}
+            Turn::Again(count) => served = served.saturating_add(count as u64),
             Turn::Done(ended) => return ended,
         }
     }

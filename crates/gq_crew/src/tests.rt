@@ -37,6 +37,12 @@ const SAME_NAME: &str =
 const NOTHING_HERE: &str =
     "Content-Length: 74\r\n\r\n{\"error\":{\"code\":-32803,\"message\":\"2 NothingHere\"},\"id\":2,\"jsonrpc\":\"2.0\"}";
 
+const NAME_TAKEN: &str =
+    "Content-Length: 72\r\n\r\n{\"error\":{\"code\":-32803,\"message\":\"5 NameTaken\"},\"id\":2,\"jsonrpc\":\"2.0\"}";
+
+const PROJECT_INVALID: &str =
+    "Content-Length: 77\r\n\r\n{\"error\":{\"code\":-32803,\"message\":\"1 ProjectInvalid\"},\"id\":2,\"jsonrpc\":\"2.0\"}";
+
 const NO_MEMORY: &str =
     "Content-Length: 72\r\n\r\n{\"error\":{\"code\":-32803,\"message\":\"12 NoMemory\"},\"id\":2,\"jsonrpc\":\"2.0\"}";
 
@@ -158,6 +164,8 @@ fn frame(word: &str) -> &str {
         "BadName" => BAD_NAME,
         "SameName" => SAME_NAME,
         "NothingHere" => NOTHING_HERE,
+        "NameTaken" => NAME_TAKEN,
+        "ProjectInvalid" => PROJECT_INVALID,
         "ShutDown" => SHUT_DOWN,
         "Invalid" => INVALID,
         "NoJson" => NO_JSON,
@@ -228,10 +236,11 @@ fn assert_answered(alloc: Global, rt: &impl Abort, rows: &str) -> Result<(), Fai
 fn renames_are_answered(rt: HostRuntime) -> Result<(), Fail> {
     let rows = "
         sq 11 B => Initialized Renamed ShutDown 0
-        sqr 11 B => Initialized Renamed ShutDown 0
+        sqr 11 B => Initialized NameTaken ShutDown 0
         sq 11 on => Initialized BadName ShutDown 0
         sq 11 A => Initialized SameName ShutDown 0
         sq 6 B => Initialized NothingHere ShutDown 0
+        q 11 B => Initialized ProjectInvalid ShutDown 0
     ";
     assert_answered(rt.alloc(), &rt, rows)
 }

@@ -1,9 +1,8 @@
 -- Each message has a reply, or needs none.
-use Rattle.std.proofs.Common.{◌≡◌, List, Bool, true, false, Option, Some, None, Err, refl}
+use Rattle.std.proofs.Common.{◌≡◌, List, Bool, true, false, Option, Some, None, inl, refl}
 use Rattle.std.specs.Bool.{MatchBool}
 use Rattle.std.specs.Option.{MatchOption}
 use Rattle.gq_text.specs.Place.{off}
-use Rattle.gq_rename.specs.declared.refusal.Refusal.TheVariants as refusal
 use Rattle.gq_rpc.specs.declared.messages.Id.{Id}
 use Rattle.gq_rpc.specs.declared.messages.RenameParams.{RenameParams}
 use Rattle.gq_rpc.specs.declared.messages.Request.{Request}
@@ -32,7 +31,7 @@ rename_has : (document_changes : Bool) (documents : List OpenDocument) (id : Id)
 rename_has document_changes documents id params =
     choose_option (document_at params.key documents) _ _ (_, refl)
     (λ document. choose_bool (is_any_lost documents) _ _ (_, refl)
-    (choose_bool document_changes _ _ (_, record { result = Err refusal.NoMemory; is_result = tt; is = refl }) (_, refl)))
+    (choose_bool document_changes _ _ (_, inl refl) (_, refl)))
 
 response_has : (phase : Phase) (s : State) (id : Id) (r : Request) → (response : Outgoing) × IsResponse phase s id r response
 response_has Fresh s id (request.Initialize c) = (_, refl)

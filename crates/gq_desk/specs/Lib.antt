@@ -1,4 +1,5 @@
 pub mod Documents
 pub mod Session
 pub mod Replies
+pub mod Renames
 pub mod History

@@ -1,15 +1,15 @@
--- What a message is answered with. A relation: of a rename's edit its meaning is said, and want of memory may refuse any rename.
-use Rattle.std.specs.Prelude.{◌≡◌, ℕ, Bool, List, codes, Option, Some, None, Result, Ok, Err}
+-- What a message is answered with. A relation, since want of memory may refuse any rename.
+use Rattle.std.specs.Prelude.{◌≡◌, ◌⊎◌, ℕ, Bool, List, codes, Option, Some, None, Result, Ok, Err}
 use Rattle.std.specs.Bool.{MatchBool}
 use Rattle.std.specs.Option.{MatchOption}
 use Rattle.gq_text.specs.Place.{off}
 use Rattle.gq_project.specs.declared.document.Doc.{Doc}
 use Rattle.gq_edit.specs.declared.edit.DocumentEdit.{DocumentEdit}
-use Rattle.gq_edit.specs.declared.workspace.WorkspaceEdit.{WorkspaceEdit}
 use Rattle.gq_edit.specs.Workspace.{workspace_edit_of}
 use Rattle.gq_rename.specs.declared.refusal.Refusal.{Refusal}
+use Rattle.gq_rename.specs.declared.refusal.Refusal.TheVariants.{NoMemory}
 use Rattle.gq_rename.specs.Refusals.{message_of}
-use Rattle.gq_rename.specs.Rename.{IsRename, Renames}
+use Rattle.gq_rename.specs.Rename.{IsRenameAnswer}
 use Rattle.gq_rpc.specs.declared.messages.Id.{Id}
 use Rattle.gq_rpc.specs.declared.messages.RenameParams.{RenameParams}
 use Rattle.gq_rpc.specs.declared.messages.Request.{Request}
@@ -30,27 +30,20 @@ use Rattle.gq_desk.specs.Session.{State}
 abbrev pub request_failed : Id → List ℕ → Outgoing
 request_failed id why = outgoing.Error (Some id) (error.RequestFailed why)
 
--- the edit that a rename at this offset is, by positions in the texts; it keeps what a rename should keep
-pub record IsRenameEdit (project : List Doc) (params : RenameParams) (offset : ℕ) (by_position : WorkspaceEdit) : Type 0 where
-  pub edit : List DocumentEdit
-  pub answers : IsRename project params.key offset params.new_name (Ok edit)
-  pub keeps : Renames project params.key offset params.new_name edit
-  pub is : by_position ≡ workspace_edit_of project edit
+-- the response that tells an answer to a rename: its edit, by positions in the texts, or why it is refused
+abbrev pub answer_response : Id → List Doc → Result (List DocumentEdit) Refusal → Outgoing
+answer_response id project (Ok edit) = outgoing.Renamed id (workspace_edit_of project edit)
+answer_response id project (Err why) = request_failed id (message_of why)
 
--- what a rename comes to: its edit, or a refusal, of which want of memory always may be one
-abbrev pub IsRenameResult : List Doc → RenameParams → ℕ → Result WorkspaceEdit Refusal → Type 0
-IsRenameResult project params offset (Ok by_position) = IsRenameEdit project params offset by_position
-IsRenameResult project params offset (Err why) = IsRename project params.key offset params.new_name (Err why)
+-- the response tells the answer that is defined for a rename at this offset in these documents
+pub record TellsAnswer (id : Id) (project : List Doc) (params : RenameParams) (offset : ℕ) (response : Outgoing) : Type 0 where
+  pub answer : Result (List DocumentEdit) Refusal
+  pub is_answer : IsRenameAnswer project params.key offset params.new_name answer
+  pub is : response ≡ answer_response id project answer
 
-abbrev pub result_response : Id → Result WorkspaceEdit Refusal → Outgoing
-result_response id (Ok by_position) = outgoing.Renamed id by_position
-result_response id (Err why) = request_failed id (message_of why)
-
--- the response says what the rename comes to
-pub record TellsRename (id : Id) (project : List Doc) (params : RenameParams) (offset : ℕ) (response : Outgoing) : Type 0 where
-  pub result : Result WorkspaceEdit Refusal
-  pub is_result : IsRenameResult project params offset result
-  pub is : response ≡ result_response id result
+-- the response tells that answer, or that memory was refused
+abbrev pub TellsRename : Id → List Doc → RenameParams → ℕ → Outgoing → Type 0
+TellsRename id project params offset response = (response ≡ request_failed id (message_of NoMemory)) ⊎ TellsAnswer id project params offset response
 
 -- the response to a rename, by what is tested in this order: its document is open, no document is lost, and the client
 -- takes edits with versions

@@ -1,12 +1,16 @@
 //! Renames that are asked for.
-ghost use Rattle.std.specs.Prelude.{◌≡◌, IfOk};
+ghost use Rattle.std.specs.Prelude.{◌≡◌, IfOk, IfErr};
+ghost use Rattle.gq_edit.specs.Workspace.{AreTexts};
 ghost use Rattle.gq_desk.specs.Documents.{IsInOrder, project_of};
-ghost use Rattle.gq_desk.specs.Replies.{request_failed, IsRenameResult, TellsRename, IsRenameResponse};
+ghost use Rattle.gq_desk.specs.Replies.{request_failed, TellsRename, IsRenameResponse};
+ghost use Rattle.gq_desk.specs.Renames.{IsRenameResult, IsRefusedProject};
 
 use crate::documents::{OpenDocument, any_lost, copy_project, find_document};
 use gq_edit::{WorkspaceEdit, to_positions};
-use gq_rename::{Refusal, rename_fragment};
+use gq_rename::laws::renames_of_invalid_projects_are_refused;
+use gq_rename::{Refusal, rename};
 use gq_rpc::{Id, Outgoing, RenameParams, ResponseError};
+use gq_rules::{Valid, Why};
 use gq_text::{NoMemory, OwnedText};
 use std::alloc::Global;
 
@@ -16,6 +20,43 @@ fn fail_request(alloc: Global, id: Id, why: &str) -> Result<Outgoing, NoMemory>
 {
     let why = OwnedText::from_str(alloc, why)?;
     Ok(Outgoing::Error(Some(id), ResponseError::RequestFailed(why)))
+}
+
+/// The project of the open documents, where it is valid.
+fn valid_project(alloc: Global, documents: &[OpenDocument]) -> Result<Valid, Refusal>
+    requires { IsInOrder documents.now }
+    ensures project { IfOk result (λ valid. valid ≡ project_of documents.now) }
+    ensures texts { IfOk result AreTexts }
+    ensures refused { IfErr result (IsRefusedProject (project_of documents.now)) }
+{
+    let project = copy_project(alloc, documents)?;
+    match Valid::new(alloc, project) {
+        Ok(valid) => Ok(valid),
+        Err(invalid) => match invalid.why {
+            Why::Report(_) => Err(Refusal::ProjectInvalid),
+            Why::NoMemory => Err(Refusal::NoMemory),
+        },
+    }
+}
+
+/// The edit of a rename in a valid project, by positions in its texts.
+fn rename_in(
+    alloc: Global,
+    valid: &Valid,
+    params: &RenameParams,
+    offset: usize,
+) -> Result<WorkspaceEdit, Refusal>
+    requires { AreTexts valid.now }
+    ensures { IsRenameResult valid.now params.now offset result }
+{
+    let edit = rename(
+        alloc,
+        valid,
+        params.key.as_str(),
+        offset,
+        params.new_name.as_str(),
+    )?;
+    Ok(to_positions(alloc, valid.project(), &edit)?)
 }
 
 /// What a rename at this offset comes to, in the project of the open documents.
@@ -28,15 +69,9 @@ fn rename_at(
     requires { IsInOrder documents.now }
     ensures { IsRenameResult (project_of documents.now) params.now offset result }
 {
-    let project = copy_project(alloc, documents)?;
-    let edit = rename_fragment(
-        alloc,
-        &project,
-        params.key.as_str(),
-        offset,
-        params.new_name.as_str(),
-    )?;
-    Ok(to_positions(alloc, &project, &edit)?)
+    renames_of_invalid_projects_are_refused();
+    let valid = valid_project(alloc, documents)?;
+    rename_in(alloc, &valid, params, offset)
 }
 
 /// The response that says what a rename at this offset comes to.

@@ -31,6 +31,9 @@ fn tell(alloc: Global, desk: &mut Desk, body: &str) -> Result<(String, Option<u8
     Ok((body, stop))
 }
 
+const OPEN_S: &str =
+    r#"{"method":"textDocument/didOpen","params":{"textDocument":{"uri":"file:///s.graphql","version":1,"text":"type Query{x:Int}"}}}"#;
+
 /// What opens q with this text.
 fn open_q(alloc: Global, version: i64, text: &str) -> Result<String, Fail> {
     Ok(format!(in alloc;
@@ -78,10 +81,11 @@ fn compare(
 fn a_session_goes_from_initialize_to_exit(rt: HostRuntime) -> Result<(), Fail> {
     let alloc = rt.alloc();
     let mut desk = Desk::new(alloc);
-    let first = open_q(alloc, 1, "{...B} fragment B on T{x}")?;
-    let second = open_q(alloc, 7, "{...A} fragment A on T{x}")?;
+    let first = open_q(alloc, 1, "{...B} fragment B on Query{x}")?;
+    let second = open_q(alloc, 7, "{...A} fragment A on Query{x}")?;
     let early = error(alloc, -32002, "not initialized")?;
     let closed = error(alloc, -32602, "invalid params")?;
+    let invalid = error(alloc, -32803, "1 ProjectInvalid")?;
     let same = error(alloc, -32803, "4 SameName")?;
     let unknown = error(alloc, -32601, "method not found")?;
     let late = error(alloc, -32600, "invalid request")?;
@@ -92,6 +96,8 @@ fn a_session_goes_from_initialize_to_exit(rt: HostRuntime) -> Result<(), Fail> {
         (INITIALIZE, INITIALIZED_BEFORE),
         (RENAME, closed.as_str()),
         (first.as_str(), "-"),
+        (RENAME, invalid.as_str()),
+        (OPEN_S, "-"),
         (RENAME, same.as_str()),
         (second.as_str(), "-"),
         (RENAME, RENAMED),
@@ -123,7 +129,7 @@ fn refusals_are_told_in_order(rt: HostRuntime) -> Result<(), Fail> {
     let alloc = rt.alloc();
     let mut desk = Desk::new(alloc);
     let long = open_q(alloc, 1, "x".repeat(alloc, 4_194_305)?.as_str())?;
-    let short = open_q(alloc, 2, "{...A} fragment A on T{x}")?;
+    let short = open_q(alloc, 2, "{...A} fragment A on Query{x}")?;
     let closed = error(alloc, -32602, "invalid params")?;
     let lost = error(alloc, -32803, "document lost")?;
     let plain = error(alloc, -32803, "no documentChanges")?;
@@ -149,7 +155,7 @@ fn at_most_4096_documents_are_open(rt: HostRuntime) -> Result<(), Fail> {
         )?;
         tell(alloc, &mut desk, body.as_str())?;
     }
-    let dropped = open_q(alloc, 1, "{...A} fragment A on T{x}")?;
+    let dropped = open_q(alloc, 1, "{...A} fragment A on Query{x}")?;
     let closed = error(alloc, -32602, "invalid params")?;
     let rows = [(dropped.as_str(), "-"), (RENAME, closed.as_str())];
     compare(&rt, rt.alloc(), &mut desk, &rows)

@@ -1,11 +1,15 @@
 use Rattle.std.proofs.Common.{◌≡◌, false}
 use Rattle.gq_desk.specs.Session.{start}
+use Rattle.gq_crew.proofs.Bounds.{to_do}
 use Rattle.gq_crew.proofs.Joins.{Stands}
 use Rattle.gq_crew.proofs.run.run_one.Given as goal
 
-abbrev pub invariant-loop-reads : goal.invariant-loop-reads
-invariant-loop-reads g l = record {
-  stands : Stands start l.desk l.reads l.framer (g.S.Source.left l.initial.input) (g.S.Source.left l.input) (g.K.Sink.held l.initial.output) (g.K.Sink.held l.output);
-  sound : g.S.Source.failed l.input ≡ g.S.Source.failed l.initial.input;
+abbrev pub invariant-loop-served : goal.invariant-loop-served
+invariant-loop-served g l = record {
+  stands : Stands start l.desk l.served l.framer (g.S.Source.left l.initial.input) (g.S.Source.left l.input) (g.K.Sink.held l.initial.output) (g.K.Sink.held l.output);
+  sound : g.S.Source.failed l.input ≡ false;
   works : g.K.Sink.failed l.output ≡ false;
 }
+
+abbrev pub decreases-loop-served : goal.decreases-loop-served
+decreases-loop-served g l = to_do l.served l.framer

@@ -1,14 +1,15 @@
+use Rattle.std.proofs.Common.{subst}
 use Rattle.std.proofs.lemmas.Result.{err_from_is_err_and}
-use Rattle.gq_desk.proofs.Renaming.{refused, edited}
+use Rattle.gq_desk.specs.Documents.{project_of}
+use Rattle.gq_desk.specs.Renames.{IsRenameResult}
+use Rattle.gq_desk.proofs.Renaming.{refused_project}
 use Rattle.gq_desk.proofs.renames.rename_at.Goals as goal
 
-pub returns-in_err-edit : goal.returns-in_err-edit
-returns-in_err-edit c =
-    let told = err_from_is_err_and c.from_residual-in_err-edit.result c.from_residual-in_err-edit.ensures.1 in
+pub returns-in_err-valid : goal.returns-in_err-valid
+returns-in_err-valid c =
+    let told = err_from_is_err_and c.from_residual-in_err-valid.result c.from_residual-in_err-valid.ensures.1 in
     rw (told.1, told.2)
-    (refused c.in_ok-project.project _ c.args.params.now c.as_str.result.now c.as_str-2.result.now c.args.offset c.in_ok-project.ensures.project c.as_str.ensures c.as_str-2.ensures _ c.in_err-edit.ensures.answer)
+    (refused_project (project_of c.args.documents.now) c.args.params.now c.args.offset _ c.renames_of_invalid_projects_are_refused.ensures c.in_err-valid.ensures.refused)
 
 pub returns : goal.returns
-returns c =
-    edited c.in_ok-project.project _ c.args.params.now c.as_str.result.now c.as_str-2.result.now c.args.offset c.in_ok-project.ensures.project c.as_str.ensures c.as_str-2.ensures
-    c.in_ok-edit.edit c.in_ok-to_positions.field-0 c.in_ok-edit.ensures.answer c.in_ok-edit.ensures.kept c.in_ok-to_positions.ensures
+returns c = subst (λ docs. IsRenameResult docs c.args.params.now c.args.offset c.rename_in.result) c.in_ok-valid.ensures.project c.rename_in.ensures
