@@ -1,7 +1,5 @@
-use Rattle.std.proofs.Common.{ap, subst, sym}
 use Rattle.std.proofs.lemmas.Result.{on_ok_weaker}
-use Rattle.gq_merging.specs.NameTables.{by_name_view, AreByKey}
-use Rattle.gq_merging.specs.PairTables.{AreMet, Looked}
+use Rattle.gq_merging.specs.NameTables.{by_name_view}
 use Rattle.gq_merging.specs.SetTables.{members_at}
 use Rattle.gq_merging.specs.Views.{members_view, rows_view, look_view}
 use Rattle.gq_merging.proofs.LookLemmas.{look_all_keyed, looked_alike}
