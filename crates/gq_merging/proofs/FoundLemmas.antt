@@ -1,5 +1,5 @@
 -- Two fields meet in a pair of sets that is found exactly if they meet in one that is reached, with all fragments expanded.
-use Rattle.std.proofs.Common.{◌≡◌, ◌↔◌, ⊎_elim, ℕ, ◌+◌, ◌*◌, ◌/◌, ◌%◌, ◌<◌, Bool, List, [], ◌∷◌, Contains, refl, sym, ◌∙◌, ap, subst}
+use Rattle.std.proofs.Common.{◌≡◌, ◌↔◌, ⊎_elim, ℕ, ◌+◌, ◌*◌, ◌/◌, ◌%◌, ◌<◌, Bool, List, [], ◌∷◌, Contains, refl, sym, subst}
 use Rattle.gq_names.proofs.RepeatLemmas.{contains_none, contains_first, contains_cases}
 use Rattle.gq_reach.specs.Reach.{Reach, start as at_once, step as by_step}
 use Rattle.gq_merging.specs.SetTables.{members_at, spreads_at}

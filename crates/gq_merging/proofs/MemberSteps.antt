@@ -1,5 +1,5 @@
 -- Members in the code's rows and tables.
-use Rattle.std.proofs.Common.{◌≡◌, ◌↔◌, ℕ, zero, suc, ◌≤◌, ◌<◌, List, [], ◌∷◌, ◌++◌, Option, Some, None, All, Contains, map, length, refl, sym, ◌∙◌, ap, subst, arith, inl, inr, Vec, Global, Bool, ⊎_elim, append-nil, get_or}
+use Rattle.std.proofs.Common.{◌≡◌, ℕ, zero, suc, ◌≤◌, ◌<◌, List, [], ◌∷◌, ◌++◌, Option, Some, None, All, Contains, map, length, refl, sym, ◌∙◌, ap, subst, arith, inl, inr, Vec, Global, Bool, ⊎_elim, append-nil, get_or}
 use Rattle.std.specs.List.{slice_get, flat_map}
 use Rattle.std.specs.Option.{option_map, option_map_or}
 use Rattle.std.specs.Prelude.{unwrap_or}
@@ -10,7 +10,7 @@ use Rattle.gq_names.proofs.RepeatLemmas.{contains_none, contains_later, contains
 use Rattle.gq_reach.specs.Reach.{Reach, start, step, row, InRange}
 use Rattle.gq_document.specs.Executable.{ExecutableOf}
 use Rattle.gq_merging.specs.FieldSets.{fragment_set, operation_set}
-use Rattle.gq_merging.specs.SetTables.{MemberOf, RowOf, IsRow, AreRows, first_sets, names_of, members_at, spreads_at, IsMember}
+use Rattle.gq_merging.specs.SetTables.{RowOf, IsRow, AreRows, first_sets, names_of, members_at, spreads_at}
 use Rattle.gq_merging.specs.StartTables.{Passes}
 use Rattle.gq_merging.specs.Views.{members_view, row_view, rows_view}
 use Rattle.gq_merging.specs.declared.rows.Row.{Row}

@@ -1,4 +1,4 @@
-use Rattle.std.proofs.Common.{◌≡◌, ◌/◌, ◌%◌, Contains, length, subst}
+use Rattle.std.proofs.Common.{◌/◌, ◌%◌, Contains, length, subst}
 use Rattle.gq_merging.specs.PairTables.{IsGiven, IsNumber, Gains}
 use Rattle.gq_merging.specs.Views.{look_view}
 use Rattle.gq_merging.proofs.LookLemmas.{gains_after}
