@@ -1,8 +1,9 @@
 use Rattle.std.proofs.Common.{◌++◌}
 use Rattle.std.proofs.lemmas.Result.{on_ok_weaker}
+use Rattle.gq_tree.specs.Views.{value_view}
 use Rattle.gq_types.specs.Look.{types_view}
 use Rattle.gq_values.specs.Readings.{reading_view}
-use Rattle.gq_values.specs.LiteralPlaces.{faults_of_field, value_faults}
+use Rattle.gq_values.specs.LiteralPlaces.{literal_faults, item_faults, faults_of_field, value_faults}
 use Rattle.gq_values.proofs.Steps.{turn_done}
 use Rattle.gq_values.proofs.LiteralLemmas.{list_done, object_done}
 use Rattle.gq_values.proofs.literal_faults.+literals.Goals as goal
@@ -18,6 +19,13 @@ put_literal_faults-returns-in-Object t c = on_ok_weaker c.put_value_faults.resul
     (λ below. object_done (types_view c.args.types.now) c.args.file (reading_view c.args.reading) c.args.value.now c.in-Object.fields c.in-Object.span c.deref-in-Object.result.now
     c.args.items.now.items c.put_own_faults.new.items.items c.put_value_faults.new.items.items c.in-Object.is c.deref-in-Object.ensures.value c.in_ok-put_own_faults.ensures below)
     c.put_value_faults.ensures
+
+pub put_item_faults-loop-value-preserved : goal.put_item_faults-loop-value-preserved
+put_item_faults-loop-value-preserved t c =
+    let es = types_view c.args.types.now in
+    let reading = reading_view c.args.reading in
+    turn_done (λ v. literal_faults es c.args.file reading (value_view v)) c.args.values.now c.loop-value.value-index c.value-item.result c.loop-value.items.items c.put_literal_faults.new.items.items
+    (c.args.items.now.items ++ item_faults es c.args.file reading c.args.values.now) c.loop-value-test.true c.value-item.is c.loop-value.invariant c.in_ok-put_literal_faults.ensures
 
 pub put_value_faults-loop-field-preserved : goal.put_value_faults-loop-field-preserved
 put_value_faults-loop-field-preserved t c =
