@@ -35,10 +35,13 @@ truncated_turn s room (Some before) left source held sink fault e took tells sam
     bodies = [];
     rest = before;
     cuts = append-nil before;
-    comes = (refl, record {
-      answers = record { no_stop = refl; wrote = record { output = []; is_output = refl; written = subst (λ (h : Option (List ℕ)). Appends held h []) (sym same) (Appends-nil held) } };
-      is_fault = ended_by before fault source e partial tells;
-    });
+    comes = (
+      refl,
+      record {
+        answers = record { no_stop = refl; wrote = record { output = []; is_output = refl; written = subst (λ (h : Option (List ℕ)). Appends held h []) (sym same) (Appends-nil held) } };
+        is_fault = ended_by before fault source e partial tells;
+      },
+    );
   };
 }
 
