@@ -1,15 +1,17 @@
 -- Turns that end a run at what is no frame.
-use Rattle.std.proofs.Common.{◌≡◌, ◌≢◌, ◌⊎◌, ◌≤◌, ℕ, List, [], ◌∷◌, ◌++◌, Option, Some, None, Result, Ok, Err, refl, sym, subst, append-nil, arith}
-use Rattle.std.specs.Prelude.{IfSome}
+use Rattle.std.proofs.Common.{◌≡◌, ◌≢◌, ◌⊎◌, ◌<◌, ◌≤◌, ℕ, List, [], ◌∷◌, ◌++◌, length, Option, Some, None, Result, Ok, Err, refl, sym, subst, append-nil, arith}
+use Rattle.std.specs.Prelude.{IfSome, Vec}
+use Rattle.std.specs.declared.alloc.Global.{Global}
+use Rattle.std.proofs.lemmas.List.{length-map}
 use Rattle.std.specs.Io.KnownBytes.{Appends, Consumes}
-use Rattle.gq_rpc.specs.Frames.{Cuts, Feeds, scan_of, end_of}
+use Rattle.gq_rpc.specs.Frames.{Cuts, Feeds, contents, scan_of, end_of}
 use Rattle.gq_rpc.specs.declared.header.FrameFault.{FrameFault}
 use Rattle.gq_rpc.specs.declared.header.FrameFault.TheVariants.{Truncated}
 use Rattle.gq_rpc.specs.declared.header.Scan.TheVariants.{Partial}
 use Rattle.gq_rpc.proofs.Sends.{Appends-nil}
 use Rattle.gq_desk.specs.Session.{State}
 use Rattle.gq_crew.specs.declared.run.RunFault.TheVariants.{Frame}
-use Rattle.gq_crew.specs.declared.run.Turn.TheVariants.{Done}
+use Rattle.gq_crew.specs.declared.run.Turn.TheVariants.{Again, Done}
 use Rattle.gq_crew.specs.declared.serving.Served.TheVariants.{Go}
 use Rattle.gq_crew.specs.Runs.{SourceAfter, SinkAfter, TellsEnd, IsFrameFault}
 use Rattle.gq_crew.specs.Serving.{ServesAll}
@@ -55,4 +57,16 @@ bad_piece s t (Some before) framer' piece bodies held sink fault fed served = λ
   rest = fed.rest;
   cuts = subst (λ (b : List (List ℕ)). Cuts (before ++ piece) b fed.rest) (sym fed.reads.added) fed.reads.cuts;
   comes = (refl, record { answers = record { no_stop = served.0; wrote = served.2 }; is_fault = stopped_by fed.rest fault source fed.stops });
+}
+
+-- the bodies of a piece were answered, and the beginning of a frame is held
+pub good_piece : (s t : State) (framer framer' : Option (List ℕ)) (piece : List ℕ) (vectors : List (Vec ℕ Global)) (held : Option (List ℕ)) (sink : SinkAfter)
+    → 0 < length piece → IfSome framer (λ before. Feeds before piece [] (contents vectors) (Ok tt) framer') → ServesAll s t held sink.held (contents vectors) Go
+    → IfSome framer (λ before. (source : SourceAfter) → TakesPiece s t before piece framer' source held sink (Again (length vectors)))
+good_piece s t None framer' piece vectors held sink some fed served = tt
+good_piece s t (Some before) framer' piece vectors held sink some fed served = λ source. record {
+  bodies = contents vectors;
+  rest = fed.rest;
+  cuts = subst (λ (b : List (List ℕ)). Cuts (before ++ piece) b fed.rest) (sym fed.reads.added) fed.reads.cuts;
+  comes = (sym (length-map (λ (v : Vec ℕ Global). v.items) vectors), some, fed.holds, fed.stops, served);
 }

@@ -7,7 +7,7 @@ use Rattle.gq_desk.proofs.renames.rename_at.Goals as goal
 
 pub returns-in_err-valid : goal.returns-in_err-valid
 returns-in_err-valid c =
-    let told = err_from_is_err_and c.from_residual-in_err-valid.result c.from_residual-in_err-valid.ensures.1 in
+    let told = err_from_is_err_and c.from_residual.result c.from_residual.ensures.1 in
     rw (told.1, told.2)
     (refused_project (project_of c.args.documents.now) c.args.params.now c.args.offset _ c.renames_of_invalid_projects_are_refused.ensures c.in_err-valid.ensures.refused)
 

@@ -6,7 +6,7 @@ use Rattle.gq_desk.proofs.renames.rename_in.Goals as goal
 
 pub returns-in_err-edit : goal.returns-in_err-edit
 returns-in_err-edit c =
-    let told = err_from_is_err_and c.from_residual-in_err-edit.result c.from_residual-in_err-edit.ensures.1 in
+    let told = err_from_is_err_and c.from_residual.result c.from_residual.ensures.1 in
     rw (told.1, told.2)
     (refused c.args.valid.now c.args.params.now c.args.offset c.as_str.result.now c.as_str-2.result.now c.as_str.ensures c.as_str-2.ensures _ _ refl c.in_err-edit.ensures.answer)
 

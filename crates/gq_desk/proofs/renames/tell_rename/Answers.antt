@@ -8,5 +8,5 @@ returns-in-Ok c = tells_edit c.args.id (project_of c.args.documents.now) c.args.
 
 pub returns-in-Err : goal.returns-in-Err
 returns-in-Err c =
-    IfOk-weaker c.fail_request-in-Err.result _ _
-    (λ response is. tells_refused c.args.id (project_of c.args.documents.now) c.args.params.now c.args.offset _ response c.in-Err.ensures (rw (← c.message.ensures) is)) c.fail_request-in-Err.ensures
+    IfOk-weaker c.fail_request.result _ _
+    (λ response is. tells_refused c.args.id (project_of c.args.documents.now) c.args.params.now c.args.offset _ response c.in-Err.ensures (rw (← c.message.ensures) is)) c.fail_request.ensures
