@@ -1,8 +1,7 @@
 -- The answer to a rename, from what is known of its target, its new name and its edit.
-use Rattle.std.proofs.Common.{◌≡◌, ◌≢◌, ℕ, ◌<◌, List, [], Option, Some, None, Result, Ok, Err, refl, sym, ap, subst, ◌∙◌, arith, inl, inr, ◌⊎◌}
-use Rattle.std.specs.Prelude.{find, codes, IfOk}
+use Rattle.std.proofs.Common.{◌≡◌, ℕ, ◌<◌, List, Some, None, Result, Ok, Err, refl, sym, subst, ◌∙◌, arith, inl, inr, ◌⊎◌}
+use Rattle.std.specs.Prelude.{find, IfOk}
 use Rattle.std.proofs.lemmas.Grind.{not_there}
-use Rattle.gq_lex.specs.declared.token.Kind.TheVariants as kind_of_token
 use Rattle.gq_project.specs.declared.document.Doc.{Doc}
 use Rattle.gq_edit.specs.declared.edit.DocumentEdit.{DocumentEdit}
 use Rattle.gq_edit.specs.Edits.{FitDocuments, after_edit, is_too_large}

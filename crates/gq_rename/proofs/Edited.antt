@@ -1,5 +1,5 @@
 -- The edits of a rename are of documents of the project, and the edited texts have trees.
-use Rattle.std.proofs.Common.{◌≡◌, ℕ, ◌^◌, ◌<◌, Bool, true, false, ◌&&◌, List, [], ◌∷◌, ◌++◌, length, Option, Some, None, Contains, refl, sym, ap, subst, ◌∙◌, arith, inl, inr, ◌⊎◌, ⊎_elim}
+use Rattle.std.proofs.Common.{◌≡◌, ℕ, ◌^◌, ◌<◌, Bool, true, false, List, [], ◌∷◌, length, Option, Some, None, Contains, refl, sym, ap, subst, ◌∙◌, arith, inl, ⊎_elim}
 use Rattle.std.specs.Prelude.{find, is_none, nat_lt, All}
 use Rattle.std.specs.List.{AllByRecursion}
 use Rattle.std.specs.Option.{option_map_or}
@@ -25,7 +25,7 @@ use Rattle.gq_edit.proofs.Fitting.{document_of-itself}
 use Rattle.gq_rewrite.specs.Renamings.{Renaming, MayName}
 use Rattle.gq_rewrite.specs.Rewritten.{rename_replacements, Rewrites, RenamedTextsRead}
 use Rattle.gq_rewrite.specs.Projects.{AreTrees, none, more, number_behind, edit_if_any, rename_edits}
-use Rattle.gq_rename.specs.Rename.{PassesLimit, IsTooLarge}
+use Rattle.gq_rename.specs.Rename.{IsTooLarge}
 use Rattle.gq_rename.proofs.Below.{all_append}
 
 -- an edit of a document, whose edited text has a tree

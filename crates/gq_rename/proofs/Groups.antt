@@ -1,5 +1,5 @@
 -- A variable has one group, so a target has one rename.
-use Rattle.std.proofs.Common.{◌≡◌, ◌↔◌, ℕ, zero, suc, ◌+◌, ◌<◌, ◌≤◌, List, [], ◌∷◌, length, Contains, refl, sym, ap, subst, ◌∙◌, arith, ⊎_elim}
+use Rattle.std.proofs.Common.{◌≡◌, ℕ, suc, ◌+◌, ◌<◌, List, [], ◌∷◌, Contains, refl, sym, ap, subst, ◌∙◌, arith, ⊎_elim}
 use Rattle.std.specs.Prelude.{slice_index}
 use Rattle.std.specs.List.Sorted.{IsStrictlyIncreasing}
 use Rattle.gq_types.proofs.Gathered.{nothing_in, first, later, cases_cons}
@@ -7,7 +7,6 @@ use Rattle.gq_index.specs.Occurrences.{DefinitionOf}
 use Rattle.gq_rewrite.specs.Renamings.{Renaming}
 use Rattle.gq_cut.specs.Cut.{variable_in}
 use Rattle.gq_target.specs.declared.target.TargetKind.{TargetKind}
-use Rattle.gq_target.specs.declared.target.TargetKind.TheVariants as kind
 use Rattle.gq_rename.specs.Asks.{IsGroup, Changes, fragments, variables}
 
 tail_increases : (x : ℕ) (xs : List ℕ) → IsStrictlyIncreasing (x ∷ xs) → IsStrictlyIncreasing xs

@@ -1,5 +1,6 @@
--- What can be renamed in a document, found by its place among the documents and by the number of its first executable definition.
-use Rattle.std.proofs.Common.{◌≡◌, ℕ, zero, suc, ◌+◌, ◌<◌, ◌≤◌, Bool, true, false, cond, List, [], ◌∷◌, ◌++◌, length, Option, Some, None, refl, sym, ap, subst, ◌∙◌, map, flat_map, arith, if◌then◌else◌}
+-- What can be renamed in a document, found by its place among the documents and by the number of its first executable
+-- definition.
+use Rattle.std.proofs.Common.{◌≡◌, ℕ, suc, ◌+◌, ◌<◌, ◌≤◌, Bool, true, false, cond, List, [], ◌∷◌, ◌++◌, length, Some, None, refl, sym, ap, subst, ◌∙◌, flat_map, arith, if◌then◌else◌}
 use Rattle.std.specs.Prelude.{nat_lt, not, slice_get, position}
 use Rattle.std.specs.List.{prefix_len, position_or_len}
 use Rattle.std.proofs.lemmas.Bool.Decides.{nat_tests}
@@ -11,7 +12,6 @@ use Rattle.gq_read.specs.declared.reader.Reading.{Reading}
 use Rattle.gq_read.specs.Readings.{IsReading, AreReadings}
 use Rattle.gq_read.specs.Readings as readings
 use Rattle.gq_document.specs.Definitions.{definitions_read}
-use Rattle.gq_index.specs.declared.occurrence.Occurrence.{Occurrence}
 use Rattle.gq_index.specs.Occurrences.{DefinitionOf, executable_in, definition_places}
 use Rattle.gq_rewrite.specs.Projects.{number_behind}
 use Rattle.gq_cut.proofs.FragmentCut.{executables_from}

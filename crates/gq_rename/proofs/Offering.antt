@@ -1,6 +1,6 @@
 -- The answer to the rename of a target, from what its steps answered.
-use Rattle.std.proofs.Common.{◌≡◌, ◌↔◌, ℕ, ◌<◌, List, [], length, Option, Some, None, Result, Ok, Err, Contains, refl, sym, ap, subst, ◌∙◌, inl, inr, ◌⊎◌}
-use Rattle.std.specs.Prelude.{find, IfOk, codes}
+use Rattle.std.proofs.Common.{◌≡◌, ◌↔◌, ℕ, ◌<◌, List, length, Option, Some, None, Result, Err, Contains, refl, sym, subst, inl, inr, ◌⊎◌}
+use Rattle.std.specs.Prelude.{find, IfOk}
 use Rattle.std.specs.List.Sorted.{IsStrictlyIncreasing}
 use Rattle.gq_text.specs.declared.place.Span.{Span}
 use Rattle.gq_tree.specs.Plain.{Def}

@@ -1,5 +1,6 @@
--- The edit of a rename in a valid project can be made there, and the edited texts read as the trees with the names changed.
-use Rattle.std.proofs.Common.{◌≡◌, ℕ, List}
+-- The edit of a rename in a valid project can be made there, and the edited texts read as the trees with the names
+-- changed.
+use Rattle.std.proofs.Common.{ℕ, List}
 use Rattle.std.proofs.lemmas.Grind.{not_there}
 use Rattle.gq_text.specs.declared.place.Span.{Span}
 use Rattle.gq_tree.specs.Plain.{Def}

@@ -1,6 +1,6 @@
 -- What an index tells of a name is that it is taken, or that it is not.
-use Rattle.std.proofs.Common.{◌≡◌, ◌↔◌, ℕ, zero, suc, Bool, true, false, List, [], ◌∷◌, length, Option, Some, None, Contains, refl, sym, ap, subst, ◌∙◌, map, flat_map, arith}
-use Rattle.std.specs.Prelude.{filter, not, nat_eq, slice_get, if◌then◌else◌}
+use Rattle.std.proofs.Common.{◌≡◌, ℕ, true, false, List, [], ◌∷◌, length, Option, Some, None, Contains, refl, sym, ap, subst, ◌∙◌, map, arith}
+use Rattle.std.specs.Prelude.{not, nat_eq, slice_get}
 use Rattle.std.specs.List.{list_any}
 use Rattle.std.specs.Option.{option_map_or}
 use Rattle.std.specs.Str.{bytes_eq}
@@ -12,9 +12,8 @@ use Rattle.gq_types.specs.Entries.{Text}
 use Rattle.gq_types.proofs.Gathered.{nothing_in, first, only, from_flat, to_flat, from_map, to_map, from_filter, to_filter, from_any, to_any}
 use Rattle.gq_document.specs.Definitions.{OperationOf, FragmentOf, operation_in, fragment_in}
 use Rattle.gq_index.specs.declared.occurrence.Occurrence.{Occurrence}
-use Rattle.gq_index.specs.VariableNames.{defined_variables}
-use Rattle.gq_index.specs.Occurrences.{DefinitionOf, fragment_name, called, occurrences_of, fragment_definitions, definitions_in, variable_definitions}
-use Rattle.gq_index.specs.VariableGroups.{VariableGroup, IsOperationAt, fragments_among}
+use Rattle.gq_index.specs.Occurrences.{DefinitionOf, fragment_name, called, occurrences_of, fragment_definitions, definitions_in}
+use Rattle.gq_index.specs.VariableGroups.{IsOperationAt}
 use Rattle.gq_rename.specs.Asks.{IsFragmentDefined, IsVariableDefined, IsGroup}
 use Rattle.gq_rename.specs.Defines.{defines}
 

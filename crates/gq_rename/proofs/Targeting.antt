@@ -10,13 +10,12 @@ use Rattle.gq_read.specs.declared.reader.Reading.{Reading}
 use Rattle.gq_read.specs.Readings.{IsReading, AreReadings}
 use Rattle.gq_document.specs.Definitions.{definitions_read}
 use Rattle.gq_index.specs.declared.occurrence.Occurrence.{Occurrence}
-use Rattle.gq_index.specs.Occurrences.{DefinitionOf, AreExecutables, executables, definition_places}
+use Rattle.gq_index.specs.Occurrences.{DefinitionOf, executables, definition_places}
 use Rattle.gq_target.specs.declared.target.Target.{Target}
 use Rattle.gq_target.specs.Renameables.{renameables}
 use Rattle.gq_target.specs.Targets.{target}
-use Rattle.gq_rename.specs.Asks.{IsTarget, target_of, trees_of, renameables_of}
+use Rattle.gq_rename.specs.Asks.{IsTarget, target_of}
 use Rattle.gq_rename.specs.Found.{stands_before}
-use Rattle.gq_rename.specs.Sound.{OffsetsMeanOneTarget}
 use Rattle.gq_rename.proofs.Numbering.{read_at, read_nowhere, some_place, no_place}
 
 -- what is found of all readings is what is told of one

@@ -8,7 +8,7 @@ use Rattle.gq_project.specs.Documents.{has_key}
 use Rattle.gq_read.specs.declared.reader.Reading.{Reading}
 use Rattle.gq_read.specs.Readings.{AreReadings}
 use Rattle.gq_document.specs.Definitions.{definitions_read, OperationOf, FragmentOf}
-use Rattle.gq_index.specs.Occurrences.{DefinitionOf, executables}
+use Rattle.gq_index.specs.Occurrences.{DefinitionOf}
 use Rattle.gq_index.specs.VariableGroups.{VariableGroup, IsOperationAt, fragments_among}
 use Rattle.gq_rewrite.specs.Names.{IsNameText, IsFragmentNameText}
 use Rattle.gq_rewrite.specs.Renamings.{Renaming, fragment_called}
@@ -30,7 +30,8 @@ pub record RenameAsk : Type 0 where
 abbrev pub trees_of : List Reading → List (List (Def Span))
 trees_of readings = map definitions_read readings
 
--- What can be renamed in the document of that key. The executable definitions are numbered through all documents, the first by the given number.
+-- What can be renamed in the document of that key. The executable definitions are numbered through all documents, the
+-- first by the given number.
 abbrev pub renameables_of : List ℕ → ℕ → List Doc → List (List (Def Span)) → List Target
 renameables_of key number [] trees = []
 renameables_of key number (document ∷ documents) [] = []
@@ -77,8 +78,8 @@ pub record IsGroup (ds : List DefinitionOf) (old : List ℕ) (definition : ℕ) 
   pub ascending : IsStrictlyIncreasing group
   pub members : (n : ℕ) → Contains group n ↔ VariableGroup ds old definition n
 
--- Which names change, by the number of the definition that they stand in: everywhere those of the fragment; in the definitions of the group those of the
--- variable.
+-- Which names change, by the number of the definition that they stand in: everywhere those of the fragment; in the
+-- definitions of the group those of the variable.
 pub data Changes (ds : List DefinitionOf) (old : List ℕ) (definition : ℕ) : TargetKind → (ℕ → Renaming) → Type 0 where
   fragments : Changes ds old definition kind.Fragment (λ n. fragment_called old)
   variables : {group : List ℕ} → IsGroup ds old definition group → Changes ds old definition kind.Variable (variable_in group old)

@@ -18,7 +18,8 @@ use Rattle.gq_rename.specs.declared.refusal.Refusal.TheVariants.{ProjectInvalid,
 use Rattle.gq_rename.specs.Offers.{IsOffer}
 use Rattle.gq_rename.specs.Asks.{RenameAsk, trees_of, target_of, MayBeCalled, IsTaken, Changes}
 
--- What a rename would do to documents that are read so: the target that the ask means, which names change, and the edit that changes them.
+-- What a rename would do to documents that are read so: the target that the ask means, which names change, and the edit
+-- that changes them.
 pub record Renames (documents : List Doc) (readings : List Reading) (ask : RenameAsk) : Type 0 where
   pub target : Target
   pub here : target_of documents readings ask.key ask.offset ≡ Some target

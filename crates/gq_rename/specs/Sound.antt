@@ -18,8 +18,8 @@ use Rattle.gq_rename.specs.Rename.{IsTooLarge, ReadsAsRenamed}
 abbrev pub edits_by : (ℕ → Renaming) → List ℕ → List Doc → List Reading → List DocumentEdit
 edits_by rule new documents readings = rename_edits rule 0 new documents (trees_of readings)
 
--- The spans of the edits fit the texts, each edited document is there at its version, the edited texts read as the trees with the names changed, and they pass no
--- limit but that of bytes.
+-- The spans of the edits fit the texts, each edited document is there at its version, the edited texts read as the
+-- trees with the names changed, and they pass no limit but that of bytes.
 pub record IsSound (documents : List Doc) (readings : List Reading) (rule : ℕ → Renaming) (new : List ℕ) : Type 0 where
   pub fit : FitDocuments documents (edits_by rule new documents readings)
   pub there : find (is_moved documents) (edits_by rule new documents readings) ≡ None

@@ -17,7 +17,8 @@ pub fn renames_of_invalid_projects_are_refused()
     no_project_is_valid_and_invalid();
 }
 
-/// The edit of a rename in a valid project can be made there, and the edited texts read as the trees with the names changed.
+/// The edit of a rename in a valid project can be made there, and the edited texts read as the trees with the names
+/// changed.
 pub fn renames_are_sound()
     ensures { RenamesAreSound }
 {

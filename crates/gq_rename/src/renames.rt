@@ -18,12 +18,13 @@ use gq_rules::Valid;
 use gq_target::{Target, TargetKind};
 use std::alloc::Global;
 
-/// The edit that gives what the offset means, in bytes of the document of that key, another name: a fragment at its definition and at every spread of it, a
-/// variable in the definitions of its group, in all documents of the project.
+/// The edit that gives what the offset means, in bytes of the document of that key, another name: a fragment at its
+/// definition and at every spread of it, a variable in the definitions of its group, in all documents of the project.
 ///
-/// It is refused, in this order, as NothingHere where nothing that can be renamed is at the offset or the project has no such document, BadName where the new
-/// name may not be its name, SameName where it is the old one, NameTaken where a fragment of that name is defined or an operation of the group defines a
-/// variable of it, TooLarge where an edited text would pass a limit, and SelfCheck where the edited project is not valid; and as NoMemory where a growth was
+/// It is refused, in this order, as NothingHere where nothing that can be renamed is at the offset or the project has
+/// no such document, BadName where the new name may not be its name, SameName where it is the old one, NameTaken where
+/// a fragment of that name is defined or an operation of the group defines a variable of it, TooLarge where an edited
+/// text would pass a limit, and SelfCheck where the edited project is not valid; and as NoMemory where a growth was
 /// refused.
 pub fn rename(
     alloc: Global,

@@ -23,8 +23,8 @@ use gq_target::{Target, target_in};
 use gq_text::NoMemory;
 use std::alloc::Global;
 
-/// What a rename at the offset, in bytes, of the document of that key is of: the fragment's name or the variable whose span holds the offset, else the one
-/// whose span ends there. There is none where the project has no such document.
+/// What a rename at the offset, in bytes, of the document of that key is of: the fragment's name or the variable whose
+/// span holds the offset, else the one whose span ends there. There is none where the project has no such document.
 pub fn target(
     alloc: Global,
     valid: &Valid,

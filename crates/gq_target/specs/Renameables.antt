@@ -1,5 +1,5 @@
--- What can be renamed in a document: the names of fragments, at their definitions (section 2.8) and spreads (section 2.8.1), and variables, at their definitions
--- (section 2.10) and uses (section 5.8).
+-- What can be renamed in a document: the names of fragments, at their definitions (section 2.8) and spreads (section
+-- 2.8.1), and variables, at their definitions (section 2.10) and uses (section 5.8).
 use Rattle.std.specs.Prelude.{ℕ, List, [], ◌∷◌, ◌++◌}
 use Rattle.std.specs.List.{flat_map}
 use Rattle.gq_text.specs.declared.place.Span.{Span}

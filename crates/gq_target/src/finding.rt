@@ -62,8 +62,8 @@ fn owned(alloc: Global, one: &Renameable<'_>) -> Result<Target, NoMemory>
     })
 }
 
-/// What a rename at the offset, in bytes, of a document is of: the name of a fragment or the variable whose span holds the offset, else the one whose span ends
-/// there. The document's first executable definition has the number `first`.
+/// What a rename at the offset, in bytes, of a document is of: the name of a fragment or the variable whose span holds
+/// the offset, else the one whose span ends there. The document's first executable definition has the number `first`.
 pub fn target_in(
     alloc: Global,
     document: &Document,

@@ -18,7 +18,7 @@ pub struct Target {
     pub span: Span,
     /// The name token.
     pub name: Name,
-    /// The number of the definition that it stands in: its place among the executable definitions of the project, in the order
-    /// of documents and places, from 0.
+    /// The number of the definition that it stands in: its place among the executable definitions of the project, in
+    /// the order of documents and places, from 0.
     pub definition: usize,
 }

@@ -1,9 +1,9 @@
 -- Each argument in a document has its name (section 2.6).
-use Rattle.std.proofs.Common.{◌≡◌, true, false, List, [], ◌∷◌, ◌++◌, Option, Some, None, refl}
+use Rattle.std.proofs.Common.{◌≡◌, true, false, List, [], ◌∷◌, ◌++◌, Option, Some, refl}
 use Rattle.std.specs.List.{AllByRecursion}
 use Rattle.gq_text.specs.declared.place.Span.{Span}
 use Rattle.gq_lex.specs.declared.token.Kind.{Kind}
-use Rattle.gq_tree.specs.Forest.{none, more, labels}
+use Rattle.gq_tree.specs.Forest.{labels}
 use Rattle.gq_tree.specs.Plain.{NameOf, Val, DirectiveOf, VariableOf, Head, Sels, Def, field, spread, inline, operation, fragment, type_system}
 use Rattle.gq_parse.specs.Grammar.{Tokens, Closed, closed, another, Enclosed, absent, enclosed, IsArgument, an_argument, IsDirectives, no_directive, a_directive, IsVariableDefinition, a_variable_definition, IsSelection, a_field, a_spread, an_inline, IsOptionalSet, no_set, a_set, IsSelectionSet, braces, IsSelections, set_closed, selection, IsOperationDefinition, bare, typed, IsFragmentDefinition, fragment_on}
 use Rattle.gq_parse.specs.Documents.{IsDefinition, an_operation, a_fragment, a_type_system_definition, IsDocument, at_end, definition}

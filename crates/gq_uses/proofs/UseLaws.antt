@@ -1,11 +1,10 @@
 -- The uses of variables, as an index tells them, are those of the rules.
-use Rattle.std.proofs.Common.{◌≡◌, ◌↔◌, ℕ, ◌+◌, List, [], ◌∷◌, ◌++◌, Option, Some, None, Contains, refl, sym, ap, subst, ◌∙◌, ⊎_elim, flat_map}
+use Rattle.std.proofs.Common.{◌≡◌, ℕ, ◌+◌, List, [], ◌∷◌, ◌++◌, Option, Some, Contains, refl, sym, ap, subst, ⊎_elim, flat_map}
 use Rattle.std.specs.List.{AllByRecursion, enumerate_from}
 use Rattle.std.proofs.lemmas.List.Elements.{Contains-append_left, Contains-append_right, Contains-append_cases, All-contains, All-from_recursion}
 use Rattle.gq_text.specs.declared.place.Span.{Span}
 use Rattle.gq_tree.specs.Forest.{none, more, labels, labels_in}
 use Rattle.gq_tree.specs.Plain.{NameOf, Says, Part, Val, Vals, DirectiveOf, VariableOf, InputOf, Head, Sels, Def, variable, int, float, string, boolean, null, enum, list, object, field, spread, inline, operation, fragment, type_system}
-use Rattle.gq_tree.specs.Views.{document_view}
 use Rattle.gq_project.specs.declared.document.Doc.{Doc}
 use Rattle.gq_read.specs.declared.reader.Reading.{Reading}
 use Rattle.gq_read.specs.declared.reader.Reading.TheVariants as reading
@@ -19,10 +18,10 @@ use Rattle.gq_document.specs.Definitions.{OperationOf, FragmentOf, operation_in,
 use Rattle.gq_document.specs.Selections.{SelectedOf, parent_below, StandsAmong, IsOfOperation, IsOfFragment}
 use Rattle.gq_document.specs.Selections as selections
 use Rattle.gq_index.specs.VariableNames.{says_variable, part_variable, value_variables, argument_variables, directive_variables, head_variables, selection_variables, used_variables}
-use Rattle.gq_index.specs.Occurrences.{DefinitionOf, AreExecutables, executable_in}
+use Rattle.gq_index.specs.Occurrences.{DefinitionOf, executable_in}
 use Rattle.gq_variables.specs.Uses.{PlaceOf, UseOf, part_place, argument_place, field_arguments, directives_of, StandsIn, here, within, after, StandsInValue, StandsInArguments, StandsInDirectives, StandsInSelection, in_arguments, in_directives, IsUsedInOperation, in_selection, in_directive, in_variable, IsUsedInFragment, within_selection, within_directive}
-use Rattle.gq_uses.specs.Uses.{UsedInOperation, UsedInFragment, HasUsesOfTheRules, UsesAreThoseOfTheRules}
-use Rattle.gq_uses.proofs.Keyed.{HasKey, KeyedArguments, KeyedDirectives, KeyedHead, KeyedSelections, KeyedVariables, KeyedDef, document_keyed}
+use Rattle.gq_uses.specs.Uses.{UsedInOperation, UsedInFragment, UsesAreThoseOfTheRules}
+use Rattle.gq_uses.proofs.Keyed.{HasKey, KeyedArguments, KeyedDirectives, KeyedHead, KeyedSelections, KeyedDef, document_keyed}
 
 -- a member of a list of which all has a property
 of_all : {A : Type 0} (P : A → Type 0) (xs : List A) (x : A) → AllByRecursion P xs → Contains xs x → P x

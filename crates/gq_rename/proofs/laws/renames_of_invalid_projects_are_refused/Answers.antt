@@ -1,4 +1,4 @@
-use Rattle.std.proofs.Common.{ℕ, ◌<◌, List, arith}
+use Rattle.std.proofs.Common.{◌<◌, List, arith}
 use Rattle.gq_project.specs.declared.document.Doc.{Doc}
 use Rattle.gq_read.specs.declared.reader.Reading.{Reading}
 use Rattle.gq_rename.specs.declared.refusal.Refusal.{Refusal}

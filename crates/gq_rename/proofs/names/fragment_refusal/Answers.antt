@@ -1,6 +1,4 @@
-use Rattle.std.proofs.Common.{◌≡◌, List, true, false, arith, ap, sym, ◌∙◌}
-use Rattle.std.proofs.lemmas.Bool.Decides.{nat_tests}
-use Rattle.gq_index.specs.declared.occurrence.Occurrence.{Occurrence}
+use Rattle.std.proofs.Common.{sym, ◌∙◌}
 use Rattle.gq_target.specs.declared.target.TargetKind.TheVariants as kind
 use Rattle.gq_rename.proofs.Naming.{first_of, same_texts, other_texts, is_empty_list, is_some_list}
 use Rattle.gq_rename.proofs.Taken.{fragment_taken, fragment_free}

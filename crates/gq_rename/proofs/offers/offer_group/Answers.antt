@@ -1,4 +1,4 @@
-use Rattle.std.proofs.Common.{Some, None, refl, List, ℕ}
+use Rattle.std.proofs.Common.{Some, None, refl}
 use Rattle.gq_cut.specs.Cut.{variable_in}
 use Rattle.gq_cut.proofs.VariableCut.{may_name}
 use Rattle.gq_target.specs.declared.target.TargetKind.TheVariants as kind

@@ -1,5 +1,3 @@
-use Rattle.std.proofs.Common.{subst, sym}
-use Rattle.std.specs.List.Sorted.{IsStrictlyIncreasing}
 use Rattle.gq_rename.proofs.Offering.{members_of}
 use Rattle.gq_rename.proofs.offers.offer_variable.Goals as goal
 

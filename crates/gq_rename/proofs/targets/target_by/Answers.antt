@@ -1,8 +1,5 @@
-use Rattle.std.proofs.Common.{◌≡◌, ◌↔◌, List, Some, IfOk, refl, sym, ◌∙◌, arith, length}
-use Rattle.std.proofs.lemmas.Option.{slice_get-get_or}
+use Rattle.std.proofs.Common.{refl}
 use Rattle.std.proofs.lemmas.Result.{IfOk-weaker}
-use Rattle.gq_read.specs.declared.reader.Reading.{Reading}
-use Rattle.gq_read.specs.Readings.{AreReadings}
 use Rattle.gq_index.specs.Occurrences.{executables}
 use Rattle.gq_rename.proofs.Targeting.{found_nowhere, found_there, place_at}
 use Rattle.gq_rename.proofs.targets.target_by.Goals as goal
