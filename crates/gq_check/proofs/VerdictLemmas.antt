@@ -13,7 +13,7 @@ use Rattle.gq_check.specs.declared.files.File.{File}
 use Rattle.gq_check.specs.Faults.{fault_line, IsFaultOr}
 use Rattle.gq_check.specs.Files.{files_fault, documents_of}
 use Rattle.gq_check.specs.Lines.{lines_of}
-use Rattle.gq_check.specs.declared.fault.CheckFault.TheVariants as fault
+use Rattle.gq_check.specs.declared.fault.CheckFault.TheVariants.{Device, NoMemory}
 use Rattle.gq_check.specs.declared.judging.Verdict.{Verdict}
 use Rattle.gq_check.specs.Checks.{refused, valid, told, SinkAfter, Wrote, WroteInPart, Tells, in_full, in_part, all_written, output_fails, error_fails, Checks}
 use Rattle.gq_check.specs.Verdicts.{IsVerdict}
@@ -47,7 +47,7 @@ module _ (project documents : List Doc) (are : project ≡ documents) where
   invalid_as (Err e) back is_why = (back ∙ are, subst (λ ds. IsWhy ds e.why) are is_why)
 
 -- want of memory may refuse any files
-pub no_memory : (stated : Option CheckFault) (fault : CheckFault) → fault ≡ fault.NoMemory → IsFaultOr stated fault
+pub no_memory : (stated : Option CheckFault) (fault : CheckFault) → fault ≡ NoMemory → IsFaultOr stated fault
 no_memory stated f is = subst (IsFaultOr stated) (sym is) tt
 
 -- all is told
@@ -62,7 +62,7 @@ told_ends files verdict out_held out err_held err_failed is wrote works = record
 
 -- standard output fails
 pub untold_ends : (files : List File) (verdict : Verdict) (out_held : Option (List ℕ)) (out : SinkAfter) (err_held : Option (List ℕ)) (err : SinkAfter) (status : ℕ) → IsVerdict files verdict →
-    WroteInPart out_held out verdict.text → Tells err_held err (fault_line fault.Device) → status ≡ 3 → Checks files out_held out err_held err status
+    WroteInPart out_held out verdict.text → Tells err_held err (fault_line Device) → status ≡ 3 → Checks files out_held out err_held err status
 untold_ends files verdict out_held out err_held err status is wrote tells three = record {
   outcome = is.outcome;
   is_outcome = is.is_outcome;

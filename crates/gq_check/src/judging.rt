@@ -2,7 +2,7 @@
 ghost use Rattle.std.specs.Prelude.{◌≡◌, ◌≤◌, ◌^◌, All, List, None, IfOk, IfErr, length};
 ghost use Rattle.gq_rules.specs.Validity.{IsValid};
 ghost use Rattle.gq_rules.specs.ValidityViews.{IsWhy};
-ghost use Rattle.gq_check.specs.declared.fault.CheckFault.TheVariants as fault;
+ghost use Rattle.gq_check.specs.declared.fault.CheckFault.TheVariants.{NoMemory};
 ghost use Rattle.gq_check.specs.declared.files.File.{File};
 ghost use Rattle.gq_check.specs.Faults.{IsFaultOr};
 ghost use Rattle.gq_check.specs.Files.{files_fault, documents_of};
@@ -56,7 +56,7 @@ fn verdict_on(alloc: Global, judged: Result<Valid, Invalid>) -> Result<Verdict, 
     requires { IfErr judged (λ invalid. All (λ doc. length doc.text ≤ 2 ^ 22) invalid.project) }
     ensures ok { (files : List File) → files_fault files ≡ None → IfOk judged (λ valid. ∥ IsValid (documents_of files) ∥₁)
         → IfErr judged (λ invalid. (invalid.project ≡ documents_of files) × IsWhy (documents_of files) invalid.why) → IfOk result (IsVerdict files) }
-    ensures err { IfErr result (λ fault. fault ≡ fault.NoMemory) }
+    ensures err { IfErr result (λ fault. fault ≡ NoMemory) }
 {
     match judged {
         Ok(_) => Ok(Verdict {
@@ -71,7 +71,7 @@ fn verdict_on(alloc: Global, judged: Result<Valid, Invalid>) -> Result<Verdict, 
 fn verdict_against(alloc: Global, invalid: &Invalid) -> Result<Verdict, CheckFault>
     requires { All (λ doc. length doc.text ≤ 2 ^ 22) invalid.now.project }
     ensures ok { (files : List File) → files_fault files ≡ None → invalid.now.project ≡ documents_of files → IsWhy (documents_of files) invalid.now.why → IfOk result (IsVerdict files) }
-    ensures err { IfErr result (λ fault. fault ≡ fault.NoMemory) }
+    ensures err { IfErr result (λ fault. fault ≡ NoMemory) }
 {
     match &invalid.why {
         Why::Report(report) => Ok(Verdict {

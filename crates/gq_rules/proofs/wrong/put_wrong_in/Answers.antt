@@ -5,7 +5,7 @@ use Rattle.gq_document.specs.Executable.{executable_view}
 use Rattle.gq_rules.proofs.WrongLemmas.{put_behind_none}
 use Rattle.gq_rules.proofs.wrong.put_wrong_in.Goals as goal
 
-pub returns-in_ok-append-then-is_empty : goal.returns-in_ok-append-then-is_empty
-returns-in_ok-append-then-is_empty c =
-    put_behind_none (executable_view c.args.executable.now) c.args.items.now.items c.in_ok-wrong-then-is_empty.wrong.items c.append.new.self.items
-    (nil_from_length _ (grind (arith, nat_tests))) c.in_ok-wrong-then-is_empty.ensures c.in_ok-append-then-is_empty.ensures.items
+pub returns-then-is_empty : goal.returns-then-is_empty
+returns-then-is_empty c =
+    put_behind_none (executable_view c.args.executable.now) c.args.items.now.items c.in_ok-wrong.wrong.items c.append.new.self.items
+    (nil_from_length _ (grind (arith, nat_tests))) c.in_ok-wrong.ensures c.in_ok-append.ensures.items
