@@ -60,14 +60,14 @@ fn files_of(alloc: Global, row: &Row<'_>) -> Result<Vec<File>, NoAnswer> {
 
 /// What a check of files writes to its output and to its errors, and its status.
 #[derive(Drop)]
-struct Checked {
+struct Outcome {
     output: Page,
     errors: Page,
     status: u8,
 }
 
-impl Checked {
-    fn is_same(&self, other: &Checked) -> bool {
+impl Outcome {
+    fn is_same(&self, other: &Outcome) -> bool {
         self.status == other.status
             && self.output.bytes == other.output.bytes
             && self.errors.bytes == other.errors.bytes
@@ -81,22 +81,22 @@ impl Checked {
     }
 }
 
-fn checked(alloc: Global, files: &[File]) -> Checked {
+fn outcome_of(alloc: Global, files: &[File]) -> Outcome {
     let mut output = Page::new(alloc);
     let mut errors = Page::new(alloc);
     let status = check(alloc, files, &mut output, &mut errors);
-    Checked {
+    Outcome {
         output,
         errors,
         status,
     }
 }
 
-fn checked_by_threads<R: Threads + Sync>(threads: &R, alloc: Global, files: &[File]) -> Checked {
+fn outcome_by_threads<R: Threads + Sync>(threads: &R, alloc: Global, files: &[File]) -> Outcome {
     let mut output = Page::new(alloc);
     let mut errors = Page::new(alloc);
     let status = check_by_threads(threads, alloc, files, &mut output, &mut errors);
-    Checked {
+    Outcome {
         output,
         errors,
         status,
@@ -112,8 +112,8 @@ pub fn tell_check<R: Threads + Sync>(
     telling: &mut Telling,
 ) -> Result<(), NoAnswer> {
     let files = files_of(alloc, row)?;
-    let one = checked(alloc, &files);
-    let other = checked_by_threads(threads, alloc, &files);
+    let one = outcome_of(alloc, &files);
+    let other = outcome_by_threads(threads, alloc, &files);
     one.tell(telling)?;
     if !one.is_same(&other) {
         telling.put(" by threads: ");
