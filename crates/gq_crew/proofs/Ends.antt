@@ -68,5 +68,5 @@ good_piece s t (Some before) framer' piece vectors held sink some fed served = �
   bodies = contents vectors;
   rest = fed.rest;
   cuts = subst (λ (b : List (List ℕ)). Cuts (before ++ piece) b fed.rest) (sym fed.reads.added) fed.reads.cuts;
-  comes = (sym (length-map (λ (v : Vec ℕ Global). v.items) vectors), some, fed.holds, fed.stops, served);
+  comes = (sym (length-map vectors (λ (v : Vec ℕ Global). v.items)), some, fed.holds, fed.stops, served);
 }
