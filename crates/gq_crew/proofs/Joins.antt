@@ -1,5 +1,5 @@
 -- Turns of a run, joined: what was read, what was written, and how it ended.
-use Rattle.std.proofs.Common.{◌≡◌, ◌⊎◌, inl, inr, ◌<◌, ◌≤◌, ◌+◌, ◌-◌, ◌^◌, min, ℕ, List, [], ◌∷◌, ◌++◌, length, length-append, Bool, true, false, Option, Some, None, refl, ap, sym, ◌∙◌, subst, append_assoc, append-nil, arith, le_trans}
+use Rattle.std.proofs.Common.{◌≡◌, ◌⊎◌, inl, inr, ◌<◌, ◌≤◌, ◌+◌, ◌-◌, ◌^◌, min, ℕ, List, [], ◌∷◌, ◌++◌, length, length-append, Option, Some, None, refl, ap, sym, ◌∙◌, subst, append_assoc, append-nil, arith, le_trans}
 use Rattle.std.specs.Prelude.{IfSome}
 use Rattle.std.specs.Io.KnownBytes.{Appends, Consumes}
 use Rattle.gq_rpc.specs.Frames.{Cuts, scan_of}
@@ -12,7 +12,7 @@ use Rattle.gq_crew.specs.declared.run.RunFault.TheVariants.{Frame, Device, NoMem
 use Rattle.gq_crew.specs.declared.run.Ended.{Ended}
 use Rattle.gq_crew.specs.declared.run.Turn.TheVariants.{Again, Done}
 use Rattle.gq_crew.specs.Output.{IsOutput, stop_among, state_at, Wrote, WroteBefore, WroteInPart}
-use Rattle.gq_crew.specs.Runs.{SourceAfter, SinkAfter, Reached, AnswersAll, IsEnd, Finishes, FindsNoFrame, SinkFails, SourceFails, Ends, AnswersEarlier, Runs, bodies_max, piece_max}
+use Rattle.gq_crew.specs.Runs.{SourceAfter, SinkAfter, Reached, AnswersAll, IsEnd, SinkFails, SourceFails, Ends, AnswersEarlier, Runs, bodies_max, piece_max}
 use Rattle.gq_crew.specs.Turns.{Turns}
 use Rattle.gq_crew.proofs.Outputs.{stop_among-append, state_at-append, IsOutput-append}
 use Rattle.gq_crew.proofs.Bounds.{to_do, partial_short, turn_smaller}
