@@ -27,7 +27,7 @@ loop-served-preserved g c = record {
 pub loop-served-smaller : goal.loop-served-smaller
 loop-served-smaller g c =
     Stands-smaller start c.loop-served.desk c.take_turn.new.desk c.loop-served.served _ _ c.take_turn.new.framer _ _ _ _ _ _ c.loop-served.invariant.room c.loop-served.invariant.stands c.in-Again.count _
-    c.loop-served-test.true (omega (arith, c.saturating_add-served.ensures)) c.in-Again.ensures.turns
+    (omega (arith, c.loop-served-test.true)) (omega (arith, c.saturating_add-served.ensures)) c.in-Again.ensures.turns
 
 pub returns-clause-runs : goal.returns-clause-runs
 returns-clause-runs g c =
