@@ -1,5 +1,5 @@
 -- Turns of a run, joined: what was read, what was written, and how it ended.
-use Rattle.std.proofs.Common.{◌≡◌, ◌⊎◌, inl, inr, ◌<◌, ◌≤◌, ◌+◌, ◌-◌, ◌^◌, min, ℕ, List, [], ◌∷◌, ◌++◌, length, length-append, Bool, true, false, Option, Some, None, refl, ap, sym, ◌∙◌, subst, append_assoc, append-nil, arith, le_trans}
+use Rattle.std.proofs.Common.{◌≡◌, ◌⊎◌, inl, inr, ◌<◌, ◌≤◌, ◌+◌, ◌-◌, ◌^◌, min, ℕ, List, [], ◌∷◌, ◌++◌, length, length-append, Option, Some, None, refl, ap, sym, ◌∙◌, subst, append_assoc, append-nil, arith, le_trans}
 use Rattle.std.specs.Prelude.{IfSome}
 use Rattle.std.specs.Io.KnownBytes.{Appends, Consumes}
 use Rattle.gq_rpc.specs.Frames.{Cuts, scan_of}
@@ -12,7 +12,7 @@ use Rattle.gq_crew.specs.declared.run.RunFault.TheVariants.{Frame, Device, NoMem
 use Rattle.gq_crew.specs.declared.run.Ended.{Ended}
 use Rattle.gq_crew.specs.declared.run.Turn.TheVariants.{Again, Done}
 use Rattle.gq_crew.specs.Output.{IsOutput, stop_among, state_at, Wrote, WroteBefore, WroteInPart}
-use Rattle.gq_crew.specs.Runs.{SourceAfter, SinkAfter, Reached, AnswersAll, IsEnd, Finishes, FindsNoFrame, SinkFails, SourceFails, Ends, AnswersEarlier, Runs, bodies_max, piece_max}
+use Rattle.gq_crew.specs.Runs.{SourceAfter, SinkAfter, Reached, AnswersAll, IsEnd, SinkFails, SourceFails, Ends, AnswersEarlier, Runs, bodies_max, piece_max}
 use Rattle.gq_crew.specs.Turns.{Turns}
 use Rattle.gq_crew.proofs.Outputs.{stop_among-append, state_at-append, IsOutput-append}
 use Rattle.gq_crew.proofs.Bounds.{to_do, partial_short, turn_smaller}
@@ -98,12 +98,12 @@ module _ (s now : State) (bodies more : List (List ℕ)) (rest : List ℕ) (sour
 
 -- ---- what was written in the last turn
 
-ends_written : (run : Reached) (status : ℕ) (fault : Option RunFault) → Ends run status fault → (more : List ℕ) × Appends run.held run.sink.held more
-ends_written run status None e = (e.wrote.output, e.wrote.written)
-ends_written run status (Some (Frame why)) e = (e.1.answers.wrote.output, e.1.answers.wrote.written)
-ends_written run status (Some Device) e =
+ends_written : (reached : Reached) (status : ℕ) (fault : Option RunFault) → Ends reached status fault → (more : List ℕ) × Appends reached.held reached.sink.held more
+ends_written reached status None e = (e.wrote.output, e.wrote.written)
+ends_written reached status (Some (Frame why)) e = (e.1.answers.wrote.output, e.1.answers.wrote.written)
+ends_written reached status (Some Device) e =
     elim e.1 [ inl f ↦ (f.front.sent.front, f.front.sent.written) | inr f ↦ (f.answers.wrote.output, f.answers.wrote.written) ]
-ends_written run status (Some NoMemory) e = (e.1.wrote.output, e.1.wrote.written)
+ends_written reached status (Some NoMemory) e = (e.1.wrote.output, e.1.wrote.written)
 
 -- ---- what stands so far in a run
 
@@ -136,13 +136,13 @@ Stands-none s left held = record {
 }
 
 -- a turn in a run that has come so far
-module _ (s now next : State) (served : ℕ) (framer framer' left middle : Option (List ℕ)) (source : SourceAfter) (held mid : Option (List ℕ)) (sink : SinkAfter)
-    (so_far : Stands s now served framer left middle held mid) where
+module _ (s now next : State) (served room : ℕ) (framer framer' left middle : Option (List ℕ)) (source : SourceAfter) (held mid : Option (List ℕ)) (sink : SinkAfter)
+    (fits : room ≤ piece_max) (so_far : Stands s now served framer left middle held mid) where
   -- one turn more, after which the session goes on
   pub Stands-turn : (count later : ℕ) → later ≤ served + count
-      → IfSome framer (λ before. scan_of before ≡ Partial → Turns now next piece_max before framer' middle source mid sink (Again count)) → Stands s next later framer' left source.left held sink.held
+      → IfSome framer (λ before. scan_of before ≡ Partial → Turns now next room before framer' middle source mid sink (Again count)) → Stands s next later framer' left source.left held sink.held
   Stands-turn count later sum turns =
-      let t = subst (λ (f : Option (List ℕ)). IfSome f (λ before. scan_of before ≡ Partial → Turns now next piece_max before framer' middle source mid sink (Again count))) so_far.holds turns so_far.partial in
+      let t = subst (λ (f : Option (List ℕ)). IfSome f (λ before. scan_of before ≡ Partial → Turns now next room before framer' middle source mid sink (Again count))) so_far.holds turns so_far.partial in
       let p = t.takes in
       let c = p.comes in
       let answered = c.4 in
@@ -162,9 +162,9 @@ module _ (s now next : State) (served : ℕ) (framer framer' left middle : Optio
 
   -- there is less to do then
   pub Stands-smaller : (count later : ℕ) → served < bodies_max → min (served + count) (2 ^ 64 - 1) ≤ later
-      → IfSome framer (λ before. scan_of before ≡ Partial → Turns now next piece_max before framer' middle source mid sink (Again count)) → to_do later framer' < to_do served framer
+      → IfSome framer (λ before. scan_of before ≡ Partial → Turns now next room before framer' middle source mid sink (Again count)) → to_do later framer' < to_do served framer
   Stands-smaller count later more sum turns =
-      let t = subst (λ (f : Option (List ℕ)). IfSome f (λ before. scan_of before ≡ Partial → Turns now next piece_max before framer' middle source mid sink (Again count))) so_far.holds turns so_far.partial in
+      let t = subst (λ (f : Option (List ℕ)). IfSome f (λ before. scan_of before ≡ Partial → Turns now next room before framer' middle source mid sink (Again count))) so_far.holds turns so_far.partial in
       let p = t.takes in
       let c = p.comes in
       let least : min (served + length p.bodies) (2 ^ 64 - 1) ≤ later = subst (λ (n : ℕ). min (served + n) (2 ^ 64 - 1) ≤ later) c.0 sum in
@@ -219,9 +219,9 @@ module _ (s now next : State) (served : ℕ) (framer framer' left middle : Optio
   }
 
   -- the last turn
-  pub Runs-done : (ended : Ended) → IfSome framer (λ before. scan_of before ≡ Partial → Turns now next piece_max before framer' middle source mid sink (Done ended)) → Runs s left source held sink ended
+  pub Runs-done : (ended : Ended) → IfSome framer (λ before. scan_of before ≡ Partial → Turns now next room before framer' middle source mid sink (Done ended)) → Runs s left source held sink ended
   Runs-done ended turns =
-      let t = subst (λ (f : Option (List ℕ)). IfSome f (λ before. scan_of before ≡ Partial → Turns now next piece_max before framer' middle source mid sink (Done ended))) so_far.holds turns so_far.partial in
+      let t = subst (λ (f : Option (List ℕ)). IfSome f (λ before. scan_of before ≡ Partial → Turns now next room before framer' middle source mid sink (Done ended))) so_far.holds turns so_far.partial in
       let p = t.takes in
       let last = ends_written (record { began = now; bodies = p.bodies; rest = p.rest; source = source; held = mid; sink = sink }) ended.status ended.fault p.comes in
       record {
@@ -230,6 +230,6 @@ module _ (s now next : State) (served : ℕ) (framer framer' left middle : Optio
         rest = p.rest;
         took = Consumes-trans left middle source.left so_far.read t.piece so_far.took t.took;
         cuts = Cuts-feed so_far.read so_far.bodies so_far.rest t.piece p.bodies p.rest so_far.cuts p.cuts;
-        earlier = answers_earlier t.piece t.short last.0 sink.held last.1;
+        earlier = answers_earlier t.piece (le_trans t.short fits) last.0 sink.held last.1;
         ends = ends_later s now so_far.bodies p.bodies p.rest source held mid sink so_far.no_stop so_far.comes_to so_far.wrote ended.status ended.fault p.comes;
       }

@@ -1,5 +1,3 @@
 pub mod Bounds
-pub mod Faults
-pub mod Ends
 pub mod Outputs
 pub mod Joins

@@ -1,20 +1,17 @@
 -- What is written for bodies, one after another.
 use Rattle.std.specs.Prelude.{Vec}
 use Rattle.std.specs.declared.alloc.Global.{Global}
-use Rattle.std.proofs.Common.{◌≡◌, ◌<◌, ◌+◌, length, drop, drop-cons, get_or, add-one, ℕ, List, [], ◌∷◌, ◌++◌, Option, Some, None, Err, refl, ap, sym, ◌∙◌, subst, append_assoc, append-nil}
+use Rattle.std.proofs.Common.{◌≡◌, ◌<◌, ◌+◌, length, drop, drop-cons, get_or, add-one, ℕ, List, [], ◌∷◌, ◌++◌, Option, Some, None, refl, ap, sym, ◌∙◌, subst, append_assoc, append-nil}
 use Rattle.std.specs.Io.KnownBytes.{Appends}
 use Rattle.std.specs.Option.{MatchOption}
 use Rattle.gq_rpc.specs.Decoding.{message_of}
 use Rattle.gq_rpc.specs.Devices.{Sent}
 use Rattle.gq_rpc.specs.Frames.{contents}
-use Rattle.gq_rpc.specs.declared.messages.Incoming.{Incoming}
-use Rattle.gq_rpc.specs.declared.messages.Outgoing.{Outgoing}
 use Rattle.gq_rpc.proofs.Sends.{Appends-nil, Appends-trans}
 use Rattle.gq_desk.specs.Session.{State, state_after, stop_of}
-use Rattle.gq_desk.specs.Replies.{IsReply}
 use Rattle.gq_desk.proofs.Answering.{reply_has}
-use Rattle.gq_crew.specs.Output.{written_for, IsOutput, RepliesFirst, first_of, stop_among, state_at, Wrote, WroteBefore, WroteInPart}
-use Rattle.gq_crew.specs.Serving.{Replied, RepliedInPart, ServesOne, ServesAll, Writes}
+use Rattle.gq_crew.specs.Output.{written_for, IsOutput, first_of, stop_among, state_at}
+use Rattle.gq_crew.specs.Serving.{Replied, ServesOne, ServesAll}
 use Rattle.gq_crew.specs.declared.serving.ServeFault.{ServeFault}
 use Rattle.gq_crew.specs.declared.serving.ServeFault.TheVariants as fault
 use Rattle.gq_crew.specs.declared.serving.Served.TheVariants.{Go, Stop, Failed}
@@ -79,12 +76,6 @@ IsOutput-append s (body ∷ bodies) more output later h r next =
     }
 
 -- ---- one message
-
--- what the writing of a reply came to, where it failed
-pub unserved : (s new : State) (message : Incoming) (reply : Option Outgoing) (held held' : Option (List ℕ)) (why : ServeFault)
-    → IsReply s message reply → Writes held held' (written_for reply) (Err why) → ServesOne s new held held' message (Failed why)
-unserved s new message reply held held' fault.Device is sent = record { reply = reply; is_reply = is; sent = sent }
-unserved s new message reply held held' fault.NoMemory is nothing = nothing
 
 -- nothing is written after a stop
 stops_there : (stop : Option ℕ) (status : ℕ) (Later : Type 0) (later : List ℕ) → stop ≡ Some status → later ≡ [] → MatchOption stop Later (λ status. later ≡ [])

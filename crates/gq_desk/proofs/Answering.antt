@@ -1,8 +1,7 @@
 -- Each message has a reply, or needs none.
-use Rattle.std.proofs.Common.{◌≡◌, List, Bool, true, false, Option, Some, None, inl, refl}
+use Rattle.std.proofs.Common.{List, Bool, true, false, Option, Some, None, inl, refl}
 use Rattle.std.specs.Bool.{MatchBool}
 use Rattle.std.specs.Option.{MatchOption}
-use Rattle.gq_text.specs.Place.{off}
 use Rattle.gq_rpc.specs.declared.messages.Id.{Id}
 use Rattle.gq_rpc.specs.declared.messages.RenameParams.{RenameParams}
 use Rattle.gq_rpc.specs.declared.messages.Request.{Request}

@@ -1,9 +1,8 @@
 -- A session's history tells its state.
-use Rattle.std.proofs.Common.{◌≡◌, ℕ, List, [], ◌∷◌, Bool, true, false, cond, Option, Some, None, refl, ap, sym, ◌∙◌, ◌+◌, take, drop, one-add, add-one}
-use Rattle.std.specs.Prelude.{fold, find}
+use Rattle.std.proofs.Common.{◌≡◌, ℕ, List, [], ◌∷◌, Bool, cond, refl, ap, sym, ◌∙◌, ◌+◌, take, drop, one-add, add-one}
+use Rattle.std.specs.Prelude.{fold}
 use Rattle.std.specs.List.{list_any, before_first, filter_map, position_or_len}
 use Rattle.std.specs.List.Sorted.{IsStrictlySortedBy}
-use Rattle.std.specs.Option.{option_map_or}
 use Rattle.gq_rpc.specs.declared.messages.Request.TheVariants as request
 use Rattle.gq_rpc.specs.declared.messages.Notification.TheVariants as notification
 use Rattle.gq_rpc.specs.declared.messages.TextDocumentItem.{TextDocumentItem}
@@ -14,7 +13,7 @@ use Rattle.gq_desk.specs.declared.phase.Phase.{Phase}
 use Rattle.gq_desk.specs.declared.phase.Phase.TheVariants.{Fresh, Running, Down}
 use Rattle.gq_desk.specs.Documents.{IsInOrder, after_open}
 use Rattle.gq_desk.specs.Session.{State, start, state_after}
-use Rattle.gq_desk.specs.History.{is_initialize, is_shutdown, states, opened_in, session, phase_of, document_changes_of, documents_of}
+use Rattle.gq_desk.specs.History.{is_initialize, is_shutdown, opened_in, session, phase_of, document_changes_of, documents_of}
 use Rattle.gq_desk.proofs.Openings.{IsInOrder-after_open}
 
 abbrev at : Phase → Bool → List OpenDocument → State

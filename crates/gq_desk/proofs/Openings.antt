@@ -1,5 +1,5 @@
 -- Open documents in the order of their keys.
-use Rattle.std.proofs.Common.{◌≡◌, ◌<◌, nat_lt, ◌≢◌, ℕ, Bool, true, false, cond, ◌||◌, List, [], ◌∷◌, set, map, length, is_some, Some, None, Result, Ok, Err, OnOk, OnErr, ap, sym, subst, ◌∙◌, refl, arith}
+use Rattle.std.proofs.Common.{◌≡◌, ◌<◌, nat_lt, ◌≢◌, ℕ, Bool, true, false, cond, ◌||◌, List, [], ◌∷◌, set, length, is_some, Some, Result, Ok, Err, OnOk, OnErr, ap, sym, subst, ◌∙◌, refl, arith}
 use Rattle.std.specs.Cmp.Lexicographic.{slice_cmp}
 use Rattle.std.specs.List.{insert, AllByRecursion}
 use Rattle.std.specs.List.Sorted.{IsStrictlySortedBy}

@@ -1,5 +1,5 @@
 -- What a session has come to, told by the messages that came, with no state.
-use Rattle.std.specs.Prelude.{◌≡◌, ℕ, Bool, true, false, List, [], Option, Some, None, fold, find, if◌then◌else◌}
+use Rattle.std.specs.Prelude.{◌≡◌, Bool, true, false, List, [], Option, Some, None, fold, find, if◌then◌else◌}
 use Rattle.std.specs.List.{list_any, before_first, after_first, filter_map}
 use Rattle.std.specs.Option.{option_map_or}
 use Rattle.gq_rpc.specs.declared.messages.Request.{Request}
@@ -13,7 +13,7 @@ use Rattle.gq_desk.specs.declared.documents.OpenDocument.{OpenDocument}
 use Rattle.gq_desk.specs.declared.phase.Phase.{Phase}
 use Rattle.gq_desk.specs.declared.phase.Phase.TheVariants.{Fresh, Running, Down}
 use Rattle.gq_desk.specs.Documents.{IsInOrder, after_open}
-use Rattle.gq_desk.specs.Session.{State, start, state_after}
+use Rattle.gq_desk.specs.Session.{start, state_after}
 
 -- the request that a message is
 abbrev pub request_in : Incoming → Option Request

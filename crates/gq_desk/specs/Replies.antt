@@ -16,7 +16,6 @@ use Rattle.gq_rpc.specs.declared.messages.Request.{Request}
 use Rattle.gq_rpc.specs.declared.messages.Request.TheVariants as request
 use Rattle.gq_rpc.specs.declared.messages.Incoming.{Incoming}
 use Rattle.gq_rpc.specs.declared.messages.Incoming.TheVariants as incoming
-use Rattle.gq_rpc.specs.declared.messages.ResponseError.{ResponseError}
 use Rattle.gq_rpc.specs.declared.messages.ResponseError.TheVariants as error
 use Rattle.gq_rpc.specs.declared.messages.Outgoing.{Outgoing}
 use Rattle.gq_rpc.specs.declared.messages.Outgoing.TheVariants as outgoing

@@ -7,7 +7,7 @@ use Rattle.gq_crew.proofs.serving.serve_bodies.Goals as goal
 pub returns-in-Failed-clause-served : goal.returns-in-Failed-clause-served
 returns-in-Failed-clause-served g c =
     let front = contents-front _ _ _ _ c.loop-body-test.true c.body-item.is c.deref.ensures.value in
-    Going-failed _ _ c.serve_one.new.desk _ _ _ _ _ _ (Going-same _ _ _ _ _ _ _ front c.loop-body.invariant.going) c.in-Failed.field-0 c.in-Failed.ensures.served
+    Going-failed _ _ c.serve_one.new.desk _ _ _ _ _ _ (Going-same _ _ _ _ _ _ _ front c.loop-body.invariant.going) c.in-Failed.fault c.in-Failed.ensures.served
 
 pub returns-in-Stop-clause-served : goal.returns-in-Stop-clause-served
 returns-in-Stop-clause-served g c =
