@@ -14,8 +14,8 @@ TOP = os.path.dirname(os.path.dirname(os.path.abspath(__file__)))
 # title, crate, source file, function
 THEOREMS = [
     ("What a run of the server writes", "gq_crew", "run", "run_one"),
-    ("What a rename of a fragment is", "gq_rename", "rename", "rename_fragment"),
-    #("What a rename of a variable is", "gq_rename", "rename", "rename_variable"),
+    ("What a rename of a fragment is", "gq_rename", "renames", "rename_fragment"),
+    ("What a rename of a variable is", "gq_rename", "renames", "rename_variable"),
     ("What `gqls check` prints", "gq_check", "checking", "check"),
 ]
 WORD = re.compile(r"[A-Za-z_][A-Za-z0-9_']*|◌[^\s◌,{}]+◌")
