@@ -1,5 +1,5 @@
 -- A row is found by the text of its call.
-use Rattle.std.proofs.Common.{◌≡◌, ◌≢◌, ◌≤◌, ◌<◌, ℕ, ◌+◌, zero, suc, List, [], ◌∷◌, ◌++◌, Bool, true, false, length, map, take, drop, get_or, refl, ap, sym, ◌∙◌, subst, Option, None, Some, max, arith, append_assoc, append-nil, add-one}
+use Rattle.std.proofs.Common.{◌≡◌, ◌≤◌, ◌<◌, ℕ, ◌+◌, zero, suc, List, [], ◌∷◌, ◌++◌, Bool, true, false, length, take, drop, get_or, refl, ap, sym, ◌∙◌, subst, Option, None, Some, max, arith, append_assoc, append-nil, add-one}
 use Rattle.std.specs.Prelude.{is_some, not, ◌||◌, slice_get, find, if◌then◌else◌}
 use Rattle.std.specs.Option.{option_map, IfSome}
 use Rattle.std.specs.Str.{bytes_eq}

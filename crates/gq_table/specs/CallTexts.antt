@@ -1,5 +1,5 @@
 -- Texts by which the rows of a table are found: calls that are one have one text. No contract of a public call speaks of them.
-use Rattle.std.specs.Prelude.{ℕ, ◌+◌, Bool, true, false, List, [], ◌∷◌, ◌++◌, Option, Some, None, map, codes, decimal, if◌then◌else◌}
+use Rattle.std.specs.Prelude.{ℕ, ◌+◌, List, [], ◌∷◌, ◌++◌, Option, Some, None, codes, decimal, if◌then◌else◌}
 use Rattle.std.specs.Str.{bytes_eq}
 use Rattle.gq_names.specs.UnderNames.{one_if}
 use Rattle.gq_tree.specs.Forest.{none, more}

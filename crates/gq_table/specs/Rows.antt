@@ -1,5 +1,5 @@
 -- A table of what resolvers answer: a map from calls to results (ResolveFieldValue, section 6.4.2).
-use Rattle.std.specs.Prelude.{ℕ, Bool, true, false, List, [], ◌∷◌, Option, Some, None, nat_eq, is_some, find, max, map, ◌++◌, ◌&&◌, ◌||◌}
+use Rattle.std.specs.Prelude.{ℕ, Bool, true, false, List, [], ◌∷◌, Option, Some, None, nat_eq, is_some, find, max, ◌++◌, ◌&&◌, ◌||◌}
 use Rattle.std.specs.Option.{option_map}
 use Rattle.std.specs.Str.{bytes_eq}
 use Rattle.gq_tree.specs.Forest.{agree}

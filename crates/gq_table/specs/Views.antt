@@ -1,6 +1,6 @@
 -- What the code's values and results stand for.
 use Rattle.std.specs.Prelude.{List, None, Some, map}
-use Rattle.gq_tree.specs.Forest.{Tree, none, row}
+use Rattle.gq_tree.specs.Forest.{none, row}
 use Rattle.gq_meaning.specs.Values as value
 use Rattle.gq_meaning.specs.Values.{Text, Part}
 use Rattle.gq_meaning.specs.Results as result

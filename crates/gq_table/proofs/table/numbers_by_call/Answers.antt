@@ -1,8 +1,7 @@
-use Rattle.std.proofs.Common.{◌≡◌, ◌<◌, Bool, false, true, length, take, ap, sym, ◌∙◌, rules}
-use Rattle.std.specs.Prelude.{is_some}
-use Rattle.gq_table.specs.Rows.{row_of, has_repeated_call}
+use Rattle.std.proofs.Common.{◌<◌, length, ap, sym, ◌∙◌, rules}
+use Rattle.gq_table.specs.Rows.{has_repeated_call}
 use Rattle.gq_table.specs.CallTexts.{call_text}
-use Rattle.gq_table.specs.Views.{answer_view, row_view, rows_view, call_of}
+use Rattle.gq_table.specs.Views.{answer_view, rows_view, call_of}
 use Rattle.gq_table.proofs.IndexLemmas.{test_is, index_more, fresh_more, repeated}
 use Rattle.gq_table.proofs.table.numbers_by_call.Goals as goal
 
@@ -26,6 +25,6 @@ loop-number-preserved c =
     let same = test_is (λ r. answer_view r.now) rows n row c.loop-number.by_call (call_of c.call-asked.result) c.as_str-name.result.now c.get.result.now c.result_among-found.result
     c.call-asked.ensures name_is c.get.ensures c.result_among-found.ensures c.loop-number.invariant.index in
     record {
-      index = index_more rows n row c.loop-number.by_call c.put.new.self c.as_str-name.result.now inside c.index-rows-number.is (name_is ∙ ap call_text c.call-asked.ensures) c.loop-number.invariant.index c.in_ok-put.ensures;
+      index = index_more rows n row c.loop-number.by_call c.put.new.self c.as_str-name.result.now inside c.index-rows-number.is (name_is ∙ ap call_text c.call-asked.ensures) c.loop-number.invariant.index c.in_ok-put.ensures.ok;
       fresh = fresh_more rows n row (has_repeated_call (rows_view rows)) inside c.index-rows-number.is c.loop-number.invariant.fresh (sym same ∙ sym c.is_some.ensures ∙ c.if-is_some.false);
     }

@@ -1,5 +1,4 @@
 use Rattle.std.proofs.Common.{◌≡◌, take, drop}
-use Rattle.gq_names.specs.UnderNames.{items_under}
 use Rattle.gq_table.specs.Rows.{repeats_after, has_repeated_call}
 use Rattle.gq_table.specs.Views.{rows_view}
 use Rattle.gq_table.specs.Index.{IsIndex}

@@ -1,4 +1,4 @@
-use Rattle.std.proofs.Common.{ap, sym, ◌∙◌}
+use Rattle.std.proofs.Common.{ap, ◌∙◌}
 use Rattle.gq_names.specs.UnderNames.{items_under}
 use Rattle.gq_table.specs.Rows.{row_of}
 use Rattle.gq_table.specs.Index.{result_among}
