@@ -1,0 +1,15 @@
+pub mod Values
+pub mod Results
+pub mod Shown
+pub mod Selected
+pub mod Thin
+pub mod Expand
+pub mod Acyclic
+pub mod Response
+pub mod Directives
+pub mod Views
+pub mod Alike
+pub mod Rewritten
+pub mod Renamed
+pub mod Laws
+pub mod Helping

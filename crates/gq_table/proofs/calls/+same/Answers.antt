@@ -1,0 +1,18 @@
+use Rattle.std.proofs.Common.{sym}
+use Rattle.gq_table.specs.Views.{value_view, entry_view}
+use Rattle.gq_table.proofs.SameLemmas.{rows_apart, alike_values, other_names}
+use Rattle.gq_table.proofs.calls.+same.Goals as goal
+
+pub same_values-returns-then-a-b : goal.same_values-returns-then-a-b
+same_values-returns-then-a-b t c = sym (rows_apart value_view c.args.a.now c.args.b.now c.if-a-b.true)
+
+pub same_entries-returns-then-a-b : goal.same_entries-returns-then-a-b
+same_entries-returns-then-a-b t c = sym (rows_apart entry_view c.args.a.now c.args.b.now c.if-a-b.true)
+
+pub same_entry-returns : goal.same_entry-returns
+same_entry-returns t c =
+    alike_values c.args.a.now.name c.args.b.now.name c.args.a.now.value c.args.b.now.value c.same_name.result c.same_value.result c.same_name.ensures c.if-not-same_name.false c.same_value.ensures
+
+pub same_entry-returns-then-not-same_name : goal.same_entry-returns-then-not-same_name
+same_entry-returns-then-not-same_name t c =
+    other_names c.args.a.now.name c.args.b.now.name c.args.a.now.value c.args.b.now.value c.same_name.result c.same_name.ensures c.if-not-same_name.true
