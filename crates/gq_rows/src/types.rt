@@ -30,10 +30,6 @@ fn input_name(found: Option<&InputValueDefinition>) -> &str {
     }
 }
 
-fn yes_or_no(holds: bool) -> &'static str {
-    if holds { "yes" } else { "no" }
-}
-
 /// The root of that kind, or that which stands there by default.
 fn root<'t>(types: &'t Types, words: &str) -> Option<&'t str> {
     match words {
@@ -56,22 +52,23 @@ fn stands_at(types: &Types, name: &str, location: &str) -> bool {
     }
 }
 
-/// What is told of two names, asked as `field Hero age`, or `None` where it is asked otherwise.
-fn told_of_names<'t>(types: &'t Types, function: &str, words: &str) -> Option<&'t str> {
+/// Tells of two names, asked as `field Hero age`, and says whether it is asked so.
+fn tell_names(types: &Types, function: &str, words: &str, telling: &mut Telling) -> bool {
     let (word, name) = cut(words);
     match function {
-        "field" => Some(field_name(types.field(word, name))),
-        "input_field" => Some(input_name(types.input_field(word, name))),
-        "has_value" => Some(yes_or_no(types.has_value(word, name))),
-        "has_member" => Some(yes_or_no(types.has_member(word, name))),
-        "declares" => Some(yes_or_no(types.declares(word, name))),
-        "applies" => Some(yes_or_no(types.applies(word, name))),
-        "is_interface" => Some(yes_or_no(types.has_kind(word, TypeKind::Interface))),
-        "is_object" => Some(yes_or_no(types.has_kind(word, TypeKind::Object))),
-        "stands_at" => Some(yes_or_no(stands_at(types, word, name))),
-        "root" => Some(root(types, words).unwrap_or("none")),
-        _ => None,
+        "field" => telling.put(field_name(types.field(word, name))),
+        "input_field" => telling.put(input_name(types.input_field(word, name))),
+        "has_value" => telling.put_yes_or_no(types.has_value(word, name)),
+        "has_member" => telling.put_yes_or_no(types.has_member(word, name)),
+        "declares" => telling.put_yes_or_no(types.declares(word, name)),
+        "applies" => telling.put_yes_or_no(types.applies(word, name)),
+        "is_interface" => telling.put_yes_or_no(types.has_kind(word, TypeKind::Interface)),
+        "is_object" => telling.put_yes_or_no(types.has_kind(word, TypeKind::Object)),
+        "stands_at" => telling.put_yes_or_no(stands_at(types, word, name)),
+        "root" => telling.put(root(types, words).unwrap_or("none")),
+        _ => return false,
     }
+    true
 }
 
 /// Tells of an entry, asked as `at 10 field age`.
@@ -225,8 +222,7 @@ fn tell_of(
     telling: &mut Telling,
 ) -> Result<(), NoAnswer> {
     let (function, words) = cut(asked);
-    if let Some(told) = told_of_names(types, function, words) {
-        telling.put(told);
+    if tell_names(types, function, words, telling) {
         return Ok(());
     }
     match function {
