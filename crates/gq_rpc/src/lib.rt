@@ -15,8 +15,10 @@ pub use framer::Framer;
 pub use header::{FrameFault, Scan, scan_front};
 pub use keys::key_of;
 pub use messages::{
-    ClientCapabilities, Id, Incoming, Notification, Outgoing, RenameParams, Request, ResponseError,
-    ServerCapabilities, TextDocumentItem,
+    ClientCapabilities, CompletionItem, CompletionItemKind, Diagnostic, DidChangeParams, Hover, Id,
+    Incoming, Location, Notification, Outgoing, PrepareRename, PublishDiagnosticsParams, Question,
+    ReferenceParams, RenameParams, Request, ResponseError, ServerCapabilities,
+    TextDocumentItem, TextDocumentPositionParams,
 };
 pub use reads::{decode, read_message};
 pub use writes::encode;
