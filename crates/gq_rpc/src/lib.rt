@@ -1,13 +1,19 @@
 //! The language server's side of the wire: frames of bytes, the messages in them, and the keys of documents.
 #![tactic(auto)]
 
+pub mod capabilities;
 pub mod devices;
+pub mod edits;
 pub mod framer;
 pub mod header;
 pub mod keys;
 pub mod laws;
 pub mod messages;
+pub mod notifications;
+pub mod parameters;
 pub mod reads;
+pub mod requests;
+pub mod results;
 pub mod writes;
 
 pub use devices::{Flagged, Reading, Sink, SinkFailed, Source, send};
