@@ -19,6 +19,13 @@ fn write_rename_options(alloc: Global, prepare_provider: bool) -> Result<Value, 
     }
 }
 
+/// How texts are sent.
+fn write_synchronization(alloc: Global) -> Result<Value, AllocError>
+    ensures { IfOk result (λ v. view v ≡ synchronization) }
+{
+    json!(in alloc; {"change": 2u64, "openClose": true})
+}
+
 /// Puts a member where the flag is true.
 fn put_where(
     members: &mut Map<String, Value>,
@@ -42,7 +49,7 @@ fn write_capabilities(alloc: Global, offered: ServerCapabilities) -> Result<Valu
     ensures { IfOk result (λ v. view v ≡ object (capability_members offered)) }
 {
     let mut members = Map::new(alloc);
-    let synchronization = json!(in alloc; {"change": 2u64, "openClose": true})?;
+    let synchronization = write_synchronization(alloc)?;
     serde_json::put(&mut members, alloc, "textDocumentSync", synchronization)?;
     let rename = write_rename_options(alloc, offered.prepare_provider)?;
     put_where(&mut members, alloc, offered.rename_provider, "renameProvider", rename)?;
