@@ -1,5 +1,5 @@
 -- Members that are put in front of others, in order.
-use Rattle.std.proofs.Common.{◌≡◌, ℕ, List, Bool, true, false, cond, Ordering, Less, Equal, Greater, nat_cmp, codes, refl, ap, ◌∙◌}
+use Rattle.std.proofs.Common.{◌≡◌, ℕ, List, Bool, true, false, cond, Less, nat_cmp, codes, refl, ap, ◌∙◌}
 use Rattle.std.specs.Cmp.Lexicographic.{slice_cmp}
 use Rattle.std.specs.Ordering.{match_ordering}
 use Rattle.serde_json.specs.Data.{Data, boolean, object, Members, no_members, member, put}
@@ -66,9 +66,9 @@ capability_members-from_puts c none m0 m1 m2 m3 m4 m5 sync rename references hov
     let f3 : IsInFront (codes "hoverProvider") w2 = before_references (codes "hoverProvider") c refl (before_rename (codes "hoverProvider") c refl refl) in
     let s3 : m3 ≡ w3 = e3 ∙ put_where c.hover_provider (codes "hoverProvider") _ _ m2 w2 d3 s2 f3 in
     let f4 : IsInFront (codes "definitionProvider") w3 =
-        before_hover (codes "definitionProvider") c refl (before_references (codes "definitionProvider") c refl (before_rename (codes "definitionProvider") c refl refl)) in
+    before_hover (codes "definitionProvider") c refl (before_references (codes "definitionProvider") c refl (before_rename (codes "definitionProvider") c refl refl)) in
     let s4 : m4 ≡ w4 = e4 ∙ put_where c.definition_provider (codes "definitionProvider") _ _ m3 w3 d4 s3 f4 in
     let f5 : IsInFront (codes "completionProvider") w4 =
-        in_front-where c.definition_provider (codes "completionProvider") (codes "definitionProvider") (boolean true) w3 refl
-        (before_hover (codes "completionProvider") c refl (before_references (codes "completionProvider") c refl (before_rename (codes "completionProvider") c refl refl))) in
+    in_front-where c.definition_provider (codes "completionProvider") (codes "definitionProvider") (boolean true) w3 refl
+    (before_hover (codes "completionProvider") c refl (before_references (codes "completionProvider") c refl (before_rename (codes "completionProvider") c refl refl))) in
     e5 ∙ put_where c.completion_provider (codes "completionProvider") _ _ m4 w4 d5 s4 f5

@@ -1,7 +1,7 @@
 -- The values of messages have no floats.
-use Rattle.std.proofs.Common.{◌≡◌, ℕ, Bool, true, false, ◌||◌, List, [], ◌∷◌, map, Option, Some, None, refl, ap, ◌∙◌}
+use Rattle.std.proofs.Common.{◌≡◌, ℕ, Bool, true, false, codes, ◌||◌, List, [], ◌∷◌, map, Option, Some, None, refl, ap, ◌∙◌}
 use Rattle.std.specs.Prelude.{ℤ, pos, negsuc}
-use Rattle.serde_json.specs.Data.{Data, null, boolean, object, Members, no_members, member}
+use Rattle.serde_json.specs.Data.{Data, null, array, Members}
 use Rattle.serde_json.specs.Find.{of_integer, is_float}
 use Rattle.serde_json.specs.View.{items_of}
 use Rattle.serde_json.specs.Written.{has_float, items_have_float, members_have_float}
@@ -18,7 +18,7 @@ use Rattle.gq_rpc.specs.declared.messages.Diagnostic.{Diagnostic}
 use Rattle.gq_rpc.specs.declared.messages.PublishDiagnosticsParams.{PublishDiagnosticsParams}
 use Rattle.gq_rpc.specs.declared.messages.Outgoing.{Outgoing}
 use Rattle.gq_rpc.specs.declared.messages.Outgoing.TheVariants as outgoing
-use Rattle.gq_rpc.specs.Encoding.{id_value, id_or_null, response, error_response, member_where, rename_options, synchronization, initialize_result, capability_members, text_edit_value, document_edit_value, workspace_edit_value, hover_value, hover_or_null, location_value, completion_value, prepared_value, prepared_or_null, diagnostic_value, version_members, diagnostics_value, told, code_of, words_of, value_of}
+use Rattle.gq_rpc.specs.Encoding.{id_value, id_or_null, response, error_response, member_where, rename_options, initialize_result, capability_members, text_edit_value, document_edit_value, workspace_edit_value, hover_or_null, location_value, completion_value, prepared_or_null, diagnostic_value, version_members, diagnostics_value, told, code_of, words_of, value_of}
 
 integer_no_float : (z : ℤ) → is_float (of_integer z) ≡ false
 integer_no_float (pos n) = refl
@@ -105,11 +105,11 @@ pub value_of-no_float : (message : Outgoing) → has_float (value_of message) �
 value_of-no_float (outgoing.Initialized name capabilities) =
     response_no_float name (initialize_result capabilities) (ap (λ t. t || false) (members_no_float capabilities))
 value_of-no_float (outgoing.ShutDown name) = response_no_float name null refl
-value_of-no_float (outgoing.Completions name completions) = response_no_float name _ (completions_no_float completions)
+value_of-no_float (outgoing.Completions name completions) = response_no_float name (array (items_of (map completion_value completions))) (completions_no_float completions)
 value_of-no_float (outgoing.Hover name found) = response_no_float name (hover_or_null found) (hover_no_float found)
-value_of-no_float (outgoing.Locations name locations) = response_no_float name _ (locations_no_float locations)
+value_of-no_float (outgoing.Locations name locations) = response_no_float name (array (items_of (map location_value locations))) (locations_no_float locations)
 value_of-no_float (outgoing.Prepared name found) = response_no_float name (prepared_or_null found) (prepared_no_float found)
 value_of-no_float (outgoing.Renamed name edit) =
     response_no_float name (workspace_edit_value edit) (ap (λ t. t || false) (document_edits_no_float edit.document_changes))
 value_of-no_float (outgoing.Error name why) = error_no_float name (code_of why) (words_of why)
-value_of-no_float (outgoing.Diagnostics parameters) = told_no_float _ (diagnostics_value parameters) (diagnostics_no_float parameters)
+value_of-no_float (outgoing.Diagnostics parameters) = told_no_float (codes "textDocument/publishDiagnostics") (diagnostics_value parameters) (diagnostics_no_float parameters)

@@ -103,7 +103,7 @@ client_capabilities_of message = record {
   definition = is_object_in (document_capability (codes "definition") message);
   hover = is_object_in (document_capability (codes "hover") message);
   publish_diagnostics = is_object_in (document_capability (codes "publishDiagnostics") message);
-  references = is_object_in (document_capability (codes "references") message)
+  references = is_object_in (document_capability (codes "references") message);
 }
 
 -- ---- documents, positions and ranges (LSP 3.17, TextDocumentIdentifier, Position and Range)

@@ -52,15 +52,45 @@ fn write_capabilities(alloc: Global, offered: ServerCapabilities) -> Result<Valu
     let synchronization = write_synchronization(alloc)?;
     serde_json::put(&mut members, alloc, "textDocumentSync", synchronization)?;
     let rename = write_rename_options(alloc, offered.prepare_provider)?;
-    put_where(&mut members, alloc, offered.rename_provider, "renameProvider", rename)?;
+    put_where(
+        &mut members,
+        alloc,
+        offered.rename_provider,
+        "renameProvider",
+        rename,
+    )?;
     let references = Value::Bool(true);
-    put_where(&mut members, alloc, offered.references_provider, "referencesProvider", references)?;
+    put_where(
+        &mut members,
+        alloc,
+        offered.references_provider,
+        "referencesProvider",
+        references,
+    )?;
     let hover = Value::Bool(true);
-    put_where(&mut members, alloc, offered.hover_provider, "hoverProvider", hover)?;
+    put_where(
+        &mut members,
+        alloc,
+        offered.hover_provider,
+        "hoverProvider",
+        hover,
+    )?;
     let definition = Value::Bool(true);
-    put_where(&mut members, alloc, offered.definition_provider, "definitionProvider", definition)?;
+    put_where(
+        &mut members,
+        alloc,
+        offered.definition_provider,
+        "definitionProvider",
+        definition,
+    )?;
     let completion = Value::Object(Map::new(alloc));
-    put_where(&mut members, alloc, offered.completion_provider, "completionProvider", completion)?;
+    put_where(
+        &mut members,
+        alloc,
+        offered.completion_provider,
+        "completionProvider",
+        completion,
+    )?;
     Ok(Value::Object(members))
 }
 

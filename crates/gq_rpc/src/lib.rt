@@ -23,8 +23,8 @@ pub use keys::key_of;
 pub use messages::{
     ClientCapabilities, CompletionItem, CompletionItemKind, Diagnostic, DidChangeParams, Hover, Id,
     Incoming, Location, Notification, Outgoing, PrepareRename, PublishDiagnosticsParams, Question,
-    ReferenceParams, RenameParams, Request, ResponseError, ServerCapabilities,
-    TextDocumentItem, TextDocumentPositionParams,
+    ReferenceParams, RenameParams, Request, ResponseError, ServerCapabilities, TextDocumentItem,
+    TextDocumentPositionParams,
 };
 pub use reads::{decode, read_message};
 pub use writes::encode;

@@ -59,11 +59,7 @@ pub fn find_optional<'v>(value: &'v Value, name: &str) -> Option<&'v Value>
     ensures { option_map (λ v. view v.now) result ≡ optional_in (get name.now (view value.now)) }
 {
     let member = value.get(name)?;
-    if member.is_null() {
-        None
-    } else {
-        Some(member)
-    }
+    if member.is_null() { None } else { Some(member) }
 }
 
 /// A coordinate of a position.

@@ -23,7 +23,9 @@ fn find_capability<'v>(message: &'v Value, name: &str) -> Option<&'v Value>
 fn find_edit_capability<'v>(message: &'v Value, name: &str) -> Option<&'v Value>
     ensures { option_map (λ v. view v.now) result ≡ edit_capability name.now (view message.now) }
 {
-    find_capability(message, "workspace")?.get("workspaceEdit")?.get(name)
+    find_capability(message, "workspace")?
+        .get("workspaceEdit")?
+        .get(name)
 }
 
 /// A capability of the client for documents.
@@ -47,7 +49,9 @@ fn has_document_capability(message: &Value, name: &str) -> bool
 fn takes_document_changes(message: &Value) -> bool
     ensures { result ≡ is_true_in (edit_capability (codes "documentChanges") (view message.now)) }
 {
-    find_edit_capability(message, "documentChanges").and_then(Value::as_bool).unwrap_or(false)
+    find_edit_capability(message, "documentChanges")
+        .and_then(Value::as_bool)
+        .unwrap_or(false)
 }
 
 /// Whether the client asks what a rename would be of.
@@ -56,7 +60,10 @@ fn prepares_renames(message: &Value) -> bool
         (document_capability (codes "rename") (view message.now))) }
 {
     match find_document_capability(message, "rename") {
-        Some(rename) => rename.get("prepareSupport").and_then(Value::as_bool).unwrap_or(false),
+        Some(rename) => rename
+            .get("prepareSupport")
+            .and_then(Value::as_bool)
+            .unwrap_or(false),
         None => false,
     }
 }
@@ -97,7 +104,9 @@ fn read_include_declaration(message: &Value) -> Option<bool>
     ensures { result ≡ boolean_in (member_in (codes "includeDeclaration")
         (parameter (codes "context") (view message.now))) }
 {
-    find_parameter(message, "context")?.get("includeDeclaration")?.as_bool()
+    find_parameter(message, "context")?
+        .get("includeDeclaration")?
+        .as_bool()
 }
 
 /// The references that are asked for.

@@ -66,10 +66,7 @@ fn write_completion(alloc: Global, completion: &CompletionItem) -> Result<Value,
     json!(in alloc; {"kind": kind, "label": completion.label.as_str()})
 }
 
-pub fn write_completions(
-    alloc: Global,
-    completions: &[CompletionItem],
-) -> Result<Value, AllocError>
+pub fn write_completions(alloc: Global, completions: &[CompletionItem]) -> Result<Value, AllocError>
     ensures { IfOk result (λ v. view v ≡ array (items_of (map completion_value completions.now))) }
 {
     let mut values = Vec::new(alloc);

@@ -171,9 +171,7 @@ fn show_request(alloc: Global, request: &Request) -> Result<String, Fail> {
     match request {
         Request::Initialize(client) => Ok(format!(in alloc;
             "initialize {} {} {}",
-            client.document_changes,
-            client.prepare_support,
-            client.hover
+            client.document_changes, client.prepare_support, client.hover
         )?),
         Request::Shutdown => Ok(format!(in alloc; "shutdown")?),
         Request::Ask(question) => show_question(alloc, question),
@@ -191,7 +189,13 @@ fn show_changes(alloc: Global, changes: &Option<Items<Change>>) -> Result<String
         match change {
             Change::Whole(text) => write!(told, " '{}'", text.as_str())?,
             Change::Part(r, text) => {
-                write!(told, " {}-{} '{}'", r.start.character, r.end.character, text.as_str())?
+                write!(
+                    told,
+                    " {}-{} '{}'",
+                    r.start.character,
+                    r.end.character,
+                    text.as_str()
+                )?
             }
         }
     }

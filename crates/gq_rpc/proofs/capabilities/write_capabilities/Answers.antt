@@ -1,6 +1,6 @@
-use Rattle.std.proofs.Common.{◌≡◌, ◌∙◌, Bool, true, refl, ap, rules}
-use Rattle.serde_json.specs.Data.{boolean, object, no_members}
-use Rattle.serde_json.specs.View.{view, members_view, members_of}
+use Rattle.std.proofs.Common.{◌≡◌, ◌∙◌, Bool, true, ap, rules}
+use Rattle.serde_json.specs.Data.{boolean, object}
+use Rattle.serde_json.specs.View.{view, members_view}
 use Rattle.serde_json.specs.declared.value.Value.{Bool as BoolValue, the_lemmas}
 use Rattle.serde_json.proofs.Views.{view-Object}
 use Rattle.gq_rpc.proofs.Members.{capability_members-from_puts}
