@@ -9,3 +9,4 @@ pub mod Values
 pub mod Unique
 pub mod Framed
 pub mod Stays
+pub mod Members

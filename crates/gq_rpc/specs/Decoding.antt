@@ -1,14 +1,20 @@
 -- Which message a JSON value is: requests, notifications and answers of JSON-RPC 2.0, with the parameters of LSP 3.17.
-use Rattle.std.specs.Prelude.{ℕ, ◌^◌, ℤ, List, false, nat_lt, codes, Option, Some, None, is_some, unwrap_or, ◌||◌, option_map, option_and_then, if◌then◌else◌, bytes_eq}
+use Rattle.std.specs.Prelude.{ℕ, ◌^◌, ℤ, Bool, List, [], ◌∷◌, false, nat_lt, codes, Option, Some, None, is_some, unwrap_or, ◌||◌, option_map, option_and_then, if◌then◌else◌, bytes_eq}
 use Rattle.std.specs.Str.{is_utf8}
-use Rattle.serde_json.specs.Data.{Data, null, boolean, number, string, array, object}
-use Rattle.serde_json.specs.Find.{get, as_bool, as_str, as_number, as_i64, as_u64}
+use Rattle.serde_json.specs.Data.{Data, null, boolean, number, string, array, object, Items, no_items, item}
+use Rattle.serde_json.specs.Find.{get, as_null, as_bool, as_str, as_number, as_array, as_object, as_i64, as_u64}
 use Rattle.serde_json.specs.Read.{read}
 use Rattle.gq_text.specs.declared.place.Position.{Position}
+use Rattle.gq_text.specs.declared.text.Range.{Range}
+use Rattle.gq_text.specs.declared.text.Change.{Change}
+use Rattle.gq_text.specs.declared.text.Change.TheVariants as change
 use Rattle.gq_rpc.specs.Keys.{key_of_uri}
 use Rattle.gq_rpc.specs.declared.messages.Id.{Id}
 use Rattle.gq_rpc.specs.declared.messages.Id.TheVariants as id
 use Rattle.gq_rpc.specs.declared.messages.ClientCapabilities.{ClientCapabilities}
+use Rattle.gq_rpc.specs.declared.messages.TextDocumentPositionParams.{TextDocumentPositionParams}
+use Rattle.gq_rpc.specs.declared.messages.Question.{Question}
+use Rattle.gq_rpc.specs.declared.messages.Question.TheVariants as question
 use Rattle.gq_rpc.specs.declared.messages.Request.{Request}
 use Rattle.gq_rpc.specs.declared.messages.Request.TheVariants as request
 use Rattle.gq_rpc.specs.declared.messages.Notification.{Notification}
@@ -31,17 +37,31 @@ id_in message = option_and_then id_of (get (codes "id") message)
 
 -- ---- parameters
 
+-- a member of a value that may be missing
+abbrev pub member_in : List ℕ → Option Data → Option Data
+member_in name found = option_and_then (get name) found
+
 -- a parameter of a message
 abbrev pub parameter : List ℕ → Data → Option Data
-parameter name message = option_and_then (get name) (get (codes "params") message)
+parameter name message = member_in name (get (codes "params") message)
 
 -- a member of the parameter `textDocument`
 abbrev pub document_member : List ℕ → Data → Option Data
-document_member name message = option_and_then (get name) (parameter (codes "textDocument") message)
+document_member name message = member_in name (parameter (codes "textDocument") message)
+
+-- a member that may be left out: null counts as missing
+abbrev pub unless_null : Data → Option Data
+unless_null value = if is_some (as_null value) then None else Some value
+
+abbrev pub optional_in : Option Data → Option Data
+optional_in found = option_and_then unless_null found
 
 -- a string
 abbrev pub string_in : Option Data → Option (List ℕ)
 string_in found = option_and_then as_str found
+
+abbrev pub boolean_in : Option Data → Option Bool
+boolean_in found = option_and_then as_bool found
 
 -- a signed integer of 64 bits
 abbrev pub integer_in : Option Data → Option ℤ
@@ -54,50 +74,114 @@ small n = if nat_lt n (2 ^ 31) then Some n else None
 abbrev pub uinteger_in : Option Data → Option ℕ
 uinteger_in found = option_and_then small (option_and_then as_u64 (option_and_then as_number found))
 
--- ---- initialize
+-- ---- initialize (LSP 3.17, ClientCapabilities)
 
--- a member of `params.capabilities.workspace.workspaceEdit`
+-- a member of `params.capabilities`
+abbrev pub capability : List ℕ → Data → Option Data
+capability name message = member_in name (parameter (codes "capabilities") message)
+
+-- a member of its `workspace.workspaceEdit`
 abbrev pub edit_capability : List ℕ → Data → Option Data
-edit_capability name message =
-    option_and_then (get name) (option_and_then (get (codes "workspaceEdit")) (option_and_then (get (codes "workspace")) (parameter (codes "capabilities") message)))
+edit_capability name message = member_in name (member_in (codes "workspaceEdit") (capability (codes "workspace") message))
+
+-- a member of its `textDocument`
+abbrev pub document_capability : List ℕ → Data → Option Data
+document_capability name message = member_in name (capability (codes "textDocument") message)
 
 -- a capability that is missing or of another kind is absent
-abbrev pub client_capabilities_of : Data → ClientCapabilities
-client_capabilities_of message = record { document_changes = unwrap_or (option_and_then as_bool (edit_capability (codes "documentChanges") message)) false }
+abbrev pub is_true_in : Option Data → Bool
+is_true_in found = unwrap_or (boolean_in found) false
 
--- ---- textDocument/rename
+abbrev pub is_object_in : Option Data → Bool
+is_object_in found = is_some (option_and_then as_object found)
+
+abbrev pub client_capabilities_of : Data → ClientCapabilities
+client_capabilities_of message = record {
+  document_changes = is_true_in (edit_capability (codes "documentChanges") message);
+  prepare_support = is_true_in (member_in (codes "prepareSupport") (document_capability (codes "rename") message));
+  completion = is_object_in (document_capability (codes "completion") message);
+  definition = is_object_in (document_capability (codes "definition") message);
+  hover = is_object_in (document_capability (codes "hover") message);
+  publish_diagnostics = is_object_in (document_capability (codes "publishDiagnostics") message);
+  references = is_object_in (document_capability (codes "references") message);
+}
+
+-- ---- documents, positions and ranges (LSP 3.17, TextDocumentIdentifier, Position and Range)
+
+-- the key of the document that a message names
+abbrev pub key_in : Data → Option (List ℕ)
+key_in message = option_and_then key_of_uri (string_in (document_member (codes "uri") message))
 
 abbrev pub position_of : Option ℕ → Option ℕ → Option Position
 position_of (Some line) (Some character) = Some (record { line = line; character = character })
 position_of (Some line) None = None
 position_of None character = None
 
--- a member of the parameter `position`
-abbrev pub position_member : List ℕ → Data → Option Data
-position_member name message = option_and_then (get name) (parameter (codes "position") message)
+-- the position that a value is
+abbrev pub position_from : Data → Option Position
+position_from value = position_of (uinteger_in (get (codes "line") value)) (uinteger_in (get (codes "character") value))
 
-abbrev pub position_in : Data → Option Position
-position_in message = position_of (uinteger_in (position_member (codes "line") message)) (uinteger_in (position_member (codes "character") message))
+abbrev pub range_of : Option Position → Option Position → Option Range
+range_of (Some start) (Some end) = Some (record { start = start; end = end })
+range_of (Some start) None = None
+range_of None end = None
 
--- the key of the document that a message names
-abbrev pub key_in : Data → Option (List ℕ)
-key_in message = option_and_then key_of_uri (string_in (document_member (codes "uri") message))
+-- the range that a value is
+abbrev pub range_from : Data → Option Range
+range_from value = range_of (option_and_then position_from (get (codes "start") value)) (option_and_then position_from (get (codes "end") value))
 
-abbrev pub rename_of : Option (List ℕ) → Option Position → Option (List ℕ) → Request
-rename_of (Some key) (Some position) (Some new_name) = request.Rename (record { key = key; position = position; new_name = new_name })
-rename_of (Some key) (Some position) None = request.InvalidParams
-rename_of (Some key) None new_name = request.InvalidParams
-rename_of None position new_name = request.InvalidParams
+-- ---- questions (LSP 3.17, "Language Features")
+
+abbrev pub place_of : Option (List ℕ) → Option Position → Option TextDocumentPositionParams
+place_of (Some key) (Some position) = Some (record { key = key; position = position })
+place_of (Some key) None = None
+place_of None position = None
+
+-- the place that a message asks about
+abbrev pub place_in : Data → Option TextDocumentPositionParams
+place_in message = place_of (key_in message) (option_and_then position_from (parameter (codes "position") message))
+
+abbrev pub references_of : Option TextDocumentPositionParams → Option Bool → Option Question
+references_of (Some place) (Some wanted) = Some (question.References (record { key = place.key; position = place.position; include_declaration = wanted }))
+references_of (Some place) None = None
+references_of None wanted = None
+
+-- `context.includeDeclaration` is required
+abbrev pub references_in : Data → Option Question
+references_in message = references_of (place_in message) (boolean_in (member_in (codes "includeDeclaration") (parameter (codes "context") message)))
+
+abbrev pub rename_of : Option TextDocumentPositionParams → Option (List ℕ) → Option Question
+rename_of (Some place) (Some new_name) = Some (question.Rename (record { key = place.key; position = place.position; new_name = new_name }))
+rename_of (Some place) None = None
+rename_of None new_name = None
+
+abbrev pub rename_in : Data → Option Question
+rename_in message = rename_of (place_in message) (string_in (parameter (codes "newName") message))
+
+-- a question, unless its parameters cannot be read
+abbrev pub asked : Option Question → Request
+asked (Some q) = request.Ask q
+asked None = request.InvalidParams
+
+-- which question a method with its message asks, if it is the method of one
+abbrev pub question_of : List ℕ → Data → Request
+question_of method message =
+    if bytes_eq method (codes "textDocument/completion") then asked (option_map question.Completion (place_in message))
+    else (if bytes_eq method (codes "textDocument/definition") then asked (option_map question.Definition (place_in message))
+    else (if bytes_eq method (codes "textDocument/hover") then asked (option_map question.Hover (place_in message))
+    else (if bytes_eq method (codes "textDocument/prepareRename") then asked (option_map question.PrepareRename (place_in message))
+    else (if bytes_eq method (codes "textDocument/references") then asked (references_in message)
+    else (if bytes_eq method (codes "textDocument/rename") then asked (rename_in message)
+    else request.Unknown)))))
 
 -- which request a method with its message is
 abbrev pub request_of : List ℕ → Data → Request
 request_of method message =
     if bytes_eq method (codes "initialize") then request.Initialize (client_capabilities_of message)
     else (if bytes_eq method (codes "shutdown") then request.Shutdown
-    else (if bytes_eq method (codes "textDocument/rename") then rename_of (key_in message) (position_in message) (string_in (parameter (codes "newName") message))
-    else request.Unknown))
+    else question_of method message)
 
--- ---- textDocument/didOpen
+-- ---- textDocument/didOpen (LSP 3.17, DidOpenTextDocumentParams)
 
 abbrev pub open_of : Option (List ℕ) → Option (List ℕ) → Option ℤ → Option (List ℕ) → Notification
 open_of (Some uri) (Some key) (Some version) (Some text) = notification.DidOpen (record { key = key; uri = uri; version = version; text = text })
@@ -112,12 +196,61 @@ open_in message =
     open_of (string_in (document_member (codes "uri") message)) (key_in message)
     (integer_in (document_member (codes "version") message)) (string_in (document_member (codes "text") message))
 
+-- ---- textDocument/didChange (LSP 3.17, DidChangeTextDocumentParams)
+
+-- a change to this text, of the whole document where there is no range
+abbrev pub change_of : Option Data → List ℕ → Option Change
+change_of None text = Some (change.Whole text)
+change_of (Some range) text = option_map (λ r. change.Part r text) (range_from range)
+
+-- the change that a value is
+abbrev pub change_from : Data → Option Change
+change_from value = option_and_then (change_of (optional_in (get (codes "range") value))) (string_in (get (codes "text") value))
+
+abbrev pub before_changes : Option Change → Option (List Change) → Option (List Change)
+before_changes (Some first) (Some others) = Some (first ∷ others)
+before_changes (Some first) None = None
+before_changes None others = None
+
+-- the changes that the items of an array are, unless one of them is none
+abbrev pub changes_from : Items → Option (List Change)
+changes_from no_items = Some []
+changes_from (item value values) = before_changes (change_from value) (changes_from values)
+
+abbrev pub changes_in : Data → Option (List Change)
+changes_in message = option_and_then changes_from (option_and_then as_array (parameter (codes "contentChanges") message))
+
+abbrev pub changed_of : Option (List ℕ) → Option ℤ → Option (List Change) → Notification
+changed_of (Some key) version changes = notification.DidChange (record { key = key; version = version; changes = changes })
+changed_of None version changes = notification.Unknown
+
+-- the changes of a document, unless no document is named; a version or changes that cannot be read are none
+abbrev pub changed_in : Data → Notification
+changed_in message = changed_of (key_in message) (integer_in (document_member (codes "version") message)) (changes_in message)
+
+-- ---- textDocument/didClose and $/cancelRequest
+
+abbrev pub closed_of : Option (List ℕ) → Notification
+closed_of (Some key) = notification.DidClose key
+closed_of None = notification.Unknown
+
+abbrev pub cancelled_of : Option Id → Notification
+cancelled_of (Some name) = notification.Cancel name
+cancelled_of None = notification.Unknown
+
+-- the request that a message takes back
+abbrev pub cancelled_in : Data → Notification
+cancelled_in message = cancelled_of (option_and_then id_of (parameter (codes "id") message))
+
 -- which notification a method with its message is
 abbrev pub notification_of : List ℕ → Data → Notification
 notification_of method message =
     if bytes_eq method (codes "exit") then notification.Exit
+    else (if bytes_eq method (codes "$/cancelRequest") then cancelled_in message
     else (if bytes_eq method (codes "textDocument/didOpen") then open_in message
-    else notification.Unknown)
+    else (if bytes_eq method (codes "textDocument/didChange") then changed_in message
+    else (if bytes_eq method (codes "textDocument/didClose") then closed_of (key_in message)
+    else notification.Unknown))))
 
 -- ---- messages
 

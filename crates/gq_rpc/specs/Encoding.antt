@@ -1,5 +1,5 @@
 -- Which JSON value a message to the client is, the members of objects in byte order of their names, and its frame.
-use Rattle.std.specs.Prelude.{ℕ, ℤ, negsuc, List, map, true, codes, Option, Some, None, if◌then◌else◌}
+use Rattle.std.specs.Prelude.{ℕ, ℤ, negsuc, Bool, true, List, map, codes, Option, Some, None, if◌then◌else◌}
 use Rattle.serde_json.specs.Data.{Data, null, boolean, number, string, array, object, Members, no_members, member, unsigned}
 use Rattle.serde_json.specs.Find.{of_integer}
 use Rattle.serde_json.specs.View.{items_of}
@@ -13,6 +13,14 @@ use Rattle.gq_rpc.specs.Frames.{frame}
 use Rattle.gq_rpc.specs.declared.messages.Id.{Id}
 use Rattle.gq_rpc.specs.declared.messages.Id.TheVariants as id
 use Rattle.gq_rpc.specs.declared.messages.ServerCapabilities.{ServerCapabilities}
+use Rattle.gq_rpc.specs.declared.messages.Hover.{Hover}
+use Rattle.gq_rpc.specs.declared.messages.Location.{Location}
+use Rattle.gq_rpc.specs.declared.messages.CompletionItemKind.{CompletionItemKind}
+use Rattle.gq_rpc.specs.declared.messages.CompletionItemKind.TheVariants as kind
+use Rattle.gq_rpc.specs.declared.messages.CompletionItem.{CompletionItem}
+use Rattle.gq_rpc.specs.declared.messages.PrepareRename.{PrepareRename}
+use Rattle.gq_rpc.specs.declared.messages.Diagnostic.{Diagnostic}
+use Rattle.gq_rpc.specs.declared.messages.PublishDiagnosticsParams.{PublishDiagnosticsParams}
 use Rattle.gq_rpc.specs.declared.messages.ResponseError.{ResponseError}
 use Rattle.gq_rpc.specs.declared.messages.ResponseError.TheVariants as error
 use Rattle.gq_rpc.specs.declared.messages.Outgoing.{Outgoing}
@@ -44,18 +52,29 @@ error_response name code message =
 abbrev pub synchronization : Data
 synchronization = object (member (codes "change") (number (unsigned 2)) (member (codes "openClose") (boolean true) no_members))
 
+-- a member that stands only where the flag is true
+abbrev pub member_where : Bool → List ℕ → Data → Members → Members
+member_where flag name value rest = if flag then member name value rest else rest
+
+-- that renames are answered, and whether what they would be of is answered too
+abbrev pub rename_options : Bool → Data
+rename_options prepare = if prepare then object (member (codes "prepareProvider") (boolean true) no_members) else boolean true
+
 abbrev pub capability_members : ServerCapabilities → Members
 capability_members capabilities =
-    if capabilities.rename_provider
-    then member (codes "renameProvider") (boolean true) (member (codes "textDocumentSync") synchronization no_members)
-    else member (codes "textDocumentSync") synchronization no_members
+    member_where capabilities.completion_provider (codes "completionProvider") (object no_members)
+    (member_where capabilities.definition_provider (codes "definitionProvider") (boolean true)
+    (member_where capabilities.hover_provider (codes "hoverProvider") (boolean true)
+    (member_where capabilities.references_provider (codes "referencesProvider") (boolean true)
+    (member_where capabilities.rename_provider (codes "renameProvider") (rename_options capabilities.prepare_provider)
+    (member (codes "textDocumentSync") synchronization no_members)))))
 
 abbrev pub initialize_result : ServerCapabilities → Data
 initialize_result capabilities =
     object (member (codes "capabilities") (object (capability_members capabilities))
     (member (codes "serverInfo") (object (member (codes "name") (string (codes "gqls")) no_members)) no_members))
 
--- ---- the result of a rename
+-- ---- positions and edits
 
 abbrev pub position_value : Position → Data
 position_value p = object (member (codes "character") (number (unsigned p.character)) (member (codes "line") (number (unsigned p.line)) no_members))
@@ -77,15 +96,71 @@ document_edit_value d =
 abbrev pub workspace_edit_value : WorkspaceEdit → Data
 workspace_edit_value w = object (member (codes "documentChanges") (array (items_of (map document_edit_value w.document_changes))) no_members)
 
+-- ---- answers to questions
+
+abbrev pub hover_value : Hover → Data
+hover_value h =
+    object (member (codes "contents") (object (member (codes "kind") (string (codes "plaintext")) (member (codes "value") (string h.value) no_members)))
+    (member (codes "range") (range_value h.range) no_members))
+
+abbrev pub hover_or_null : Option Hover → Data
+hover_or_null (Some h) = hover_value h
+hover_or_null None = null
+
+abbrev pub location_value : Location → Data
+location_value l = object (member (codes "range") (range_value l.range) (member (codes "uri") (string l.uri) no_members))
+
+abbrev pub kind_number : CompletionItemKind → ℕ
+kind_number kind.Field = 5
+kind_number kind.Variable = 6
+kind_number kind.Reference = 18
+
+abbrev pub completion_value : CompletionItem → Data
+completion_value c = object (member (codes "kind") (number (unsigned (kind_number c.kind))) (member (codes "label") (string c.label) no_members))
+
+abbrev pub prepared_value : PrepareRename → Data
+prepared_value p = object (member (codes "placeholder") (string p.placeholder) (member (codes "range") (range_value p.range) no_members))
+
+abbrev pub prepared_or_null : Option PrepareRename → Data
+prepared_or_null (Some p) = prepared_value p
+prepared_or_null None = null
+
+-- ---- diagnostics
+
+-- an error (severity 1) of this server
+abbrev pub diagnostic_value : Diagnostic → Data
+diagnostic_value d =
+    object (member (codes "code") (string d.code)
+    (member (codes "message") (string d.message)
+    (member (codes "range") (range_value d.range)
+    (member (codes "severity") (number (unsigned 1))
+    (member (codes "source") (string (codes "gqls")) no_members)))))
+
+abbrev pub version_members : Option ℤ → Members
+version_members (Some version) = member (codes "version") (number (of_integer version)) no_members
+version_members None = no_members
+
+abbrev pub diagnostics_value : PublishDiagnosticsParams → Data
+diagnostics_value p =
+    object (member (codes "diagnostics") (array (items_of (map diagnostic_value p.diagnostics)))
+    (member (codes "uri") (string p.uri) (version_members p.version)))
+
+-- a notification
+abbrev pub told : List ℕ → Data → Data
+told method parameters =
+    object (member (codes "jsonrpc") (string (codes "2.0")) (member (codes "method") (string method) (member (codes "params") parameters no_members)))
+
 -- ---- errors
 
--- the code of an error: -32700, -32600, -32601, -32602, -32002, -32803
+-- the code of an error: -32700, -32600, -32601, -32602, -32002, -32800, -32801, -32803
 abbrev pub code_of : ResponseError → ℤ
 code_of error.ParseError = negsuc 32699
 code_of error.InvalidRequest = negsuc 32599
 code_of error.MethodNotFound = negsuc 32600
 code_of error.InvalidParams = negsuc 32601
 code_of error.NotInitialized = negsuc 32001
+code_of error.Cancelled = negsuc 32799
+code_of error.ContentModified = negsuc 32800
 code_of (error.RequestFailed why) = negsuc 32802
 
 abbrev pub words_of : ResponseError → List ℕ
@@ -94,6 +169,8 @@ words_of error.InvalidRequest = codes "invalid request"
 words_of error.MethodNotFound = codes "method not found"
 words_of error.InvalidParams = codes "invalid params"
 words_of error.NotInitialized = codes "not initialized"
+words_of error.Cancelled = codes "cancelled"
+words_of error.ContentModified = codes "content modified"
 words_of (error.RequestFailed why) = why
 
 -- ---- messages
@@ -101,9 +178,14 @@ words_of (error.RequestFailed why) = why
 -- the value that a message is
 abbrev pub value_of : Outgoing → Data
 value_of (outgoing.Initialized name capabilities) = response name (initialize_result capabilities)
-value_of (outgoing.Renamed name edit) = response name (workspace_edit_value edit)
 value_of (outgoing.ShutDown name) = response name null
+value_of (outgoing.Completions name completions) = response name (array (items_of (map completion_value completions)))
+value_of (outgoing.Hover name found) = response name (hover_or_null found)
+value_of (outgoing.Locations name locations) = response name (array (items_of (map location_value locations)))
+value_of (outgoing.Prepared name found) = response name (prepared_or_null found)
+value_of (outgoing.Renamed name edit) = response name (workspace_edit_value edit)
 value_of (outgoing.Error name why) = error_response name (code_of why) (words_of why)
+value_of (outgoing.Diagnostics parameters) = told (codes "textDocument/publishDiagnostics") (diagnostics_value parameters)
 
 -- what is written for a message
 abbrev pub frame_of : Outgoing → List ℕ

@@ -1,7 +1,7 @@
 //! Messages of the language server protocol (LSP 3.17) as plain data: contracts see their texts as lists of bytes.
 
 use gq_edit::WorkspaceEdit;
-use gq_text::{OwnedText, Position};
+use gq_text::{Change, Items, OwnedText, Position, Range};
 
 /// What names a request (JSON-RPC 2.0, section 4): `1` and `"1"` differ.
 #[derive(Drop)]
@@ -15,6 +15,32 @@ pub enum Id {
 pub struct ClientCapabilities {
     /// It takes edits of documents with their versions: `workspace.workspaceEdit.documentChanges` is true.
     pub document_changes: bool,
+    /// It asks what a rename would be of: `textDocument.rename.prepareSupport` is true.
+    pub prepare_support: bool,
+    /// `textDocument` holds an object of this name, as for the four below.
+    pub completion: bool,
+    pub definition: bool,
+    pub hover: bool,
+    pub publish_diagnostics: bool,
+    pub references: bool,
+}
+
+/// A place in a document (LSP 3.17, TextDocumentPositionParams).
+#[derive(Drop)]
+pub struct TextDocumentPositionParams {
+    /// The key of the document.
+    pub key: OwnedText,
+    pub position: Position,
+}
+
+/// References that are asked for (LSP 3.17, ReferenceParams).
+#[derive(Drop)]
+pub struct ReferenceParams {
+    /// The key of the document.
+    pub key: OwnedText,
+    pub position: Position,
+    /// The definitions are asked for too.
+    pub include_declaration: bool,
 }
 
 /// A rename that is asked for (LSP 3.17, RenameParams).
@@ -24,6 +50,29 @@ pub struct RenameParams {
     pub key: OwnedText,
     pub position: Position,
     pub new_name: OwnedText,
+}
+
+/// What is asked about an open document (LSP 3.17, "Language Features").
+#[derive(Drop)]
+pub enum Question {
+    Completion(TextDocumentPositionParams),
+    Definition(TextDocumentPositionParams),
+    Hover(TextDocumentPositionParams),
+    PrepareRename(TextDocumentPositionParams),
+    References(ReferenceParams),
+    Rename(RenameParams),
+}
+
+/// What a request asks for.
+#[derive(Drop)]
+pub enum Request {
+    Initialize(ClientCapabilities),
+    Shutdown,
+    Ask(Question),
+    /// A question whose parameters cannot be read.
+    InvalidParams,
+    /// A method that this server does not know.
+    Unknown,
 }
 
 /// A document as a client opens it (LSP 3.17, TextDocumentItem).
@@ -37,24 +86,26 @@ pub struct TextDocumentItem {
     pub text: OwnedText,
 }
 
-/// What a request asks for.
+/// Changes of a document (LSP 3.17, DidChangeTextDocumentParams). What cannot be read is none.
 #[derive(Drop)]
-pub enum Request {
-    Initialize(ClientCapabilities),
-    Shutdown,
-    Rename(RenameParams),
-    /// A rename whose parameters cannot be read.
-    InvalidParams,
-    /// A method that this server does not know.
-    Unknown,
+pub struct DidChangeParams {
+    /// The key of the document.
+    pub key: OwnedText,
+    pub version: Option<i64>,
+    pub changes: Option<Items<Change>>,
 }
 
 /// What a notification tells.
 #[derive(Drop)]
 pub enum Notification {
+    /// The request of this id is no longer wanted (LSP 3.17, `$/cancelRequest`).
+    Cancel(Id),
+    DidChange(DidChangeParams),
+    /// The document of this key is closed.
+    DidClose(OwnedText),
     DidOpen(TextDocumentItem),
     Exit,
-    /// A method that this server does not know, or parameters that cannot be read.
+    /// A method that this server does not know or need, or parameters that cannot be read.
     Unknown,
 }
 
@@ -74,10 +125,72 @@ pub enum Incoming {
 /// What this server says that it can do (LSP 3.17, ServerCapabilities), beside text synchronization.
 #[derive(Clone, Copy, Debug, PartialEq, Eq)]
 pub struct ServerCapabilities {
+    pub completion_provider: bool,
+    pub definition_provider: bool,
+    pub hover_provider: bool,
+    pub references_provider: bool,
     pub rename_provider: bool,
+    /// What a rename would be of is answered, where renames are.
+    pub prepare_provider: bool,
 }
 
-/// Why a request is answered with an error (LSP 3.17, ErrorCodes).
+/// What is shown where a pointer rests (LSP 3.17, Hover).
+#[derive(Drop)]
+pub struct Hover {
+    /// Plain text.
+    pub value: OwnedText,
+    pub range: Range,
+}
+
+/// A range of a document (LSP 3.17, Location).
+#[derive(Drop)]
+pub struct Location {
+    pub uri: OwnedText,
+    pub range: Range,
+}
+
+/// What a completion item is (LSP 3.17, CompletionItemKind).
+#[derive(Clone, Copy, Debug, PartialEq, Eq)]
+pub enum CompletionItemKind {
+    /// 5: a field of a type.
+    Field,
+    /// 6: a variable.
+    Variable,
+    /// 18: a fragment.
+    Reference,
+}
+
+/// A name that may be written at a place (LSP 3.17, CompletionItem).
+#[derive(Drop)]
+pub struct CompletionItem {
+    pub kind: CompletionItemKind,
+    pub label: OwnedText,
+}
+
+/// What a rename would be of (LSP 3.17, "Prepare Rename Request").
+#[derive(Drop)]
+pub struct PrepareRename {
+    pub placeholder: OwnedText,
+    pub range: Range,
+}
+
+/// What is wrong at a range of a document (LSP 3.17, Diagnostic): an error of this server.
+#[derive(Drop)]
+pub struct Diagnostic {
+    pub code: OwnedText,
+    pub message: OwnedText,
+    pub range: Range,
+}
+
+/// All that is wrong with a document (LSP 3.17, PublishDiagnosticsParams), without a version where it is closed.
+#[derive(Drop)]
+pub struct PublishDiagnosticsParams {
+    pub uri: OwnedText,
+    pub version: Option<i64>,
+    pub diagnostics: Items<Diagnostic>,
+}
+
+/// Why a request is answered with an error (LSP 3.17, ErrorCodes and LSPErrorCodes).
 #[derive(Drop)]
 pub enum ResponseError {
     ParseError,
@@ -85,6 +198,10 @@ pub enum ResponseError {
     MethodNotFound,
     InvalidParams,
     NotInitialized,
+    /// The client took the request back.
+    Cancelled,
+    /// A document changed before the answer stood.
+    ContentModified,
     /// The request is right, and is refused for what the text says.
     RequestFailed(OwnedText),
 }
@@ -93,8 +210,15 @@ pub enum ResponseError {
 #[derive(Drop)]
 pub enum Outgoing {
     Initialized(Id, ServerCapabilities),
-    Renamed(Id, WorkspaceEdit),
     ShutDown(Id),
+    Completions(Id, Items<CompletionItem>),
+    Hover(Id, Option<Hover>),
+    /// The answer to a question for definitions or references.
+    Locations(Id, Items<Location>),
+    Prepared(Id, Option<PrepareRename>),
+    Renamed(Id, WorkspaceEdit),
     /// An error, where there is an id for the request that has it.
     Error(Option<Id>, ResponseError),
+    /// A notification, not an answer.
+    Diagnostics(PublishDiagnosticsParams),
 }

@@ -1,12 +1,12 @@
 ghost use Rattle.std.specs.Prelude.{◌<◌};
 
 use crate::{
-    ClientCapabilities, Flagged, FrameFault, Framer, Id, Incoming, Notification, Outgoing, Reading,
-    Request, ResponseError, ServerCapabilities, Sink, SinkFailed, Source, encode, key_of,
-    read_message, send,
+    Flagged, FrameFault, Framer, Id, Incoming, Notification, Outgoing, PublishDiagnosticsParams,
+    Question, Reading, Request, ResponseError, ServerCapabilities, Sink, SinkFailed, Source,
+    TextDocumentPositionParams, encode, key_of, read_message, send,
 };
 use gq_edit::{TextDocumentEdit, TextEdit, WorkspaceEdit};
-use gq_text::{Items, OwnedText, Position, Range};
+use gq_text::{Change, Items, OwnedText, Position, Range};
 use std::alloc::Global;
 use std::io;
 use std::io::{ErrorKind, Read, Write};
@@ -130,26 +130,90 @@ fn show_id(alloc: Global, id: &Id) -> Result<String, Fail> {
     }
 }
 
-fn show_request(alloc: Global, request: &Request) -> Result<String, Fail> {
-    match request {
-        Request::Initialize(ClientCapabilities { document_changes }) => {
-            Ok(format!(in alloc; "initialize {document_changes}")?)
-        }
-        Request::Shutdown => Ok(format!(in alloc; "shutdown")?),
-        Request::Rename(p) => Ok(format!(in alloc;
+fn show_place(
+    alloc: Global,
+    method: &str,
+    place: &TextDocumentPositionParams,
+) -> Result<String, Fail> {
+    let position = place.position;
+    Ok(format!(in alloc;
+        "{method} {} {}:{}",
+        place.key.as_str(),
+        position.line,
+        position.character
+    )?)
+}
+
+fn show_question(alloc: Global, question: &Question) -> Result<String, Fail> {
+    match question {
+        Question::Completion(p) => show_place(alloc, "completion", p),
+        Question::Definition(p) => show_place(alloc, "definition", p),
+        Question::Hover(p) => show_place(alloc, "hover", p),
+        Question::PrepareRename(p) => show_place(alloc, "prepare", p),
+        Question::References(p) => Ok(format!(in alloc;
+            "references {} {}:{} {}",
+            p.key.as_str(),
+            p.position.line,
+            p.position.character,
+            p.include_declaration
+        )?),
+        Question::Rename(p) => Ok(format!(in alloc;
             "rename {} {}:{} {}",
             p.key.as_str(),
             p.position.line,
             p.position.character,
             p.new_name.as_str()
         )?),
+    }
+}
+
+fn show_request(alloc: Global, request: &Request) -> Result<String, Fail> {
+    match request {
+        Request::Initialize(client) => Ok(format!(in alloc;
+            "initialize {} {} {}",
+            client.document_changes, client.prepare_support, client.hover
+        )?),
+        Request::Shutdown => Ok(format!(in alloc; "shutdown")?),
+        Request::Ask(question) => show_question(alloc, question),
         Request::InvalidParams => Ok(format!(in alloc; "invalid")?),
         Request::Unknown => Ok(format!(in alloc; "unknown")?),
     }
 }
 
+fn show_changes(alloc: Global, changes: &Option<Items<Change>>) -> Result<String, Fail> {
+    let Some(changes) = changes else {
+        return Ok(format!(in alloc; " unread")?);
+    };
+    let mut told = String::new(alloc);
+    for change in changes.as_slice() {
+        match change {
+            Change::Whole(text) => write!(told, " '{}'", text.as_str())?,
+            Change::Part(r, text) => {
+                write!(
+                    told,
+                    " {}-{} '{}'",
+                    r.start.character,
+                    r.end.character,
+                    text.as_str()
+                )?
+            }
+        }
+    }
+    Ok(told)
+}
+
 fn show_notification(alloc: Global, notification: &Notification) -> Result<String, Fail> {
     match notification {
+        Notification::Cancel(id) => {
+            Ok(format!(in alloc; "cancel {}", show_id(alloc, id)?.as_str())?)
+        }
+        Notification::DidChange(d) => Ok(format!(in alloc;
+            "change {} {:?}{}",
+            d.key.as_str(),
+            d.version,
+            show_changes(alloc, &d.changes)?.as_str()
+        )?),
+        Notification::DidClose(key) => Ok(format!(in alloc; "close {}", key.as_str())?),
         Notification::DidOpen(d) => Ok(format!(in alloc;
             "open {} {} {} '{}'",
             d.key.as_str(),
@@ -193,9 +257,9 @@ fn assert_shown(alloc: Global, rt: &impl Abort, rows: &str) -> Result<(), Fail> 
 #[test]
 fn bodies_are_messages(rt: HostRuntime) -> Result<(), Fail> {
     let rows = r#"
-        {"jsonrpc":"2.0","id":1,"method":"initialize","params":{"processId":null,"rootUri":null,"capabilities":{"workspace":{"workspaceEdit":{"documentChanges":true}}}}} => 1 initialize true
-        {"id":"1","method":"initialize","params":null} => '1' initialize false
-        {"id":-5,"method":"initialize","params":{"capabilities":{"workspace":{"workspaceEdit":{"documentChanges":1}}}}} => -5 initialize false
+        {"jsonrpc":"2.0","id":1,"method":"initialize","params":{"processId":null,"rootUri":null,"capabilities":{"workspace":{"workspaceEdit":{"documentChanges":true}},"textDocument":{"hover":{},"rename":{"prepareSupport":true}}}}} => 1 initialize true true true
+        {"id":"1","method":"initialize","params":null} => '1' initialize false false false
+        {"id":-5,"method":"initialize","params":{"capabilities":{"workspace":{"workspaceEdit":{"documentChanges":1}},"textDocument":{"hover":true}}}} => -5 initialize false false false
         {"jsonrpc":"2.0","id":2,"method":"textDocument/rename","params":{"textDocument":{"uri":"file:///q.graphql"},"position":{"line":0,"character":11},"newName":"B"}} => 2 rename file:///q.graphql 0:11 B
         {"id":2,"method":"textDocument/rename","params":{"textDocument":{"uri":"file:///q"},"position":{"line":2147483647,"character":2147483648},"newName":"B"}} => 2 invalid
         {"id":2,"method":"textDocument/rename","params":{"textDocument":{"uri":"file:///q"},"position":{"line":0,"character":-1},"newName":"B"}} => 2 invalid
@@ -213,6 +277,13 @@ fn bodies_are_messages(rt: HostRuntime) -> Result<(), Fail> {
         {"method":"textDocument/didOpen","params":{"textDocument":{"uri":"file:///%7es","version":-2,"text":""}}} => open file:///~s file:///%7es -2 ''
         {"method":"textDocument/didOpen","params":{"textDocument":{"uri":"s","version":1,"text":""}}} => unknown
         {"method":"textDocument/didOpen","params":{"textDocument":{"uri":"file:///s","version":1.0,"text":""}}} => unknown
+        {"method":"textDocument/didChange","params":{"textDocument":{"uri":"file:///s","version":2},"contentChanges":[{"range":{"start":{"line":0,"character":2},"end":{"line":0,"character":4}},"text":"X"},{"range":null,"text":"!"}]}} => change file:///s Some(2) 2-4 'X' '!'
+        {"method":"textDocument/didChange","params":{"textDocument":{"uri":"file:///s","version":null},"contentChanges":[{"text":"X"},{"range":{},"text":"!"}]}} => change file:///s None unread
+        {"method":"textDocument/didClose","params":{"textDocument":{"uri":"file:///s"}}} => close file:///s
+        {"method":"$/cancelRequest","params":{"id":"1"}} => cancel '1'
+        {"id":5,"method":"textDocument/references","params":{"textDocument":{"uri":"file:///q"},"position":{"line":1,"character":2},"context":{"includeDeclaration":true}}} => 5 references file:///q 1:2 true
+        {"id":5,"method":"textDocument/references","params":{"textDocument":{"uri":"file:///q"},"position":{"line":1,"character":2}}} => 5 invalid
+        {"id":5,"method":"textDocument/hover","params":{"textDocument":{"uri":"file:///q"},"position":{"line":1,"character":2}}} => 5 hover file:///q 1:2
         {"jsonrpc":"2.0","method":"exit"} => exit
         {"method":"shutdown"} => unknown
         {"id":4,"result":null} => ignored
@@ -256,21 +327,37 @@ fn renamed(alloc: Global) -> Result<WorkspaceEdit, Fail> {
     Ok(WorkspaceEdit { document_changes })
 }
 
+/// What a server offers whose only offer is renames, or that offers nothing.
+fn offering(renames: bool) -> ServerCapabilities {
+    ServerCapabilities {
+        completion_provider: false,
+        definition_provider: false,
+        hover_provider: false,
+        references_provider: false,
+        rename_provider: renames,
+        prepare_provider: false,
+    }
+}
+
+/// A document without faults.
+fn faultless(alloc: Global) -> Result<PublishDiagnosticsParams, Fail> {
+    Ok(PublishDiagnosticsParams {
+        uri: OwnedText::from_str(alloc, "file:///s.graphql")?,
+        version: Some(1),
+        diagnostics: Items::new(alloc),
+    })
+}
+
 /// The message of that name.
 fn outgoing(alloc: Global, name: &str) -> Result<Outgoing, Fail> {
-    let offered = ServerCapabilities {
-        rename_provider: true,
-    };
-    let withheld = ServerCapabilities {
-        rename_provider: false,
-    };
     let taken = ResponseError::RequestFailed(OwnedText::from_str(alloc, "5 NameTaken")?);
     Ok(match name {
-        "offered" => Outgoing::Initialized(Id::Number(1), offered),
-        "withheld" => Outgoing::Initialized(Id::Number(-1), withheld),
+        "offered" => Outgoing::Initialized(Id::Number(1), offering(true)),
+        "withheld" => Outgoing::Initialized(Id::Number(-1), offering(false)),
         "renamed" => Outgoing::Renamed(Id::Number(2), renamed(alloc)?),
         "shut down" => Outgoing::ShutDown(Id::Number(3)),
         "name taken" => Outgoing::Error(Some(Id::Number(2)), taken),
+        "faultless" => Outgoing::Diagnostics(faultless(alloc)?),
         "invalid request" => Outgoing::Error(None, ResponseError::InvalidRequest),
         _ => Outgoing::Error(None, ResponseError::ParseError),
     })
@@ -295,6 +382,7 @@ fn messages_are_written_byte_for_byte(rt: HostRuntime) -> Result<(), Fail> {
         renamed => Content-Length: 306␍␊␍␊{"id":2,"jsonrpc":"2.0","result":{"documentChanges":[{"edits":[{"newText":"B","range":{"end":{"character":12,"line":0},"start":{"character":11,"line":0}}},{"newText":"B","range":{"end":{"character":24,"line":0},"start":{"character":23,"line":0}}}],"textDocument":{"uri":"file:///q.graphql","version":1}}]}}
         shut down => Content-Length: 38␍␊␍␊{"id":3,"jsonrpc":"2.0","result":null}
         name taken => Content-Length: 72␍␊␍␊{"error":{"code":-32803,"message":"5 NameTaken"},"id":2,"jsonrpc":"2.0"}
+        faultless => Content-Length: 126␍␊␍␊{"jsonrpc":"2.0","method":"textDocument/publishDiagnostics","params":{"diagnostics":[],"uri":"file:///s.graphql","version":1}}
         invalid request => Content-Length: 79␍␊␍␊{"error":{"code":-32600,"message":"invalid request"},"id":null,"jsonrpc":"2.0"}
         parse error => Content-Length: 75␍␊␍␊{"error":{"code":-32700,"message":"parse error"},"id":null,"jsonrpc":"2.0"}
     "#;

@@ -1,14 +1,17 @@
 //! Messages written: from a message to the bytes of its frame.
-ghost use Rattle.std.specs.Prelude.{◌≡◌, List, ℕ, map, codes, decimal, length, false, IfOk};
-ghost use Rattle.serde_json.specs.Data.{Data, string, array, object};
-ghost use Rattle.serde_json.specs.View.{view, items_of};
-ghost use Rattle.gq_rpc.specs.Frames.{frame};
-ghost use Rattle.gq_rpc.specs.Encoding.{id_value, id_or_null, response, error_response, initialize_result, range_value, text_edit_value, document_edit_value, workspace_edit_value, code_of, words_of, value_of, frame_of};
+ghost use Rattle.std.specs.Prelude.{◌≡◌, List, ℕ, codes, IfOk};
+ghost use Rattle.serde_json.specs.Data.{Data};
+ghost use Rattle.serde_json.specs.View.{view};
+ghost use Rattle.gq_rpc.specs.Encoding.{id_value, id_or_null, response, error_response, code_of, words_of, diagnostics_value, told, value_of, frame_of};
 
+use crate::capabilities::write_initialize_result;
+use crate::edits::write_workspace_edit;
 use crate::framer::framed;
-use crate::messages::{Id, Outgoing, ResponseError, ServerCapabilities};
-use gq_edit::{TextDocumentEdit, TextEdit, WorkspaceEdit};
-use gq_text::{NoMemory, Range};
+use crate::messages::{Id, Outgoing, PublishDiagnosticsParams, ResponseError};
+use crate::results::{
+    write_completions, write_diagnostics, write_found_hover, write_found_prepared, write_locations,
+};
+use gq_text::NoMemory;
 use serde_json::{Value, json};
 use std::alloc::{AllocError, Global};
 
@@ -30,81 +33,6 @@ fn write_optional_id(alloc: Global, id: &Option<Id>) -> Result<Value, AllocError
     }
 }
 
-/// What the server says that it can do.
-fn write_initialize_result(
-    alloc: Global,
-    capabilities: ServerCapabilities,
-) -> Result<Value, AllocError>
-    ensures { IfOk result (λ v. view v ≡ initialize_result capabilities) }
-{
-    if capabilities.rename_provider {
-        return json!(in alloc; {
-            "capabilities": {
-                "renameProvider": true,
-                "textDocumentSync": {"change": 2u64, "openClose": true}
-            },
-            "serverInfo": {"name": "gqls"}
-        });
-    }
-    json!(in alloc; {
-        "capabilities": {"textDocumentSync": {"change": 2u64, "openClose": true}},
-        "serverInfo": {"name": "gqls"}
-    })
-}
-
-fn write_range(alloc: Global, range: Range) -> Result<Value, AllocError>
-    ensures { IfOk result (λ v. view v ≡ range_value range) }
-{
-    json!(in alloc; {
-        "end": {"character": range.end.character, "line": range.end.line},
-        "start": {"character": range.start.character, "line": range.start.line}
-    })
-}
-
-fn write_text_edit(alloc: Global, edit: &TextEdit) -> Result<Value, AllocError>
-    ensures { IfOk result (λ v. view v ≡ text_edit_value edit.now) }
-{
-    let range = write_range(alloc, edit.range)?;
-    json!(in alloc; {"newText": edit.new_text.as_str(), "range": range})
-}
-
-fn write_text_edits(alloc: Global, edits: &[TextEdit]) -> Result<Value, AllocError>
-    ensures { IfOk result (λ v. view v ≡ array (items_of (map text_edit_value edits.now))) }
-{
-    let mut values = Vec::new(alloc);
-    for edit in edits {
-        values.push(write_text_edit(alloc, edit)?)?;
-    }
-    Ok(Value::Array(values))
-}
-
-fn write_document_edit(alloc: Global, edit: &TextDocumentEdit) -> Result<Value, AllocError>
-    ensures { IfOk result (λ v. view v ≡ document_edit_value edit.now) }
-{
-    let edits = write_text_edits(alloc, edit.edits.as_slice())?;
-    json!(in alloc; {
-        "edits": edits,
-        "textDocument": {"uri": edit.uri.as_str(), "version": edit.version}
-    })
-}
-
-fn write_document_edits(alloc: Global, edits: &[TextDocumentEdit]) -> Result<Value, AllocError>
-    ensures { IfOk result (λ v. view v ≡ array (items_of (map document_edit_value edits.now))) }
-{
-    let mut values = Vec::new(alloc);
-    for edit in edits {
-        values.push(write_document_edit(alloc, edit)?)?;
-    }
-    Ok(Value::Array(values))
-}
-
-fn write_workspace_edit(alloc: Global, edit: &WorkspaceEdit) -> Result<Value, AllocError>
-    ensures { IfOk result (λ v. view v ≡ workspace_edit_value edit.now) }
-{
-    let changes = write_document_edits(alloc, edit.document_changes.as_slice())?;
-    json!(in alloc; {"documentChanges": changes})
-}
-
 /// A response with a result.
 fn write_response(alloc: Global, id: &Id, result_value: Value) -> Result<Value, AllocError>
     ensures { IfOk result (λ v. view v ≡ response id.now (view result_value)) }
@@ -122,6 +50,8 @@ fn error_code(error: &ResponseError) -> i64
         ResponseError::MethodNotFound => -32601,
         ResponseError::InvalidParams => -32602,
         ResponseError::NotInitialized => -32002,
+        ResponseError::Cancelled => -32800,
+        ResponseError::ContentModified => -32801,
         ResponseError::RequestFailed(_) => -32803,
     }
 }
@@ -135,6 +65,8 @@ fn error_words(error: &ResponseError) -> &str
         ResponseError::MethodNotFound => "method not found",
         ResponseError::InvalidParams => "invalid params",
         ResponseError::NotInitialized => "not initialized",
+        ResponseError::Cancelled => "cancelled",
+        ResponseError::ContentModified => "content modified",
         ResponseError::RequestFailed(why) => why.as_str(),
     }
 }
@@ -153,6 +85,18 @@ fn write_error(alloc: Global, id: &Option<Id>, error: &ResponseError) -> Result<
     })
 }
 
+/// The notification of a document's diagnostics.
+fn write_publish(alloc: Global, params: &PublishDiagnosticsParams) -> Result<Value, AllocError>
+    ensures { IfOk result (λ v. view v ≡ told (codes "textDocument/publishDiagnostics") (diagnostics_value params.now)) }
+{
+    let params = write_diagnostics(alloc, params)?;
+    json!(in alloc; {
+        "jsonrpc": "2.0",
+        "method": "textDocument/publishDiagnostics",
+        "params": params
+    })
+}
+
 /// A message as JSON.
 fn write_value(alloc: Global, message: &Outgoing) -> Result<Value, AllocError>
     ensures { IfOk result (λ v. view v ≡ value_of message.now) }
@@ -161,11 +105,24 @@ fn write_value(alloc: Global, message: &Outgoing) -> Result<Value, AllocError>
         Outgoing::Initialized(id, capabilities) => {
             write_response(alloc, id, write_initialize_result(alloc, *capabilities)?)
         }
+        Outgoing::ShutDown(id) => write_response(alloc, id, Value::Null),
+        Outgoing::Completions(id, completions) => {
+            write_response(alloc, id, write_completions(alloc, completions.as_slice())?)
+        }
+        Outgoing::Hover(id, found) => {
+            write_response(alloc, id, write_found_hover(alloc, found)?)
+        }
+        Outgoing::Locations(id, locations) => {
+            write_response(alloc, id, write_locations(alloc, locations.as_slice())?)
+        }
+        Outgoing::Prepared(id, found) => {
+            write_response(alloc, id, write_found_prepared(alloc, found)?)
+        }
         Outgoing::Renamed(id, edit) => {
             write_response(alloc, id, write_workspace_edit(alloc, edit)?)
         }
-        Outgoing::ShutDown(id) => write_response(alloc, id, Value::Null),
         Outgoing::Error(id, error) => write_error(alloc, id, error),
+        Outgoing::Diagnostics(params) => write_publish(alloc, params),
     }
 }
 

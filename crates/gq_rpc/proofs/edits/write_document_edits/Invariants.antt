@@ -1,7 +1,7 @@
 use Rattle.std.proofs.Common.{◌≡◌, map, take}
 use Rattle.serde_json.specs.View.{view}
 use Rattle.gq_rpc.specs.Encoding.{document_edit_value}
-use Rattle.gq_rpc.proofs.writes.write_document_edits.Given as goal
+use Rattle.gq_rpc.proofs.edits.write_document_edits.Given as goal
 
 abbrev pub invariant-loop-edit : goal.invariant-loop-edit
 invariant-loop-edit l = map view l.values.items ≡ map document_edit_value (take l.edit-index l.edits)

@@ -1,0 +1,74 @@
+-- Members that are put in front of others, in order.
+use Rattle.std.proofs.Common.{◌≡◌, ℕ, List, Bool, true, false, cond, Less, nat_cmp, codes, refl, ap, ◌∙◌}
+use Rattle.std.specs.Cmp.Lexicographic.{slice_cmp}
+use Rattle.std.specs.Ordering.{match_ordering}
+use Rattle.serde_json.specs.Data.{Data, boolean, object, Members, no_members, member, put}
+use Rattle.gq_rpc.specs.Encoding.{member_where, rename_options, capability_members, synchronization}
+use Rattle.gq_rpc.specs.declared.messages.ServerCapabilities.{ServerCapabilities}
+
+-- the name stands before the first member's
+abbrev pub IsInFront : List ℕ → Members → Type 0
+IsInFront k no_members = Unit {0}
+IsInFront k (member l e ms) = slice_cmp nat_cmp k l ≡ Less
+
+in_front-where : (flag : Bool) (k l : List ℕ) (e : Data) (ms : Members) → slice_cmp nat_cmp k l ≡ Less → IsInFront k ms → IsInFront k (member_where flag l e ms)
+in_front-where true k l e ms first others = first
+in_front-where false k l e ms first others = others
+
+put_in_front : (k : List ℕ) (d : Data) (ms : Members) → IsInFront k ms → put k d ms ≡ member k d ms
+put_in_front k d no_members h = refl
+put_in_front k d (member l e ms) h = ap (λ o. match_ordering o (member k d (member l e ms)) (member l d ms) (member l e (put k d ms))) h
+
+put_where : (flag : Bool) (k : List ℕ) (d e : Data) (ms known : Members) → d ≡ e → ms ≡ known → IsInFront k known → cond flag (put k d ms) ms ≡ member_where flag k e known
+put_where true k d e ms known same is h = ap (λ x. put k x ms) same ∙ ap (put k e) is ∙ put_in_front k e known h
+put_where false k d e ms known same is h = is
+
+abbrev from_sync : Members
+from_sync = member (codes "textDocumentSync") synchronization no_members
+
+abbrev from_rename : ServerCapabilities → Members
+from_rename c = member_where c.rename_provider (codes "renameProvider") (rename_options c.prepare_provider) from_sync
+
+abbrev from_references : ServerCapabilities → Members
+from_references c = member_where c.references_provider (codes "referencesProvider") (boolean true) (from_rename c)
+
+abbrev from_hover : ServerCapabilities → Members
+from_hover c = member_where c.hover_provider (codes "hoverProvider") (boolean true) (from_references c)
+
+before_rename : (k : List ℕ) (c : ServerCapabilities) → slice_cmp nat_cmp k (codes "renameProvider") ≡ Less → IsInFront k from_sync → IsInFront k (from_rename c)
+before_rename k c e h = in_front-where c.rename_provider k (codes "renameProvider") (rename_options c.prepare_provider) from_sync e h
+
+before_references : (k : List ℕ) (c : ServerCapabilities) → slice_cmp nat_cmp k (codes "referencesProvider") ≡ Less → IsInFront k (from_rename c) → IsInFront k (from_references c)
+before_references k c e h = in_front-where c.references_provider k (codes "referencesProvider") (boolean true) (from_rename c) e h
+
+before_hover : (k : List ℕ) (c : ServerCapabilities) → slice_cmp nat_cmp k (codes "hoverProvider") ≡ Less → IsInFront k (from_references c) → IsInFront k (from_hover c)
+before_hover k c e h = in_front-where c.hover_provider k (codes "hoverProvider") (boolean true) (from_references c) e h
+
+-- the capabilities, put one after another from the last
+pub capability_members-from_puts : (c : ServerCapabilities) (none m0 m1 m2 m3 m4 m5 : Members) (sync rename references hover definition completion : Data)
+    → none ≡ no_members → m0 ≡ put (codes "textDocumentSync") sync none → sync ≡ synchronization
+    → m1 ≡ cond c.rename_provider (put (codes "renameProvider") rename m0) m0 → rename ≡ rename_options c.prepare_provider
+    → m2 ≡ cond c.references_provider (put (codes "referencesProvider") references m1) m1 → references ≡ boolean true
+    → m3 ≡ cond c.hover_provider (put (codes "hoverProvider") hover m2) m2 → hover ≡ boolean true
+    → m4 ≡ cond c.definition_provider (put (codes "definitionProvider") definition m3) m3 → definition ≡ boolean true
+    → m5 ≡ cond c.completion_provider (put (codes "completionProvider") completion m4) m4 → completion ≡ object no_members
+    → m5 ≡ capability_members c
+capability_members-from_puts c none m0 m1 m2 m3 m4 m5 sync rename references hover definition completion empty e0 d0 e1 d1 e2 d2 e3 d3 e4 d4 e5 d5 =
+    let w0 : Members = from_sync in
+    let w1 : Members = from_rename c in
+    let w2 : Members = from_references c in
+    let w3 : Members = from_hover c in
+    let w4 : Members = member_where c.definition_provider (codes "definitionProvider") (boolean true) w3 in
+    let s0 : m0 ≡ w0 = e0 ∙ ap (put (codes "textDocumentSync") sync) empty ∙ ap (λ d. member (codes "textDocumentSync") d no_members) d0 in
+    let s1 : m1 ≡ w1 = e1 ∙ put_where c.rename_provider (codes "renameProvider") _ _ m0 w0 d1 s0 refl in
+    let f2 : IsInFront (codes "referencesProvider") w1 = before_rename (codes "referencesProvider") c refl refl in
+    let s2 : m2 ≡ w2 = e2 ∙ put_where c.references_provider (codes "referencesProvider") _ _ m1 w1 d2 s1 f2 in
+    let f3 : IsInFront (codes "hoverProvider") w2 = before_references (codes "hoverProvider") c refl (before_rename (codes "hoverProvider") c refl refl) in
+    let s3 : m3 ≡ w3 = e3 ∙ put_where c.hover_provider (codes "hoverProvider") _ _ m2 w2 d3 s2 f3 in
+    let f4 : IsInFront (codes "definitionProvider") w3 =
+    before_hover (codes "definitionProvider") c refl (before_references (codes "definitionProvider") c refl (before_rename (codes "definitionProvider") c refl refl)) in
+    let s4 : m4 ≡ w4 = e4 ∙ put_where c.definition_provider (codes "definitionProvider") _ _ m3 w3 d4 s3 f4 in
+    let f5 : IsInFront (codes "completionProvider") w4 =
+    in_front-where c.definition_provider (codes "completionProvider") (codes "definitionProvider") (boolean true) w3 refl
+    (before_hover (codes "completionProvider") c refl (before_references (codes "completionProvider") c refl (before_rename (codes "completionProvider") c refl refl))) in
+    e5 ∙ put_where c.completion_provider (codes "completionProvider") _ _ m4 w4 d5 s4 f5
