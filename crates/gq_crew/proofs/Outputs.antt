@@ -1,192 +1,202 @@
--- What is written for bodies, one after another.
+-- What is written of what turns put out, one after another.
 use Rattle.std.specs.Prelude.{Vec}
 use Rattle.std.specs.declared.alloc.Global.{Global}
-use Rattle.std.proofs.Common.{◌≡◌, ◌<◌, ◌+◌, length, drop, drop-cons, get_or, add-one, ℕ, List, [], ◌∷◌, ◌++◌, Option, Some, None, refl, ap, sym, ◌∙◌, subst, append_assoc, append-nil}
+use Rattle.std.proofs.Common.{◌≡◌, ◌<◌, ◌+◌, length, map, drop, drop-cons, get_or, add-one, ℕ, suc, List, [], ◌∷◌, ◌++◌, Option, Some, refl, ap, sym, ◌∙◌, subst, append_assoc, append-nil}
 use Rattle.std.specs.Io.KnownBytes.{Appends}
-use Rattle.std.specs.Option.{MatchOption}
-use Rattle.gq_rpc.specs.Decoding.{message_of}
+use Rattle.std.proofs.lemmas.List.{map-append}
+use Rattle.std.proofs.lemmas.List.Concat.{flat_map-append}
 use Rattle.gq_rpc.specs.Devices.{Sent}
 use Rattle.gq_rpc.specs.Frames.{contents}
 use Rattle.gq_rpc.proofs.Sends.{Appends-nil, Appends-trans}
-use Rattle.gq_desk.specs.Session.{State, state_after, stop_of}
-use Rattle.gq_desk.proofs.Answering.{reply_has}
-use Rattle.gq_crew.specs.Output.{written_for, IsOutput, first_of, stop_among, state_at}
-use Rattle.gq_crew.specs.Serving.{Replied, ServesOne, ServesAll}
+use Rattle.gq_desk.specs.declared.event.Event.{Event}
+use Rattle.gq_desk.specs.declared.event.Out.{Out}
+use Rattle.gq_desk.specs.Rules.{Turn, Session}
+use Rattle.gq_desk.specs.Machine.{State, start, after, writes, run, reached, FitsRun}
+use Rattle.gq_crew.specs.Output.{event_of, AreTurnsOf, frame_in, frames_in, stop_in, WroteAll, WroteBefore, TurnsExist}
+use Rattle.gq_crew.specs.Serving.{alone, Takes, ServesOne, ServesAll}
 use Rattle.gq_crew.specs.declared.serving.ServeFault.{ServeFault}
 use Rattle.gq_crew.specs.declared.serving.ServeFault.TheVariants as fault
+use Rattle.gq_crew.specs.declared.serving.Served.{Served}
 use Rattle.gq_crew.specs.declared.serving.Served.TheVariants.{Go, Stop, Failed}
+use Rattle.gq_crew.proofs.Alone.{run-append, reached-append, FitsRun-append, stop_in-append, IsStep, step_at, reached_alone, quiet, quiet_turn, quiet_of, quiet_fits, silent_after, answered_all}
 
--- ---- something may be written
+pub turns_exist : TurnsExist
+turns_exist bodies = (quiet bodies, quiet_of bodies, answered_all (quiet bodies) (quiet_fits (start 0) bodies))
 
--- nothing after a stop
-later_has : (stop : Option ℕ) (Later : List ℕ → Type 0) → (later : List ℕ) × Later later → (later : List ℕ) × MatchOption stop (Later later) (λ status. later ≡ [])
-later_has None Later h = h
-later_has (Some status) Later h = ([], refl)
+-- ---- turns, and then more turns
 
-pub output_has : (s : State) (bodies : List (List ℕ)) → (output : List ℕ) × IsOutput s bodies output
-output_has s [] = ([], refl)
-output_has s (body ∷ bodies) =
-    let m = message_of body in
-    let r = reply_has s m in
-    let l = later_has (stop_of s m) (IsOutput (state_after s m) bodies) (output_has (state_after s m) bodies) in
-    (written_for r.0 ++ l.0, record { reply = r.0; later = l.0; is_reply = r.1; is = refl; goes_on = l.1 })
+pub AreTurnsOf-append : (bodies more : List (List ℕ)) (turns later : List Turn) → AreTurnsOf bodies turns → AreTurnsOf more later → AreTurnsOf (bodies ++ more) (turns ++ later)
+AreTurnsOf-append bodies more turns later first next =
+    map-append (λ turn. turn.event) turns later
+    ∙ (ap (λ (l : List Event). l ++ map (λ turn. turn.event) later) first
+    ∙ (ap (λ (l : List Event). map event_of bodies ++ l) next
+    ∙ sym (map-append event_of bodies more)))
 
--- ---- bodies and then more bodies
-
-first_none : (o later : Option ℕ) → first_of o later ≡ None → o ≡ None
-first_none None later h = refl
-first_none (Some n) later h = absurd (cc)
-
-later_none : (o later : Option ℕ) → first_of o later ≡ None → later ≡ None
-later_none None later h = h
-later_none (Some n) later h = absurd (cc)
-
-pub stop_among-append : (s : State) (bodies more : List (List ℕ)) → stop_among s bodies ≡ None → stop_among s (bodies ++ more) ≡ stop_among (state_at s bodies) more
-stop_among-append s [] more h = refl
-stop_among-append s (body ∷ bodies) more h =
-    let m = message_of body in
-    ap (λ (o : Option ℕ). first_of o (stop_among (state_after s m) (bodies ++ more))) (first_none (stop_of s m) _ h)
-    ∙ stop_among-append (state_after s m) bodies more (later_none (stop_of s m) _ h)
-
-pub state_at-append : (s : State) (bodies more : List (List ℕ)) → state_at s (bodies ++ more) ≡ state_at (state_at s bodies) more
-state_at-append s [] more = refl
-state_at-append s (body ∷ bodies) more = state_at-append (state_after s (message_of body)) bodies more
-
--- without a stop the rest of an output goes on
-goes_on : (o : Option ℕ) (Later : Type 0) (later : List ℕ) → o ≡ None → MatchOption o Later (λ status. later ≡ []) → Later
-goes_on o Later later e h = subst (λ (p : Option ℕ). MatchOption p Later (λ status. later ≡ [])) e h
-
-goes_still : (o : Option ℕ) (Later : Type 0) (later : List ℕ) → o ≡ None → Later → MatchOption o Later (λ status. later ≡ [])
-goes_still o Later later e h = subst (λ (p : Option ℕ). MatchOption p Later (λ status. later ≡ [])) (sym e) h
-
-pub IsOutput-append : (s : State) (bodies more : List (List ℕ)) (output later : List ℕ) → stop_among s bodies ≡ None → IsOutput s bodies output → IsOutput (state_at s bodies) more later
-    → IsOutput s (bodies ++ more) (output ++ later)
-IsOutput-append s [] more output later h is next = subst (λ (o : List ℕ). IsOutput s more (o ++ later)) (sym is) next
-IsOutput-append s (body ∷ bodies) more output later h r next =
-    let m = message_of body in
-    let t = state_after s m in
-    let go = first_none (stop_of s m) _ h in
-    let front = goes_on (stop_of s m) (IsOutput t bodies r.later) r.later go r.goes_on in
-    record {
-      reply = r.reply;
-      later = r.later ++ later;
-      is_reply = r.is_reply;
-      is = ap (λ (o : List ℕ). o ++ later) r.is ∙ append_assoc (written_for r.reply) r.later later;
-      goes_on = goes_still (stop_of s m) (IsOutput t (bodies ++ more) (r.later ++ later)) (r.later ++ later) go (IsOutput-append t bodies more r.later later (later_none (stop_of s m) _ h) front next);
-    }
-
--- ---- one message
-
--- nothing is written after a stop
-stops_there : (stop : Option ℕ) (status : ℕ) (Later : Type 0) (later : List ℕ) → stop ≡ Some status → later ≡ [] → MatchOption stop Later (λ status. later ≡ [])
-stops_there stop status Later later is none = subst (λ (o : Option ℕ). MatchOption o Later (λ status. later ≡ [])) (sym is) none
-
--- an output for one body
-output_one : (s : State) (body : List ℕ) (held held' : Option (List ℕ)) (r : Replied s (message_of body) held held') → stop_of s (message_of body) ≡ None → IsOutput s (body ∷ []) (written_for r.reply)
-output_one s body held held' r go = record {
-  reply = r.reply;
-  later = [];
-  is_reply = r.is_reply;
-  is = sym (append-nil (written_for r.reply));
-  goes_on = goes_still (stop_of s (message_of body)) ([] ≡ []) [] go refl;
+-- a front of the bytes, where more come behind them
+Sent-more : (held held' : Option (List ℕ)) (bytes more : List ℕ) → Sent held held' bytes → Sent held held' (bytes ++ more)
+Sent-more held held' bytes more s = record {
+  front = s.front;
+  back = s.back ++ more;
+  whole = ap (λ (t : List ℕ). t ++ more) s.whole ∙ append_assoc s.front s.back more;
+  written = s.written;
 }
 
--- a front of the bytes in the middle was written
-Sent-within : (held mid last : Option (List ℕ)) (done bytes later : List ℕ) → Appends held mid done → Sent mid last bytes → Sent held last (done ++ (bytes ++ later))
-Sent-within held mid last done bytes later written s = record {
+Sent-behind : (held mid last : Option (List ℕ)) (done bytes : List ℕ) → Appends held mid done → Sent mid last bytes → Sent held last (done ++ bytes)
+Sent-behind held mid last done bytes written s = record {
   front = done ++ s.front;
-  back = s.back ++ later;
-  whole = ap (λ (t : List ℕ). done ++ (t ++ later)) s.whole ∙ ap (λ (t : List ℕ). done ++ t) (append_assoc s.front s.back later) ∙ sym (append_assoc done s.front (s.back ++ later));
+  back = s.back;
+  whole = ap (λ (t : List ℕ). done ++ t) s.whole ∙ sym (append_assoc done s.front s.back);
   written = Appends-trans held mid last done s.front written s.written;
+}
+
+-- turns from a state on, which do not stop, and more turns from where they lead
+module _ (s now : State) (turns more : List Turn) (at : now ≡ reached s turns) (held mid last : Option (List ℕ)) (wrote : WroteAll (run s) turns held mid) where
+  joined_run : run s (turns ++ more) ≡ run s turns ++ run now more
+  joined_run = run-append s turns more ∙ ap (λ (t : State). run s turns ++ run t more) (sym at)
+
+  pub joined_stop : stop_in (run s (turns ++ more)) ≡ stop_in (run now more)
+  joined_stop = ap stop_in joined_run ∙ stop_in-append (run s turns) (run now more) wrote.no_stop
+
+  joined_frames : frames_in (run s turns) ++ frames_in (run now more) ≡ frames_in (run s (turns ++ more))
+  joined_frames = sym (ap frames_in joined_run ∙ flat_map-append frame_in (run s turns) (run now more))
+
+  pub joined_fits : FitsRun s turns → FitsRun now more → FitsRun s (turns ++ more)
+  joined_fits f g = FitsRun-append s turns more f (subst (λ (t : State). FitsRun t more) at g)
+
+  pub joined_reached : reached now more ≡ reached s (turns ++ more)
+  joined_reached = ap (λ (t : State). reached t more) at ∙ sym (reached-append s turns more)
+
+  pub joined_written : Appends mid last (frames_in (run now more)) → Appends held last (frames_in (run s (turns ++ more)))
+  joined_written w = subst (Appends held last) joined_frames (Appends-trans held mid last (frames_in (run s turns)) (frames_in (run now more)) wrote.written w)
+
+  pub joined_all : WroteAll (run now) more mid last → WroteAll (run s) (turns ++ more) held last
+  joined_all w = record { no_stop = joined_stop ∙ w.no_stop; written = joined_written w.written }
+
+  pub joined_sent : Sent mid last (frames_in (run now more)) → Sent held last (frames_in (run s (turns ++ more)))
+  joined_sent w = subst (Sent held last) joined_frames (Sent-behind held mid last (frames_in (run s turns)) (frames_in (run now more)) wrote.written w)
+
+pub joined_before : (s now : State) (turns more : List Turn) → now ≡ reached s turns → (held mid last : Option (List ℕ)) → WroteAll (run s) turns held mid → WroteBefore (run now) more mid last
+    → WroteBefore (run s) (turns ++ more) held last
+joined_before s now turns more at held mid last wrote next = record {
+  answered = turns ++ next.answered;
+  turn = next.turn;
+  left = next.left;
+  whole = ap (λ (l : List Turn). turns ++ l) next.whole ∙ sym (append_assoc turns next.answered (next.turn ∷ next.left));
+  wrote = joined_all s now turns next.answered at held mid last wrote next.wrote;
 }
 
 -- ---- bodies, one after another
 
 -- what was done for the front of the bodies, and what is left
-pub record Going (old now : State) (held held' : Option (List ℕ)) (bodies left : List (List ℕ)) : Type 0 where
+pub record Going (s : Session) (now : Option State) (held held' : Option (List ℕ)) (bodies left : List (List ℕ)) : Type 0 where
   pub front : List (List ℕ)
-  pub output : List ℕ
+  pub turns : List Turn
   pub whole : bodies ≡ front ++ left
-  pub written : Appends held held' output
-  pub is_output : IsOutput old front output
-  pub no_stop : stop_among old front ≡ None
-  pub comes_to : now ≡ state_at old front
+  pub are_turns : AreTurnsOf front turns
+  pub fits : FitsRun (alone s) turns
+  pub comes_to : now ≡ Some (reached (alone s) turns)
+  pub wrote : WroteAll (run (alone s)) turns held held'
 
-pub Going-none : (s : State) (held : Option (List ℕ)) (bodies : List (List ℕ)) → Going s s held held bodies bodies
-Going-none s held bodies = record { front = []; output = []; whole = refl; written = Appends-nil held; is_output = refl; no_stop = refl; comes_to = refl }
+pub Going-none : (s : Session) (desk : Option State) (held : Option (List ℕ)) (bodies : List (List ℕ)) → desk ≡ Some (alone s) → Going s desk held held bodies bodies
+Going-none s desk held bodies is = record {
+  front = [];
+  turns = [];
+  whole = refl;
+  are_turns = refl;
+  fits = tt;
+  comes_to = is;
+  wrote = record { no_stop = refl; written = Appends-nil held };
+}
 
 -- all were served
-pub Going-all : (old now : State) (held held' : Option (List ℕ)) (bodies : List (List ℕ)) → Going old now held held' bodies [] → ServesAll old now held held' bodies Go
-Going-all old now held held' bodies g =
-    let same : g.front ≡ bodies = sym (g.whole ∙ append-nil g.front) in (
-      subst (λ (b : List (List ℕ)). stop_among old b ≡ None) same g.no_stop,
-      subst (λ (b : List (List ℕ)). now ≡ state_at old b) same g.comes_to,
-      record { output = g.output; is_output = subst (λ (b : List (List ℕ)). IsOutput old b g.output) same g.is_output; written = g.written },
-    )
+pub Going-all : (s : Session) (now : Option State) (held held' : Option (List ℕ)) (bodies : List (List ℕ)) → Going s now held held' bodies [] → ServesAll (alone s) bodies now held held' Go
+Going-all s now held held' bodies g = record {
+  turns = g.turns;
+  are_turns = subst (λ (b : List (List ℕ)). AreTurnsOf b g.turns) (sym (g.whole ∙ append-nil g.front)) g.are_turns;
+  fits = g.fits;
+  comes = (g.comes_to, g.wrote);
+}
 
-module _ (old now new : State) (held mid last : Option (List ℕ)) (bodies left : List (List ℕ)) (body : List ℕ) (g : Going old now held mid bodies (body ∷ left)) where
-  -- an output for the bodies from here on makes one for all
-  output_with : (more : List (List ℕ)) (later : List ℕ) → IsOutput now more later → IsOutput old (g.front ++ more) (g.output ++ later)
-  output_with more later h = IsOutput-append old g.front more g.output later g.no_stop g.is_output (subst (λ (t : State). IsOutput t more later) g.comes_to h)
+module _ (s : Session) (now new : Option State) (held mid last : Option (List ℕ)) (bodies left : List (List ℕ)) (body : List ℕ) (g : Going s now held mid bodies (body ∷ left)) where
+  -- where the desk stands
+  abbrev here : State
+  here = reached (alone s) g.turns
 
-  stop_with : (more : List (List ℕ)) → stop_among old (g.front ++ more) ≡ stop_among now more
-  stop_with more = stop_among-append old g.front more g.no_stop ∙ ap (λ (t : State). stop_among t more) (sym g.comes_to)
+  step : (served : Served) (t : Takes now (event_of body) new mid last served) → IsStep here (event_of body) t.outs new
+  step served t = step_at here now (event_of body) t.outs new g.comes_to t.steps
+
+  -- the turns of all bodies, where this one's is known
+  all_turns : (turn : Turn) (more : List Turn) → turn.event ≡ event_of body → AreTurnsOf left more → AreTurnsOf bodies (g.turns ++ turn ∷ more)
+  all_turns turn more of behind =
+      subst (λ (b : List (List ℕ)). AreTurnsOf b (g.turns ++ turn ∷ more)) (sym g.whole)
+      (AreTurnsOf-append g.front (body ∷ left) g.turns (turn ∷ more) g.are_turns (ap (λ (e : Event). e ∷ map (λ t. t.event) more) of ∙ ap (λ (l : List Event). event_of body ∷ l) behind))
+
+  all_fits : (turn : Turn) (more : List Turn) → FitsRun here (turn ∷ more) → FitsRun (alone s) (g.turns ++ turn ∷ more)
+  all_fits turn more f = joined_fits (alone s) here g.turns (turn ∷ more) refl held mid last g.wrote g.fits f
+
+  -- a step, and nothing behind it
+  alone_run : (outs : List Out) (turn : Turn) (more : List Turn) → outs ≡ writes here turn → run (after here turn) more ≡ [] → outs ≡ run here (turn ∷ more)
+  alone_run outs turn more is nothing = is ∙ sym (ap (λ (l : List Out). writes here turn ++ l) nothing ∙ append-nil (writes here turn))
 
   -- one body was served, and the session goes on
-  pub Going-one : ServesOne now new mid last (message_of body) Go → Going old new held last bodies left
-  Going-one served =
-      let m = message_of body in
-      let r = served.2 in
+  pub Going-one : ServesOne now (event_of body) new mid last Go → Going s new held last bodies left
+  Going-one t =
+      let st = step Go t in
+      let more = st.turn ∷ [] in
+      let same = alone_run t.outs st.turn [] st.outputs refl in
       record {
         front = g.front ++ body ∷ [];
-        output = g.output ++ written_for r.reply;
+        turns = g.turns ++ more;
         whole = g.whole ∙ sym (append_assoc g.front (body ∷ []) left);
-        written = Appends-trans held mid last g.output (written_for r.reply) g.written r.written;
-        is_output = output_with (body ∷ []) (written_for r.reply) (output_one now body mid last r served.0);
-        no_stop = stop_with (body ∷ []) ∙ ap (λ (o : Option ℕ). first_of o None) served.0;
-        comes_to = served.1 ∙ ap (λ (t : State). state_after t m) g.comes_to ∙ sym (state_at-append old g.front (body ∷ []));
+        are_turns = AreTurnsOf-append g.front (body ∷ []) g.turns more g.are_turns (ap (λ (e : Event). e ∷ []) st.of);
+        fits = all_fits st.turn [] (st.fits, tt);
+        comes_to = st.state ∙ ap (λ (u : State). Some u) (joined_reached (alone s) here g.turns more refl held mid last g.wrote);
+        wrote = joined_all (alone s) here g.turns more refl held mid last g.wrote
+            (record { no_stop = ap stop_in (sym same) ∙ t.tells.0; written = subst (λ (l : List Out). Appends mid last (frames_in l)) same t.tells.1 });
       }
 
   -- a body stopped the session
-  pub Going-stop : (status : ℕ) → ServesOne now new mid last (message_of body) (Stop status) → ServesAll old new held last bodies (Stop status)
-  Going-stop status served =
-      let m = message_of body in
-      let r = served.1 in
-      let reply = written_for r.reply in
-      let output : IsOutput now (body ∷ left) reply = record {
-        reply = r.reply;
-        later = [];
-        is_reply = r.is_reply;
-        is = sym (append-nil reply);
-        goes_on = stops_there (stop_of now m) status (IsOutput (state_after now m) left []) [] served.0 refl;
-      } in (
-        ap (stop_among old) g.whole ∙ stop_with (body ∷ left) ∙ ap (λ (o : Option ℕ). first_of o (stop_among (state_after now m) left)) served.0,
-        record {
-          output = g.output ++ reply;
-          is_output = subst (λ (b : List (List ℕ)). IsOutput old b (g.output ++ reply)) (sym g.whole) (output_with (body ∷ left) reply output);
-          written = Appends-trans held mid last g.output reply g.written r.written;
-        },
-      )
+  pub Going-stop : (status : ℕ) → ServesOne now (event_of body) new mid last (Stop status) → ServesAll (alone s) bodies new held last (Stop status)
+  Going-stop status t =
+      let st = step (Stop status) t in
+      let more = st.turn ∷ quiet left in
+      let nothing = silent_after here (reached_alone s g.turns) st.turn status left (ap stop_in (sym st.outputs) ∙ t.tells.0) in
+      let same = alone_run t.outs st.turn (quiet left) st.outputs nothing in
+      record {
+        turns = g.turns ++ more;
+        are_turns = all_turns st.turn (quiet left) st.of (quiet_of left);
+        fits = all_fits st.turn (quiet left) (st.fits, quiet_fits (after here st.turn) left);
+        comes = (
+          joined_stop (alone s) here g.turns more refl held mid last g.wrote ∙ (ap stop_in (sym same) ∙ t.tells.0),
+          joined_written (alone s) here g.turns more refl held mid last g.wrote (subst (λ (l : List Out). Appends mid last (frames_in l)) same t.tells.1),
+        );
+      }
 
   -- a fault cut the output
-  pub Going-failed : (why : ServeFault) → ServesOne now new mid last (message_of body) (Failed why) → ServesAll old new held last bodies (Failed why)
-  Going-failed fault.Device r =
-      let m = message_of body in
-      let reply = written_for r.reply in
-      let l = later_has (stop_of now m) (IsOutput (state_after now m) left) (output_has (state_after now m) left) in
+  pub Going-failed : (why : ServeFault) → ServesOne now (event_of body) new mid last (Failed why) → ServesAll (alone s) bodies new held last (Failed why)
+  Going-failed fault.Device t =
+      let st = step (Failed fault.Device) t in
+      let more = st.turn ∷ quiet left in
+      let behind = run (after here st.turn) (quiet left) in
+      let same : frames_in t.outs ++ frames_in behind ≡ frames_in (run here more) =
+      ap (λ (l : List Out). frames_in l ++ frames_in behind) st.outputs ∙ sym (flat_map-append frame_in (writes here st.turn) behind) in
       record {
-        output = g.output ++ (reply ++ l.0);
-        is_output = subst (λ (b : List (List ℕ)). IsOutput old b (g.output ++ (reply ++ l.0))) (sym g.whole)
-            (output_with (body ∷ left) (reply ++ l.0) (record { reply = r.reply; later = l.0; is_reply = r.is_reply; is = refl; goes_on = l.1 }));
-        sent = Sent-within held mid last g.output reply l.0 g.written r.sent;
+        turns = g.turns ++ more;
+        are_turns = all_turns st.turn (quiet left) st.of (quiet_of left);
+        fits = all_fits st.turn (quiet left) (st.fits, quiet_fits (after here st.turn) left);
+        comes = joined_sent (alone s) here g.turns more refl held mid last g.wrote (subst (Sent mid last) same (Sent-more mid last (frames_in t.outs) (frames_in behind) t.tells));
       }
   Going-failed fault.NoMemory nothing = record {
-    answered = g.front;
-    body = body;
-    left = left;
-    whole = g.whole;
-    no_stop = g.no_stop;
-    wrote = record { output = g.output; is_output = g.is_output; written = subst (λ (h : Option (List ℕ)). Appends held h g.output) (sym nothing) g.written };
+    turns = g.turns ++ quiet (body ∷ left);
+    are_turns = all_turns (quiet_turn body) (quiet left) refl (quiet_of left);
+    fits = all_fits (quiet_turn body) (quiet left) (quiet_fits here (body ∷ left));
+    comes = record {
+      answered = g.turns;
+      turn = quiet_turn body;
+      left = quiet left;
+      whole = refl;
+      wrote = subst (λ (h : Option (List ℕ)). WroteAll (run (alone s)) g.turns held h) (sym nothing) g.wrote;
+    };
   }
 
 -- ---- the vectors that hold the bodies
@@ -205,5 +215,11 @@ contents-front vectors i x body h is same =
     ∙ ap (λ (b : List ℕ). b ∷ contents (drop (i + 1) vectors)) (sym same)
 
 -- what is left, under another name
-pub Going-same : (old now : State) (held held' : Option (List ℕ)) (bodies left other : List (List ℕ)) → left ≡ other → Going old now held held' bodies left → Going old now held held' bodies other
-Going-same old now held held' bodies left other e g = subst (Going old now held held' bodies) e g
+pub Going-same : (s : Session) (now : Option State) (held held' : Option (List ℕ)) (bodies left other : List (List ℕ)) → left ≡ other → Going s now held held' bodies left → Going s now held held' bodies other
+Going-same s now held held' bodies left other e g = subst (Going s now held held' bodies) e g
+
+-- ---- outputs, one after another
+
+-- the first of those that are left
+outs-drop : (outs : List Out) (i : ℕ) (o : Out) → i < length outs → o ≡ get_or outs i o → drop i outs ≡ o ∷ drop (i + 1) outs
+outs-drop outs i o h is = drop-cons outs i o h ∙ (ap (λ (x : Out). x ∷ drop (suc i) outs) (sym is) ∙ ap (λ (n : ℕ). o ∷ drop n outs) (sym (add-one i)))

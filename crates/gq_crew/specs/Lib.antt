@@ -1,4 +1,4 @@
 pub mod Output
-pub mod Runs
 pub mod Serving
-pub mod Turns
+pub mod Runs
+pub mod Progress

@@ -1,70 +1,61 @@
--- What is written for the bodies of messages that were read.
-use Rattle.std.specs.Prelude.{◌≡◌, ℕ, List, [], ◌∷◌, ◌++◌, Option, Some, None}
+-- What a desk without workers puts out for bodies of messages, and the bytes that are written of it.
+use Rattle.std.specs.Prelude.{◌≡◌, ℕ, ◌<◌, length, List, [], ◌∷◌, ◌++◌, map, flat_map, Option, Some, None}
 use Rattle.std.specs.Io.KnownBytes.{Appends}
-use Rattle.std.specs.Option.{MatchOption}
 use Rattle.gq_rpc.specs.Decoding.{message_of}
-use Rattle.gq_rpc.specs.Devices.{Sent}
 use Rattle.gq_rpc.specs.Encoding.{frame_of}
-use Rattle.gq_rpc.specs.declared.messages.Incoming.{Incoming}
-use Rattle.gq_rpc.specs.declared.messages.Outgoing.{Outgoing}
-use Rattle.gq_desk.specs.Session.{State, state_after, stop_of}
-use Rattle.gq_desk.specs.Replies.{IsReply}
+use Rattle.gq_desk.specs.declared.event.Event.{Event}
+use Rattle.gq_desk.specs.declared.event.Event.TheVariants as event
+use Rattle.gq_desk.specs.declared.event.Out.{Out}
+use Rattle.gq_desk.specs.declared.event.Out.TheVariants as out
+use Rattle.gq_desk.specs.Rules.{Turn}
+use Rattle.gq_desk.specs.History.{IsAnswered}
 
--- the frame of a reply, if there is one
-abbrev pub written_for : Option Outgoing → List ℕ
-written_for None = []
-written_for (Some reply) = frame_of reply
+-- the event that a body is
+abbrev pub event_of : List ℕ → Event
+event_of body = event.Message (message_of body)
 
--- what is written for a message: the frame of a reply to it, and then, unless it stops the session, what is written later
-pub record RepliesFirst (s : State) (message : Incoming) (Later : List ℕ → Type 0) (output : List ℕ) : Type 0 where
-  pub reply : Option Outgoing
-  pub later : List ℕ
-  pub is_reply : IsReply s message reply
-  pub is : output ≡ written_for reply ++ later
-  pub goes_on : MatchOption (stop_of s message) (Later later) (λ status. later ≡ [])
+-- the turns of these bodies, in order
+abbrev pub AreTurnsOf : List (List ℕ) → List Turn → Type 0
+AreTurnsOf bodies turns = map (λ turn. turn.event) turns ≡ map event_of bodies
 
--- the frames of replies to these bodies, in order, up to the first stop
-abbrev pub IsOutput : State → List (List ℕ) → List ℕ → Type 0
-IsOutput s [] output = output ≡ []
-IsOutput s (body ∷ bodies) output =
-    RepliesFirst s (message_of body) (IsOutput (state_after s (message_of body)) bodies) output
+-- the frame of a reply or a notification
+abbrev pub frame_in : Out → List ℕ
+frame_in (out.Reply message) = frame_of message
+frame_in (out.Notify message) = frame_of message
+frame_in (out.Publish change) = []
+frame_in (out.Job job) = []
+frame_in (out.Stop status) = []
 
--- the first of two
-abbrev pub first_of : Option ℕ → Option ℕ → Option ℕ
-first_of (Some status) later = Some status
-first_of None later = later
+-- the frames of all, in order
+abbrev pub frames_in : List Out → List ℕ
+frames_in outs = flat_map frame_in outs
 
--- the status of the first stop among these bodies
-abbrev pub stop_among : State → List (List ℕ) → Option ℕ
-stop_among s [] = None
-stop_among s (body ∷ bodies) = first_of (stop_of s (message_of body)) (stop_among (state_after s (message_of body)) bodies)
+-- the status of a stop, or else that of a later one
+abbrev pub or_stop : Out → Option ℕ → Option ℕ
+or_stop (out.Stop status) later = Some status
+or_stop (out.Reply message) later = later
+or_stop (out.Notify message) later = later
+or_stop (out.Publish change) later = later
+or_stop (out.Job job) later = later
 
--- what the session has come to after these bodies
-abbrev pub state_at : State → List (List ℕ) → State
-state_at s [] = s
-state_at s (body ∷ bodies) = state_at (state_after s (message_of body)) bodies
+-- the status of the first stop
+abbrev pub stop_in : List Out → Option ℕ
+stop_in [] = None
+stop_in (o ∷ outs) = or_stop o (stop_in outs)
 
--- an output for the bodies was written
-pub record Wrote (s : State) (bodies : List (List ℕ)) (held held' : Option (List ℕ)) : Type 0 where
-  pub output : List ℕ
-  pub is_output : IsOutput s bodies output
-  pub written : Appends held held' output
+-- what was written, where `puts` is what turns put out: all frames, and no stop
+pub record WroteAll (puts : List Turn → List Out) (turns : List Turn) (held held' : Option (List ℕ)) : Type 0 where
+  pub no_stop : stop_in (puts turns) ≡ None
+  pub written : Appends held held' (frames_in (puts turns))
 
--- one for the bodies before one of them was, and nothing for that one and those behind it
-pub record WroteBefore (s : State) (bodies : List (List ℕ)) (held held' : Option (List ℕ)) : Type 0 where
-  pub answered : List (List ℕ)
-  pub body : List ℕ
-  pub left : List (List ℕ)
-  pub whole : bodies ≡ answered ++ body ∷ left
-  pub no_stop : stop_among s answered ≡ None
-  pub wrote : Wrote s answered held held'
+-- all frames of the turns before one of them, and nothing of that one and those behind it
+pub record WroteBefore (puts : List Turn → List Out) (turns : List Turn) (held held' : Option (List ℕ)) : Type 0 where
+  pub answered : List Turn
+  pub turn : Turn
+  pub left : List Turn
+  pub whole : turns ≡ answered ++ turn ∷ left
+  pub wrote : WroteAll puts answered held held'
 
--- a front of one was
-pub record WroteInPart (s : State) (bodies : List (List ℕ)) (held held' : Option (List ℕ)) : Type 0 where
-  pub output : List ℕ
-  pub is_output : IsOutput s bodies output
-  pub sent : Sent held held' output
-
--- for any bodies something may be written
-abbrev pub OutputsExist : Type 0
-OutputsExist = (s : State) (bodies : List (List ℕ)) → (output : List ℕ) × IsOutput s bodies output
+-- for any bodies there are turns, and their answers may be right
+abbrev pub TurnsExist : Type 0
+TurnsExist = (bodies : List (List ℕ)) → (turns : List Turn) × AreTurnsOf bodies turns × ((j : ℕ) → j < length turns → IsAnswered 0 turns j)

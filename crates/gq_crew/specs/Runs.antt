@@ -1,15 +1,18 @@
 -- A run: the bytes that were read, the bodies that stand in them, and how it ended.
-use Rattle.std.specs.Prelude.{◌≡◌, ◌≢◌, ◌⊎◌, ℕ, ◌≤◌, ◌^◌, List, [], ◌++◌, length, Bool, true, Option, Some, None}
+use Rattle.std.specs.Prelude.{◌≡◌, ◌≢◌, ◌⊎◌, ℕ, ◌<◌, ◌≤◌, ◌^◌, List, [], ◌++◌, length, Bool, true, Option, Some, None}
 use Rattle.std.specs.Io.KnownBytes.{Appends, Consumes, IsAtEnd}
+use Rattle.gq_rpc.specs.Devices.{Sent}
 use Rattle.gq_rpc.specs.Frames.{Cuts, scan_of}
 use Rattle.gq_rpc.specs.declared.header.Scan.TheVariants.{Partial, Bad}
 use Rattle.gq_rpc.specs.declared.header.FrameFault.{FrameFault}
 use Rattle.gq_rpc.specs.declared.header.FrameFault.TheVariants as frame
-use Rattle.gq_desk.specs.Session.{State}
+use Rattle.gq_desk.specs.declared.event.Out.{Out}
+use Rattle.gq_desk.specs.Rules.{Turn}
+use Rattle.gq_desk.specs.History.{outputs, IsAnswered}
 use Rattle.gq_crew.specs.declared.run.Ended.{Ended}
 use Rattle.gq_crew.specs.declared.run.RunFault.{RunFault}
 use Rattle.gq_crew.specs.declared.run.RunFault.TheVariants.{Frame, Device, NoMemory}
-use Rattle.gq_crew.specs.Output.{IsOutput, Wrote, WroteBefore, WroteInPart, stop_among}
+use Rattle.gq_crew.specs.Output.{AreTurnsOf, frames_in, stop_in, WroteAll, WroteBefore}
 
 -- how a source stands after a run: the bytes that it has left, where they are known, and whether a read has told the
 -- end, or has failed
@@ -28,19 +31,19 @@ pub record TellsEnd (source : SourceAfter) : Type 0 where
   pub told : source.ended ≡ true
   pub nothing_left : IsAtEnd source.left
 
--- what a run came to: the bodies that stand in the bytes read, the rest behind them, how the source stands, and what the sink held before and holds then
+-- what a run came to: what turns put out, the turns of the bodies that stand in the bytes read, the rest behind them, how
+-- the source stands, and what the sink held before and holds then
 pub record Reached : Type 0 where
-  pub began : State
-  pub bodies : List (List ℕ)
+  pub puts : List Turn → List Out
+  pub turns : List Turn
   pub rest : List ℕ
   pub source : SourceAfter
   pub held : Option (List ℕ)
   pub sink : SinkAfter
 
--- no body stops the session, and an output for all was written
-pub record AnswersAll (run : Reached) : Type 0 where
-  pub no_stop : stop_among run.began run.bodies ≡ None
-  pub wrote : Wrote run.began run.bodies run.held run.sink.held
+-- no turn stops the session, and the frames of all that they put out were written
+abbrev pub AnswersAll : Reached → Type 0
+AnswersAll run = WroteAll run.puts run.turns run.held run.sink.held
 
 -- the status is that of a stop, or of the end of the input, which stood behind a whole frame
 abbrev pub IsEnd : Option ℕ → ℕ → List ℕ → SourceAfter → Type 0
@@ -49,8 +52,8 @@ IsEnd None status rest source = (status ≡ 1) × (rest ≡ []) × TellsEnd sour
 
 -- the run ended without a fault, at the first stop or the end of the input
 pub record Finishes (run : Reached) (status : ℕ) : Type 0 where
-  pub wrote : Wrote run.began run.bodies run.held run.sink.held
-  pub is_end : IsEnd (stop_among run.began run.bodies) status run.rest run.source
+  pub written : Appends run.held run.sink.held (frames_in (run.puts run.turns))
+  pub is_end : IsEnd (stop_in (run.puts run.turns)) status run.rest run.source
 
 -- why no frame can be read from the rest: it begins with none, or the input ended inside one, or a growth was refused
 abbrev pub IsFrameFault : FrameFault → List ℕ → SourceAfter → Type 0
@@ -66,10 +69,10 @@ pub record FindsNoFrame (run : Reached) (why : FrameFault) : Type 0 where
   pub answers : AnswersAll run
   pub is_fault : IsFrameFault why run.rest run.source
 
--- the sink has failed; a front of an output was written
+-- the sink has failed; a front of the frames was written
 pub record SinkFails (run : Reached) : Type 0 where
   pub failed : run.sink.failed ≡ true
-  pub front : WroteInPart run.began run.bodies run.held run.sink.held
+  pub front : Sent run.held run.sink.held (frames_in (run.puts run.turns))
 
 -- so many bodies a run answers; then it ends
 abbrev pub bodies_max : ℕ
@@ -77,7 +80,7 @@ bodies_max = 2 ^ 60
 
 -- the source has failed, or so many bodies were read; all were answered, and what is left is less than a frame
 pub record SourceFails (run : Reached) : Type 0 where
-  pub failed : (run.source.failed ≡ true) ⊎ (bodies_max ≤ length run.bodies)
+  pub failed : (run.source.failed ≡ true) ⊎ (bodies_max ≤ length run.turns)
   pub answers : AnswersAll run
   pub partial : scan_of run.rest ≡ Partial
 
@@ -86,34 +89,41 @@ abbrev pub Ends : Reached → ℕ → Option RunFault → Type 0
 Ends run status None = Finishes run status
 Ends run status (Some (Frame why)) = (status ≡ 3) × FindsNoFrame run why
 Ends run status (Some Device) = (status ≡ 3) × (SinkFails run ⊎ SourceFails run)
-Ends run status (Some NoMemory) = (status ≡ 3) × WroteBefore run.began run.bodies run.held run.sink.held
+Ends run status (Some NoMemory) = (status ≡ 3) × WroteBefore run.puts run.turns run.held run.sink.held
 
 -- so many bytes one read gives, at most
 abbrev pub piece_max : ℕ
 piece_max = 16384
 
 -- what stands in the bytes of all reads but the last one was answered, without a stop, and what was written begins with that
-pub record AnswersEarlier (s : State) (read : List ℕ) (held held' : Option (List ℕ)) : Type 0 where
+pub record AnswersEarlier (puts : List Turn → List Out) (turns : List Turn) (read : List ℕ) (held held' : Option (List ℕ)) : Type 0 where
   pub earlier : List ℕ
   pub piece : List ℕ
   pub bodies : List (List ℕ)
   pub rest : List ℕ
-  pub output : List ℕ
+  pub front : List Turn
+  pub later : List Turn
   pub more : List ℕ
   pub whole : read ≡ earlier ++ piece
   pub short : length piece ≤ piece_max
   pub cuts : Cuts earlier bodies rest
   pub partial : scan_of rest ≡ Partial
-  pub no_stop : stop_among s bodies ≡ None
-  pub is_output : IsOutput s bodies output
-  pub written : Appends held held' (output ++ more)
+  pub are_turns : AreTurnsOf bodies front
+  pub begins : turns ≡ front ++ later
+  pub no_stop : stop_in (puts front) ≡ None
+  pub written : Appends held held' (frames_in (puts front) ++ more)
 
--- a run: the bytes read, the bodies that stand in them, and the frames of replies to these
-pub record Runs (s : State) (left : Option (List ℕ)) (source : SourceAfter) (held : Option (List ℕ)) (sink : SinkAfter) (ended : Ended) : Type 0 where
+-- A run: the bytes read, the bodies that stand in them, and the turns of a desk without workers whose events are their
+-- messages, in order, each task that they bring answered as is defined. What is written is the frames of what these turns
+-- put out, as the list of events tells it.
+pub record Runs (left : Option (List ℕ)) (source : SourceAfter) (held : Option (List ℕ)) (sink : SinkAfter) (ended : Ended) : Type 0 where
   pub read : List ℕ
   pub bodies : List (List ℕ)
   pub rest : List ℕ
+  pub turns : List Turn
   pub took : Consumes left source.left read
   pub cuts : Cuts read bodies rest
-  pub earlier : AnswersEarlier s read held sink.held
-  pub ends : Ends (record { began = s; bodies = bodies; rest = rest; source = source; held = held; sink = sink }) ended.status ended.fault
+  pub are_turns : AreTurnsOf bodies turns
+  pub answered : (j : ℕ) → j < length turns → IsAnswered 0 turns j
+  pub earlier : AnswersEarlier (outputs 0) turns read held sink.held
+  pub ends : Ends (record { puts = outputs 0; turns = turns; rest = rest; source = source; held = held; sink = sink }) ended.status ended.fault

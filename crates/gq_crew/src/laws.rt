@@ -1,7 +1,7 @@
-//! What the definition of an output means.
-ghost use Rattle.gq_crew.specs.Output.{OutputsExist};
+//! What the definition of a run's turns means.
+ghost use Rattle.gq_crew.specs.Output.{TurnsExist};
 
-/// For any bodies, and whatever the session has come to, something may be written.
-pub fn outputs_exist()
-    ensures { OutputsExist }
+/// For any bodies there are turns.
+pub fn turns_exist()
+    ensures { TurnsExist }
 {}

@@ -2,9 +2,9 @@
 ghost use Rattle.std.specs.Prelude.{Bool, Option, List, ℕ, ◌≡◌, ◌<◌, length, true, false, Some, None, IfSome};
 ghost use Rattle.gq_rpc.specs.Frames.{scan_of};
 ghost use Rattle.gq_rpc.specs.declared.header.Scan.TheVariants.{Partial};
-ghost use Rattle.gq_desk.specs.Session.{start};
 ghost use Rattle.gq_crew.specs.Runs.{SourceAfter, Runs};
-ghost use Rattle.gq_crew.specs.Turns.{TellsFault, TakesPiece, Turns};
+ghost use Rattle.gq_crew.specs.Serving.{IsAlone, alone, session_in};
+ghost use Rattle.gq_crew.specs.Progress.{TellsFault, TakesPiece, ReadsOnce};
 
 use crate::serving::{ServeFault, Served, serve_bodies};
 use gq_desk::Desk;
@@ -14,6 +14,9 @@ use thiserror::Error;
 
 /// How many bytes are read at once, at most.
 const BUFFER_LEN: usize = 16_384;
+
+/// How many workers there are beside this thread.
+const WORKERS: u8 = 0;
 
 /// How many bodies a run answers before it ends.
 const BODIES_MAX: u64 = 1 << 60;
@@ -48,27 +51,27 @@ pub struct Ended {
 
 /// What one read led to.
 #[derive(Clone, Copy, Debug, PartialEq, Eq)]
-pub enum Turn {
+pub enum Progress {
     /// So many bodies were answered, and there is more to read.
     Again(usize),
     Done(Ended),
 }
 
 /// The end at a fault.
-fn failed(fault: RunFault) -> Turn
-    ensures { result ≡ Turn.Done (record { status = 3; fault = Some fault }) }
+fn failed(fault: RunFault) -> Progress
+    ensures { result ≡ Progress.Done (record { status = 3; fault = Some fault }) }
 {
-    Turn::Done(Ended {
+    Progress::Done(Ended {
         status: FAULT_STATUS,
         fault: Some(fault),
     })
 }
 
 /// The end without one.
-fn stopped(status: u8) -> Turn
-    ensures { result ≡ Turn.Done (record { status = status; fault = None }) }
+fn stopped(status: u8) -> Progress
+    ensures { result ≡ Progress.Done (record { status = status; fault = None }) }
 {
-    Turn::Done(Ended {
+    Progress::Done(Ended {
         status,
         fault: None,
     })
@@ -81,10 +84,11 @@ fn take_piece<K: Sink>(
     framer: &mut Framer,
     piece: &[u8],
     output: &mut K,
-) -> Turn
+) -> Progress
     requires works { K.failed output.old ≡ false }
+    requires alone { IsAlone desk.old }
     requires some { 0 < length piece.now }
-    ensures takes { IfSome framer.old (λ before. (source : SourceAfter) → TakesPiece desk.old desk.new before piece.now framer.new source
+    ensures takes { IfSome framer.old (λ before. (source : SourceAfter) → TakesPiece (alone (session_in desk.old)) desk.new before piece.now framer.new source
         (K.held output.old) (record { held = K.held output.new; failed = K.failed output.new }) result) }
     ensures sink { TellsFault (K.failed output.new) result }
 {
@@ -95,25 +99,26 @@ fn take_piece<K: Sink>(
         Served::Failed(ServeFault::Device) => failed(RunFault::Device),
         Served::Failed(ServeFault::NoMemory) => failed(RunFault::NoMemory),
         Served::Go => match answer {
-            Ok(()) => Turn::Again(bodies.len()),
+            Ok(()) => Progress::Again(bodies.len()),
             Err(fault) => failed(RunFault::Frame(fault)),
         },
     }
 }
 
 /// Reads once, and serves what the bytes complete.
-fn take_turn<S: Source, K: Sink>(
+fn read_once<S: Source, K: Sink>(
     alloc: Global,
     desk: &mut Desk,
     framer: &mut Framer,
     buffer: &mut [u8],
     input: &mut S,
     output: &mut K,
-) -> Turn
+) -> Progress
     requires sound { S.failed input.old ≡ false }
     requires works { K.failed output.old ≡ false }
+    requires alone { IsAlone desk.old }
     requires room { 0 < length buffer.old }
-    ensures turns { IfSome framer.old (λ before. scan_of before ≡ Partial → Turns desk.old desk.new (length buffer.old) before framer.new (S.left input.old)
+    ensures reads { IfSome framer.old (λ before. scan_of before ≡ Partial → ReadsOnce (alone (session_in desk.old)) desk.new (length buffer.old) before framer.new (S.left input.old)
         (record { left = S.left input.new; ended = S.ended input.new; failed = S.failed input.new })
         (K.held output.old) (record { held = K.held output.new; failed = K.failed output.new }) result) }
     ensures source { TellsFault (S.failed input.new) result }
@@ -129,25 +134,26 @@ fn take_turn<S: Source, K: Sink>(
     }
 }
 
-/// Reads the input up to `exit`, its end or a fault, and writes the frames of replies to the bodies that stand in it, in
-/// order, however the reads cut it; what one read completes is answered before the next. After a fault of memory or of the
-/// sink what was written is a front of these frames. Neither device may have failed before.
+/// Reads the input up to `exit`, its end or a fault, and writes the frames of the replies and notifications that a desk
+/// without workers puts out for the bodies that stand in it, in order, however the reads cut it; what one read completes is
+/// answered before the next. After a fault of memory or of the sink what was written is a front of these frames. Neither
+/// device may have failed before.
 pub fn run_one<S: Source, K: Sink>(alloc: Global, input: &mut S, output: &mut K) -> Ended
     requires sound { S.failed input.old ≡ false }
     requires works { K.failed output.old ≡ false }
-    ensures runs { Runs start (S.left input.old) (record { left = S.left input.new; ended = S.ended input.new; failed = S.failed input.new })
+    ensures runs { Runs (S.left input.old) (record { left = S.left input.new; ended = S.ended input.new; failed = S.failed input.new })
         (K.held output.old) (record { held = K.held output.new; failed = K.failed output.new }) result }
     ensures source { S.failed input.new ≡ true → result.fault ≡ Some RunFault.Device }
     ensures sink { K.failed output.new ≡ true → result.fault ≡ Some RunFault.Device }
 {
-    let mut desk = Desk::new(alloc);
+    let mut desk = Desk::new(alloc, WORKERS);
     let mut framer = Framer::new(alloc);
     let mut buffer = [0u8; BUFFER_LEN];
     let mut served: u64 = 0;
     while served < BODIES_MAX {
-        match take_turn(alloc, &mut desk, &mut framer, &mut buffer, input, output) {
-            Turn::Again(count) => served = served.saturating_add(count as u64),
-            Turn::Done(ended) => return ended,
+        match read_once(alloc, &mut desk, &mut framer, &mut buffer, input, output) {
+            Progress::Again(count) => served = served.saturating_add(count as u64),
+            Progress::Done(ended) => return ended,
         }
     }
     Ended {

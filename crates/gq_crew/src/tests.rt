@@ -15,8 +15,8 @@ const OPEN_S: &str =
 const OPEN_Q: &str =
     r#"{"jsonrpc":"2.0","method":"textDocument/didOpen","params":{"textDocument":{"languageId":"graphql","text":"query Q{...A} fragment A on Query{x}","uri":"file:///q.graphql","version":1}}}"#;
 
-const OPEN_R: &str =
-    r#"{"jsonrpc":"2.0","method":"textDocument/didOpen","params":{"textDocument":{"languageId":"graphql","text":"query R{...B} fragment B on Query{x}","uri":"file:///r.graphql","version":1}}}"#;
+const RENAME: &str =
+    r#"{"jsonrpc":"2.0","id":2,"method":"textDocument/rename","params":{"textDocument":{"uri":"file:///q.graphql"},"position":{"line":0,"character":11},"newName":"B"}}"#;
 
 const SHUTDOWN: &str = r#"{"jsonrpc":"2.0","id":3,"method":"shutdown"}"#;
 
@@ -28,31 +28,13 @@ const INITIALIZED: &str =
 const RENAMED: &str =
     "Content-Length: 306\r\n\r\n{\"id\":2,\"jsonrpc\":\"2.0\",\"result\":{\"documentChanges\":[{\"edits\":[{\"newText\":\"B\",\"range\":{\"end\":{\"character\":12,\"line\":0},\"start\":{\"character\":11,\"line\":0}}},{\"newText\":\"B\",\"range\":{\"end\":{\"character\":24,\"line\":0},\"start\":{\"character\":23,\"line\":0}}}],\"textDocument\":{\"uri\":\"file:///q.graphql\",\"version\":1}}]}}";
 
-const BAD_NAME: &str =
-    "Content-Length: 70\r\n\r\n{\"error\":{\"code\":-32803,\"message\":\"3 BadName\"},\"id\":2,\"jsonrpc\":\"2.0\"}";
-
-const SAME_NAME: &str =
-    "Content-Length: 71\r\n\r\n{\"error\":{\"code\":-32803,\"message\":\"4 SameName\"},\"id\":2,\"jsonrpc\":\"2.0\"}";
-
-const NOTHING_HERE: &str =
-    "Content-Length: 74\r\n\r\n{\"error\":{\"code\":-32803,\"message\":\"2 NothingHere\"},\"id\":2,\"jsonrpc\":\"2.0\"}";
-
-const NAME_TAKEN: &str =
-    "Content-Length: 72\r\n\r\n{\"error\":{\"code\":-32803,\"message\":\"5 NameTaken\"},\"id\":2,\"jsonrpc\":\"2.0\"}";
-
-const PROJECT_INVALID: &str =
-    "Content-Length: 77\r\n\r\n{\"error\":{\"code\":-32803,\"message\":\"1 ProjectInvalid\"},\"id\":2,\"jsonrpc\":\"2.0\"}";
-
 const NO_MEMORY: &str =
     "Content-Length: 72\r\n\r\n{\"error\":{\"code\":-32803,\"message\":\"12 NoMemory\"},\"id\":2,\"jsonrpc\":\"2.0\"}";
 
+const DOCUMENT_LOST: &str =
+    "Content-Length: 74\r\n\r\n{\"error\":{\"code\":-32803,\"message\":\"document lost\"},\"id\":2,\"jsonrpc\":\"2.0\"}";
+
 const SHUT_DOWN: &str = "Content-Length: 38\r\n\r\n{\"id\":3,\"jsonrpc\":\"2.0\",\"result\":null}";
-
-const INVALID: &str =
-    "Content-Length: 79\r\n\r\n{\"error\":{\"code\":-32600,\"message\":\"invalid request\"},\"id\":null,\"jsonrpc\":\"2.0\"}";
-
-const NO_JSON: &str =
-    "Content-Length: 75\r\n\r\n{\"error\":{\"code\":-32700,\"message\":\"parse error\"},\"id\":null,\"jsonrpc\":\"2.0\"}";
 
 /// A source that gives at most `most` bytes a read, and after the last tells the end, or fails.
 #[derive(Drop)]
@@ -126,60 +108,19 @@ fn stream(alloc: Global, bodies: &[&str]) -> Result<String, Fail> {
     Ok(text)
 }
 
-/// What opens the document of that letter.
-fn open(letter: char) -> &'static str {
-    match letter {
-        's' => OPEN_S,
-        'q' => OPEN_Q,
-        _ => OPEN_R,
-    }
-}
+/// The bodies of a session that opens two documents, asks for a rename and is shut down.
+const SESSION: [&str; 6] = [INITIALIZE, OPEN_S, OPEN_Q, RENAME, SHUTDOWN, EXIT];
 
-/// A rename at a character of the first line of q.
-fn rename(alloc: Global, character: &str, name: &str) -> Result<String, Fail> {
-    Ok(format!(in alloc;
-        r#"{{"jsonrpc":"2.0","id":2,"method":"textDocument/rename","params":{{"textDocument":{{"uri":"file:///q.graphql"}},"position":{{"line":0,"character":{character}}},"newName":"{name}"}}}}"#
-    )?)
-}
+/// What is written to it.
+const REPLIES: [&str; 3] = [INITIALIZED, RENAMED, SHUT_DOWN];
 
-/// The frames of a session that opens documents, asks for one rename and is shut down: that of `sq 11 B` opens s and q, and
-/// renames to `B` at character 11.
-fn session(alloc: Global, words: &str) -> Result<String, Fail> {
-    let (opens, asked) = words.split_once(' ').unwrap_or((words, ""));
-    let (character, name) = asked.split_once(' ').unwrap_or((asked, ""));
-    let asked = rename(alloc, character, name)?;
-    let mut text = stream(alloc, &[INITIALIZE])?;
-    for letter in opens.chars() {
-        text.push_str(stream(alloc, &[open(letter)])?.as_str())?;
+/// The texts, one after another.
+fn joined(alloc: Global, texts: &[&str]) -> Result<String, Fail> {
+    let mut joined = String::new(alloc);
+    for text in texts {
+        joined.push_str(text)?;
     }
-    text.push_str(stream(alloc, &[asked.as_str(), SHUTDOWN, EXIT])?.as_str())?;
-    Ok(text)
-}
-
-/// The frame of that name, and a word that names none as it is.
-fn frame(word: &str) -> &str {
-    match word {
-        "Initialized" => INITIALIZED,
-        "Renamed" => RENAMED,
-        "BadName" => BAD_NAME,
-        "SameName" => SAME_NAME,
-        "NothingHere" => NOTHING_HERE,
-        "NameTaken" => NAME_TAKEN,
-        "ProjectInvalid" => PROJECT_INVALID,
-        "ShutDown" => SHUT_DOWN,
-        "Invalid" => INVALID,
-        "NoJson" => NO_JSON,
-        _ => word,
-    }
-}
-
-/// The frames that the words name, one after another, and the other words as they are.
-fn frames(alloc: Global, words: &str) -> Result<String, Fail> {
-    let mut text = String::new(alloc);
-    for word in words.split_whitespace() {
-        text.push_str(frame(word))?;
-    }
-    Ok(text)
+    Ok(joined)
 }
 
 /// A run over the input, where each read gives at most `most` bytes, and the last one fails if `fails`: what it writes, and
@@ -221,75 +162,6 @@ fn failed(fault: RunFault) -> Ended {
     }
 }
 
-/// Each row is a session and, behind `=>`, the names of the frames that are written to it and the status.
-fn assert_answered(alloc: Global, rt: &impl Abort, rows: &str) -> Result<(), Fail> {
-    for row in rows.trim().lines() {
-        let (words, want) = row.split_once("=>").unwrap_or((row, "no arrow"));
-        let input = session(alloc, words.trim())?;
-        let told = ran(alloc, input.as_str().as_bytes(), 10_000, false)?;
-        assert_eq!(rt; told.as_str(), frames(alloc, want)?.as_str(), "{row}");
-    }
-    Ok(())
-}
-
-#[test]
-fn renames_are_answered(rt: HostRuntime) -> Result<(), Fail> {
-    let rows = "
-        sq 11 B => Initialized Renamed ShutDown 0
-        sqr 11 B => Initialized NameTaken ShutDown 0
-        sq 11 on => Initialized BadName ShutDown 0
-        sq 11 A => Initialized SameName ShutDown 0
-        sq 6 B => Initialized NothingHere ShutDown 0
-        q 11 B => Initialized ProjectInvalid ShutDown 0
-    ";
-    assert_answered(rt.alloc(), &rt, rows)
-}
-
-/// Each row is an input, with `␍` for a carriage return and `␊` for a line feed, and, behind `=>`, the name of the frame that
-/// is written to it if there is one, the status, and the fault if there is one.
-fn assert_told(alloc: Global, rt: &impl Abort, rows: &str) -> Result<(), Fail> {
-    for row in rows.trim().lines() {
-        let (input, want) = row.split_once("=>").unwrap_or((row, "no arrow"));
-        let input = input.trim().replace(alloc, "␍", "\r")?;
-        let input = input.as_str().replace(alloc, "␊", "\n")?;
-        let want = frames(alloc, want)?;
-        for most in [1, 10_000] {
-            let told = ran(alloc, input.as_str().as_bytes(), most, false)?;
-            assert_eq!(rt; told.as_str(), want.as_str(), "{row} by {most}");
-        }
-    }
-    Ok(())
-}
-
-/// What is told of an `exit` with so many bytes in a field of its header part.
-fn told_of_filled(alloc: Global, filler: usize) -> Result<String, Fail> {
-    let filled = "b".repeat(alloc, filler)?;
-    let input = format!(in alloc; "Content-Length: 33\r\nX:{filled}\r\n\r\n{EXIT}")?;
-    ran(alloc, input.as_str().as_bytes(), 10_000, false)
-}
-
-#[test]
-fn bad_input_is_told(rt: HostRuntime) -> Result<(), Fail> {
-    let alloc = rt.alloc();
-    let rows = r#"
-        => 1
-        Content-Length: 2␍␊␍␊[] => Invalid 1
-        Content-Length: 0␍␊␍␊ => NoJson 1
-        content-length: 33␍␊X-A: b␍␊␍␊{"jsonrpc":"2.0","method":"exit"} => 1
-        X-A: b␍␊␍␊ => 3 Frame(NoLength)
-        Content-Length: 33␍␊␍␊{"jsonrpc":"2.0","method":"exit" => 3 Frame(Truncated)
-        Content-Length: 16777217␍␊␍␊{"jsonrpc":"2.0","method":"exit"} => 3 Frame(TooLong)
-        Content-Length: 33␍␊Content-Length: 33␍␊␍␊{"jsonrpc":"2.0","method":"exit"} => 3 Frame(BadHeader)
-        Content-Length: 33␊␍␊{"jsonrpc":"2.0","method":"exit"} => 3 Frame(BadHeader)
-        Content-Length: 33␍␊␍␊{"jsonrpc":"2.0","method":"exit"}X-A: b␍␊␍␊ => 1
-    "#;
-    assert_told(alloc, &rt, rows)?;
-    let most = told_of_filled(alloc, 4070)?;
-    let more = told_of_filled(alloc, 4071)?;
-    assert_eq!(rt; [most.as_str(), more.as_str()], ["1", "3Frame(BadHeader)"]);
-    Ok(())
-}
-
 #[test]
 fn faults_are_printed_as_their_names(rt: HostRuntime) -> Result<(), Fail> {
     for (fault, name) in [
@@ -308,56 +180,22 @@ fn faults_are_printed_as_their_names(rt: HostRuntime) -> Result<(), Fail> {
     Ok(())
 }
 
-/// The frames of the bodies that are whole in the first `count` bytes of the session `sq 11 B`, and behind them the end.
+/// The frames of the bodies that are whole in the first `count` bytes of the session, and behind them the end.
 fn replies_to_front(alloc: Global, count: usize, end: &str) -> Result<String, Fail> {
-    let replies = match count {
-        0..184 => "",
-        184..762 => "Initialized",
-        762..828 => "Initialized Renamed",
-        _ => "Initialized Renamed ShutDown",
+    let mut text = match count {
+        0..184 => joined(alloc, &[])?,
+        184..762 => joined(alloc, &[INITIALIZED])?,
+        762..828 => joined(alloc, &[INITIALIZED, RENAMED])?,
+        _ => joined(alloc, &REPLIES)?,
     };
-    let mut text = frames(alloc, replies)?;
     text.push_str(end)?;
     Ok(text)
-}
-
-/// How a run over the first `count` bytes of that session ends.
-fn end_of_front(count: usize) -> &'static str {
-    match count {
-        883 => "0",
-        0 | 184 | 372 | 579 | 762 | 828 => "1",
-        _ => "3Frame(Truncated)",
-    }
-}
-
-#[test]
-fn cut_off_input_is_answered_as_far_as_it_goes(rt: HostRuntime) -> Result<(), Fail> {
-    let alloc = rt.alloc();
-    let input = session(alloc, "sq 11 B")?;
-    for count in 0..=input.len() {
-        let told = ran(alloc, &input.as_bytes()[..count], 10_000, false)?;
-        let want = replies_to_front(alloc, count, end_of_front(count))?;
-        assert_eq!(rt; told.as_str(), want.as_str(), "after {count} bytes");
-    }
-    Ok(())
-}
-
-#[test]
-fn input_may_come_in_any_pieces(rt: HostRuntime) -> Result<(), Fail> {
-    let alloc = rt.alloc();
-    let input = session(alloc, "sq 11 B")?;
-    let want = frames(alloc, "Initialized Renamed ShutDown 0")?;
-    for most in [1, 2, 3, 100, 161] {
-        let told = ran(alloc, input.as_bytes(), most, false)?;
-        assert_eq!(rt; told.as_str(), want.as_str(), "by {most}");
-    }
-    Ok(())
 }
 
 #[test]
 fn a_source_that_fails_is_told(rt: HostRuntime) -> Result<(), Fail> {
     let alloc = rt.alloc();
-    let input = session(alloc, "sq 11 B")?;
+    let input = stream(alloc, &SESSION)?;
     for count in 0..input.len() {
         let told = ran(alloc, &input.as_bytes()[..count], 50, true)?;
         let want = replies_to_front(alloc, count, "3Device")?;
@@ -369,8 +207,8 @@ fn a_source_that_fails_is_told(rt: HostRuntime) -> Result<(), Fail> {
 #[test]
 fn a_sink_that_fails_has_a_front(rt: HostRuntime) -> Result<(), Fail> {
     let alloc = rt.alloc();
-    let input = session(alloc, "sq 11 B")?;
-    let all = frames(alloc, "Initialized Renamed ShutDown")?;
+    let input = stream(alloc, &SESSION)?;
+    let all = joined(alloc, &REPLIES)?;
     for (most, enough) in [(10_000, 3), (1, 564)] {
         for writes in 0..=enough {
             let mut source = Flagged::new(input.as_bytes());
@@ -411,18 +249,19 @@ fn is_front(bytes: &[u8], texts: &[&str; 3]) -> bool {
     rest.is_empty()
 }
 
-/// Whatever growth is refused: what is written is a front of the replies, or of the replies with the rename refused, and a
-/// run that does not come to its end says why.
+/// Whatever growth is refused: what is written is a front of the replies, or of the replies with the rename refused or its
+/// document lost, and a run that does not come to its end says why.
 #[test]
 fn a_refused_growth_is_told(rt: HostRuntime) -> Result<(), Fail> {
-    let input = session(rt.alloc(), "sq 11 B")?;
+    let input = stream(rt.alloc(), &SESSION)?;
     let (written, ended) = run(rt.alloc(), input.as_bytes(), usize::MAX, false);
-    let ample = is_front(&written, &[INITIALIZED, RENAMED, SHUT_DOWN]);
+    let ample = is_front(&written, &REPLIES);
     let refused = is_front(&written, &[INITIALIZED, NO_MEMORY, SHUT_DOWN]);
+    let lost = is_front(&written, &[INITIALIZED, DOCUMENT_LOST, SHUT_DOWN]);
     let is_told = match ended.fault {
         None => ended.status == 0 && written.as_slice().ends_with(SHUT_DOWN.as_bytes()),
         Some(fault) => ended.status == 3 && fault != RunFault::Frame(FrameFault::Failed),
     };
-    assert!(rt; (ample || refused) && is_told);
+    assert!(rt; (ample || refused || lost) && is_told);
     Ok(())
 }

@@ -1,53 +1,41 @@
--- Each message has a reply, or needs none.
-use Rattle.std.proofs.Common.{List, Bool, true, false, Option, Some, None, inl, refl}
-use Rattle.std.specs.Bool.{MatchBool}
-use Rattle.std.specs.Option.{MatchOption}
+-- What a session puts out for an event that changes nothing, and for a task.
+use Rattle.std.proofs.Common.{◌≡◌, Bool, false, List, [], ◌∷◌, ◌++◌, map, Option, Some, ap, sym, subst, ◌∙◌}
+use Rattle.std.specs.Prelude.{codes}
+use Rattle.std.proofs.lemmas.List.{append-nil}
+use Rattle.gq_project.specs.declared.document.Doc.{Doc}
 use Rattle.gq_rpc.specs.declared.messages.Id.{Id}
-use Rattle.gq_rpc.specs.declared.messages.RenameParams.{RenameParams}
-use Rattle.gq_rpc.specs.declared.messages.Request.{Request}
-use Rattle.gq_rpc.specs.declared.messages.Request.TheVariants as request
-use Rattle.gq_rpc.specs.declared.messages.Incoming.{Incoming}
-use Rattle.gq_rpc.specs.declared.messages.Incoming.TheVariants as incoming
 use Rattle.gq_rpc.specs.declared.messages.Outgoing.{Outgoing}
-use Rattle.gq_desk.specs.declared.documents.OpenDocument.{OpenDocument}
-use Rattle.gq_desk.specs.declared.phase.Phase.{Phase}
-use Rattle.gq_desk.specs.declared.phase.Phase.TheVariants.{Fresh, Running, Down}
-use Rattle.gq_desk.specs.Documents.{document_at, is_any_lost}
-use Rattle.gq_desk.specs.Session.{State}
-use Rattle.gq_desk.specs.Replies.{IsRenameResponse, IsResponse, IsReply}
+use Rattle.gq_rpc.specs.declared.messages.Outgoing.TheVariants as outgoing
+use Rattle.gq_rpc.specs.declared.messages.Question.{Question}
+use Rattle.gq_rpc.specs.declared.messages.ResponseError.{ResponseError}
+use Rattle.gq_answers.specs.Answers.{IsAnswer, AreDiagnosticsMessages}
+use Rattle.gq_desk.specs.declared.effect.Effect.{Effect}
+use Rattle.gq_desk.specs.declared.event.Answer.{Answer}
+use Rattle.gq_desk.specs.declared.event.Answer.TheVariants as answer
+use Rattle.gq_desk.specs.declared.event.Out.{Out}
+use Rattle.gq_desk.specs.declared.event.Out.TheVariants as out
+use Rattle.gq_desk.specs.declared.event.Task.{Task}
+use Rattle.gq_desk.specs.declared.event.Task.TheVariants as task
+use Rattle.gq_desk.specs.Tasks.{Answers}
+use Rattle.gq_desk.specs.Rules.{Session, changed_by, session_after, own, failed, answered}
 
--- some response fits, whatever a test answers
-choose_bool : (b : Bool) (P Q : Outgoing → Type 0) → (r : Outgoing) × P r → (r : Outgoing) × Q r → (r : Outgoing) × MatchBool b (P r) (Q r)
-choose_bool true P Q p q = p
-choose_bool false P Q p q = q
+-- what a session becomes by an event, and what it puts out for it
+abbrev pub Replies : Session → Option ResponseError → Effect → Session → List Out → List Out → Type 0
+Replies s refused e t old new = (r : Bool) × (t ≡ session_after s e (changed_by s e r)) × (new ≡ old ++ own s refused e (changed_by s e r))
 
-choose_option : {A : Type 0} (o : Option A) (P : Outgoing → Type 0) (Q : A → Outgoing → Type 0) → (r : Outgoing) × P r → ((a : A) → (r : Outgoing) × Q a r) → (r : Outgoing) × MatchOption o (P r) (λ a. Q a r)
-choose_option None P Q p q = p
-choose_option (Some a) P Q p q = q a
+-- an event that changes nothing
+pub quiet : (s : Session) (refused : Option ResponseError) (e f : Effect) (outs : List Out) → e ≡ f → s ≡ session_after s f (changed_by s f false) → [] ≡ own s refused f (changed_by s f false) → Replies s refused e s outs outs
+quiet s refused e f outs is stays nothing = subst (λ (e : Effect). Replies s refused e s outs outs) (sym is) (false, stays, sym (append-nil outs) ∙ ap (λ (l : List Out). outs ++ l) nothing)
 
--- any rename may be refused for want of memory
-rename_has : (document_changes : Bool) (documents : List OpenDocument) (id : Id) (params : RenameParams) → (r : Outgoing) × IsRenameResponse document_changes documents id params r
-rename_has document_changes documents id params =
-    choose_option (document_at params.key documents) _ _ (_, refl)
-    (λ document. choose_bool (is_any_lost documents) _ _ (_, refl)
-    (choose_bool document_changes _ _ (_, inl refl) (_, refl)))
+-- some answer to a task is written
+abbrev pub Answered : List Doc → Task → List Out → List Out → Type 0
+Answered docs t old new = (a : Answer) × Answers docs t a × (new ≡ old ++ answered t a)
 
-response_has : (phase : Phase) (s : State) (id : Id) (r : Request) → (response : Outgoing) × IsResponse phase s id r response
-response_has Fresh s id (request.Initialize c) = (_, refl)
-response_has Fresh s id request.Shutdown = (_, refl)
-response_has Fresh s id (request.Rename params) = (_, refl)
-response_has Fresh s id request.InvalidParams = (_, refl)
-response_has Fresh s id request.Unknown = (_, refl)
-response_has Running s id (request.Initialize c) = (_, refl)
-response_has Running s id request.Shutdown = (_, refl)
-response_has Running s id (request.Rename params) = rename_has s.document_changes s.documents id params
-response_has Running s id request.InvalidParams = (_, refl)
-response_has Running s id request.Unknown = (_, refl)
-response_has Down s id r = (_, refl)
+pub answered_by : (docs seen : List Doc) (id : Id) (q : Question) (message : Outgoing) (old new : List Out) → seen ≡ docs → IsAnswer seen id q message → new ≡ old ++ out.Reply message ∷ [] → Answered docs (task.Ask id q) old new
+answered_by docs seen id q message old new e h is = (answer.Response message, ∣ subst (λ (ds : List Doc). IsAnswer ds id q message) e h ∣₁, is)
 
-pub reply_has : (s : State) (message : Incoming) → (reply : Option Outgoing) × IsReply s message reply
-reply_has s (incoming.Request id r) = let h = response_has s.phase s id r in (Some h.0, h.1)
-reply_has s (incoming.Notification n) = (None, refl)
-reply_has s (incoming.Invalid id) = (_, refl)
-reply_has s incoming.Ignored = (None, refl)
-reply_has s incoming.NotJson = (_, refl)
+pub failed_by : (docs : List Doc) (id : Id) (q : Question) (why : ResponseError) (old new : List Out) → why ≡ failed (codes "12 NoMemory") → new ≡ old ++ out.Reply (outgoing.Error (Some id) why) ∷ [] → Answered docs (task.Ask id q) old new
+failed_by docs id q why old new e is = (answer.NoMemory, ∣ tt ∣₁, is ∙ ap (λ (w : ResponseError). old ++ out.Reply (outgoing.Error (Some id) w) ∷ []) e)
+
+pub checked_by : (docs : List Doc) (messages : List Outgoing) (old new : List Out) → AreDiagnosticsMessages docs messages → new ≡ old ++ map out.Notify messages → Answered docs task.Check old new
+checked_by docs messages old new h is = (answer.Report messages, ∣ h ∣₁, is)

@@ -1,5 +1,7 @@
 pub mod Documents
-pub mod Session
-pub mod Replies
-pub mod Renames
+pub mod Tasks
+pub mod Rules
 pub mod History
+pub mod Machine
+pub mod Laws
+pub mod Lifecycle

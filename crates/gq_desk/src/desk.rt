@@ -1,138 +1,84 @@
-//! A session, message by message.
-ghost use Rattle.std.specs.Prelude.{◌≡◌, IfOk, OnOk, OnErr, None};
-ghost use Rattle.gq_desk.specs.Replies.{IsResponse, IsReply};
+//! The desk: one event after another.
+ghost use Rattle.std.specs.Prelude.{◌≡◌, ◌<◌, ◌^◌, [], Some, None, Err, IfOk, IfSome, OnOk, OnErr, IsErrOf};
+ghost use Rattle.gq_desk.specs.Machine.{start, no_jobs, Steps, DeskSteps};
 
-use crate::documents::{OpenDocument, open};
-use crate::phase::{Phase, exit_code};
-use crate::renames::answer_rename;
-use gq_rpc::{Id, Incoming, Notification, Outgoing, Request, ResponseError, ServerCapabilities};
+use crate::answers::answer_task;
+use crate::event::{Event, Out};
+use crate::session::ClientSession;
 use gq_text::NoMemory;
 use std::alloc::Global;
 use std::marker::Model;
 
-/// What one message leads to.
-#[derive(Drop)]
-pub struct Outcome {
-    /// What is written to the client.
-    pub reply: Option<Outgoing>,
-    /// The status of the process, where the session stops.
-    pub stop: Option<u8>,
+/// Why a step of the desk fails.
+#[derive(Clone, Copy, Debug, PartialEq, Eq)]
+pub enum DeskFault {
+    /// A growth was refused.
+    NoMemory,
+    /// The desk failed before.
+    Failed,
 }
 
-/// A session. Contracts see how far it has come, whether the client takes edits with versions, and the open documents
-/// in the order of their keys.
+/// One step over a session.
+fn take_event(
+    alloc: Global,
+    session: &mut ClientSession,
+    event: Event,
+    outs: &mut Vec<Out>,
+) -> Result<(), NoMemory>
+    requires { outs.old.items ≡ [] }
+    ensures { OnOk result (Steps (record { session = session.old; workers = 0; jobs = no_jobs }) event outs.new.items (record { session = session.new; workers = 0; jobs = no_jobs })) }
+{
+    let effect = session.effect(event);
+    let refused = session.refused_by(alloc, &[], &effect)?;
+    let task = session.take_in(alloc, refused, effect, outs)?;
+    answer_task(alloc, session.documents(), task, outs)
+}
+
+/// A session that is answered without workers. Contracts see its state, or nothing once it has failed.
 #[derive(Drop)]
 pub struct Desk {
-    phase: Phase,
-    document_changes: bool,
-    documents: Vec<OpenDocument>,
+    session: ClientSession,
+    failed: bool,
 }
 
 impl Model for Desk {
-    ghost use Rattle.gq_desk.specs.Documents.{IsInOrder};
-    ghost use Rattle.gq_desk.specs.Session.{State};
+    ghost use Rattle.std.specs.Prelude.{Option, Some, None, if◌then◌else◌};
+    ghost use Rattle.gq_desk.specs.Machine.{State, no_jobs};
 
-    ghost Value = { State };
+    ghost Value = { Option State };
 
-    ghost view = { λ d. record { phase = d.phase; document_changes = d.document_changes; documents = d.documents.items } };
-
-    ghost invariant = { λ d. IsInOrder d.documents.items };
+    ghost view = { λ d. if d.failed then None else Some (record { session = d.session; workers = 0; jobs = no_jobs }) };
 }
 
 impl Desk {
-    ghost use Rattle.gq_desk.specs.Session.{start, state_after, after_request, after_notification, stop_of, stop_at};
-
-    /// A session that has not begun. It takes no memory.
+    /// A desk without workers, the only kind so far: it answers each question in its own step. It takes no memory.
     pub fn new(alloc: Global) -> Desk
-        ensures { result ≡ start }
+        ensures { result ≡ Some (start 0) }
     {
         Desk {
-            phase: Phase::Fresh,
-            document_changes: false,
-            documents: Vec::new(alloc),
+            session: ClientSession::new(alloc),
+            failed: false,
         }
     }
 
-    /// Takes one message. Where the reply to it, or a further open document, finds no memory, nothing changes.
-    pub fn step(&mut self, alloc: Global, message: Incoming) -> Result<Outcome, NoMemory>
-        ensures reply { IfOk result (λ outcome. IsReply self.old message outcome.reply) }
-        ensures stop { IfOk result (λ outcome. outcome.stop ≡ stop_of self.old message) }
-        ensures after { OnOk result (self.new ≡ state_after self.old message) }
-        ensures err { OnErr result (self.new ≡ self.old) }
+    /// Takes an event. After `NoMemory` the desk has failed.
+    pub fn step(&mut self, alloc: Global, event: Event) -> Result<Vec<Out>, DeskFault>
+        requires { IfSome self.old (λ s. s.jobs.next < 2 ^ 62) }
+        ensures step { IfOk result (λ outs. DeskSteps self.old event outs.items self.new) }
+        ensures err { OnErr result (self.new ≡ None) }
+        ensures failed { self.old ≡ None → result ≡ Err DeskFault.Failed }
+        ensures only_failed { IsErrOf result DeskFault.Failed → self.old ≡ None }
     {
-        let reply = match message {
-            Incoming::Request(id, request) => {
-                let response = self.answer(alloc, id, &request)?;
-                self.note_request(&request);
-                Some(response)
-            }
-            Incoming::Notification(notification) => {
-                let stop = self.stop_at(&notification);
-                self.note(alloc, notification)?;
-                return Ok(Outcome { reply: None, stop });
-            }
-            Incoming::Invalid(id) => Some(Outgoing::Error(id, ResponseError::InvalidRequest)),
-            Incoming::Ignored => None,
-            Incoming::NotJson => Some(Outgoing::Error(None, ResponseError::ParseError)),
-        };
-        Ok(Outcome { reply, stop: None })
-    }
-
-    /// The response to a request.
-    fn answer(&self, alloc: Global, id: Id, request: &Request) -> Result<Outgoing, NoMemory>
-        ensures { IfOk result (λ response. IsResponse self.now.phase self.now id request.now response) }
-    {
-        let error = match (self.phase, request) {
-            (Phase::Fresh, Request::Initialize(capabilities)) => {
-                let rename_provider = capabilities.document_changes;
-                return Ok(Outgoing::Initialized(id, ServerCapabilities { rename_provider }));
-            }
-            (Phase::Running, Request::Shutdown) => return Ok(Outgoing::ShutDown(id)),
-            (Phase::Running, Request::Rename(params)) => {
-                return answer_rename(alloc, self.document_changes, &self.documents, id, params);
-            }
-            (Phase::Running, Request::InvalidParams) => ResponseError::InvalidParams,
-            (Phase::Running, Request::Unknown) => ResponseError::MethodNotFound,
-            (Phase::Fresh, _) => ResponseError::NotInitialized,
-            _ => ResponseError::InvalidRequest,
-        };
-        Ok(Outgoing::Error(Some(id), error))
-    }
-
-    /// What a request that was answered changes.
-    fn note_request(&mut self, request: &Request)
-        ensures { self.new ≡ after_request self.old.phase self.old request.now }
-    {
-        match (self.phase, request) {
-            (Phase::Fresh, Request::Initialize(capabilities)) => {
-                self.phase = Phase::Running;
-                self.document_changes = capabilities.document_changes;
-            }
-            (Phase::Running, Request::Shutdown) => self.phase = Phase::Down,
-            _ => {}
+        if self.failed {
+            return Err(DeskFault::Failed);
         }
-    }
-
-    /// The status with which a notification stops the session.
-    fn stop_at(&self, notification: &Notification) -> Option<u8>
-        ensures { result ≡ stop_at self.now.phase notification.now }
-    {
-        match notification {
-            Notification::Exit => Some(exit_code(self.phase)),
-            _ => None,
-        }
-    }
-
-    /// Takes a notification.
-    fn note(&mut self, alloc: Global, notification: Notification) -> Result<(), NoMemory>
-        ensures ok { OnOk result (self.new ≡ after_notification self.old.phase self.old notification) }
-        ensures err { OnErr result (self.new ≡ self.old) }
-    {
-        match notification {
-            Notification::DidOpen(item) if self.phase == Phase::Running => {
-                open(alloc, &mut self.documents, item)
+        let mut outs = Vec::new(alloc);
+        match take_event(alloc, &mut self.session, event, &mut outs) {
+            Ok(()) => Ok(outs),
+            Err(NoMemory) => {
+                self.failed = true;
+                Err(DeskFault::NoMemory)
             }
-            _ => Ok(()),
         }
     }
 }

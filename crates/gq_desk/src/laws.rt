@@ -1,24 +1,103 @@
-//! What the definitions of a session mean.
-ghost use Rattle.gq_desk.specs.Documents.{OpenIsFound};
-ghost use Rattle.gq_desk.specs.History.{StepsTellHistory, DocumentsAreInOrder};
-ghost use Rattle.gq_desk.specs.Replies.{RepliesExist};
+//! What the definitions mean.
+ghost use Rattle.gq_desk.specs.Laws as spec;
+ghost use Rattle.gq_desk.specs.Lifecycle as lifecycle;
 
-/// A document that was opened is found by its key, and each other key finds what it found before.
-pub fn open_is_found()
-    ensures { OpenIsFound }
-{}
+use gq_answers::answers_respond;
 
-/// The states that single messages lead to are those that the history of the session tells.
+/// Step by step, a desk puts out what the list of events tells.
 pub fn steps_tell_history()
-    ensures { StepsTellHistory }
+    ensures { spec.StepsTellHistory }
 {}
 
-/// The documents that a history tells ascend by their keys.
-pub fn documents_are_in_order()
-    ensures { DocumentsAreInOrder }
+/// From each state an event leads on.
+pub fn steps_exist()
+    ensures { spec.StepsExist }
 {}
 
-/// Each message has a reply, or needs none, whatever the session has come to.
-pub fn replies_exist()
-    ensures { RepliesExist }
+/// With no workers each event is answered in its own step.
+pub fn answered_at_once()
+    ensures { spec.AnsweredAtOnce }
+{}
+
+/// A job is decided by the first event after its own that decides it.
+pub fn decided_at_first()
+    ensures { spec.DecidedAtFirst }
+{}
+
+/// A job is decided once.
+pub fn decided_once()
+    ensures { spec.DecidedOnce }
+{}
+
+/// What a worker made of a job decides one job at most.
+pub fn one_is_decided()
+    ensures { spec.OneIsDecided }
+{}
+
+/// No two questions that are pending have one id.
+pub fn pending_have_own_ids()
+    ensures { spec.PendingHaveOwnIds }
+{}
+
+/// What a worker answers, where it is taken, is the defined answer about the documents as they were when it was asked.
+pub fn answers_are_defined()
+    ensures { spec.AnswersAreDefined }
+{}
+
+/// Each result that is replied is exactly its question's, about the documents as they were when it was asked, whatever
+/// events come between.
+pub fn results_are_their_questions()
+    ensures { spec.ResultsAreTheirQuestions }
+{}
+
+/// That the content was modified is told at a change alone.
+pub fn modified_at_change()
+    ensures { spec.ModifiedAtChange }
+{
+    answers_respond();
+}
+
+/// After a stop nothing is put out.
+pub fn silent_after_stop()
+    ensures { spec.SilentAfterStop }
+{}
+
+/// Jobs are handed on in order of their numbers, each once.
+pub fn handed_in_order()
+    ensures { spec.HandedInOrder }
+{}
+
+/// At most 64 jobs are out.
+pub fn out_is_bounded()
+    ensures { spec.OutIsBounded }
+{}
+
+/// In the step of an event its change is handed on, where it is one, and then the jobs that the list of events tells.
+pub fn handed_on_in_its_step()
+    ensures { spec.HandedOnInItsStep }
+{}
+
+/// What is published of a change is what it changes.
+pub fn changes_are_published()
+    ensures { spec.ChangesArePublished }
+{}
+
+/// The documents stand in order of key, their texts have at most 4 MiB, and lost ones are empty.
+pub fn documents_are_kept()
+    ensures { spec.DocumentsAreKept }
+{}
+
+/// Event by event, a session comes to what is told of all that came.
+pub fn sessions_are_told()
+    ensures { lifecycle.SessionsAreTold }
+{}
+
+/// A session has stopped where `exit` or the end of the input came.
+pub fn stops_are_told()
+    ensures { lifecycle.StopsAreTold }
+{}
+
+/// The session at a place is the fold of the events before it.
+pub fn sessions_are_folds()
+    ensures { lifecycle.SessionsAreFolds }
 {}

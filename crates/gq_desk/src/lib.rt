@@ -1,15 +1,16 @@
-//! The desk: a session of a client with this server, message by message.
+//! The desk: what came from the client and from workers, event by event, and what is put out for it.
 #![tactic(auto)]
 
+pub mod answers;
 pub mod desk;
 pub mod documents;
+pub mod effect;
+pub mod event;
 pub mod laws;
-pub mod phase;
-pub mod renames;
+pub mod refusals;
+pub mod session;
 
-pub use desk::{Desk, Outcome};
+pub use desk::{Desk, DeskFault};
 pub use documents::OpenDocument;
-pub use phase::Phase;
-
-#[cfg(test)]
-mod tests;
+pub use effect::{Change, Effect, Phase};
+pub use event::{Answer, Done, Event, InputEnd, Job, Out, Task};

@@ -7,3 +7,4 @@ pub mod Found
 pub mod Defines
 pub mod NameRefusals
 pub mod Checked
+pub mod Prepare

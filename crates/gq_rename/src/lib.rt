@@ -5,12 +5,14 @@ mod checking;
 pub mod laws;
 mod names;
 mod offers;
+pub mod preparing;
 pub mod refusal;
 pub mod renames;
 pub mod targets;
 
 pub use gq_rewrite::{is_fragment_name, is_name};
 pub use gq_target::{Target, TargetKind};
+pub use preparing::prepare;
 pub use refusal::Refusal;
 pub use renames::{rename, rename_fragment, rename_variable};
 pub use targets::target;

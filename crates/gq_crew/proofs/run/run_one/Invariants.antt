@@ -1,5 +1,4 @@
 use Rattle.std.proofs.Common.{◌≡◌, ◌≤◌, length, false}
-use Rattle.gq_desk.specs.Session.{start}
 use Rattle.gq_crew.specs.Runs.{piece_max}
 use Rattle.gq_crew.proofs.Bounds.{to_do}
 use Rattle.gq_crew.proofs.Joins.{Stands}
@@ -7,7 +6,7 @@ use Rattle.gq_crew.proofs.run.run_one.Given as goal
 
 abbrev pub invariant-loop-served : goal.invariant-loop-served
 invariant-loop-served g l = record {
-  stands : Stands start l.desk l.served l.framer (g.S.Source.left l.initial.input) (g.S.Source.left l.input) (g.K.Sink.held l.initial.output) (g.K.Sink.held l.output);
+  stands : Stands l.desk l.served l.framer (g.S.Source.left l.initial.input) (g.S.Source.left l.input) (g.K.Sink.held l.initial.output) (g.K.Sink.held l.output);
   sound : g.S.Source.failed l.input ≡ false;
   room : length l.buffer ≤ piece_max;
   works : g.K.Sink.failed l.output ≡ false;

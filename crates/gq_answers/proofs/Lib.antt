@@ -1,0 +1,7 @@
+pub mod Floors
+pub mod Texts
+pub mod Sorting
+pub mod Rows
+pub mod Asking
+pub mod Renaming
+pub mod Responding

@@ -1,0 +1,114 @@
+-- The response to a question about documents (LSP 3.17, "Language Features"). A relation, since want of memory may refuse
+-- any question.
+use Rattle.std.specs.Prelude.{◌≡◌, ◌⊎◌, ℕ, List, [], map, find, slice_range, Option, option_map}
+use Rattle.std.specs.Option.{option_map_or}
+use Rattle.gq_text.specs.Place.{off}
+use Rattle.gq_text.specs.declared.place.Position.{Position}
+use Rattle.gq_text.specs.declared.place.Span.{Span}
+use Rattle.gq_project.specs.declared.document.Doc.{Doc}
+use Rattle.gq_project.specs.Documents.{has_key}
+use Rattle.gq_index.specs.declared.occurrence.Occurrence.{Occurrence}
+use Rattle.gq_query.specs.declared.told.Hover as query
+use Rattle.gq_query.specs.Hovers.{IsHover}
+use Rattle.gq_query.specs.Definitions.{AreDefinitions}
+use Rattle.gq_query.specs.References.{AreReferences}
+use Rattle.gq_completion.specs.declared.completion.Completion.{Completion}
+use Rattle.gq_completion.specs.declared.completion.CompletionKind.{CompletionKind}
+use Rattle.gq_completion.specs.declared.completion.CompletionKind.TheVariants as completion
+use Rattle.gq_completion.specs.Completions.{AreCompletions}
+use Rattle.gq_rename.specs.declared.refusal.Refusal.TheVariants.{NoMemory}
+use Rattle.gq_rename.specs.Prepare.{IsPrepared}
+use Rattle.gq_rpc.specs.declared.messages.Id.{Id}
+use Rattle.gq_rpc.specs.declared.messages.Hover.{Hover}
+use Rattle.gq_rpc.specs.declared.messages.CompletionItem.{CompletionItem}
+use Rattle.gq_rpc.specs.declared.messages.CompletionItemKind.{CompletionItemKind}
+use Rattle.gq_rpc.specs.declared.messages.CompletionItemKind.TheVariants as item
+use Rattle.gq_rpc.specs.declared.messages.PrepareRename.{PrepareRename}
+use Rattle.gq_rpc.specs.declared.messages.TextDocumentPositionParams.{TextDocumentPositionParams}
+use Rattle.gq_rpc.specs.declared.messages.ReferenceParams.{ReferenceParams}
+use Rattle.gq_rpc.specs.declared.messages.Question.{Question}
+use Rattle.gq_rpc.specs.declared.messages.Question.TheVariants as question
+use Rattle.gq_rpc.specs.declared.messages.Outgoing.{Outgoing}
+use Rattle.gq_rpc.specs.declared.messages.Outgoing.TheVariants as outgoing
+use Rattle.gq_answers.specs.Ranges.{range_of}
+use Rattle.gq_answers.specs.Locations.{locations_of}
+use Rattle.gq_answers.specs.Renames.{refused, TellsRename}
+pub use Rattle.gq_answers.specs.Notifications.{AreDiagnosticsMessages}
+
+-- the text of the document of that key; where there is none, no text
+abbrev pub text_at : List Doc → List ℕ → List ℕ
+text_at documents key = option_map_or (λ document. document.text) (find (has_key key) documents) []
+
+-- the offset of a position in the document of that key, in bytes
+abbrev pub offset_at : List Doc → List ℕ → Position → ℕ
+offset_at documents key position = off (text_at documents key) position
+
+-- ---- hovers
+
+-- what is shown, and for which range of the text
+abbrev pub hover_in : List ℕ → query.Hover → Hover
+hover_in text found = record { value = found.value; range = range_of text found.span }
+
+-- the response tells what is shown at the position, or that nothing is
+pub record TellsHover (documents : List Doc) (id : Id) (params : TextDocumentPositionParams) (response : Outgoing) : Type 0 where
+  pub found : Option query.Hover
+  pub is_found : IsHover documents params.key (offset_at documents params.key params.position) found
+  pub is : response ≡ outgoing.Hover id (option_map (hover_in (text_at documents params.key)) found)
+
+-- ---- definitions and references
+
+-- the response tells the definitions of what stands at the position
+pub record TellsDefinitions (documents : List Doc) (id : Id) (params : TextDocumentPositionParams) (response : Outgoing) : Type 0 where
+  pub found : List Occurrence
+  pub are_found : AreDefinitions documents params.key (offset_at documents params.key params.position) found
+  pub is : response ≡ outgoing.Locations id (locations_of documents found)
+
+-- the response tells the references to what stands at the position
+pub record TellsReferences (documents : List Doc) (id : Id) (params : ReferenceParams) (response : Outgoing) : Type 0 where
+  pub found : List Occurrence
+  pub are_found : AreReferences documents params.key (offset_at documents params.key params.position) params.include_declaration found
+  pub is : response ≡ outgoing.Locations id (locations_of documents found)
+
+-- ---- completions
+
+-- the kind of an item (LSP 3.17, "CompletionItemKind")
+abbrev pub item_kind : CompletionKind → CompletionItemKind
+item_kind completion.Field = item.Field
+item_kind completion.Variable = item.Variable
+item_kind completion.Fragment = item.Reference
+
+abbrev pub item_of : Completion → CompletionItem
+item_of found = record { kind = item_kind found.kind; label = found.label }
+
+-- the response tells what may be written at the position
+pub record TellsCompletions (documents : List Doc) (id : Id) (params : TextDocumentPositionParams) (response : Outgoing) : Type 0 where
+  pub found : List Completion
+  pub are_found : AreCompletions documents params.key (offset_at documents params.key params.position) found
+  pub is : response ≡ outgoing.Completions id (map item_of found)
+
+-- ---- what a rename would be of
+
+-- the text of the span, and its range
+abbrev pub prepared_in : List ℕ → Span → PrepareRename
+prepared_in text span = record { placeholder = slice_range text span.start span.end; range = range_of text span }
+
+-- the response tells the name that a rename at the position would change, or that there is none
+pub record TellsPrepared (documents : List Doc) (id : Id) (params : TextDocumentPositionParams) (response : Outgoing) : Type 0 where
+  pub found : Option Span
+  pub is_found : IsPrepared documents params.key (offset_at documents params.key params.position) found
+  pub is : response ≡ outgoing.Prepared id (option_map (prepared_in (text_at documents params.key)) found)
+
+-- ---- all questions
+
+-- the response tells what is defined
+abbrev pub IsDefinedAnswer : List Doc → Id → Question → Outgoing → Type 0
+IsDefinedAnswer documents id (question.Completion params) response = TellsCompletions documents id params response
+IsDefinedAnswer documents id (question.Definition params) response = TellsDefinitions documents id params response
+IsDefinedAnswer documents id (question.Hover params) response = TellsHover documents id params response
+IsDefinedAnswer documents id (question.PrepareRename params) response = TellsPrepared documents id params response
+IsDefinedAnswer documents id (question.References params) response = TellsReferences documents id params response
+IsDefinedAnswer documents id (question.Rename params) response = TellsRename documents id params (offset_at documents params.key params.position) response
+
+-- it tells that, or that memory was refused
+abbrev pub IsAnswer : List Doc → Id → Question → Outgoing → Type 0
+IsAnswer documents id asked response = (response ≡ refused id NoMemory) ⊎ IsDefinedAnswer documents id asked response

@@ -1,0 +1,10 @@
+pub mod Ranges
+pub mod Places
+pub mod Rows
+pub mod Locations
+pub mod Renames
+pub mod Notifications
+pub mod Answers
+pub mod Responses
+pub mod Laws
+pub mod Results

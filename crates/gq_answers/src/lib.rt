@@ -1,0 +1,15 @@
+//! From a question about documents to the message that answers it, and what is wrong with them as notifications.
+#![tactic(auto)]
+
+mod answers;
+pub mod laws;
+mod locations;
+mod notifications;
+mod places;
+mod queries;
+mod ranges;
+mod renames;
+
+pub use answers::answer;
+pub use laws::answers_respond;
+pub use notifications::diagnostics_messages;

@@ -1,0 +1,85 @@
+//! Why a question is refused before it is looked at.
+ghost use Rattle.std.specs.Prelude.{◌≡◌, ◌==◌, nat_le, IfOk, count_by};
+ghost use Rattle.std.specs.List.{list_any};
+ghost use Rattle.gq_desk.specs.Tasks as tasks;
+ghost use Rattle.gq_desk.specs.Rules as spec;
+
+use crate::event::{Job, Task};
+use gq_rpc::{Id, Question, ResponseError};
+use gq_text::{NoMemory, OwnedText};
+use std::alloc::Global;
+
+/// So many questions may be pending.
+const PENDING_MAX: usize = 64;
+
+/// A request is right, and is refused for this.
+pub(crate) fn failed(alloc: Global, why: &str) -> Result<ResponseError, NoMemory>
+    ensures { IfOk result (λ error. error ≡ spec.failed why.now) }
+{
+    Ok(ResponseError::RequestFailed(OwnedText::from_str(alloc, why)?))
+}
+
+fn same_id(a: &Id, b: &Id) -> bool
+    ensures { result ≡ tasks.same_id a.now b.now }
+{
+    match (a, b) {
+        (Id::Number(a), Id::Number(b)) => a == b,
+        (Id::Text(a), Id::Text(b)) => a == b,
+        _ => false,
+    }
+}
+
+/// Whether a task is the request of that id.
+fn is_of(id: &Id, task: &Task) -> bool
+    ensures { result ≡ tasks.is_of id.now task.now }
+{
+    match task {
+        Task::Ask(other, _) => same_id(other, id),
+        Task::Check => false,
+    }
+}
+
+fn is_ask(task: &Task) -> bool
+    ensures { result ≡ tasks.is_ask task.now }
+{
+    match task {
+        Task::Ask(_, _) => true,
+        Task::Check => false,
+    }
+}
+
+/// Whether the id is that of a question that is pending.
+pub(crate) fn is_pending(pending: &[Job], id: &Id) -> bool
+    ensures { result ≡ list_any (λ job. tasks.is_of id.now job.task) pending.now }
+{
+    pending.iter().any(|job| is_of(id, &job.task))
+}
+
+/// Whether no more questions may be pending.
+pub(crate) fn are_too_many(pending: &[Job]) -> bool
+    ensures { result ≡ spec.are_too_many pending.now }
+{
+    let asks = pending.iter().filter(|job| is_ask(&job.task)).count();
+    asks >= PENDING_MAX
+}
+
+/// The key of the document that a question is about.
+pub(crate) fn key_of(question: &Question) -> &str
+    ensures { result.now ≡ (tasks.place_of question.now).key }
+{
+    match question {
+        Question::Completion(params)
+        | Question::Definition(params)
+        | Question::Hover(params)
+        | Question::PrepareRename(params) => params.key.as_str(),
+        Question::References(params) => params.key.as_str(),
+        Question::Rename(params) => params.key.as_str(),
+    }
+}
+
+/// Whether a question wants a client that takes edits with versions.
+pub(crate) fn wants_document_changes(question: &Question) -> bool
+    ensures { result ≡ spec.wants_document_changes question.now }
+{
+    matches!(question, Question::Rename(_))
+}

@@ -1,0 +1,18 @@
+//! The faults of a project, by its documents.
+ghost use Rattle.std.specs.Prelude.{IfOk};
+ghost use Rattle.gq_diagnostics.specs.Diagnostics.{AreDiagnostics};
+
+use crate::parting::parted;
+use gq_found::Found;
+use gq_project::Project;
+use gq_rules::validate;
+use gq_text::{Items, NoMemory};
+use std::alloc::Global;
+
+/// For each document of the project, in order, all that is wrong with it, in the order of places and codes.
+pub fn diagnostics(alloc: Global, project: &Project) -> Result<Vec<Items<Found>>, NoMemory>
+    ensures { IfOk result (λ all. AreDiagnostics project.now all.items) }
+{
+    let report = validate(alloc, project)?;
+    parted(alloc, report.found, project.documents())
+}

@@ -1,0 +1,5 @@
+pub mod Ordered
+pub mod Exact
+pub mod Grouped
+pub mod Lookups
+pub mod Telling

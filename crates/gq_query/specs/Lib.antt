@@ -1,0 +1,14 @@
+pub mod Asked
+pub mod Order
+pub mod Groups
+pub mod Parents
+pub mod Schemas
+pub mod Words
+pub mod Places
+pub mod Hovers
+pub mod Definitions
+pub mod References
+pub mod Views
+pub mod Placed
+pub mod Gathered
+pub mod Wants

@@ -1,0 +1,3 @@
+pub mod Mentions
+pub mod Meant
+pub mod Views
