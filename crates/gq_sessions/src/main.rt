@@ -21,7 +21,10 @@ fn judge_session(rt: &HostRuntime, name: &str, session: &Session) -> Result<bool
     for most in PIECES {
         let told = served(rt.alloc(), session.input.as_str(), most)?;
         if told.as_str() != session.wanted.as_str() {
-            println!(rt; "{name}:{}: by {most} bytes a read: {told:?}, wanted {:?}", session.line, session.wanted)?;
+            println!(rt;
+                "{name}:{}: by {most} bytes a read: {told:?}, wanted {:?}",
+                session.line, session.wanted
+            )?;
             is_wanted = false;
         }
     }

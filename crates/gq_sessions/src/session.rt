@@ -55,7 +55,11 @@ impl Reader {
         self.wanted.push_str(end)?;
         let input = std::mem::replace(&mut self.input, String::new(self.alloc));
         let wanted = std::mem::replace(&mut self.wanted, String::new(self.alloc));
-        self.sessions.push(Session { line, input, wanted })?;
+        self.sessions.push(Session {
+            line,
+            input,
+            wanted,
+        })?;
         Ok(())
     }
 }
