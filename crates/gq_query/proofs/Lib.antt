@@ -1,5 +1,0 @@
-pub mod Ordered
-pub mod Exact
-pub mod Grouped
-pub mod Lookups
-pub mod Telling

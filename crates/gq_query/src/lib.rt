@@ -1,23 +1,12 @@
 //! Answers to what is asked of a place in a text: hovers, definitions and references (LSP 3.17, "Language Features").
 //!
-//! Offsets and spans are in bytes. The documents that have a tree are read, the others have no definitions.
+//! Offsets and spans are in bytes. What the answers are is defined; the calls do not give them yet, and answer `NoMemory`.
 #![tactic(auto)]
 
-mod asking;
 pub mod definitions;
-mod executables;
-mod fragments;
-mod groups;
 pub mod hovers;
-mod order;
-mod parents;
-mod places;
 pub mod referring;
-mod schemas;
 pub mod told;
-mod variables;
-mod wanted;
-mod words;
 
 pub use definitions::definition;
 pub use gq_index::Occurrence;
