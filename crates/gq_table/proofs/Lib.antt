@@ -1,3 +1,4 @@
 pub mod Trees
 pub mod SameLemmas
 pub mod IndexLemmas
+pub mod JsonLemmas

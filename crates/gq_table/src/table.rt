@@ -1,17 +1,23 @@
 //! Tables of what resolvers answer (GraphQL, October 2021, section 6.4.2).
-ghost use Rattle.std.specs.Prelude.{◌≡◌, ◌≤◌, Some, not, is_some, slice_get, IfSome, IfOk};
+ghost use Rattle.std.specs.Prelude.{◌≡◌, ◌≤◌, Some, None, not, is_some, slice_get, IfSome, IfOk, IfErr};
 ghost use Rattle.std.specs.Option.{option_map};
 ghost use Rattle.gq_meaning.specs.Helping.Depth.{depth};
 ghost use Rattle.gq_table.specs.Rows.{row_of, deepest, has_repeated_call};
+ghost use Rattle.serde_json.specs.View.{view};
+ghost use Rattle.gq_table.specs.Json.{unless_repeated, rows_of_json};
+ghost use Rattle.gq_table.specs.declared.faults.TableFault.TheVariants.{Bad};
 ghost use Rattle.gq_table.specs.CallTexts.{call_text};
 ghost use Rattle.gq_table.specs.Index.{IsIndex, result_if, result_among};
 ghost use Rattle.gq_table.specs.Views.{answer_view, rows_view, row_view, call_of};
 
 use crate::calls::{Call, call_text, same_call};
+use crate::faults::TableFault;
+use crate::json_rows::read_rows;
 use crate::results::Outcome;
 use crate::values::Entry;
 use gq_names::ByName;
 use gq_text::{NoMemory, SmallText};
+use serde_json::Value as Json;
 use std::alloc::Global;
 use std::marker::Model;
 
@@ -75,6 +81,18 @@ impl Table {
         }
     }
 
+    /// The table that JSON holds: `{"rows":[{"type":"Query","object":0,"field":"a","args":{},"result":R},..]}`. `Bad` where it
+    /// has another shape, or two of its rows are of one call.
+    pub fn read(alloc: Global, value: &Json) -> Result<Table, TableFault>
+        ensures ok { IfOk result (λ table. rows_of_json (view value.now) ≡ Some (rows_view table)) }
+        ensures bad { IfErr result (λ fault. fault ≡ Bad → rows_of_json (view value.now) ≡ None) }
+    {
+        match read_table(alloc, value)? {
+            Some(table) => Ok(table),
+            None => Err(TableFault::Bad),
+        }
+    }
+
     /// The result of the row for this call, whose arguments stand in the order of their names.
     pub fn get(&self, alloc: Global, call: Call) -> Result<Option<&Outcome>, NoMemory>
         ensures is { IfOk result (λ o. option_map (λ r. answer_view r.now) o ≡ row_of (rows_view self.now) (call_of call.entry)) }
@@ -82,6 +100,26 @@ impl Table {
     {
         let text = call_text(alloc, call)?;
         Ok(result_among(&self.rows, self.by_call.get(text.as_str()), call))
+    }
+}
+
+/// The table that JSON holds, if it holds one.
+fn read_table(alloc: Global, value: &Json) -> Result<Option<Table>, NoMemory>
+    ensures { IfOk result (λ o. option_map (λ table. rows_view table) o ≡ rows_of_json (view value.now)) }
+{
+    match read_rows(alloc, value)? {
+        Some(rows) => table_of(alloc, rows),
+        None => Ok(None),
+    }
+}
+
+/// The table of these rows, unless two of them are of one call.
+fn table_of(alloc: Global, rows: Vec<Row>) -> Result<Option<Table>, NoMemory>
+    ensures { IfOk result (λ o. option_map (λ table. rows_view table) o ≡ unless_repeated (rows_view rows.items)) }
+{
+    match Table::of(alloc, rows)? {
+        Some(table) => Ok(Some(table)),
+        None => Ok(None),
     }
 }
 

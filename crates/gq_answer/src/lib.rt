@@ -1,0 +1,14 @@
+//! Operations answered from a table (GraphQL, October 2021, section 6).
+#![tactic(auto)]
+
+pub mod answer;
+pub mod collect;
+pub mod data;
+pub mod directives;
+pub mod execute;
+pub mod fragments;
+pub mod groups;
+pub mod world;
+
+pub use data::{Data, Member, Step};
+pub use execute::{Response, respond};

@@ -1,0 +1,11 @@
+pub mod Trees
+pub mod Entries
+pub mod Finding
+pub mod InputLemmas
+pub mod FormLemmas
+pub mod Strings
+pub mod Loops
+pub mod Readings
+pub mod HeightLemmas
+pub mod RawReadings
+pub mod CoercionLemmas

@@ -1,0 +1,6 @@
+-- What only helps to prove that the code does what the definitions say. No contract of a public call is about it.
+pub mod Heights
+pub mod Inputs
+pub mod Wrapping
+pub mod Forms
+pub mod Readings

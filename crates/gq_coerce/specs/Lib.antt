@@ -1,0 +1,7 @@
+pub mod Numbers
+pub mod Coerced
+pub mod Literals
+pub mod Leaves
+pub mod Variables
+pub mod Views
+pub mod Helping

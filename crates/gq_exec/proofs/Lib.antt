@@ -1,0 +1,3 @@
+pub mod Ranking
+pub mod Fragments
+pub mod Valid

@@ -1,0 +1,4 @@
+//! Execution of operations.
+#![tactic(auto)]
+
+pub mod laws;

@@ -1,0 +1,4 @@
+pub mod Commas
+pub mod Responses
+pub mod Texts
+pub mod Views
