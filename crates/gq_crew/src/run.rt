@@ -15,9 +15,6 @@ use thiserror::Error;
 /// How many bytes are read at once, at most.
 const BUFFER_LEN: usize = 16_384;
 
-/// How many workers there are beside this thread.
-const WORKERS: u8 = 0;
-
 /// How many bodies a run answers before it ends.
 const BODIES_MAX: u64 = 1 << 60;
 
@@ -146,7 +143,7 @@ pub fn run_one<S: Source, K: Sink>(alloc: Global, input: &mut S, output: &mut K)
     ensures source { S.failed input.new ≡ true → result.fault ≡ Some RunFault.Device }
     ensures sink { K.failed output.new ≡ true → result.fault ≡ Some RunFault.Device }
 {
-    let mut desk = Desk::new(alloc, WORKERS);
+    let mut desk = Desk::new(alloc);
     let mut framer = Framer::new(alloc);
     let mut buffer = [0u8; BUFFER_LEN];
     let mut served: u64 = 0;
