@@ -279,14 +279,14 @@ verdict (effect.Stops status) job = []
 
 -- ---- what an event itself puts out
 
--- what this server does for a client (LSP 3.17, ServerCapabilities): completions where it knows them, renames where it takes
--- edits with versions; hovers, definitions and references are not announced yet
+-- what this server does for a client (LSP 3.17, ServerCapabilities): what the client knows, and renames where it takes edits
+-- with versions
 abbrev pub server_capabilities : ClientCapabilities → ServerCapabilities
 server_capabilities client = record {
   completion_provider = client.completion;
-  definition_provider = false;
-  hover_provider = false;
-  references_provider = false;
+  definition_provider = client.definition;
+  hover_provider = client.hover;
+  references_provider = client.references;
   rename_provider = client.document_changes;
   prepare_provider = client.document_changes && client.prepare_support;
 }

@@ -25,9 +25,9 @@ fn server_capabilities(client: ClientCapabilities) -> ServerCapabilities
 {
     ServerCapabilities {
         completion_provider: client.completion,
-        definition_provider: false,
-        hover_provider: false,
-        references_provider: false,
+        definition_provider: client.definition,
+        hover_provider: client.hover,
+        references_provider: client.references,
         rename_provider: client.document_changes,
         prepare_provider: client.document_changes && client.prepare_support,
     }

@@ -1,0 +1,7 @@
+pub mod Ordered
+pub mod Exact
+pub mod Grouped
+pub mod Lookups
+pub mod Telling
+pub mod TypeWords
+pub mod Defining

@@ -8,3 +8,7 @@ pub mod Places
 pub mod Hovers
 pub mod Definitions
 pub mod References
+pub mod Views
+pub mod Placed
+pub mod Gathered
+pub mod Wants

@@ -1,14 +1,28 @@
-//! Answers to what is asked of a place in a text: hovers, definitions and references (LSP 3.17, "Language Features").
+//! Answers to what is asked of a place in a text: hovers, definitions, references and what completes it, and what is
+//! wrong with documents (LSP 3.17, "Language Features").
 //!
-//! Offsets and spans are in bytes. What the answers are is defined; the calls do not give them yet, and answer `NoMemory`.
+//! Offsets and spans are in bytes. The documents that have a tree are read, the others have no definitions.
 #![tactic(auto)]
 
+mod asking;
 pub mod definitions;
+mod executables;
+mod fragments;
+mod groups;
 pub mod hovers;
+mod order;
+mod parents;
+mod places;
 pub mod referring;
+mod schemas;
 pub mod told;
+mod variables;
+mod wanted;
+mod words;
 
 pub use definitions::definition;
+pub use gq_completion::{Completion, CompletionKind, complete};
+pub use gq_diagnostics::diagnostics;
 pub use gq_index::Occurrence;
 pub use hovers::hover;
 pub use referring::references;

@@ -1,14 +1,25 @@
-//! Where names are used.
-ghost use Rattle.std.specs.Prelude.{IfOk};
-ghost use Rattle.gq_query.specs.References.{AreReferences};
+//! Where fragments and variables are used (LSP 3.17, "Find References Request").
+ghost use Rattle.std.specs.Prelude.{List, IfOk};
+ghost use Rattle.gq_read.specs.declared.reader.Reading.{Reading};
+ghost use Rattle.gq_read.specs.Readings.{AreReadings};
+ghost use Rattle.gq_index.specs.Occurrences.{executables};
+ghost use Rattle.gq_spans.specs.Views.{mention_view};
+ghost use Rattle.gq_query.specs.Asked.{AtMention};
+ghost use Rattle.gq_query.specs.Order.{AreExactly};
+ghost use Rattle.gq_query.specs.References.{IsReference, AreReferences};
 
+use crate::asking::asked;
+use crate::executables::executables;
+use crate::wanted::{Wanted, wanted_places};
 use gq_index::Occurrence;
 use gq_project::Project;
+use gq_read::{Reading, read};
+use gq_spans::Mention;
 use gq_text::NoMemory;
 use std::alloc::Global;
 
-/// Where the name at an offset of the document of that key is used, in order, and where it is defined, if that is asked for too (LSP 3.17, "Find References Request").
-/// It is not built yet: it answers `NoMemory`.
+/// The name tokens at which what stands at the offset, in bytes, of the document of that key is used and, where they are
+/// asked for, those of its definitions: in the order of documents and places, each once.
 pub fn references(
     alloc: Global,
     project: &Project,
@@ -18,5 +29,45 @@ pub fn references(
 ) -> Result<Vec<Occurrence>, NoMemory>
     ensures { IfOk result (λ found. AreReferences project.now key.now offset include_declaration found.items) }
 {
-    Err(NoMemory)
+    let readings = read(alloc, project.documents())?;
+    let found = references_in(alloc, project, &readings, key, offset, include_declaration)?;
+    Ok(found)
+}
+
+/// The same, with the readings of the documents.
+fn references_in(
+    alloc: Global,
+    project: &Project,
+    readings: &[Reading],
+    key: &str,
+    offset: usize,
+    declared: bool,
+) -> Result<Vec<Occurrence>, NoMemory>
+    requires { AreReadings project.now readings.now }
+    ensures { IfOk result (λ found. AreExactly (λ o. AtMention project.now (executables readings.now) key.now offset (λ m. IsReference (executables readings.now) declared m o)) found.items) }
+{
+    let definitions = executables(alloc, readings)?;
+    match asked(alloc, project.documents(), &definitions, key, offset)? {
+        Some(mention) => {
+            let found = references_of(alloc, project, &mention, declared)?;
+            Ok(found)
+        }
+        None => Ok(Vec::new(alloc)),
+    }
+}
+
+/// The references to what is named.
+fn references_of(
+    alloc: Global,
+    project: &Project,
+    mention: &Mention<'_>,
+    declared: bool,
+) -> Result<Vec<Occurrence>, NoMemory>
+    ensures { IfOk result (λ found. (readings : List Reading) → AreReadings project.now readings → AreExactly (IsReference (executables readings) declared (mention_view mention.now)) found.items) }
+{
+    let wanted = Wanted {
+        uses: true,
+        declarations: declared,
+    };
+    wanted_places(alloc, project, mention, wanted)
 }

@@ -1,0 +1,32 @@
+-- Where what is named is defined, by what it is.
+use Rattle.std.proofs.Common.{◌≡◌, List, Option, sym, subst}
+use Rattle.gq_project.specs.declared.document.Doc.{Doc}
+use Rattle.gq_types.specs.Entries.{Text}
+use Rattle.gq_index.specs.declared.occurrence.Occurrence.{Occurrence}
+use Rattle.gq_index.specs.Occurrences.{DefinitionOf}
+use Rattle.gq_spans.specs.declared.mention.MentionKind.{MentionKind}
+use Rattle.gq_spans.specs.declared.mention.MentionKind.TheVariants as kind
+use Rattle.gq_spans.specs.Mentions.{MentionOf}
+use Rattle.gq_query.specs.Definitions.{IsDefinitionOf}
+use Rattle.gq_query.specs.Hovers.{IsToldOf}
+use Rattle.gq_query.specs.Order.{AreExactly}
+use Rattle.gq_query.specs.References.{IsDeclaration}
+
+module _ (documents : List Doc) (ds : List DefinitionOf) (m : MentionOf) (found : List Occurrence) where
+  abbrev AreOf : MentionKind → Type 0
+  AreOf k = AreExactly (IsDeclaration ds k m.name.text m.definition) found → AreExactly (IsDefinitionOf documents ds k m) found
+
+  pub of_fragment : m.kind ≡ kind.Fragment → AreOf m.kind
+  of_fragment is = subst AreOf (sym is) (λ e. e)
+
+  pub of_variable : m.kind ≡ kind.Variable → AreOf m.kind
+  of_variable is = subst AreOf (sym is) (λ e. e)
+
+-- by other definitions that are the same, and by its kind
+pub of_kind : (documents : List Doc) (ds others : List DefinitionOf) (m : MentionOf) (k : MentionKind) (found : List Occurrence) → ds ≡ others → m.kind ≡ k → AreExactly (IsDefinitionOf documents ds k m) found → AreExactly (IsDefinitionOf documents others m.kind m) found
+of_kind documents ds others m k found same is e =
+    subst (λ (l : List DefinitionOf). AreExactly (IsDefinitionOf documents l m.kind m) found) same (subst (λ (j : MentionKind). AreExactly (IsDefinitionOf documents ds j m) found) (sym is) e)
+
+-- what is told of it
+pub told_by_kind : (documents : List Doc) (ds others : List DefinitionOf) (m : MentionOf) (k : MentionKind) (told : Option Text) → ds ≡ others → m.kind ≡ k → IsToldOf documents ds k m told → IsToldOf documents others m.kind m told
+told_by_kind documents ds others m k told same is e = subst (λ (l : List DefinitionOf). IsToldOf documents l m.kind m told) same (subst (λ (j : MentionKind). IsToldOf documents ds j m told) (sym is) e)

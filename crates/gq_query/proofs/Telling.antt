@@ -1,0 +1,44 @@
+-- What a schema tells, and places alone.
+use Rattle.std.proofs.Common.{◌≡◌, List, [], ◌∷◌, Option, Some, None, refl, sym, ap, subst, ◌∙◌}
+use Rattle.gq_project.specs.declared.document.Doc.{Doc}
+use Rattle.gq_types.specs.Entries.{EntryOf}
+use Rattle.gq_types.proofs.Gathered.{first, only}
+use Rattle.gq_found.specs.declared.found.Found.{Found}
+use Rattle.gq_schema.specs.SchemaOf.{IsTypeSystemOf, HasNoFault, IsFaulty}
+use Rattle.gq_index.specs.declared.occurrence.Occurrence.{Occurrence}
+use Rattle.gq_query.specs.Order.{AreExactly}
+use Rattle.gq_query.specs.Schemas.{BySchema, of_schema, of_none}
+use Rattle.gq_query.proofs.Exact.{exactly_none, exactly_same, sorted_one}
+
+-- the documents have one type system
+abbrev pub OneTypeSystem : List Doc → Type 0
+OneTypeSystem documents = (xs ys : List EntryOf) → IsTypeSystemOf documents xs → IsTypeSystemOf documents ys → xs ≡ ys
+
+pub one_told : {A : Type 0} (documents : List Doc) (tells : List EntryOf → Option A) (a b : Option A) → OneTypeSystem documents → BySchema documents tells a → BySchema documents tells b → a ≡ b
+one_told documents tells a b one (of_schema {es = xs} s h e) (of_schema {es = ys} t i f) = e ∙ ap tells (one xs ys s t) ∙ sym f
+one_told documents tells a b one (of_schema {es = xs} s h e) (of_none none f) = absurd (none xs s h)
+one_told documents tells a b one (of_none none e) (of_schema {es = ys} t i f) = absurd (none ys t i)
+one_told documents tells a b one (of_none none e) (of_none without f) = e ∙ sym f
+
+pub exactly_told : (documents : List Doc) (tells : List EntryOf → Option Occurrence) (place : Option Occurrence) (found : List Occurrence) → OneTypeSystem documents → BySchema documents tells place → AreExactly (λ o. place ≡ Some o) found → AreExactly (λ o. BySchema documents tells (Some o)) found
+exactly_told documents tells place found one told e =
+    exactly_same (λ o. BySchema documents tells (Some o)) (λ o. place ≡ Some o) found
+    (λ o. ((λ same. subst (λ p. BySchema documents tells p) same told), (λ there. one_told documents tells place (Some o) one told there)))
+    e
+
+same_place : (a b : Occurrence) → ◌≡◌ {A = Option Occurrence} (Some a) (Some b) → a ≡ b
+same_place a b e = cc
+
+pub exactly_one : (p : Occurrence) → AreExactly (λ o. ◌≡◌ {A = Option Occurrence} (Some p) (Some o)) (p ∷ [])
+exactly_one p = record { sorted = sorted_one p; exact = λ o. ((λ c. ap Some (sym (only p o c))), (λ e. first p o [] (same_place p o e))) }
+
+pub exactly_no : AreExactly (λ o. ◌≡◌ {A = Option Occurrence} None (Some o)) []
+exactly_no = exactly_none (λ o. ◌≡◌ {A = Option Occurrence} None (Some o)) (λ o e. absurd (cc))
+
+-- what a schema tells, and nothing without one
+pub by_schema : {A : Type 0} (documents : List Doc) (tells : List EntryOf → Option A) (es own : List EntryOf) → own ≡ es → IsTypeSystemOf documents es → HasNoFault es → (told : Option A) → told ≡ tells own → BySchema documents tells told
+by_schema documents tells es own same is none told e = of_schema is none (e ∙ ap tells same)
+
+pub without_schema : {A : Type 0} (documents : List Doc) (tells : List EntryOf → Option A) → ((ds : List Doc) (es : List EntryOf) (found : List Found) → IsTypeSystemOf ds es → HasNoFault es → IsFaulty ds found → ⊥) →
+    (found : List Found) → IsFaulty documents found → BySchema documents tells None
+without_schema documents tells not_both found faulty = of_none (λ es is none. not_both documents es found is none faulty) refl

@@ -1,0 +1,14 @@
+use Rattle.std.proofs.lemmas.Result.{IfOk-weaker}
+use Rattle.gq_spans.specs.Views.{mention_view}
+use Rattle.gq_query.specs.Places.{defined_field_place}
+use Rattle.gq_query.specs.Views.{definitions_view}
+use Rattle.gq_query.proofs.Telling.{exactly_told}
+use Rattle.gq_query.proofs.definitions.field_definition.Goals as goal
+
+pub returns : goal.returns
+returns c =
+    IfOk-weaker c.at_most_one.result _ _
+    (λ found e.
+    exactly_told c.args.project.now (λ es. defined_field_place es (definitions_view c.args.definitions.now) (mention_view c.args.mention.now)) c.in_ok-place.place found.items
+    (c.documents_have_one_type_system.ensures.one c.args.project.now) c.in_ok-place.ensures e)
+    c.at_most_one.ensures

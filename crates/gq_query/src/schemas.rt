@@ -1,0 +1,170 @@
+//! What the schema of a project tells of fields and types.
+ghost use Rattle.std.specs.Prelude.{◌≡◌, IfOk};
+ghost use Rattle.std.specs.Option.{option_map};
+ghost use Rattle.gq_types.specs.Look.{types_view, text_of};
+ghost use Rattle.gq_document.specs.Selections.{field_on};
+ghost use Rattle.gq_spans.specs.Views.{mention_view};
+ghost use Rattle.gq_query.specs.Parents.{parent_of};
+ghost use Rattle.gq_query.specs.Places.{defined_field_place, type_place};
+ghost use Rattle.gq_query.specs.Schemas.{BySchema};
+ghost use Rattle.gq_query.specs.Views.{definitions_view};
+ghost use Rattle.gq_query.specs.Words.{field_words, field_told, condition_told};
+
+use crate::executables::Executable;
+use crate::parents::parent_at;
+use crate::places::{field_place, is_built_in_scalar, type_place};
+use crate::words::{condition_words, field_words};
+use gq_document::field_on;
+use gq_index::Occurrence;
+use gq_project::Project;
+use gq_schema::laws::documents_have_one_type_system;
+use gq_schema::{Schema, SchemaFault};
+use gq_spans::Mention;
+use gq_text::{NoMemory, OwnedText};
+use gq_types::Types;
+use std::alloc::Global;
+
+/// Where the field that is named is defined; nowhere without a schema.
+pub(crate) fn field_place_by_schema(
+    alloc: Global,
+    project: &Project,
+    definitions: &[Executable<'_>],
+    mention: &Mention<'_>,
+) -> Result<Option<Occurrence>, NoMemory>
+    ensures { IfOk result (BySchema project.now (λ es. defined_field_place es (definitions_view definitions.now) (mention_view mention.now))) }
+{
+    documents_have_one_type_system();
+    match Schema::build(alloc, project) {
+        Ok(schema) => {
+            let place = defined_field_place(alloc, schema.types(), definitions, mention)?;
+            Ok(place)
+        }
+        Err(SchemaFault::Faults(_)) => Ok(None),
+        Err(SchemaFault::NoMemory) => Err(NoMemory),
+    }
+}
+
+/// Where the type of that name is defined; nowhere without a schema.
+pub(crate) fn type_place_by_schema(
+    alloc: Global,
+    project: &Project,
+    name: &str,
+) -> Result<Option<Occurrence>, NoMemory>
+    ensures { IfOk result (BySchema project.now (λ es. type_place es name.now)) }
+{
+    documents_have_one_type_system();
+    match Schema::build(alloc, project) {
+        Ok(schema) => Ok(type_place(schema.types(), name)),
+        Err(SchemaFault::Faults(_)) => Ok(None),
+        Err(SchemaFault::NoMemory) => Err(NoMemory),
+    }
+}
+
+/// What is told of the field that is named; nothing without a schema.
+pub(crate) fn field_told_by_schema(
+    alloc: Global,
+    project: &Project,
+    definitions: &[Executable<'_>],
+    mention: &Mention<'_>,
+) -> Result<Option<OwnedText>, NoMemory>
+    ensures { IfOk result (BySchema project.now (λ es. field_told es (definitions_view definitions.now) (mention_view mention.now))) }
+{
+    documents_have_one_type_system();
+    match Schema::build(alloc, project) {
+        Ok(schema) => {
+            let told = field_told(alloc, schema.types(), definitions, mention)?;
+            Ok(told)
+        }
+        Err(SchemaFault::Faults(_)) => Ok(None),
+        Err(SchemaFault::NoMemory) => Err(NoMemory),
+    }
+}
+
+/// What is told of the type of that name; nothing without a schema.
+pub(crate) fn condition_told_by_schema(
+    alloc: Global,
+    project: &Project,
+    name: &str,
+) -> Result<Option<OwnedText>, NoMemory>
+    ensures { IfOk result (BySchema project.now (λ es. condition_told es name.now)) }
+{
+    documents_have_one_type_system();
+    match Schema::build(alloc, project) {
+        Ok(schema) => {
+            let told = condition_told(alloc, schema.types(), name)?;
+            Ok(told)
+        }
+        Err(SchemaFault::Faults(_)) => Ok(None),
+        Err(SchemaFault::NoMemory) => Err(NoMemory),
+    }
+}
+
+/// The name of the type of the parent of the field that is named.
+fn parent_of<'a>(
+    alloc: Global,
+    types: &'a Types,
+    definitions: &[Executable<'a>],
+    mention: &Mention<'_>,
+) -> Result<Option<&'a str>, NoMemory>
+    ensures { IfOk result (λ parent. text_of parent ≡ parent_of (types_view types.now) (definitions_view definitions.now) (mention_view mention.now)) }
+{
+    match definitions.get(mention.definition) {
+        Some(one) => parent_at(alloc, types, one, mention.name.span),
+        None => Ok(None),
+    }
+}
+
+fn defined_field_place(
+    alloc: Global,
+    types: &Types,
+    definitions: &[Executable<'_>],
+    mention: &Mention<'_>,
+) -> Result<Option<Occurrence>, NoMemory>
+    ensures { IfOk result (λ place. place ≡ defined_field_place (types_view types.now) (definitions_view definitions.now) (mention_view mention.now)) }
+{
+    match parent_of(alloc, types, definitions, mention)? {
+        Some(type_name) => Ok(field_place(types, type_name, mention.name.text.as_str())),
+        None => Ok(None),
+    }
+}
+
+fn field_told(
+    alloc: Global,
+    types: &Types,
+    definitions: &[Executable<'_>],
+    mention: &Mention<'_>,
+) -> Result<Option<OwnedText>, NoMemory>
+    ensures { IfOk result (λ told. told ≡ field_told (types_view types.now) (definitions_view definitions.now) (mention_view mention.now)) }
+{
+    match parent_of(alloc, types, definitions, mention)? {
+        Some(type_name) => told_on(alloc, types, type_name, mention.name.text.as_str()),
+        None => Ok(None),
+    }
+}
+
+/// What is told of the field of that name of the type of that name.
+fn told_on(
+    alloc: Global,
+    types: &Types,
+    type_name: &str,
+    name: &str,
+) -> Result<Option<OwnedText>, NoMemory>
+    ensures { IfOk result (λ told. told ≡ option_map (λ f. field_words type_name.now name.now f.type_ref) (field_on (types_view types.now) type_name.now name.now)) }
+{
+    match field_on(types, type_name, name) {
+        Some(field) => Ok(Some(field_words(alloc, type_name, name, field)?)),
+        None => Ok(None),
+    }
+}
+
+fn condition_told(alloc: Global, types: &Types, name: &str) -> Result<Option<OwnedText>, NoMemory>
+    ensures { IfOk result (λ told. told ≡ condition_told (types_view types.now) name.now) }
+{
+    if is_built_in_scalar(name) {
+        return Ok(None);
+    }
+    match types.kind(name) {
+        Some(kind) => Ok(Some(condition_words(alloc, name, kind)?)),
+        None => Ok(None),
+    }
+}
