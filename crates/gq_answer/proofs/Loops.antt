@@ -20,13 +20,14 @@ use Rattle.gq_meaning.proofs.Children.{step_in}
 use Rattle.gq_meaning.proofs.Descending.{object_steps, object_child, list_steps, list_child}
 use Rattle.gq_meaning.proofs.Ends.{none_below_nothing, none_below_leaf, failed_answered, nothing_answered, leaf_answered, error_is_unfit, leaf_is_written}
 use Rattle.gq_answer.specs.declared.world.World.{World}
-use Rattle.gq_answer.specs.declared.data.Data.{Data as Given_data}
-use Rattle.gq_answer.specs.declared.data.Member.{Member}
+use Rattle.gq_response.specs.declared.data.Data.{Data as Given_data}
+use Rattle.gq_response.specs.declared.data.Member.{Member}
 use Rattle.gq_answer.specs.World.{given_by, definitions_in}
 use Rattle.gq_meaning.specs.Helping.Depth.{depth}
 use Rattle.gq_answer.specs.declared.collect.Taken.{Taken}
 use Rattle.gq_answer.specs.Groups.{AreGroups}
-use Rattle.gq_answer.specs.Views.{Keyed, numbered, keyed, data_view, members_view, asked_all}
+use Rattle.gq_response.specs.Views.{Keyed, numbered, keyed, data_view, members_view}
+use Rattle.gq_answer.specs.Views.{asked_all}
 use Rattle.gq_answer.specs.Answers.{place_with, IsAnswer, IsFieldAnswer, IsItemAnswer}
 
 abbrev pub null_data : Data

@@ -10,7 +10,8 @@ use Rattle.gq_document.specs.Definitions.{OperationOf}
 use Rattle.gq_document.specs.Executable.{ExecutableOf}
 use Rattle.gq_table.specs.Rows.{RowOf}
 use Rattle.gq_coerce.specs.Variables.{coerced_variables}
-use Rattle.gq_answer.specs.Operations.{ResponseOf, request_error, answered, operation_of, IsResponse, executed, IsAnsweredBy, IsAnswered}
+use Rattle.gq_response.specs.Responses.{ResponseOf, request_error, answered}
+use Rattle.gq_answer.specs.Operations.{operation_of, IsResponse, executed, IsAnsweredBy, IsAnswered}
 use Rattle.gq_meaning.specs.Values.{Text, Values}
 use Rattle.gq_meaning.specs.Results as result
 use Rattle.gq_meaning.specs.Results.{Path}

@@ -13,14 +13,10 @@ use Rattle.gq_meaning.specs.Selected.{Set, set_of}
 use Rattle.gq_meaning.specs.Expand.{Definition}
 use Rattle.gq_meaning.specs.Acyclic.{Rankable}
 use Rattle.gq_meaning.specs.Response.{Given, Responds, Calls}
+use Rattle.gq_response.specs.Responses.{ResponseOf, request_error, answered}
 use Rattle.gq_coerce.specs.Variables.{coerced_variables}
 use Rattle.gq_answer.specs.Given.{given_in}
 use Rattle.gq_answer.specs.Fragments.{definition_of}
-
--- a response: data with errors, or a request error
-pub data ResponseOf : Type 0 where
-  request_error : ResponseOf
-  answered : (data_of : Data) → (errors : List Path) → ResponseOf
 
 -- the operation of that name or, without one, the only operation (GetOperation, section 6.1)
 abbrev pub is_called : Text → OperationOf → Bool

@@ -10,13 +10,14 @@ ghost use Rattle.gq_meaning.specs.Results as result_of;
 ghost use Rattle.gq_meaning.specs.Response.{fits as fits_type, fits_composite, fits_leaf, is_nothing, is_list, is_unfit, is_non_null, item_type, item_of, written, leaf_in};
 ghost use Rattle.gq_meaning.specs.Helping.Answered.{is_null};
 ghost use Rattle.gq_answer.specs.World.{given_by, definitions_in};
-ghost use Rattle.gq_answer.specs.Views.{asked_all, step_view, path_view, errors_view, data_view, type_seen, found_seen};
+ghost use Rattle.gq_response.specs.Views.{step_view, path_view, errors_view, data_view};
+ghost use Rattle.gq_answer.specs.Views.{asked_all, type_seen, found_seen};
 ghost use Rattle.gq_answer.specs.Answers.{IsAnswer, IsFieldAnswer, IsItemAnswer};
 
 use crate::collect::{Taken, collect};
-use crate::data::{Data, Member, Step};
 use crate::groups::grouped;
 use crate::world::{World, applies, is_composite, is_leaf_of, leaf_at, look, type_of};
+use gq_response::{Data, Member, Step};
 use gq_table::{Leaf, Outcome};
 use gq_text::{NoMemory, SmallText};
 use gq_tree::TypeRef;
@@ -110,7 +111,7 @@ fn is_unfit(world: World, type_ref: Option<&TypeRef>, found: Option<&Outcome>) -
     }
 }
 
-#[tactic(auto, using(crate::proofs::Trees::answers))]
+#[tactic(auto, using(gq_response::proofs::Trees::answers))]
 fn is_null(data: &Data) -> bool
     ensures { result ≡ is_null (data_view data.now) }
 {

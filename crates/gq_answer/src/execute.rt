@@ -17,26 +17,19 @@ ghost use Rattle.gq_meaning.specs.Results as result_of;
 ghost use Rattle.gq_answer.specs.Answers.{IsAnswer};
 ghost use Rattle.gq_answer.specs.Operations.{is_called, only_operation, operation_of, fragments_in, IsResponse, IsAnswered, IsAnsweredBy, AreRankable};
 ghost use Rattle.gq_answer.specs.World.{types_in, given_by, definitions_in};
-ghost use Rattle.gq_answer.specs.Views.{data_view, errors_view, response_view};
+ghost use Rattle.gq_response.specs.Views.{data_view, errors_view, response_view};
 
 use crate::answer::answer_object;
 use crate::collect::Taken;
-use crate::data::{Data, Step};
 use crate::fragments::Fragments;
 use crate::world::{World, applies, is_composite, types};
 use gq_coerce::{Coercion, Variables};
 use gq_document::{Executable, OperationEntry};
+use gq_response::{Data, Response, Step};
 use gq_table::{Entry, Table};
 use gq_text::{NoMemory, SmallText, Span};
 use gq_tree::{Name, Selection, TypeRef};
 use std::alloc::Global;
-
-/// What an operation is answered.
-#[derive(Drop)]
-pub enum Response {
-    RequestError,
-    Answered { data: Data, errors: Vec<Vec<Step>> },
-}
 
 /// The response to the operation of that name, or to the only one, where these values are given for its variables.
 pub fn respond(
@@ -65,7 +58,7 @@ pub fn respond(
 }
 
 /// The operation of that name, or the only one (GetOperation, section 6.1).
-fn operation<'a>(x: Executable<'a>, name: Option<&str>) -> Option<&'a OperationEntry>
+pub fn operation<'a>(x: Executable<'a>, name: Option<&str>) -> Option<&'a OperationEntry>
     ensures { option_map (λ o. operation_view o.now) result ≡ operation_of (operations_view x.entry.operations.now) (text_of name.entry) }
 {
     match name {

@@ -3,12 +3,10 @@
 
 pub mod answer;
 pub mod collect;
-pub mod data;
 pub mod directives;
 pub mod execute;
 pub mod fragments;
 pub mod groups;
 pub mod world;
 
-pub use data::{Data, Member, Step};
-pub use execute::{Response, respond};
+pub use execute::{operation, respond};

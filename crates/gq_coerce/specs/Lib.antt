@@ -1,4 +1,3 @@
-pub mod Numbers
 pub mod Coerced
 pub mod Literals
 pub mod Leaves

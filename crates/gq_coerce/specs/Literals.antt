@@ -19,7 +19,7 @@ use Rattle.gq_meaning.specs.Values as value
 use Rattle.gq_meaning.specs.Values.{Text, Value, Values}
 use Rattle.gq_meaning.specs.Selected.{Arguments}
 use Rattle.gq_meaning.specs.Directives.{entry_of}
-use Rattle.gq_coerce.specs.Numbers.{decimal}
+use Rattle.gq_table.specs.Numbers.{decimal}
 use Rattle.gq_coerce.specs.Coerced.{Coerced, absent, fault, given, unnamed, null_value, leaf_value, enum_value, Part, items_of, list_value, wrapped, part_named, entries_of, object_value}
 
 abbrev pub Says : Type 0

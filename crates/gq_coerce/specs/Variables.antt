@@ -15,7 +15,7 @@ use Rattle.gq_values.specs.Literals.{is_int_32, is_built_in_scalar}
 use Rattle.gq_meaning.specs.Values as value
 use Rattle.gq_meaning.specs.Values.{Text, Value, Values}
 use Rattle.gq_meaning.specs.Directives.{entry_of}
-use Rattle.gq_coerce.specs.Numbers.{is_int, is_number, decimal}
+use Rattle.gq_table.specs.Numbers.{is_int, is_number, decimal}
 use Rattle.gq_coerce.specs.Coerced.{Coerced, absent, fault, given, alone, null_value, leaf_value, enum_value, Part, items_of, list_value, wrapped, is_keyed, entries_of, object_value}
 use Rattle.gq_coerce.specs.Literals.{Setting, setting, or_default, unless_null, inputs_from, input_fields, is_text_type}
 

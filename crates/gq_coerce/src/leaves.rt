@@ -7,8 +7,8 @@ ghost use Rattle.gq_types.specs.Joined.{kind_named};
 ghost use Rattle.gq_types.specs.Look.{types_view};
 ghost use Rattle.gq_coerce.specs.Leaves.{at_built_in, at_enum, at_kind, leaf_at, is_composite_type};
 
-use crate::numbers::{decimal, is_int};
 use gq_table::Leaf;
+use gq_table::numbers::{decimal, is_int};
 use gq_text::{NoMemory, SmallText};
 use gq_types::{TypeKind, Types};
 use gq_values::fitting::{is_built_in_scalar, is_int_32};

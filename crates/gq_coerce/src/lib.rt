@@ -8,7 +8,6 @@ mod free;
 mod inputs;
 pub mod leaves;
 mod literals;
-mod numbers;
 mod parts;
 mod raw;
 mod raw_scalars;

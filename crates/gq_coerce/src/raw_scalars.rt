@@ -7,10 +7,10 @@ ghost use Rattle.gq_coerce.specs.Variables.{number_input, leaf_input, spelled, s
 ghost use Rattle.gq_coerce.specs.Views.{coerced_view};
 
 use crate::coerced::Coerced;
-use crate::numbers::{is_int, is_number};
 use crate::scalars::{
     boolean_leaf, decimal_leaf, enum_named, is_text_type, number_leaf, text_leaf,
 };
+use gq_table::numbers::{is_int, is_number};
 use gq_table::{Entry, Leaf, Value};
 use gq_text::{NoMemory, SmallText};
 use gq_types::Types;

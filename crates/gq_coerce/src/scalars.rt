@@ -8,14 +8,14 @@ ghost use Rattle.gq_types.specs.Names.{has_value};
 ghost use Rattle.gq_types.specs.Look.{types_view};
 ghost use Rattle.gq_table.specs.Views.{entries_view};
 ghost use Rattle.gq_coerce.specs.Coerced.{fault, leaf_value, enum_value};
-ghost use Rattle.gq_coerce.specs.Numbers.{decimal};
+ghost use Rattle.gq_table.specs.Numbers.{decimal};
 ghost use Rattle.gq_coerce.specs.Literals.{string_text, variable_value, is_text_type, int_value, scalar_value, value_of_enum};
 ghost use Rattle.gq_coerce.specs.Views.{bare, coerced_view, variables_in};
 
 use crate::coerced::Coerced;
-use crate::numbers::decimal;
 use crate::values::Variables;
 use gq_lex::{block_string_value, string_value};
+use gq_table::numbers::decimal;
 use gq_table::{Leaf, Value};
 use gq_text::{NoMemory, SmallText};
 use gq_tree::Value as Literal;

@@ -42,6 +42,13 @@ impl Variables {
         Ok(Variables { entries, names })
     }
 
+    /// The entries, in their order. It takes no memory.
+    pub fn into_entries(self) -> Vec<Entry>
+        ensures { result.items ≡ self }
+    {
+        self.entries
+    }
+
     /// The value of the variable of that name.
     pub fn get(&self, name: &str) -> Option<&Value>
         ensures { option_map (λ v. under name.now (value_view v.now)) result ≡ entry_of name.now (entries_view self.now) }

@@ -1,5 +1,5 @@
 -- In a project with which nothing is wrong no fragment leads back to itself, and each spread is of a fragment.
-use Rattle.std.proofs.Common.{◌≡◌, inl, inr, ℕ, Bool, true, false, List, [], ◌∷◌, ◌++◌, map, flat_map, refl, sym, ◌∙◌, ap, subst, Contains, Some, None}
+use Rattle.std.proofs.Common.{◌≡◌, inl, inr, ℕ, Bool, true, false, List, [], ◌∷◌, ◌++◌, map, flat_map, refl, sym, ◌∙◌, ap, subst, Contains}
 use Rattle.std.specs.Prelude.{◌⊎◌}
 use Rattle.std.specs.Str.{bytes_eq}
 use Rattle.std.proofs.lemmas.List.Elements.{Contains-append_left, Contains-append_right}
@@ -21,12 +21,12 @@ use Rattle.gq_spreads.specs.FragmentSpreadTargetDefined.{IsSpreadName, of_operat
 use Rattle.gq_spreads.specs.FragmentSpreadsMustNotFormCycles.{IsFragmentCycle}
 use Rattle.gq_meaning.specs.Values.{Text}
 use Rattle.gq_meaning.proofs.TextLemmas.{same_text, text_same}
-use Rattle.gq_meaning.specs.Selected.{Set, set_of}
+use Rattle.gq_meaning.specs.Selected.{set_of}
 use Rattle.gq_meaning.specs.Expand.{Definition}
 use Rattle.gq_meaning.specs.Thin.{IsIn}
 use Rattle.gq_meaning.specs.Acyclic.{Rankable}
-use Rattle.gq_exec.specs.Fragments.{definition_of}
-use Rattle.gq_exec.proofs.Ranking.{Leads, at_once, on_way, spreads_of, IsNamed, AreDefined, LeadNowhereBack, can_be_ranked}
+use Rattle.gq_answer.specs.Fragments.{definition_of}
+use Rattle.gq_exec.proofs.Ranking.{Leads, at_once, on_way, spreads_of, AreDefined, LeadNowhereBack, can_be_ranked}
 
 -- a name in the spreads of a tree
 record IsSpread (ss : Sels Span) (g : Text) : Type 0 where

@@ -1,3 +1,5 @@
 pub mod Ranking
 pub mod Fragments
 pub mod Valid
+pub mod Meant
+pub mod OneResponse

@@ -1,23 +1,18 @@
 -- What validity promises to execution.
-use Rattle.std.proofs.Common.{◌≡◌, List, map, Contains}
+use Rattle.std.proofs.Common.{List}
+use Rattle.std.proofs.lemmas.Grind.{not_there}
 use Rattle.gq_project.specs.declared.document.Doc.{Doc}
 use Rattle.gq_found.specs.declared.item.Item.{Item}
-use Rattle.gq_read.specs.declared.reader.Reading.{Reading}
-use Rattle.gq_read.specs.Readings.{AreReadings}
-use Rattle.gq_document.specs.Definitions.{OperationOf}
-use Rattle.gq_spreads.specs.SpreadFaults.{IsSpreadFault, unknown_fragment, fragment_cycle}
-use Rattle.gq_rules.specs.RuleFaults.{IsRuleFault, of_spreads}
-use Rattle.gq_rules.specs.Demands.{IsDemanded, IsToldFirst, first, rule}
+use Rattle.gq_spreads.specs.SpreadFaults.{unknown_fragment, fragment_cycle}
+use Rattle.gq_rules.specs.RuleFaults.{of_spreads}
+use Rattle.gq_rules.specs.Demands.{IsToldFirst, first, rule}
 use Rattle.gq_rules.specs.Project.{executable_of}
 use Rattle.gq_rules.specs.Validity.{IsValid, IsInvalid}
-use Rattle.gq_meaning.specs.Selected.{set_of}
-use Rattle.gq_meaning.specs.Acyclic.{Rankable}
-use Rattle.gq_exec.specs.Fragments.{definition_of}
 use Rattle.gq_exec.specs.Validity.{NothingIsDemanded, FragmentsAreRanked}
 use Rattle.gq_exec.proofs.Fragments.{are_ranked}
 
 pub nothing_demanded : ((documents : List Doc) → IsValid documents → IsInvalid documents → ⊥) → NothingIsDemanded
-nothing_demanded apart documents valid readings are item demanded = apart documents valid (record { readings = readings; are_readings = are; some = (item, demanded) })
+nothing_demanded apart documents valid readings are item demanded = not_there valid (λ v. apart documents v (record { readings = readings; are_readings = are; some = (item, demanded) }))
 
 pub fragments_are_ranked : ((documents : List Doc) → IsValid documents → IsInvalid documents → ⊥) → FragmentsAreRanked
 fragments_are_ranked apart documents valid readings are o stands =

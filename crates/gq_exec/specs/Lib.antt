@@ -1,2 +1,2 @@
-pub mod Fragments
 pub mod Validity
+pub mod Executed

@@ -10,13 +10,13 @@ use Rattle.gq_rules.specs.Project.{executable_of}
 use Rattle.gq_rules.specs.Validity.{IsValid}
 use Rattle.gq_meaning.specs.Selected.{set_of}
 use Rattle.gq_meaning.specs.Acyclic.{Rankable}
-use Rattle.gq_exec.specs.Fragments.{definition_of}
+use Rattle.gq_answer.specs.Fragments.{definition_of}
 
 -- nothing is demanded of a valid project, whatever reads it
 abbrev pub NothingIsDemanded : Type 0
-NothingIsDemanded = (documents : List Doc) → IsValid documents → (readings : List Reading) → AreReadings documents readings → (item : Item) → IsDemanded readings item → ⊥
+NothingIsDemanded = (documents : List Doc) → ∥ IsValid documents ∥₁ → (readings : List Reading) → AreReadings documents readings → (item : Item) → IsDemanded readings item → ⊥
 
 -- its fragments can be ranked by their spreads, and each operation stands above them (section 5.5.2.2)
 abbrev pub FragmentsAreRanked : Type 0
-FragmentsAreRanked = (documents : List Doc) → IsValid documents → (readings : List Reading) → AreReadings documents readings →
+FragmentsAreRanked = (documents : List Doc) → ∥ IsValid documents ∥₁ → (readings : List Reading) → AreReadings documents readings →
     (o : OperationOf) → Contains (executable_of readings).operations o → Rankable (map definition_of (executable_of readings).fragments) (set_of o.set)

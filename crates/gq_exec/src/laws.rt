@@ -1,6 +1,9 @@
 //! What validity means for execution.
+ghost use Rattle.gq_exec.specs.Executed.{RequestsHaveOneResponse};
 ghost use Rattle.gq_exec.specs.Validity.{NothingIsDemanded, FragmentsAreRanked};
 
+use gq_meaning::laws::responses_are_determined;
+use gq_parse::laws::one_tree;
 use gq_rules::laws::no_project_is_valid_and_invalid;
 
 /// Nothing is demanded of a valid project, whatever reads its documents.
@@ -15,4 +18,12 @@ pub fn fragments_can_be_ranked()
     ensures { FragmentsAreRanked }
 {
     no_project_is_valid_and_invalid();
+}
+
+/// A project has at most one response to each request. So `execute` speaks of that one.
+pub fn requests_have_one_response()
+    ensures { RequestsHaveOneResponse }
+{
+    responses_are_determined();
+    one_tree();
 }

@@ -21,9 +21,10 @@ use Rattle.gq_meaning.proofs.Ranks.{height_over, fields_rank, fields_less, key_r
 use Rattle.gq_meaning.specs.Helping.Depth.{depth}
 use Rattle.gq_meaning.proofs.Weights.{weight, lighter_group}
 use Rattle.gq_answer.specs.World.{given_by, definitions_in, deepest_in}
-use Rattle.gq_answer.specs.Views.{asked_of, asked_all, setting_in, step_view, path_view, errors_view, data_view, type_seen, found_seen}
+use Rattle.gq_response.specs.Views.{step_view, path_view, errors_view, data_view}
+use Rattle.gq_answer.specs.Views.{asked_of, asked_all, setting_in, type_seen, found_seen}
 use Rattle.gq_answer.specs.Answers.{IsAnswer, IsFieldAnswer, IsItemAnswer}
-use Rattle.gq_answer.proofs.Trees.{view_null, view_leaf, view_list, view_object}
+use Rattle.gq_response.proofs.Trees.{view_null, view_leaf, view_list, view_object}
 use Rattle.gq_answer.proofs.Loops.{unfit_answer, nothing_answer, failed_never, leaf_answer, leaf_never, begins, list_more, list_blocked, list_done, object_more, keys_more, object_blocked, object_done, same_length, group_facts, depth_at, item_answer}
 use Rattle.gq_answer.proofs.Fields.{field_answer, typename_answer, in_keys_at}
 use Rattle.gq_answer.proofs.answer.+answer.Goals as goal

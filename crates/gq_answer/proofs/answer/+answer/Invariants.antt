@@ -10,7 +10,8 @@ use Rattle.gq_meaning.specs.Helping.Depth.{depth}
 use Rattle.gq_meaning.proofs.Weights.{weight}
 use Rattle.gq_table.specs.Views.{answer_view, answers_view}
 use Rattle.gq_answer.specs.World.{definitions_in, deepest_in}
-use Rattle.gq_answer.specs.Views.{asked_all, depth_seen, type_seen, path_view, errors_view, data_view}
+use Rattle.gq_response.specs.Views.{path_view, errors_view, data_view}
+use Rattle.gq_answer.specs.Views.{asked_all, depth_seen, type_seen}
 use Rattle.gq_answer.proofs.answer.+answer.Given as goal
 
 abbrev pub decreases-answer : goal.decreases-answer

@@ -7,7 +7,7 @@ use Rattle.gq_table.specs.Views.{entries_view, rows_view}
 use Rattle.gq_coerce.specs.Variables.{coerced_variables}
 use Rattle.gq_answer.specs.Operations.{no_operation, bad_variables}
 use Rattle.gq_document.specs.Executable.{executable_view}
-use Rattle.gq_answer.specs.Views.{response_view}
+use Rattle.gq_response.specs.Views.{response_view}
 use Rattle.gq_answer.proofs.Roots.{to_response}
 use Rattle.gq_answer.proofs.execute.respond.Goals as goal
 

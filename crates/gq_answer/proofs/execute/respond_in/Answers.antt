@@ -6,7 +6,7 @@ use Rattle.gq_meaning.specs.Selected.{set_of}
 use Rattle.gq_document.specs.Definitions.{operation_view}
 use Rattle.gq_answer.specs.World.{given_by, definitions_in}
 use Rattle.gq_answer.specs.Operations.{IsAnsweredBy}
-use Rattle.gq_answer.specs.Views.{response_view}
+use Rattle.gq_response.specs.Views.{response_view}
 use Rattle.gq_answer.proofs.execute.respond_in.Goals as goal
 
 pub returns-in-None : goal.returns-in-None

@@ -5,7 +5,7 @@ use Rattle.gq_meaning.specs.Selected.{set_of}
 use Rattle.gq_document.specs.Definitions.{operation_view, fragments_view}
 use Rattle.gq_table.specs.Views.{entries_view, rows_view}
 use Rattle.gq_answer.specs.Fragments.{definition_of}
-use Rattle.gq_answer.specs.Views.{response_view}
+use Rattle.gq_response.specs.Views.{response_view}
 use Rattle.gq_answer.proofs.Roots.{answered_same}
 use Rattle.gq_answer.proofs.execute.respond_with.Goals as goal
 
