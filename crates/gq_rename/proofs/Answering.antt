@@ -16,7 +16,7 @@ use Rattle.gq_target.specs.declared.target.Target.{Target}
 use Rattle.gq_target.specs.declared.target.TargetKind.{TargetKind}
 use Rattle.gq_target.specs.declared.target.TargetKind.TheVariants as kind
 use Rattle.gq_rename.specs.declared.refusal.Refusal.{Refusal}
-use Rattle.gq_rename.specs.declared.refusal.Refusal.TheVariants.{ProjectInvalid, NothingHere, BadName, SameName, NameTaken, TooLarge, SelfCheck, NoMemory}
+use Rattle.gq_rename.specs.declared.refusal.Refusal.TheVariants.{ProjectInvalid, NothingHere, BadName, SameName, NameTaken, DirectiveInWay, NoPossibleType, NotSiblings, NotRedundant, TooLarge, SelfCheck, NoMemory}
 use Rattle.gq_rename.specs.Refusals.{number_of}
 use Rattle.gq_rename.specs.Asks.{RenameAsk, trees_of, target_of, MayBeCalled, IsTaken, Changes, fragments, variables}
 use Rattle.gq_rename.specs.Rename.{Renames, cut, AtTarget, IsTooLarge, ReadsAsRenamed, PassesCheck, Refuses, IsRenameAnswer, KeepsTrees}
@@ -49,6 +49,10 @@ module _ (documents : List Doc) (rs : List Reading) (key : List ℕ) (offset : �
   nothing_earlier BadName less h = absurd (omega (arith, less))
   nothing_earlier SameName less h = absurd (omega (arith, less))
   nothing_earlier NameTaken less h = absurd (omega (arith, less))
+  nothing_earlier DirectiveInWay less h = absurd (omega (arith, less))
+  nothing_earlier NoPossibleType less h = absurd (omega (arith, less))
+  nothing_earlier NotSiblings less h = absurd (omega (arith, less))
+  nothing_earlier NotRedundant less h = absurd (omega (arith, less))
   nothing_earlier TooLarge less h = absurd (omega (arith, less))
   nothing_earlier SelfCheck less h = absurd (omega (arith, less))
   nothing_earlier NoMemory less h = absurd (omega (arith, less))
@@ -69,6 +73,10 @@ module _ (documents : List Doc) (rs : List Reading) (key : List ℕ) (offset : �
     none_before n may other free fits checks BadName less h = at (λ u. MayBeCalled u.kind new → ⊥) h (may less)
     none_before n may other free fits checks SameName less h = other less (at (λ u. u.name.text ≡ new) h)
     none_before n may other free fits checks NameTaken less h = free less (at (λ u. IsTaken (executables rs) u.kind u.name.text u.definition new) h)
+    none_before n may other free fits checks DirectiveInWay less h = h
+    none_before n may other free fits checks NoPossibleType less h = h
+    none_before n may other free fits checks NotSiblings less h = h
+    none_before n may other free fits checks NotRedundant less h = h
     none_before n may other free fits checks TooLarge less h = fits less h.0 h.1
     none_before n may other free fits checks SelfCheck less h = checks less h.0 h.1
     none_before n may other free fits checks NoMemory less h = h
@@ -101,6 +109,10 @@ module _ (documents : List Doc) (rs : List Reading) (key : List ℕ) (offset : �
         none_before 5 (λ l. h.0) (λ l. h.1) (λ l. absurd (omega (arith, l))) (λ l. absurd (omega (arith, l))) (λ l. absurd (omega (arith, l))),
       );
     }
+    name_refused DirectiveInWay h = absurd h
+    name_refused NoPossibleType h = absurd h
+    name_refused NotSiblings h = absurd h
+    name_refused NotRedundant h = absurd h
     name_refused TooLarge h = absurd h
     name_refused SelfCheck h = absurd h
     name_refused NoMemory h = absurd h
@@ -136,6 +148,10 @@ module _ (documents : List Doc) (rs : List Reading) (key : List ℕ) (offset : �
       below BadName = omega arith
       below SameName = omega arith
       below NameTaken = omega arith
+      below DirectiveInWay = omega arith
+      below NoPossibleType = omega arith
+      below NotSiblings = omega arith
+      below NotRedundant = omega arith
       below TooLarge = omega arith
       below SelfCheck = omega arith
       below NoMemory = omega arith
@@ -157,6 +173,10 @@ module _ (documents : List Doc) (rs : List Reading) (key : List ℕ) (offset : �
       answered name edits is (Err BadName) h = absurd h
       answered name edits is (Err SameName) h = absurd h
       answered name edits is (Err NameTaken) h = absurd h
+      answered name edits is (Err DirectiveInWay) h = absurd h
+      answered name edits is (Err NoPossibleType) h = absurd h
+      answered name edits is (Err NotSiblings) h = absurd h
+      answered name edits is (Err NotRedundant) h = absurd h
       answered name edits is (Err TooLarge) h =
           let large : find (is_too_large documents) Edits ≡ Some h.0 = subst (λ (es : List DocumentEdit). find (is_too_large documents) es ≡ Some h.0) is h.1 in
           inr (record {

@@ -9,3 +9,4 @@ mod Targeting
 mod Answering
 mod Offering
 mod Soundness
+mod Responding

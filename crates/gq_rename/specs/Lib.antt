@@ -8,3 +8,4 @@ pub mod Defines
 pub mod NameRefusals
 pub mod Checked
 pub mod Prepare
+pub mod Responses

@@ -14,7 +14,7 @@ use Rattle.gq_rewrite.specs.Projects.{AreTrees, rename_edits, rename_trees}
 use Rattle.gq_rules.specs.Validity.{IsValid}
 use Rattle.gq_target.specs.declared.target.Target.{Target}
 use Rattle.gq_rename.specs.declared.refusal.Refusal.{Refusal}
-use Rattle.gq_rename.specs.declared.refusal.Refusal.TheVariants.{ProjectInvalid, NothingHere, BadName, SameName, NameTaken, TooLarge, SelfCheck, NoMemory}
+use Rattle.gq_rename.specs.declared.refusal.Refusal.TheVariants.{ProjectInvalid, NothingHere, BadName, SameName, NameTaken, DirectiveInWay, NoPossibleType, NotSiblings, NotRedundant, TooLarge, SelfCheck, NoMemory}
 use Rattle.gq_rename.specs.Offers.{IsOffer}
 use Rattle.gq_rename.specs.Asks.{RenameAsk, trees_of, target_of, MayBeCalled, IsTaken, Changes}
 
@@ -65,6 +65,10 @@ Refuses documents readings ask NothingHere = target_of documents readings ask.ke
 Refuses documents readings ask BadName = AtTarget documents readings ask (λ t. MayBeCalled t.kind ask.new → ⊥)
 Refuses documents readings ask SameName = AtTarget documents readings ask (λ t. t.name.text ≡ ask.new)
 Refuses documents readings ask NameTaken = AtTarget documents readings ask (λ t. IsTaken (executables readings) t.kind t.name.text t.definition ask.new)
+Refuses documents readings ask DirectiveInWay = ⊥
+Refuses documents readings ask NoPossibleType = ⊥
+Refuses documents readings ask NotSiblings = ⊥
+Refuses documents readings ask NotRedundant = ⊥
 Refuses documents readings ask TooLarge = (r : Renames documents readings ask) × IsTooLarge documents (cut r)
 Refuses documents readings ask SelfCheck = (r : Renames documents readings ask) × (PassesCheck r → ⊥)
 Refuses documents readings ask NoMemory = ⊥

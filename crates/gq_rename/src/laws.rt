@@ -4,8 +4,10 @@ ghost use Rattle.gq_project.specs.declared.document.Doc.{Doc};
 ghost use Rattle.gq_rules.specs.Validity.{IsInvalid};
 ghost use Rattle.gq_rename.specs.declared.refusal.Refusal.TheVariants.{ProjectInvalid};
 ghost use Rattle.gq_rename.specs.Rename.{IsRenameAnswer};
+ghost use Rattle.gq_rename.specs.Responses.{RenamesKeepResponses};
 ghost use Rattle.gq_rename.specs.Sound.{RenamesAreSound, ValidDocumentsAreTrees, OffsetsMeanOneTarget};
 
+use gq_alike::laws::{fragment_renames_keep_responses, variable_renames_keep_responses};
 use gq_parse::laws::{no_tree_past_limits, one_tree};
 use gq_rewrite::laws::{renamed_projects_read, renamed_texts_read};
 use gq_rules::laws::{no_project_is_valid_and_invalid, valid_documents_have_trees};
@@ -40,4 +42,14 @@ pub fn offsets_mean_one_target()
     ensures { OffsetsMeanOneTarget }
 {
     one_tree();
+}
+
+/// The edit of a rename in a valid project leaves every response as it was.
+pub fn renames_keep_responses()
+    ensures { RenamesKeepResponses }
+{
+    one_tree();
+    valid_documents_are_trees();
+    fragment_renames_keep_responses();
+    variable_renames_keep_responses();
 }

@@ -22,6 +22,18 @@ pub enum Refusal {
     /// A fragment of the new name is defined, or an operation of the variable's group defines a variable of it.
     #[error("5 NameTaken")]
     NameTaken,
+    /// A spread has another directive than `@skip` and `@include`, or the fragment's definition has one.
+    #[error("6 DirectiveInWay")]
+    DirectiveInWay,
+    /// No object type is possible for the parent type of the selections.
+    #[error("7 NoPossibleType")]
+    NoPossibleType,
+    /// The range's ends lie in one selection set, and what stands there are no selections of it one after the other.
+    #[error("8 NotSiblings")]
+    NotSiblings,
+    /// An inline fragment has a directive, or a condition other than the type of its parent.
+    #[error("9 NotRedundant")]
+    NotRedundant,
     /// An edited text would have more than 4 MiB, too many tokens or too deep a nesting.
     #[error("10 TooLarge")]
     TooLarge,
@@ -46,6 +58,10 @@ impl Refusal {
             Refusal::BadName => "3 BadName",
             Refusal::SameName => "4 SameName",
             Refusal::NameTaken => "5 NameTaken",
+            Refusal::DirectiveInWay => "6 DirectiveInWay",
+            Refusal::NoPossibleType => "7 NoPossibleType",
+            Refusal::NotSiblings => "8 NotSiblings",
+            Refusal::NotRedundant => "9 NotRedundant",
             Refusal::TooLarge => "10 TooLarge",
             Refusal::SelfCheck => "11 SelfCheck",
             Refusal::NoMemory => "12 NoMemory",

@@ -8,7 +8,10 @@ ghost use Rattle.gq_target.specs.declared.target.TargetKind.TheVariants as kind;
 ghost use Rattle.gq_rename.specs.declared.refusal.Refusal.TheVariants as refusal;
 ghost use Rattle.gq_rename.specs.Asks.{IsTarget};
 ghost use Rattle.gq_rename.specs.Rename.{IsRenameAnswer, KeepsTrees};
+ghost use Rattle.gq_rename.specs.Responses.{KeepsResponses};
 
+use crate::checking::documents_are_texts;
+use crate::laws::renames_keep_responses;
 use crate::offers::{offer_fragment, offer_variable};
 use crate::refusal::Refusal;
 use crate::targets::target_by;
@@ -36,9 +39,13 @@ pub fn rename(
     ensures answer { (result ≡ Err refusal.NoMemory) ⊎ IsRenameAnswer valid.now key.now offset new_name.now result }
     ensures fits { IfOk result (FitDocuments valid.now) }
     ensures kept { IfOk result (KeepsTrees valid.now key.now offset new_name.now) }
+    ensures responses { IfOk result (KeepsResponses valid.now key.now offset new_name.now) }
     ensures valid { IfOk result (λ edit. ∥ IsValid (after_edit edit valid.now) ∥₁) }
 {
-    let index = Index::of(alloc, valid.project())?;
+    renames_keep_responses();
+    let project = valid.project();
+    documents_are_texts(project);
+    let index = Index::of(alloc, project)?;
     rename_by(alloc, valid, &index, key, offset, new_name)
 }
 
@@ -95,6 +102,7 @@ pub fn rename_fragment(
     ensures answer { (result ≡ Err refusal.NoMemory) ⊎ IsRenameAnswer valid.now key.now offset new_name.now result }
     ensures fits { IfOk result (FitDocuments valid.now) }
     ensures kept { IfOk result (KeepsTrees valid.now key.now offset new_name.now) }
+    ensures responses { IfOk result (KeepsResponses valid.now key.now offset new_name.now) }
     ensures valid { IfOk result (λ edit. ∥ IsValid (after_edit edit valid.now) ∥₁) }
 {
     rename(alloc, valid, key, offset, new_name)
@@ -112,6 +120,7 @@ pub fn rename_variable(
     ensures answer { (result ≡ Err refusal.NoMemory) ⊎ IsRenameAnswer valid.now key.now offset new_name.now result }
     ensures fits { IfOk result (FitDocuments valid.now) }
     ensures kept { IfOk result (KeepsTrees valid.now key.now offset new_name.now) }
+    ensures responses { IfOk result (KeepsResponses valid.now key.now offset new_name.now) }
     ensures valid { IfOk result (λ edit. ∥ IsValid (after_edit edit valid.now) ∥₁) }
 {
     rename(alloc, valid, key, offset, new_name)

@@ -2,7 +2,7 @@ use Rattle.std.proofs.Common.{◌<◌, List, arith}
 use Rattle.gq_project.specs.declared.document.Doc.{Doc}
 use Rattle.gq_read.specs.declared.reader.Reading.{Reading}
 use Rattle.gq_rename.specs.declared.refusal.Refusal.{Refusal}
-use Rattle.gq_rename.specs.declared.refusal.Refusal.TheVariants.{ProjectInvalid, NothingHere, BadName, SameName, NameTaken, TooLarge, SelfCheck, NoMemory}
+use Rattle.gq_rename.specs.declared.refusal.Refusal.TheVariants.{ProjectInvalid, NothingHere, BadName, SameName, NameTaken, DirectiveInWay, NoPossibleType, NotSiblings, NotRedundant, TooLarge, SelfCheck, NoMemory}
 use Rattle.gq_rename.specs.Refusals.{number_of}
 use Rattle.gq_rename.specs.Asks.{RenameAsk}
 use Rattle.gq_rename.specs.Rename.{Refuses}
@@ -14,6 +14,10 @@ none_earlier documents readings ask NothingHere less h = omega (arith, less)
 none_earlier documents readings ask BadName less h = omega (arith, less)
 none_earlier documents readings ask SameName less h = omega (arith, less)
 none_earlier documents readings ask NameTaken less h = omega (arith, less)
+none_earlier documents readings ask DirectiveInWay less h = omega (arith, less)
+none_earlier documents readings ask NoPossibleType less h = omega (arith, less)
+none_earlier documents readings ask NotSiblings less h = omega (arith, less)
+none_earlier documents readings ask NotRedundant less h = omega (arith, less)
 none_earlier documents readings ask TooLarge less h = omega (arith, less)
 none_earlier documents readings ask SelfCheck less h = omega (arith, less)
 none_earlier documents readings ask NoMemory less h = omega (arith, less)

@@ -1,0 +1,4 @@
+pub mod GivenValues
+pub mod Kept
+pub mod Alike
+pub mod Paired
