@@ -16,21 +16,25 @@ use Rattle.gq_check.specs.Lines.{lines_of}
 use Rattle.gq_check.specs.declared.fault.CheckFault.TheVariants.{Device, NoMemory}
 use Rattle.gq_check.specs.declared.judging.Verdict.{Verdict}
 use Rattle.gq_check.specs.Checks.{refused, valid, told, SinkAfter, Wrote, WroteInPart, Tells, in_full, in_part, all_written, output_fails, error_fails, Checks}
-use Rattle.gq_check.specs.Verdicts.{IsVerdict}
+use Rattle.gq_check.specs.Verdicts.{IsVerdict, IsTold}
 use Rattle.gq_check.proofs.WriteLemmas.{wrote_nothing}
 
--- the report is told of a project that is not valid
-pub verdict_told : (files : List File) (project : List Doc) (w : Why) (report : Report) (found : List Found) (text : List ℕ) → files_fault files ≡ None → project ≡ documents_of files →
-    IsWhy (documents_of files) w → w ≡ why.Report report → found ≡ report.found.items → text ≡ lines_of project found → IsVerdict files (record { text = text; status = 1 })
-verdict_told files project w report found text fine same is_why is shown written =
-    let both = subst (IsWhy (documents_of files)) is is_why in
+-- the report is told of documents that are no valid project
+pub documents_told : (documents project : List Doc) (w : Why) (report : Report) (found : List Found) (text : List ℕ) → project ≡ documents → IsWhy documents w → w ≡ why.Report report → found ≡ report.found.items → text ≡ lines_of project found →
+    IsTold documents (record { text = text; status = 1 })
+documents_told documents project w report found text same is_why is shown written =
+    let both = subst (IsWhy documents) is is_why in
     record {
-      outcome = told report.found.items;
-      is_outcome = (fine, both.1, both.0);
-      text = written ∙ ap (λ ds. lines_of ds found) same ∙ ap (lines_of (documents_of files)) shown;
-      no_error = refl;
+      found = report.found.items;
+      invalid = both.1;
+      report = both.0;
+      text = written ∙ ap (λ ds. lines_of ds found) same ∙ ap (lines_of documents) shown;
       status = refl;
     }
+
+-- so it is of files
+pub verdict_told : (files : List File) (verdict : Verdict) → files_fault files ≡ None → IsTold (documents_of files) verdict → IsVerdict files verdict
+verdict_told files verdict fine t = record { outcome = told t.found; is_outcome = (fine, t.invalid, t.report); text = t.text; no_error = refl; status = t.status }
 
 -- nothing is told of a project that is valid
 pub verdict_valid : (files : List File) (text : List ℕ) → files_fault files ≡ None → ∥ IsValid (documents_of files) ∥₁ → text ≡ codes "ok\n" → IsVerdict files (record { text = text; status = 0 })

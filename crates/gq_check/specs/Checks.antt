@@ -59,11 +59,16 @@ pub data Tells (held : Option (List ℕ)) (sink : SinkAfter) (bytes : List ℕ) 
   in_full : Wrote held sink bytes → Tells held sink bytes
   in_part : WroteInPart held sink bytes → Tells held sink bytes
 
--- what is written of an outcome, and the status: 3 where a sink fails; where that is standard output, the other one tells it
-pub data Ends (files : List File) (outcome : Outcome) (out_held : Option (List ℕ)) (out : SinkAfter) (err_held : Option (List ℕ)) (err : SinkAfter) (status : ℕ) : Type 0 where
-  all_written : Wrote out_held out (output_of files outcome) → Wrote err_held err (error_of outcome) → status ≡ status_of outcome → Ends files outcome out_held out err_held err status
-  output_fails : WroteInPart out_held out (output_of files outcome) → Tells err_held err (fault_line Device) → status ≡ 3 → Ends files outcome out_held out err_held err status
-  error_fails : Wrote out_held out (output_of files outcome) → WroteInPart err_held err (error_of outcome) → status ≡ 3 → Ends files outcome out_held out err_held err status
+-- What is written to standard output and to standard error, and the status: 3 where a sink fails; where that is standard
+-- output, the other one tells it.
+pub data EndsWith (output error : List ℕ) (wanted : ℕ) (out_held : Option (List ℕ)) (out : SinkAfter) (err_held : Option (List ℕ)) (err : SinkAfter) (status : ℕ) : Type 0 where
+  all_written : Wrote out_held out output → Wrote err_held err error → status ≡ wanted → EndsWith output error wanted out_held out err_held err status
+  output_fails : WroteInPart out_held out output → Tells err_held err (fault_line Device) → status ≡ 3 → EndsWith output error wanted out_held out err_held err status
+  error_fails : Wrote out_held out output → WroteInPart err_held err error → status ≡ 3 → EndsWith output error wanted out_held out err_held err status
+
+-- the same of an outcome
+abbrev pub Ends : List File → Outcome → Option (List ℕ) → SinkAfter → Option (List ℕ) → SinkAfter → ℕ → Type 0
+Ends files outcome = EndsWith (output_of files outcome) (error_of outcome) (status_of outcome)
 
 -- a check of files: an outcome, and what was written of it
 pub record Checks (files : List File) (out_held : Option (List ℕ)) (out : SinkAfter) (err_held : Option (List ℕ)) (err : SinkAfter) (status : ℕ) : Type 0 where

@@ -4,3 +4,5 @@ pub mod Lines
 pub mod Starts
 pub mod Checks
 pub mod Verdicts
+pub mod Execution
+pub mod ExecVerdicts

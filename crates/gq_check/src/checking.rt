@@ -61,7 +61,7 @@ fn tell_all<O: Sink, E: Sink>(judged: Result<Verdict, CheckFault>, out: &mut O, 
 }
 
 /// Tells a fault, and answers the status.
-fn tell<E: Sink>(fault: CheckFault, err: &mut E) -> u8
+pub(crate) fn tell<E: Sink>(fault: CheckFault, err: &mut E) -> u8
     requires { E.failed err.old ≡ false }
     ensures status { result ≡ 3 }
     ensures told { Tells (E.held err.old) (record { held = E.held err.new; failed = E.failed err.new }) (fault_line fault) }

@@ -6,7 +6,8 @@ ghost use Rattle.gq_check.specs.declared.fault.CheckFault.TheVariants.{NoMemory}
 ghost use Rattle.gq_check.specs.declared.files.File.{File};
 ghost use Rattle.gq_check.specs.Faults.{IsFaultOr};
 ghost use Rattle.gq_check.specs.Files.{files_fault, documents_of};
-ghost use Rattle.gq_check.specs.Verdicts.{IsVerdict};
+ghost use Rattle.gq_project.specs.declared.document.Doc.{Doc};
+ghost use Rattle.gq_check.specs.Verdicts.{IsVerdict, IsTold};
 
 use crate::fault::CheckFault;
 use crate::files::{File, read_project};
@@ -67,10 +68,10 @@ fn verdict_on(alloc: Global, judged: Result<Valid, Invalid>) -> Result<Verdict, 
     }
 }
 
-/// What is told of files whose project is not valid.
-fn verdict_against(alloc: Global, invalid: &Invalid) -> Result<Verdict, CheckFault>
+/// What is told of documents that are no valid project.
+pub(crate) fn verdict_against(alloc: Global, invalid: &Invalid) -> Result<Verdict, CheckFault>
     requires { All (λ doc. length doc.text ≤ 2 ^ 22) invalid.now.project }
-    ensures ok { (files : List File) → files_fault files ≡ None → invalid.now.project ≡ documents_of files → IsWhy (documents_of files) invalid.now.why → IfOk result (IsVerdict files) }
+    ensures ok { (documents : List Doc) → invalid.now.project ≡ documents → IsWhy documents invalid.now.why → IfOk result (IsTold documents) }
     ensures err { IfErr result (λ fault. fault ≡ NoMemory) }
 {
     match &invalid.why {

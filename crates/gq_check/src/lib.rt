@@ -1,12 +1,18 @@
-//! A check of files: what is told of them as lines of text, and the status of the process.
+//! The commands over files: a check, and the execution of an operation over a table. What is told of them as text, and the
+//! status of the process.
 #![tactic(auto)]
 
 pub mod checking;
+pub mod exec_fault;
+pub mod executing;
 pub mod fault;
 pub mod files;
+mod inputs;
 mod judging;
 mod lines;
 
 pub use checking::{check, check_by_threads};
+pub use exec_fault::ExecFault;
+pub use executing::exec;
 pub use fault::CheckFault;
 pub use files::File;

@@ -1,10 +1,10 @@
-//! The check of files, the report of a project, and whether it is valid.
+//! The check of files, the execution of an operation of them, the report of a project, and whether it is valid.
 ghost use Rattle.std.specs.Prelude.{◌≡◌, false};
 
 use crate::no_answer::NoAnswer;
 use crate::row::{Row, project_of};
 use crate::telling::Telling;
-use gq_check::{File, check, check_by_threads};
+use gq_check::{File, check, check_by_threads, exec};
 use gq_found::Found;
 use gq_rpc::Sink;
 use gq_rules::{Valid, Why, validate};
@@ -120,6 +120,59 @@ pub fn tell_check<R: Threads + Sync>(
         other.tell(telling)?;
     }
     Ok(())
+}
+
+/// What an execution is given beside files.
+#[derive(Drop)]
+struct Given<'t> {
+    name: Option<&'t str>,
+    table: Option<Vec<u8>>,
+    variables: Option<Vec<u8>>,
+    files: Vec<File>,
+}
+
+/// What the texts of a row give to an execution: without variables those of `{}`.
+fn given_in<'t>(alloc: Global, row: &Row<'t>) -> Result<Given<'t>, NoAnswer> {
+    let mut given = Given {
+        name: None,
+        table: None,
+        variables: Some(Vec::from_slice(alloc, b"{}")?),
+        files: Vec::new(alloc),
+    };
+    for entry in &row.entries {
+        match entry.key {
+            "--op" => given.name = entry.text,
+            "--table" => given.table = entry.bytes(alloc)?,
+            "--vars" => given.variables = entry.bytes(alloc)?,
+            _ => given.files.push(File {
+                name: OwnedText::from_str(alloc, entry.key)?,
+                bytes: entry.bytes(alloc)?,
+            })?,
+        }
+    }
+    Ok(given)
+}
+
+/// Tells what the execution of an operation of the files writes, first to its output and then to its errors, and its status.
+pub fn tell_execution(alloc: Global, row: &Row<'_>, telling: &mut Telling) -> Result<(), NoAnswer> {
+    let given = given_in(alloc, row)?;
+    let mut output = Page::new(alloc);
+    let mut errors = Page::new(alloc);
+    let status = exec(
+        alloc,
+        given.name,
+        given.table.as_deref(),
+        given.variables.as_deref(),
+        &given.files,
+        &mut output,
+        &mut errors,
+    );
+    let outcome = Outcome {
+        output,
+        errors,
+        status,
+    };
+    outcome.tell(telling)
 }
 
 /// Tells what is found, a line each: the name of the text, the code, the bytes and the words.

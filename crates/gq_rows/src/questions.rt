@@ -1,5 +1,5 @@
 //! What a file of rows asks of each of them.
-use crate::checks::{tell_check, tell_report, tell_validity};
+use crate::checks::{tell_check, tell_execution, tell_report, tell_validity};
 use crate::documents::{
     tell_definitions, tell_readings, tell_readings_by_threads, tell_selections,
 };
@@ -21,6 +21,7 @@ use std::thread::Threads;
 #[derive(Clone, Copy)]
 pub enum Question {
     Check,
+    Execution,
     Report,
     Validity,
     Faults(Rules),
@@ -49,6 +50,7 @@ impl Question {
         let (word, _) = name.split_once('.')?;
         Some(match word {
             "check" => Question::Check,
+            "exec" => Question::Execution,
             "report" => Question::Report,
             "validity" => Question::Validity,
             "fields" => Question::Faults(Rules::Fields),
@@ -89,6 +91,7 @@ impl Question {
     ) -> Result<(), NoAnswer> {
         match self {
             Question::Check => tell_check(threads, alloc, row, telling),
+            Question::Execution => tell_execution(alloc, row, telling),
             Question::Report => tell_report(alloc, row, telling),
             Question::Validity => tell_validity(alloc, row, telling),
             Question::Faults(rules) => tell_faults(alloc, rules, row, telling),

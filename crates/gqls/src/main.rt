@@ -1,11 +1,13 @@
-//! The program: `gqls serve --workers 0` serves the language server protocol on the standard streams, and
-//! `gqls check FILE..` prints what is wrong with files.
+//! The program: `gqls serve --workers 0` serves the language server protocol on the standard streams,
+//! `gqls check FILE..` prints what is wrong with files, and `gqls exec --table FILE FILE..` executes an operation of them.
 #![tactic(auto)]
+
+ghost use Rattle.std.specs.Prelude.{◌≤◌, ◌^◌};
 
 use clap::error::ErrorKind;
 use clap::{Arg, ArgAction, ArgMatches, Command, Error, value_parser};
 use gq_check::files::FILES_MAX;
-use gq_check::{File, check_by_threads};
+use gq_check::{File, check_by_threads, exec};
 use gq_crew::{Ended, RunFault, run_one};
 use gq_rpc::Flagged;
 use gq_text::text::TEXT_MAX;
@@ -27,9 +29,10 @@ const FAULT_STATUS: u8 = 3;
 const EXAMPLE: &str = "Examples:
   gqls serve --workers 0
   gqls check schema.graphql query.graphql
+  gqls exec --table table.json schema.graphql query.graphql
 
 An editor starts `serve`, and writes to its standard input and reads from its standard output.
-`check` is for a command line: `gqls check --help` says what it prints.";
+`check` and `exec` are for a command line: `gqls check --help` and `gqls exec --help` say what they print.";
 
 const SERVE_EXAMPLE: &str = "Example:
   gqls serve --workers 0
@@ -44,6 +47,21 @@ The files are one project: its type system, operations and fragments. Each fault
 and the column of its start, counted from 1, the code of the rule and a few words; the status is then 1.
 Where there is none, it prints `ok`, and the status is 0. At most 4,096 files are read, of at most 4 MiB each.
 Where there are more, or a file is larger or cannot be read, the status is 3, and standard error says why.";
+
+const EXEC_EXAMPLE: &str = "Example:
+  $ gqls exec --table table.json schema.graphql query.graphql
+  {\"data\":{\"x\":1}}
+
+Here table.json says what the resolver of each field answers for each object, `Query` being object 0:
+  {\"rows\":[{\"type\":\"Query\",\"object\":0,\"field\":\"x\",\"args\":{},\"result\":{\"leaf\":1}}]}
+A result is null, {\"error\":true}, {\"leaf\":VALUE}, {\"object\":[TYPE,NUMBER]} or {\"list\":[RESULT,..]}.
+
+The status is 0 where there is a response, also one with errors. Where the files are no valid project, the faults are
+printed as by `check`, and the status is 1. A bad table or bad variables give the status 2, and a file that cannot be
+read, or is too large, 3; standard error says why.";
+
+/// How many bytes a table or variables may have.
+const INPUT_MAX: u64 = 1_073_741_824;
 
 /// The command `serve`, with 0 workers.
 fn serve_command<'a>(alloc: Global) -> Result<Command<'a>, AllocError> {
@@ -73,6 +91,36 @@ fn check_command<'a>(alloc: Global) -> Result<Command<'a>, AllocError> {
         .arg(files)
 }
 
+/// The command `exec`, with what is executed, over which table and with which variables.
+fn exec_command<'a>(alloc: Global) -> Result<Command<'a>, AllocError> {
+    let name = Arg::new(alloc, "op")
+        .long("op")
+        .value_name("NAME")
+        .help("The operation, where the files have more than one");
+    let table = Arg::new(alloc, "table")
+        .long("table")
+        .value_name("FILE")
+        .help("What resolvers answer, as JSON")
+        .required(true);
+    let variables = Arg::new(alloc, "vars")
+        .long("vars")
+        .value_name("FILE")
+        .help("Values for the operation's variables, as a JSON object");
+    let files = Arg::new(alloc, "files")
+        .value_name("FILE")
+        .help("The files of the project, schema and queries in any order")
+        .action(ArgAction::Append)
+        .num_args(1..)
+        .required(true);
+    Command::new(alloc, "exec")
+        .about("Executes an operation of files over a table, and prints the response")
+        .after_help(EXEC_EXAMPLE)
+        .arg(name)?
+        .arg(table)?
+        .arg(variables)?
+        .arg(files)
+}
+
 /// The program, with its commands.
 fn gqls_command<'a>(alloc: Global) -> Result<Command<'a>, AllocError> {
     Command::new(alloc, "gqls")
@@ -80,7 +128,8 @@ fn gqls_command<'a>(alloc: Global) -> Result<Command<'a>, AllocError> {
         .after_help(EXAMPLE)
         .subcommand_required(true)
         .subcommand(serve_command(alloc)?)?
-        .subcommand(check_command(alloc)?)
+        .subcommand(check_command(alloc)?)?
+        .subcommand(exec_command(alloc)?)
 }
 
 /// What the words say.
@@ -134,10 +183,11 @@ fn serve(rt: &HostRuntime) -> u8 {
     }
 }
 
-/// Up to one byte more of a file than a text may have. There is room for all of them, and for one more at which the end is
-/// seen, before they are read.
-fn read_front(rt: &HostRuntime, name: &str) -> io::Result<Vec<u8>> {
-    let limit = TEXT_MAX as u64 + 1;
+/// Up to that many bytes of a file. There is room for all of them, and for one more at which the end is seen, before they
+/// are read.
+fn read_front(rt: &HostRuntime, name: &str, limit: u64) -> io::Result<Vec<u8>>
+    requires { limit ≤ 2 ^ 32 }
+{
     let file = fs::open(rt, name)?;
     let room = file.metadata()?.len().min(limit) as usize + 1;
     let mut bytes = Vec::with_capacity(rt.alloc(), room)?;
@@ -145,12 +195,30 @@ fn read_front(rt: &HostRuntime, name: &str) -> io::Result<Vec<u8>> {
     Ok(bytes)
 }
 
-/// The bytes of a file, or none where it cannot be read.
-fn read_file(rt: &HostRuntime, name: &str) -> Result<Option<Vec<u8>>, NoMemory> {
-    match read_front(rt, name) {
+/// Up to that many bytes of a file, or none where it cannot be read.
+fn read_file(rt: &HostRuntime, name: &str, limit: u64) -> Result<Option<Vec<u8>>, NoMemory>
+    requires { limit ≤ 2 ^ 32 }
+{
+    match read_front(rt, name, limit) {
         Ok(bytes) => Ok(Some(bytes)),
         Err(error) if error.kind() == io::ErrorKind::OutOfMemory => Err(NoMemory),
         Err(_) => Ok(None),
+    }
+}
+
+/// The bytes of a table or of variables, or none where they cannot be read or are too many.
+fn read_input(rt: &HostRuntime, name: &str) -> Result<Option<Vec<u8>>, NoMemory> {
+    match read_file(rt, name, INPUT_MAX + 1)? {
+        Some(bytes) if bytes.len() as u64 <= INPUT_MAX => Ok(Some(bytes)),
+        _ => Ok(None),
+    }
+}
+
+/// The bytes of the variables; those of no variables where no file of them is named.
+fn read_variables(rt: &HostRuntime, name: Option<&str>) -> Result<Option<Vec<u8>>, NoMemory> {
+    match name {
+        Some(name) => read_input(rt, name),
+        None => Ok(Some(Vec::from_slice(rt.alloc(), b"{}")?)),
     }
 }
 
@@ -173,7 +241,7 @@ fn read_files(rt: &HostRuntime, names: &[&str]) -> Result<Vec<File>, NoMemory> {
     for name in names {
         let mut bytes = None;
         if seen.insert(*name)? && goes_on {
-            bytes = read_file(rt, name)?;
+            bytes = read_file(rt, name, TEXT_MAX as u64 + 1)?;
             goes_on = bytes.as_ref().is_some_and(|bytes| bytes.len() <= TEXT_MAX);
         }
         let name = OwnedText::from_str(alloc, name)?;
@@ -192,12 +260,48 @@ fn check_files<R: Threads + Sync>(threads: &R, rt: &HostRuntime, names: &[&str])
     check_by_threads(threads, rt.alloc(), &files, &mut output, &mut errors)
 }
 
+/// What is given to an execution beside the name of the operation.
+#[derive(Drop)]
+struct Inputs {
+    table: Option<Vec<u8>>,
+    variables: Option<Vec<u8>>,
+    files: Vec<File>,
+}
+
+/// Reads the table, the variables and the files that the words name.
+fn read_inputs(rt: &HostRuntime, words: &ArgMatches<'_>) -> Result<Inputs, NoMemory> {
+    Ok(Inputs {
+        table: read_input(rt, words.get_str("table").unwrap_or(""))?,
+        variables: read_variables(rt, words.get_str("vars"))?,
+        files: read_files(rt, words.get_raw("files").unwrap_or(&[]))?,
+    })
+}
+
+/// Executes an operation of the files that the words name.
+fn exec_files(rt: &HostRuntime, words: &ArgMatches<'_>) -> u8 {
+    let Ok(inputs) = read_inputs(rt, words) else {
+        return tell_fault(rt, RunFault::NoMemory);
+    };
+    let mut output = Flagged::new(rt.stdout());
+    let mut errors = Flagged::new(rt.stderr());
+    exec(
+        rt.alloc(),
+        words.get_str("op"),
+        inputs.table.as_deref(),
+        inputs.variables.as_deref(),
+        &inputs.files,
+        &mut output,
+        &mut errors,
+    )
+}
+
 /// Does what the words say, and answers the status.
 fn run<R: Threads + Sync>(threads: &R, rt: &HostRuntime, matches: &ArgMatches<'_>) -> u8 {
     match matches.subcommand() {
         Some(("check", words)) => {
             check_files(threads, rt, words.get_raw("files").unwrap_or(&[]))
         }
+        Some(("exec", words)) => exec_files(rt, words),
         _ => serve(rt),
     }
 }

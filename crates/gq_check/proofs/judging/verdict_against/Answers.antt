@@ -1,8 +1,8 @@
 use Rattle.std.proofs.Common.{◌∙◌}
-use Rattle.gq_check.proofs.VerdictLemmas.{verdict_told}
+use Rattle.gq_check.proofs.VerdictLemmas.{documents_told}
 use Rattle.gq_check.proofs.judging.verdict_against.Goals as goal
 
 pub returns-in_ok-write_lines-in-Report-clause-ok : goal.returns-in_ok-write_lines-in-Report-clause-ok
-returns-in_ok-write_lines-in-Report-clause-ok c files fine same is_why =
-    verdict_told files c.args.invalid.now.project c.args.invalid.now.why c.in-Report.report c.deref.result.now c.from_string.result fine same is_why c.in-Report.is c.deref.ensures.value
+returns-in_ok-write_lines-in-Report-clause-ok c documents same is_why =
+    documents_told documents c.args.invalid.now.project c.args.invalid.now.why c.in-Report.report c.deref.result.now c.from_string.result same is_why c.in-Report.is c.deref.ensures.value
     (c.from_string.ensures ∙ c.in_ok-write_lines-in-Report.ensures)

@@ -1,0 +1,12 @@
+use Rattle.std.proofs.Common.{ℕ, List, ◌++◌, codes, refl, ap, ◌∙◌}
+use Rattle.gq_response.specs.Views.{response_view}
+use Rattle.gq_check.proofs.executing.response_of.Goals as goal
+
+pub returns : goal.returns
+returns c = record {
+  response = response_view c.in_ok-response.response;
+  valid = c.project-project.ensures.valid;
+  executed = c.in_ok-response.ensures;
+  text = c.from_string.ensures ∙ c.in_ok-push_str.ensures.bytes ∙ ap (λ (t : List ℕ). t ++ codes "\n") c.in_ok-text.ensures;
+  status = refl;
+}
