@@ -17,6 +17,7 @@ THEOREMS = [
     ("What a rename of a fragment is", "gq_rename", "renames", "rename_fragment"),
     ("What a rename of a variable is", "gq_rename", "renames", "rename_variable"),
     ("What `gqls check` prints", "gq_check", "checking", "check"),
+    ("What `gqls exec` prints", "gq_check", "executing", "exec"),
 ]
 WORD = re.compile(r"[A-Za-z_][A-Za-z0-9_']*|◌[^\s◌,{}]+◌")
 START = re.compile(r"^(?:pub )?(?:abbrev|data|record|def|lemma)\b(?: pub)? ?(?:pub )?([A-Za-z_][A-Za-z0-9_]*)|^(?:abbrev|data|record) pub ([A-Za-z_][A-Za-z0-9_]*)")
