@@ -146,7 +146,7 @@ module _ (static : Static) (g : Given) (ds ds' : List Definition) (always : g.ta
       let a : Place = record { type_ref = g.type_of o x.name; result = g.look o n x.name x.arguments; fields = x ∷ xs; call = g.call o n x.name x.arguments } in
       let is_child : child g ds p (key k) ≡ Some a =
       ap (λ b. if b then None else below g ds p.type_ref p.fields p.result (key k)) f ∙ ap (λ r. below g ds p.type_ref p.fields r (key k)) e ∙ ap (place_of g o n) (sym ex) in
-      let name_is : (w : Asked) → IsIn w (x ∷ xs) → w.name ≡ x.name = λ w m. h.agree.each [] p refl o n items e k w x (subst (IsIn w) ex m) (subst (IsIn x) ex (inl refl)) in
+      let name_is : (w : Asked) → IsIn w (x ∷ xs) → w.name ≡ x.name = λ w m. h.agree.each [] p refl f o n items e k w x (subst (IsIn w) ex m) (subst (IsIn x) ex (inl refl)) in
       let l : AreLow rank (length ds) (x ∷ xs) = subst (AreLow rank (length ds)) (sym ex) (low_of_key rank (length ds) k _ (low_expand rank (length ds) (setting g o) ds ranked (omega arith) (sets_of p.fields) (low_sets rank (length ds) p.fields h.low))) in
       let l' : AreLow rank' (length ds') (y ∷ ys) = subst (AreLow rank' (length ds')) (sym ey) (low_of_key rank' (length ds') k _ (low_expand rank' (length ds') (setting g o) ds' ranked' (omega arith) (sets_of q.fields) (low_sets rank' (length ds') q.fields h.low'))) in
       both_some _ _ (record {

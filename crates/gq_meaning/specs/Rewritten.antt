@@ -1,5 +1,5 @@
 -- A document in which selections were moved into fragments or out of them, and what is kept of its execution (section 6.3).
-use Rattle.std.specs.Prelude.{◌≡◌, ℕ, true, List, [], ◌∷◌, length, Option, Some, None}
+use Rattle.std.specs.Prelude.{◌≡◌, ℕ, true, false, List, [], ◌∷◌, length, Option, Some, None}
 use Rattle.gq_tree.specs.Plain.{named, list_of, non_null}
 use Rattle.gq_meaning.specs.Thin.{IsIn}
 use Rattle.gq_meaning.specs.Acyclic.{SpreadsBelow, IsRanked}
@@ -8,7 +8,7 @@ use Rattle.gq_meaning.specs.Shown.{Data}
 use Rattle.gq_meaning.specs.Values.{Text}
 use Rattle.gq_meaning.specs.Selected.{Directives, Arguments, Set, none, field, spread, inline, join}
 use Rattle.gq_meaning.specs.Expand.{Asked, Definition, find_definition, expand, sets_of}
-use Rattle.gq_meaning.specs.Response.{FieldType, Given, setting, Place, child, of_key, root, Responds, Calls}
+use Rattle.gq_meaning.specs.Response.{FieldType, Given, setting, Place, fails, child, of_key, root, Responds, Calls}
 
 -- the composite type of a field in a static type, where it has one
 abbrev pub Static : Type 0
@@ -56,9 +56,9 @@ place_at g ds None path = None
 place_at g ds (Some p) [] = Some p
 place_at g ds (Some p) (s ∷ path) = place_at g ds (child g ds p s) path
 
--- At each path the fields of one key of an object have one name.
+-- At each path with an object that fits the type there, the fields of one key have one name. What does not fit is not looked into.
 pub record NamesAgree (g : Given) (ds : List Definition) (p : Place) : Type 0 where
-  pub each : (path : Path) (q : Place) → place_at g ds (Some p) path ≡ Some q → (o : Text) (n : ℕ) (items : Answers) → q.result ≡ Some (record { label = object o n; below = items }) →
+  pub each : (path : Path) (q : Place) → place_at g ds (Some p) path ≡ Some q → fails g q ≡ false → (o : Text) (n : ℕ) (items : Answers) → q.result ≡ Some (record { label = object o n; below = items }) →
       (k : Text) (x y : Asked) → IsIn x (of_key k (expand (setting g o) ds (sets_of q.fields))) → IsIn y (of_key k (expand (setting g o) ds (sets_of q.fields))) → x.name ≡ y.name
 
 -- Where it stands for another, a document has the same data, the same errors and the same calls.
