@@ -1,0 +1,3 @@
+pub mod MeantLemmas
+pub mod RunLemmas
+pub mod TouchedLemmas

@@ -1,0 +1,5 @@
+pub mod Meant
+pub mod Runs
+pub mod Touched
+pub mod TouchedPlace
+pub mod Views
