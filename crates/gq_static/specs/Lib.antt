@@ -1,0 +1,4 @@
+pub mod Promised
+pub mod Subtypes
+pub mod Known
+pub mod Braces
