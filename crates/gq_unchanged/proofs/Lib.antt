@@ -1,0 +1,3 @@
+pub mod VariableValues
+pub mod Requests
+pub mod Restated

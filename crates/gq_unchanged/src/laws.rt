@@ -1,0 +1,16 @@
+//! Laws of projects whose documents ask for the same.
+ghost use Rattle.gq_unchanged.specs.Unchanged.{RestatedProjectsKeepResponses};
+
+use gq_agree::laws::names_agree_in_valid_projects;
+use gq_exec::laws::fragments_can_be_ranked;
+use gq_static::laws::objects_have_subtypes;
+
+/// Where the documents of a valid project are written anew, so that they ask for what they did over the same types and are valid,
+/// each operation has the responses that it had.
+pub fn restated_projects_keep_responses()
+    ensures { RestatedProjectsKeepResponses }
+{
+    fragments_can_be_ranked();
+    objects_have_subtypes();
+    names_agree_in_valid_projects();
+}
