@@ -1,20 +1,23 @@
 -- A refactoring that is asked for, of a range of a document.
-use Rattle.std.specs.Prelude.{◌≡◌, ℕ, ◌≤◌, List, Some, position, slice_get}
+use Rattle.std.specs.Prelude.{◌≡◌, ℕ, List, [], Some, position, slice_get}
+use Rattle.std.specs.Option.{option_map_or}
 use Rattle.gq_text.specs.declared.place.Span.{Span}
+use Rattle.gq_tree.specs.Plain.{Def}
 use Rattle.gq_project.specs.declared.document.Doc.{Doc}
 use Rattle.gq_project.specs.Documents.{has_key}
+use Rattle.gq_read.specs.declared.reader.Reading.{Reading}
+use Rattle.gq_document.specs.Definitions.{definitions_read}
 
 -- the key of a document, and a range of its text, in bytes, its end left out
 pub record RangeAsk : Type 0 where
   pub key : List ℕ
-  pub start : ℕ
-  pub end : ℕ
+  pub range : Span
 
 -- the document of that key, and its number
-pub record IsAskedOf (documents : List Doc) (ask : RangeAsk) (file : ℕ) (document : Doc) : Type 0 where
-  pub here : position (has_key ask.key) documents ≡ Some file
-  pub at : slice_get documents file ≡ Some document
+pub record IsAskedOf (documents : List Doc) (key : List ℕ) (file : ℕ) (document : Doc) : Type 0 where
+  pub is_at : position (has_key key) documents ≡ Some file
+  pub stands : slice_get documents file ≡ Some document
 
--- the place holds the range
-abbrev pub Holds : RangeAsk → Span → Type 0
-Holds ask place = (place.start ≤ ask.start) × (ask.end ≤ place.end)
+-- the definitions of the document of that number, as it is read
+abbrev pub tree_at : List Reading → ℕ → List (Def Span)
+tree_at readings file = option_map_or definitions_read (slice_get readings file) []

@@ -1,27 +1,24 @@
 -- A refactoring's edit and trees, and what is wrong with them.
-use Rattle.std.specs.Prelude.{◌≡◌, ℕ, suc, List, [], ◌∷◌, ◌++◌, map}
+use Rattle.std.specs.Prelude.{◌≡◌, List, map}
 use Rattle.gq_text.specs.declared.place.Span.{Span}
-use Rattle.gq_text.specs.declared.replacement.Replacement.{Replacement}
 use Rattle.gq_tree.specs.Plain.{Def, erase_document}
 use Rattle.gq_project.specs.declared.document.Doc.{Doc}
 use Rattle.gq_edit.specs.declared.edit.DocumentEdit.{DocumentEdit}
 use Rattle.gq_edit.specs.Edits.{after_edit}
-use Rattle.gq_rewrite.specs.Projects.{AreTrees, edit_if_any}
+use Rattle.gq_rewrite.specs.Projects.{AreTrees}
 use Rattle.gq_rules.specs.Validity.{IsValid}
-use Rattle.gq_reshape.specs.Rewrites.{Rewrite, rewritten_from}
+use Rattle.gq_regroup.specs.Rewrites.{Rewrite, rewritten_from}
+use Rattle.gq_pieces.specs.Pieces.{edits_from}
+use Rattle.gq_pieces.specs.declared.pieces.Piece.{Piece}
 
--- the replacements in each document by its number, in order, and the change of the trees
+-- the replacements, in the order of documents and places, and the change of the trees
 pub record Cut : Type 0 where
-  pub replacements : ℕ → List Replacement
+  pub pieces : List Piece
   pub rewrite : Rewrite
 
--- the edit of each document in which something is replaced, at its version
-abbrev pub edits_from : (ℕ → List Replacement) → ℕ → List Doc → List DocumentEdit
-edits_from replacements file [] = []
-edits_from replacements file (document ∷ documents) = edit_if_any document (replacements file) ++ edits_from replacements (suc file) documents
-
+-- the edit
 abbrev pub edits_of : Cut → List Doc → List DocumentEdit
-edits_of cut documents = edits_from cut.replacements 0 documents
+edits_of cut documents = edits_from cut.pieces 0 documents
 
 -- the edited texts read as the rewritten trees, places forgotten
 pub record ReadsAsRewritten (documents : List Doc) (trees : List (List (Def Span))) (cut : Cut) : Type 0 where
@@ -31,4 +28,4 @@ pub record ReadsAsRewritten (documents : List Doc) (trees : List (List (Def Span
 
 -- they do, and the edited project is valid
 abbrev pub PassesCheck : List Doc → List (List (Def Span)) → Cut → Type 0
-PassesCheck documents trees cut = ReadsAsRewritten documents trees cut × IsValid (after_edit (edits_of cut documents) documents)
+PassesCheck documents trees cut = ReadsAsRewritten documents trees cut × ∥ IsValid (after_edit (edits_of cut documents) documents) ∥₁

@@ -1,8 +1,15 @@
 pub mod Asks
-pub mod Rewrites
+pub mod Texts
+pub mod Naming
 pub mod Cuts
-pub mod Selecting
 pub mod Extract
 pub mod Inline
 pub mod Remove
 pub mod Reshape
+pub mod Limits
+pub mod Rereading
+pub mod Judged
+pub mod Fragments
+pub mod Steps
+pub mod Asked
+pub mod Responses

@@ -1,23 +1,27 @@
 -- Remove: the selections of an inline fragment that says nothing stand in its place (section 2.8.2).
-use Rattle.std.specs.Prelude.{◌≡◌, ℕ, ◌+◌, ◌-◌, List, [], ◌∷◌, ◌++◌, Option, Some, None, slice_range, nat_eq, if◌then◌else◌}
+use Rattle.std.specs.Prelude.{◌≡◌, ℕ, Bool, true, false, not, ◌&&◌, List, [], ◌∷◌, Option, Some, None}
+use Rattle.std.specs.Option.{option_map_or}
+use Rattle.std.specs.Str.{bytes_eq}
 use Rattle.gq_text.specs.declared.place.Span.{Span}
 use Rattle.gq_tree.specs.Plain.{NameOf, DirectiveOf, inline}
 use Rattle.gq_project.specs.declared.document.Doc.{Doc}
-use Rattle.gq_types.specs.Entries.{Text}
-use Rattle.gq_document.specs.Executable.{ExecutableOf}
-use Rattle.gq_document.specs.Selections.{SelectedOf}
-use Rattle.gq_reshape.specs.Asks.{RangeAsk, IsAskedOf}
+use Rattle.gq_read.specs.declared.reader.Reading.{Reading}
+use Rattle.gq_types.specs.Entries.{Text, EntryOf}
+use Rattle.gq_regroup.specs.Rewrites.{without_braces}
+use Rattle.gq_select.specs.Meant.{StandingOf, is_inline, meant, document_sets}
+use Rattle.gq_reshape.specs.Asks.{RangeAsk, IsAskedOf, tree_at}
 use Rattle.gq_reshape.specs.Cuts.{Cut}
-use Rattle.gq_reshape.specs.Rewrites.{without_braces}
-use Rattle.gq_reshape.specs.Selecting.{BeginsLast, NoneHolds, IsInline}
+use Rattle.gq_pieces.specs.declared.pieces.Piece.{Piece}
+use Rattle.gq_reshape.specs.Inline.{has_directive}
+use Rattle.gq_reshape.specs.Texts.{opened_text}
 
 -- the inline fragment that a range means
-pub record InlineAsked (documents : List Doc) (x : ExecutableOf) (ask : RangeAsk) : Type 0 where
+pub record Removal (documents : List Doc) (es : List EntryOf) (readings : List Reading) (ask : RangeAsk) : Type 0 where
   pub file : ℕ
   pub document : Doc
-  pub asked_of : IsAskedOf documents ask file document
-  pub selected : SelectedOf
-  pub begins_last : BeginsLast x file ask IsInline selected
+  pub asked_of : IsAskedOf documents ask.key file document
+  pub selected : StandingOf
+  pub is_meant : meant is_inline ask.range (document_sets es (tree_at readings file)) ≡ Some selected
   pub on : Option (NameOf Span)
   pub directives : List (DirectiveOf Span)
   pub braces : Span
@@ -25,30 +29,31 @@ pub record InlineAsked (documents : List Doc) (x : ExecutableOf) (ask : RangeAsk
   pub is_inline : selected.selection.label ≡ inline on directives braces place
 
 -- it has no directive, and no condition or that of its parent's type
-abbrev pub IsParentsType : Option (NameOf Span) → Option Text → Type 0
-IsParentsType None parent = Unit {0}
-IsParentsType (Some on) parent = parent ≡ Some on.text
+abbrev pub is_parents_type : Option (NameOf Span) → Option Text → Bool
+is_parents_type None parent = true
+is_parents_type (Some on) parent = option_map_or (λ type_name. bytes_eq type_name on.text) parent false
 
-abbrev pub SaysNothing : {documents : List Doc} {x : ExecutableOf} {ask : RangeAsk} → InlineAsked documents x ask → Type 0
-SaysNothing i = (i.directives ≡ []) × IsParentsType i.on i.selected.parent
+abbrev pub says_nothing : Option (NameOf Span) → List (DirectiveOf Span) → Option Text → Bool
+says_nothing on directives parent = not (has_directive directives) && is_parents_type on parent
 
--- what takes its place: a space, what stands between its braces, a space
-abbrev pub opened_text : List ℕ → Span → List ℕ
-opened_text text braces = 32 ∷ slice_range text (braces.start + 1) (braces.end - 1) ++ 32 ∷ []
+-- the replacement and the trees
+abbrev pub remove_pieces : (file : ℕ) (text : List ℕ) (place braces : Span) → List Piece
+remove_pieces file text place braces = record { file = file; replacement = record { span = place; text = opened_text text braces } } ∷ []
 
--- the edit, and the trees
-abbrev pub remove_cut : {documents : List Doc} {x : ExecutableOf} {ask : RangeAsk} → InlineAsked documents x ask → Cut
-remove_cut i = record {
-  replacements = λ k. if nat_eq k i.file then record { span = i.place; text = opened_text i.document.text i.braces } ∷ [] else [];
-  rewrite = record { file = i.file; change = without_braces i.place; added = []; dropped = None };
+abbrev pub remove_at : (file : ℕ) (text : List ℕ) (place braces : Span) → Cut
+remove_at file text place braces = record {
+  pieces = remove_pieces file text place braces;
+  rewrite = record { file = file; change = without_braces place; added = []; dropped = None };
 }
 
--- nothing is there: no document of that key, or no inline fragment holds the range
-pub data NothingToRemove (documents : List Doc) (x : ExecutableOf) (ask : RangeAsk) : Type 0 where
-  no_document : ((file : ℕ) (document : Doc) → IsAskedOf documents ask file document → ⊥) → NothingToRemove documents x ask
-  no_inline : {file : ℕ} {document : Doc} → IsAskedOf documents ask file document → NoneHolds x file ask IsInline → NothingToRemove documents x ask
+abbrev pub remove_cut : {documents : List Doc} {es : List EntryOf} {readings : List Reading} {ask : RangeAsk} → Removal documents es readings ask → Cut
+remove_cut r = remove_at r.file r.document.text r.place r.braces
+
+-- nothing is there: no document of that key, or no inline fragment that holds the range
+abbrev pub NothingToRemove : List Doc → List EntryOf → List Reading → RangeAsk → Type 0
+NothingToRemove documents es readings ask = Removal documents es readings ask → ⊥
 
 -- it says something
-pub record IsNotRedundant (documents : List Doc) (x : ExecutableOf) (ask : RangeAsk) : Type 0 where
-  pub asked : InlineAsked documents x ask
-  pub says : SaysNothing asked → ⊥
+pub record IsNotRedundant (documents : List Doc) (es : List EntryOf) (readings : List Reading) (ask : RangeAsk) : Type 0 where
+  pub removal : Removal documents es readings ask
+  pub says : says_nothing removal.on removal.directives removal.selected.parent ≡ false

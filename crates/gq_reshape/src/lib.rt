@@ -1,3 +1,20 @@
-//! Extract, inline and remove: refactorings of selections. What their answers are is defined (specs/Reshape); the calls are
-//! not built yet.
+//! Extract, inline and remove: refactorings of selections.
 #![tactic(auto)]
+
+mod asked;
+mod checking;
+mod depth;
+pub mod extracting;
+mod fragments;
+pub mod inlining;
+pub mod laws;
+mod naming;
+pub mod offering;
+mod reading;
+pub mod removing;
+mod texts;
+
+pub use extracting::extract;
+pub use inlining::inline;
+pub use offering::{Ask, offer};
+pub use removing::remove_redundant;

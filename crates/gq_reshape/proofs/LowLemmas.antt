@@ -1,0 +1,123 @@
+-- What loops over readings and directives come to.
+use Rattle.std.proofs.Common.{◌≡◌, ◌↔◌, ℕ, zero, suc, ◌+◌, ◌-◌, ◌<◌, ◌≤◌, Bool, true, List, [], ◌∷◌, ◌++◌, length, drop, get_or, Option, Some, None, refl, sym, ap, subst, ◌∙◌, map, arith, ◌^◌, find, flat_map, append_assoc, ⊎_elim}
+use Rattle.std.specs.Prelude.{slice_range}
+use Rattle.std.specs.List.{enumerate_from}
+use Rattle.std.specs.Option.{option_map, option_or}
+use Rattle.std.proofs.lemmas.List.Folds.{find-append}
+use Rattle.gq_lex.specs.declared.token.BadKind.{BadKind}
+use Rattle.gq_lex.specs.declared.token.LexFault.{LexFault}
+use Rattle.gq_lex.specs.declared.token.LexFault.TheVariants as fault
+use Rattle.gq_lex.specs.Faults.{IsFault}
+use Rattle.gq_lex.specs.Tokens.{Lexeme, Reads, IsBadAt, IsLimitAt}
+use Rattle.gq_tree.specs.declared.value.Directive.{Directive}
+use Rattle.gq_tree.specs.Views.{directive_view}
+use Rattle.gq_read.specs.declared.reader.Reading.{Reading}
+use Rattle.gq_parse.specs.Limits.{IsNestedWithin}
+use Rattle.gq_parse.proofs.Nesting.{nested_front}
+use Rattle.gq_document.specs.Definitions.{FragmentOf, fragment_in, in_document}
+use Rattle.gq_regroup.specs.Rewrites.{Rewrite}
+use Rattle.gq_reshape.specs.declared.fragments.FragmentIn.{FragmentIn}
+use Rattle.gq_reshape.specs.Fragments.{fragment_found}
+use Rattle.gq_reshape.specs.Limits.{PassesSomeLimit}
+use Rattle.gq_reshape.specs.Rereading.{is_edited, IsRewrittenAt, AreRewrittenFrom}
+use Rattle.gq_reshape.specs.Texts.{last_directive_end, directives_text}
+
+pub drop_read : {X : Type 0} (xs : List X) (i : ℕ) (x : X) → i < length xs → x ≡ get_or xs i x → drop i xs ≡ x ∷ drop (suc i) xs
+drop_read [] i x h is = absurd (omega (arith, h))
+drop_read (y ∷ ys) zero x h is = ap (λ z. z ∷ ys) (sym is)
+drop_read (y ∷ ys) (suc i) x h is = drop_read ys i x (omega (arith, h)) is
+
+-- the readings at one place, and those behind
+module _ (r : Rewrite) (file : ℕ) (before after : List Reading) (b a : Reading) (h : file < length before) (few : length before ≤ length after) (b_is : b ≡ get_or before file b) (a_is : a ≡ get_or after file a)
+    (invariant : AreRewrittenFrom r file (drop file before) (drop file after) ↔ AreRewrittenFrom r 0 before after) where
+  Here : Type 0
+  Here = (is_edited r file ≡ true → IsRewrittenAt r file b a) × AreRewrittenFrom r (suc file) (drop (suc file) before) (drop (suc file) after)
+
+  here : AreRewrittenFrom r file (drop file before) (drop file after) ≡ Here
+  unfolding Here
+  here =
+      ap (λ (xs : List Reading). AreRewrittenFrom r file xs (drop file after)) (drop_read before file b h b_is)
+      ∙ ap (λ (ys : List Reading). AreRewrittenFrom r file (b ∷ drop (suc file) before) ys) (drop_read after file a (omega (arith, h, few)) a_is)
+
+  -- it is not as it should be
+  pub not_here : is_edited r file ≡ true → (IsRewrittenAt r file b a → ⊥) → AreRewrittenFrom r 0 before after → ⊥
+  unfolding Here
+  not_here edited wrong all = wrong ((subst (λ (T : Type 0). T) here (invariant.1 all)).0 edited)
+
+  -- it is, or need not be
+  pub behind : (is_edited r file ≡ true → IsRewrittenAt r file b a) → AreRewrittenFrom r (file + 1) (drop (file + 1) before) (drop (file + 1) after) ↔ AreRewrittenFrom r 0 before after
+  unfolding Here
+  behind right =
+      let more : file + 1 ≡ suc file = omega arith in
+      subst (λ (n : ℕ). AreRewrittenFrom r n (drop n before) (drop n after) ↔ AreRewrittenFrom r 0 before after) (sym more)
+      (λ rest. invariant.0 (subst (λ (T : Type 0). T) (sym here) (right, rest)), λ all. (subst (λ (T : Type 0). T) here (invariant.1 all)).1)
+
+-- nothing is left
+nothing_left : {X : Type 0} (xs : List X) (n : ℕ) → length xs ≤ n → drop n xs ≡ []
+nothing_left [] zero h = refl
+nothing_left [] (suc n) h = refl
+nothing_left (x ∷ xs) zero h = absurd (omega (arith, h))
+nothing_left (x ∷ xs) (suc n) h = nothing_left xs n (omega (arith, h))
+
+pub all_looked_at : (r : Rewrite) (file : ℕ) (before after : List Reading) → length before ≤ file → AreRewrittenFrom r file (drop file before) (drop file after) ↔ AreRewrittenFrom r 0 before after → AreRewrittenFrom r 0 before after
+all_looked_at r file before after h invariant =
+    let P : List Reading → Type 0 = λ xs. AreRewrittenFrom r file xs (drop file after) in
+    invariant.0 (subst P (sym (nothing_left before file h)) tt)
+
+-- the end of the last directive
+last_end : (d : Directive) (ds : List Directive) (last : Directive) → last_directive_end d.span (map directive_view ds) ≡ (get_or (d ∷ ds) (length ds) last).span.end
+last_end d [] last = refl
+last_end d (e ∷ ds) last = last_end e ds last
+
+pub all_directives : (ds : List Directive) (head last : Directive) (text between : List ℕ) → 0 < length ds → between ≡ slice_range text (get_or ds 0 head).span.start (get_or ds (length ds - 1) last).span.end → 32 ∷ between ≡ directives_text text (map directive_view ds)
+all_directives [] head last text between some is = absurd (omega (arith, some))
+all_directives (d ∷ ds) head last text between some is =
+    let e : length (d ∷ ds) - 1 ≡ length ds = omega arith in
+    ap (λ (b : List ℕ). 32 ∷ b) is
+    ∙ ap (λ (n : ℕ). 32 ∷ slice_range text d.span.start (get_or (d ∷ ds) n last).span.end) e
+    ∙ ap (λ (n : ℕ). 32 ∷ slice_range text d.span.start n) (sym (last_end d ds last))
+
+-- fragments, document after document
+module _ (p : FragmentOf → Bool) (readings : List Reading) (i : ℕ) (x : Reading) (h : i < length readings) (is : x ≡ get_or readings i x) (whole : Option FragmentOf) where
+  abbrev In : ℕ → List Reading → List FragmentOf
+  In k rs = flat_map (λ r. in_document fragment_in r.0 r.1) (enumerate_from k rs)
+
+  split : find p (In i (drop i readings)) ≡ option_or (find p (in_document fragment_in i x)) (find p (In (i + 1) (drop (suc i) readings)))
+  split = ap (λ (rs : List Reading). find p (In i rs)) (drop_read readings i x h is) ∙ find-append p (in_document fragment_in i x) (In (i + 1) (drop (suc i) readings))
+
+  pub found_read : (y : FragmentOf) → find p (In i (drop i readings)) ≡ whole → Some y ≡ find p (in_document fragment_in i x) → Some y ≡ whole
+  found_read y invariant mine = ap (λ (o : Option FragmentOf). option_or o (find p (In (i + 1) (drop (suc i) readings)))) mine ∙ sym split ∙ invariant
+
+  pub later_read : (o : Option FragmentOf) → find p (In i (drop i readings)) ≡ whole → o ≡ find p (in_document fragment_in i x) → ((y : FragmentOf) → o ≡ Some y → ⊥) → find p (In (i + 1) (drop (i + 1) readings)) ≡ whole
+  later_read (Some y) invariant mine no_some = absurd (no_some y refl)
+  later_read None invariant mine no_some =
+      let e : i + 1 ≡ suc i = omega arith in
+      ap (λ (n : ℕ). find p (In (i + 1) (drop n readings))) e
+      ∙ ap (λ (o : Option FragmentOf). option_or o (find p (In (i + 1) (drop (suc i) readings)))) mine
+      ∙ sym split
+      ∙ invariant
+
+-- limits
+pub tokens_fine : (text : List ℕ) (tokens : List Lexeme) → ((text : List ℕ) (a b : List Lexeme) → Reads text a → Reads text b → a ≡ b) → ((text : List ℕ) (place : ℕ) (tokens : List Lexeme) → IsLimitAt text place → Reads text tokens → 2 ^ 20 < length tokens) →
+    Reads text tokens → length tokens ≤ 2 ^ 20 → IsNestedWithin 100 tokens → PassesSomeLimit text → ⊥
+tokens_fine text tokens one passed reads few nested passes =
+    ⊎_elim
+    (λ limit. let many = passed text passes.0 tokens limit reads in omega (arith, few, many))
+    (λ deep.
+    let w = deep.2 in
+    let whole : tokens ≡ (w.before ++ w.token ∷ []) ++ w.after = one text tokens deep.0 reads deep.1 ∙ w.cut ∙ sym (append_assoc w.before (w.token ∷ []) w.after) in
+    w.passes (nested_front 100 (w.before ++ w.token ∷ []) w.after (subst (IsNestedWithin 100) whole nested)))
+    passes.1
+
+pub bad_passes_nothing : (text : List ℕ) (place : ℕ) (kind : BadKind) → ((text : List ℕ) (a b : LexFault) → IsFault text a → IsFault text b → a ≡ b) → ((text : List ℕ) (place : ℕ) (kind : BadKind) (tokens : List Lexeme) → IsBadAt text place kind → Reads text tokens → ⊥) → IsBadAt text place kind → PassesSomeLimit text → ⊥
+bad_passes_nothing text place kind one nothing bad passes =
+    ⊎_elim (λ limit. let e : fault.Bad place kind ≡ fault.Limit passes.0 = one text (fault.Bad place kind) (fault.Limit passes.0) bad limit in cc) (λ deep. nothing text place kind deep.0 bad deep.1) passes.1
+
+pub none_found : (o : Option FragmentIn) → ((f : FragmentIn) → o ≡ Some f → ⊥) → (y : FragmentOf) → option_map fragment_found o ≡ Some y → ⊥
+none_found None never y e = cc
+none_found (Some f) never y e = never f refl
+
+pub get_or_any : {X : Type 0} (xs : List X) (i : ℕ) (d : X) → i < length xs → get_or xs i d ≡ get_or xs i (get_or xs i d)
+get_or_any [] i d h = absurd (omega (arith, h))
+get_or_any (x ∷ xs) zero d h = refl
+get_or_any (x ∷ xs) (suc i) d h = get_or_any xs i d (omega (arith, h))

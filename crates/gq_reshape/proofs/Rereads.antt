@@ -1,0 +1,112 @@
+-- Reading again after an edit: the edited documents have the trees of the rewrite where those in which something may change read so.
+use Rattle.std.proofs.Common.{◌≡◌, ℕ, suc, Bool, true, false, ◌&&◌, ◌||◌, not, nat_eq, List, [], ◌∷◌, ◌++◌, Option, Some, None, refl, sym, ap, subst, ◌∙◌, map, if◌then◌else◌}
+use Rattle.std.specs.List.{filter}
+use Rattle.std.specs.Option.{option_map_or}
+use Rattle.gq_text.specs.declared.place.Span.{Span}
+use Rattle.gq_text.specs.declared.replacement.Replacement.{Replacement}
+use Rattle.gq_text.specs.Replaced.{replaced}
+use Rattle.gq_tree.specs.Plain.{Def, erase_document, place_def, no_place}
+use Rattle.gq_tree.specs.Views.{document_view}
+use Rattle.gq_project.specs.declared.document.Doc.{Doc}
+use Rattle.gq_parse.specs.Derives.{Derives}
+use Rattle.gq_read.specs.declared.reader.Reading.{Reading}
+use Rattle.gq_read.specs.declared.reader.Reading.TheVariants as reading
+use Rattle.gq_read.specs.Readings.{IsReading, AreReadings}
+use Rattle.gq_read.specs.Readings as readings
+use Rattle.gq_document.specs.Definitions.{definitions_read}
+use Rattle.gq_rewrite.specs.Projects.{AreTrees, none, more}
+use Rattle.gq_rewrite.proofs.EditedParts.{made_in}
+use Rattle.gq_regroup.specs.Rewrites.{Rewrite, DefinitionPlace, is_kept, rewritten_document, rewritten_from}
+use Rattle.gq_pieces.specs.declared.pieces.Piece.{Piece}
+use Rattle.gq_pieces.specs.Pieces.{replacements_in}
+use Rattle.gq_pieces.proofs.PieceLemmas.{parts_from}
+use Rattle.gq_reshape.specs.Rereading.{is_edited, IsTree, IsRewrittenAt, AreRewrittenFrom}
+
+abbrev pub OneTree : Type 0
+OneTree = (text : List ℕ) (a b : List (Def Span)) → Derives text a → Derives text b → a ≡ b
+
+abbrev pub trees_read : List Reading → List (List (Def Span))
+trees_read rs = map definitions_read rs
+
+-- a text with a tree reads as that
+tree_read : OneTree → (text : List ℕ) (a : Reading) (tree : List (Def Span)) → IsReading text a → Derives text tree → (definitions_read a ≡ tree) × IsTree a
+tree_read one text (reading.Tree d) tree p q = (one text (document_view d) tree p q, tt)
+tree_read one text (reading.Syntax place) tree p q = absurd (p.0 tree q)
+tree_read one text (reading.Limit place) tree p q = absurd (p.0 tree q)
+
+derived : (text : List ℕ) (a : Reading) → IsReading text a → IsTree a → Derives text (definitions_read a)
+derived text (reading.Tree d) p t = p
+derived text (reading.Syntax place) p t = absurd t
+derived text (reading.Limit place) p t = absurd t
+
+-- nothing changes in a document in which nothing may
+none_goes : (dropped : Option DefinitionPlace) (k : ℕ) → option_map_or (λ d. nat_eq d.file k) dropped false ≡ false → (ds : List (Def Span)) → filter (is_kept dropped k) ds ≡ ds
+none_goes dropped k e [] = refl
+none_goes None k e (d ∷ ds) = ap (λ (xs : List (Def Span)). d ∷ xs) (none_goes None k e ds)
+none_goes (Some dropped) k e (d ∷ ds) =
+    ap (λ (b : Bool). let stays = not (b && option_map_or (Rattle.gq_regroup.specs.Rewrites.same_place dropped.place) (Rattle.gq_regroup.specs.Rewrites.executable_place d) false) in if stays then d ∷ filter (is_kept (Some dropped) k) ds else filter (is_kept (Some dropped) k) ds) e
+    ∙ ap (λ (xs : List (Def Span)). d ∷ xs) (none_goes (Some dropped) k e ds)
+
+neither : (a b : Bool) → (a || b) ≡ false → (a ≡ false) × (b ≡ false)
+neither false b e = (refl, e)
+neither true b e = absurd (cc)
+
+kept_document : (r : Rewrite) (k : ℕ) (ds : List (Def Span)) → is_edited r k ≡ false → rewritten_document r k ds ≡ erase_document ds
+kept_document r k ds e =
+    let q = neither (nat_eq r.file k) (option_map_or (λ d. nat_eq d.file k) r.dropped false) e in
+    ap (λ (b : Bool). if b then Rattle.std.proofs.Common.map (Rattle.gq_regroup.specs.Rewrites.with_set r.change) (filter (is_kept r.dropped k) ds) ++ r.added else map (place_def no_place) (filter (is_kept r.dropped k) ds)) q.0
+    ∙ ap (map (place_def no_place)) (none_goes r.dropped k q.1 ds)
+
+module _ (one_tree : OneTree) (r : Rewrite) (pieces : List Piece) where
+  -- the trees are the rewritten ones: then all reads as it should
+  pub forward : (k : ℕ) (documents : List Doc) (bs rest : List Reading) (trees : List (List (Def Span))) → AreReadings documents bs → AreReadings (map made_in (parts_from pieces k documents)) rest → AreTrees (map made_in (parts_from pieces k documents)) trees →
+      map erase_document trees ≡ rewritten_from r k (trees_read bs) → AreRewrittenFrom r k bs rest
+  forward k [] [] rest trees p q x e = tt
+  forward k [] (b ∷ bs) rest trees p q x e = elim p [ ]
+  forward k (d ∷ ds) [] rest trees p q x e = elim p [ ]
+  forward k (d ∷ ds) (b ∷ bs) [] trees p q x e = elim q [ ]
+  forward k (d ∷ ds) (b ∷ bs) (a ∷ rest) [] p q x e = elim x [ ]
+  forward k (d ∷ ds) (b ∷ bs) (a ∷ rest) (t ∷ ts) (readings.more p ps) (readings.more q qs) (more x xs) e =
+      let first : erase_document t ≡ rewritten_document r k (definitions_read b) = cc in
+      let others : map erase_document ts ≡ rewritten_from r (suc k) (trees_read bs) = cc in
+      let own = tree_read one_tree (replaced (replacements_in pieces k) d.text) a t q x in
+      (λ edited. (own.1, ap erase_document own.0 ∙ first), forward (suc k) ds bs rest ts ps qs xs others)
+
+  pub record Again (k : ℕ) (documents : List Doc) (bs : List Reading) : Type 0 where
+    pub trees : List (List (Def Span))
+    pub are_trees : AreTrees (map made_in (parts_from pieces k documents)) trees
+    pub rewritten : map erase_document trees ≡ rewritten_from r k (trees_read bs)
+
+  module _ (quiet : (k : ℕ) → is_edited r k ≡ false → replacements_in pieces k ≡ []) where
+    record Own (k : ℕ) (d : Doc) (b a : Reading) : Type 0 where
+      pub derives : Derives (replaced (replacements_in pieces k) d.text) (definitions_read a)
+      pub is : erase_document (definitions_read a) ≡ rewritten_document r k (definitions_read b)
+
+    own : (k : ℕ) (d : Doc) (b a : Reading) → IsReading (replaced (replacements_in pieces k) d.text) a → Derives d.text (definitions_read b) → (is_edited r k ≡ true → IsRewrittenAt r k b a) → Own k d b a
+    own k d b a q x h = by (is_edited r k) refl
+      where
+        by : (e : Bool) → is_edited r k ≡ e → Own k d b a
+        by true e = record { derives = derived (replaced (replacements_in pieces k) d.text) a q (h e).0; is = (h e).1 }
+        by false e =
+            let same : replacements_in pieces k ≡ [] = quiet k e in
+            let D : List Replacement → Type 0 = λ rs. Derives (replaced rs d.text) (definitions_read b) in
+            let w = tree_read one_tree (replaced (replacements_in pieces k) d.text) a (definitions_read b) q (subst D (sym same) x) in
+            record {
+              derives = derived (replaced (replacements_in pieces k) d.text) a q w.1;
+              is = ap erase_document w.0 ∙ sym (kept_document r k (definitions_read b) e);
+            }
+
+    -- all reads as it should: then the trees are the rewritten ones
+    pub backward : (k : ℕ) (documents : List Doc) (bs rest : List Reading) → AreReadings documents bs → AreReadings (map made_in (parts_from pieces k documents)) rest → AreTrees documents (trees_read bs) → AreRewrittenFrom r k bs rest → Again k documents bs
+    backward k [] [] rest p q x h = record { trees = []; are_trees = none; rewritten = refl }
+    backward k [] (b ∷ bs) rest p q x h = elim p [ ]
+    backward k (d ∷ ds) [] rest p q x h = elim p [ ]
+    backward k (d ∷ ds) (b ∷ bs) [] p q x h = absurd h
+    backward k (d ∷ ds) (b ∷ bs) (a ∷ rest) (readings.more p ps) (readings.more q qs) (more x xs) h =
+        let w = own k d b a q x h.0 in
+        let later = backward (suc k) ds bs rest ps qs xs h.1 in
+        record {
+          trees = definitions_read a ∷ later.trees;
+          are_trees = more w.derives later.are_trees;
+          rewritten = ap (λ (t : List (Def (Unit {0}))). t ∷ map erase_document later.trees) w.is ∙ ap (λ (ts : List (List (Def (Unit {0})))). rewritten_document r k (definitions_read b) ∷ ts) later.rewritten;
+        }

@@ -1,0 +1,7 @@
+use Rattle.std.proofs.Common.{◌↔◌, drop}
+use Rattle.gq_regroup.specs.Views.{rewrite_of}
+use Rattle.gq_reshape.specs.Rereading.{AreRewrittenFrom}
+use Rattle.gq_reshape.proofs.reading.are_rewritten.Given as goal
+
+abbrev pub invariant-loop-file : goal.invariant-loop-file
+invariant-loop-file l = AreRewrittenFrom (rewrite_of l.rewrite) l.file (drop l.file l.before) (drop l.file l.after) ↔ AreRewrittenFrom (rewrite_of l.rewrite) 0 l.before l.after

@@ -1,0 +1,21 @@
+-- What extract, inline and remove keep: what every operation is answered (section 6).
+use Rattle.std.specs.Prelude.{List, Result, Ok}
+use Rattle.gq_project.specs.declared.document.Doc.{Doc}
+use Rattle.gq_project.specs.Documents.{IsInOrder}
+use Rattle.gq_edit.specs.declared.edit.DocumentEdit.{DocumentEdit}
+use Rattle.gq_edit.specs.Edits.{after_edit}
+use Rattle.gq_read.specs.declared.reader.Reading.{Reading}
+use Rattle.gq_read.specs.Readings.{AreReadings}
+use Rattle.gq_rules.specs.Validity.{IsValid}
+use Rattle.gq_unchanged.specs.Unchanged.{ResponsesStay}
+use Rattle.gq_rename.specs.declared.refusal.Refusal.{Refusal}
+use Rattle.gq_reshape.specs.Asks.{RangeAsk}
+
+-- However the documents and the edited ones are read: over every table and for all values of variables, each operation has after
+-- the edit the responses that it had before, with their data, the order of keys and the paths of errors.
+abbrev pub KeepsResponses : List Doc → List DocumentEdit → Type 0
+KeepsResponses documents edits = (before after : List Reading) → AreReadings documents before → AreReadings (after_edit edits documents) after → ResponsesStay before after
+
+-- so does each edit that is such an answer in a valid project
+abbrev pub EditsKeepResponses : (List Doc → RangeAsk → Result (List DocumentEdit) Refusal → Type 0) → Type 0
+EditsKeepResponses IsAnswer = (documents : List Doc) (ask : RangeAsk) → IsInOrder documents → ∥ IsValid documents ∥₁ → (edits : List DocumentEdit) → IsAnswer documents ask (Ok edits) → KeepsResponses documents edits

@@ -1,0 +1,66 @@
+//! Names for new fragments.
+ghost use Rattle.std.specs.Prelude.{◌≡◌, ◌↔◌, [], List, IfOk, IsTrue};
+ghost use Rattle.gq_index.specs.Indexed.{IsIndexOf};
+ghost use Rattle.gq_index.specs.Occurrences.{DefinitionOf, executables, fragment_definitions};
+ghost use Rattle.gq_read.specs.declared.reader.Reading.{Reading};
+ghost use Rattle.gq_read.specs.Readings.{AreReadings};
+ghost use Rattle.gq_reshape.specs.Inline.{is_only_spread};
+ghost use Rattle.gq_reshape.specs.Naming.{IsLeastFree, extracted_name};
+
+use gq_index::Index;
+use gq_index::laws::documents_have_one_list;
+use gq_project::Project;
+use gq_text::{NoMemory, OwnedText};
+use std::alloc::Global;
+
+/// The name of the new fragment of that number.
+pub(crate) fn extracted_name(alloc: Global, number: usize) -> Result<OwnedText, NoMemory>
+    ensures { IfOk result (λ name. name ≡ extracted_name number) }
+{
+    let mut name = String::new(alloc);
+    write!(name, "Extracted{number}")?;
+    Ok(OwnedText::from_string(name))
+}
+
+/// Whether no fragment has the name of that number.
+fn is_free(alloc: Global, index: &Index, number: usize) -> Result<bool, NoMemory>
+    ensures { IfOk result (λ free. (ds : List DefinitionOf) → IsIndexOf ds index.now → IsTrue free ↔ (fragment_definitions ds (extracted_name number) ≡ [])) }
+{
+    let name = extracted_name(alloc, number)?;
+    Ok(index.definitions(name.as_str()).is_empty())
+}
+
+/// The least number from 1 whose name no fragment has.
+pub(crate) fn free_number(alloc: Global, index: &Index) -> Result<usize, NoMemory>
+    ensures { IfOk result (λ number. (ds : List DefinitionOf) → IsIndexOf ds index.now → IsLeastFree ds number) }
+{
+    // one number more than there are fragments at most
+    let numbers = index.places().len().saturating_add(1);
+    for before in 0..numbers {
+        if is_free(alloc, index, before + 1)? {
+            return Ok(before + 1);
+        }
+    }
+    // not met: not all of so many numbers are taken
+    Err(NoMemory)
+}
+
+/// That number in a project.
+pub(crate) fn new_number(alloc: Global, project: &Project) -> Result<usize, NoMemory>
+    ensures { IfOk result (λ number. (readings : List Reading) → AreReadings project.now readings → IsLeastFree (executables readings) number) }
+{
+    documents_have_one_list();
+    let index = Index::of(alloc, project)?;
+    let number = free_number(alloc, &index)?;
+    Ok(number)
+}
+
+/// Whether a project has just one spread of the fragment of that name.
+pub(crate) fn is_only_spread(alloc: Global, project: &Project, name: &str) -> Result<bool, NoMemory>
+    ensures { IfOk result (λ only. (readings : List Reading) → AreReadings project.now readings → only ≡ is_only_spread readings name.now) }
+{
+    documents_have_one_list();
+    let index = Index::of(alloc, project)?;
+    let count = index.spreads(name).len();
+    Ok(count == 1)
+}
