@@ -4,4 +4,5 @@ pub mod Sorting
 pub mod Rows
 pub mod Asking
 pub mod Renaming
+pub mod Offering
 pub mod Responding

@@ -24,3 +24,4 @@ responds documents id (question.Hover params) message (inr h) = rw h.is refl
 responds documents id (question.PrepareRename params) message (inr h) = rw h.is refl
 responds documents id (question.References params) message (inr h) = rw h.is refl
 responds documents id (question.Rename params) message (inr h) = rw h.is (rename_responds id documents h.answer)
+responds documents id (question.CodeAction params) message (inr h) = rw h.is refl

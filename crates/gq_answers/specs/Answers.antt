@@ -5,6 +5,7 @@ use Rattle.std.specs.Option.{option_map_or}
 use Rattle.gq_text.specs.Place.{off}
 use Rattle.gq_text.specs.declared.place.Position.{Position}
 use Rattle.gq_text.specs.declared.place.Span.{Span}
+use Rattle.gq_text.specs.declared.text.Range.{Range}
 use Rattle.gq_project.specs.declared.document.Doc.{Doc}
 use Rattle.gq_project.specs.Documents.{has_key}
 use Rattle.gq_index.specs.declared.occurrence.Occurrence.{Occurrence}
@@ -33,6 +34,7 @@ use Rattle.gq_rpc.specs.declared.messages.Outgoing.TheVariants as outgoing
 use Rattle.gq_answers.specs.Ranges.{range_of}
 use Rattle.gq_answers.specs.Locations.{locations_of}
 use Rattle.gq_answers.specs.Renames.{refused, TellsRename}
+use Rattle.gq_answers.specs.CodeActions.{span_between, TellsCodeActions}
 pub use Rattle.gq_answers.specs.Notifications.{AreDiagnosticsMessages}
 
 -- the text of the document of that key; where there is none, no text
@@ -42,6 +44,10 @@ text_at documents key = option_map_or (λ document. document.text) (find (has_ke
 -- the offset of a position in the document of that key, in bytes
 abbrev pub offset_at : List Doc → List ℕ → Position → ℕ
 offset_at documents key position = off (text_at documents key) position
+
+-- the span of a range
+abbrev pub span_at : List Doc → List ℕ → Range → Span
+span_at documents key range = span_between (offset_at documents key range.start) (offset_at documents key range.end)
 
 -- ---- hovers
 
@@ -108,6 +114,7 @@ IsDefinedAnswer documents id (question.Hover params) response = TellsHover docum
 IsDefinedAnswer documents id (question.PrepareRename params) response = TellsPrepared documents id params response
 IsDefinedAnswer documents id (question.References params) response = TellsReferences documents id params response
 IsDefinedAnswer documents id (question.Rename params) response = TellsRename documents id params (offset_at documents params.key params.position) response
+IsDefinedAnswer documents id (question.CodeAction params) response = TellsCodeActions documents id params (span_at documents params.key params.range) response
 
 -- it tells that, or that memory was refused
 abbrev pub IsAnswer : List Doc → Id → Question → Outgoing → Type 0

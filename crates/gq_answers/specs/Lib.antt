@@ -3,6 +3,7 @@ pub mod Places
 pub mod Rows
 pub mod Locations
 pub mod Renames
+pub mod CodeActions
 pub mod Notifications
 pub mod Answers
 pub mod Responses

@@ -26,5 +26,6 @@ Responds id (outgoing.Hover to hover) = to ≡ id
 Responds id (outgoing.Locations to locations) = to ≡ id
 Responds id (outgoing.Prepared to prepared) = to ≡ id
 Responds id (outgoing.Renamed to edit) = to ≡ id
+Responds id (outgoing.CodeActions to actions) = to ≡ id
 Responds id (outgoing.Error to why) = (to ≡ Some id) × IsFailure why
 Responds id (outgoing.Diagnostics params) = ⊥

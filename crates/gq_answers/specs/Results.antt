@@ -1,5 +1,5 @@
--- What a rename comes to, before it is told. Only contracts of private functions speak of it.
-use Rattle.std.specs.Prelude.{◌≡◌, ◌⊎◌, ℕ, List, Result, Ok, Err}
+-- What refactorings come to, before they are told. Only contracts of private functions speak of it.
+use Rattle.std.specs.Prelude.{◌≡◌, ◌⊎◌, ◌++◌, ℕ, List, Option, Some, None, Result, Ok, Err}
 use Rattle.gq_project.specs.declared.document.Doc.{Doc}
 use Rattle.gq_edit.specs.declared.edit.DocumentEdit.{DocumentEdit}
 use Rattle.gq_edit.specs.declared.workspace.WorkspaceEdit.{WorkspaceEdit}
@@ -9,6 +9,10 @@ use Rattle.gq_rename.specs.declared.refusal.Refusal.TheVariants.{ProjectInvalid,
 use Rattle.gq_rename.specs.Rename.{IsRenameAnswer}
 use Rattle.gq_rules.specs.Validity.{IsInvalid}
 use Rattle.gq_rpc.specs.declared.messages.RenameParams.{RenameParams}
+use Rattle.gq_rpc.specs.declared.messages.CodeActionKind.{CodeActionKind}
+use Rattle.gq_rpc.specs.declared.messages.CodeAction.{CodeAction}
+use Rattle.gq_reshape.specs.Asks.{RangeAsk}
+use Rattle.gq_answers.specs.CodeActions.{IsRefactoring, IsGiven}
 
 -- the edit of a rename, by positions in the texts
 pub record IsEditByPosition (documents : List Doc) (params : RenameParams) (offset : ℕ) (by_position : WorkspaceEdit) : Type 0 where
@@ -24,3 +28,12 @@ IsRenameResult documents params offset (Err why) = (why ≡ NoMemory) ⊎ IsRena
 -- a project that is no valid one is refused for that, or memory was
 abbrev pub IsRefusedProject : List Doc → Refusal → Type 0
 IsRefusedProject documents why = (why ≡ NoMemory) ⊎ ((why ≡ ProjectInvalid) × IsInvalid documents)
+
+-- the edit of the refactoring of a kind, or none where that is refused
+abbrev pub IsEditIfAny : CodeActionKind → List Doc → RangeAsk → Option (List DocumentEdit) → Type 0
+IsEditIfAny kind documents ask (Some edit) = IsRefactoring kind documents ask (Ok edit)
+IsEditIfAny kind documents ask None = (why : Refusal) × IsRefactoring kind documents ask (Err why)
+
+-- the actions of a kind are added
+abbrev pub AddsGiven : List Doc → RangeAsk → (only : Option (List (List ℕ))) → CodeActionKind → (before after : List CodeAction) → Type 0
+AddsGiven documents ask only kind before after = (actions : List CodeAction) × IsGiven documents ask only kind actions × (after ≡ before ++ actions)

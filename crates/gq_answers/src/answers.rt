@@ -3,8 +3,10 @@ ghost use Rattle.std.specs.Prelude.{◌≡◌, ◌⊎◌, IfOk};
 ghost use Rattle.gq_edit.specs.Workspace.{AreTexts};
 ghost use Rattle.gq_rename.specs.declared.refusal.Refusal.TheVariants as refusal;
 ghost use Rattle.gq_answers.specs.Renames.{refused, TellsRename};
-ghost use Rattle.gq_answers.specs.Answers.{offset_at, TellsHover, TellsDefinitions, TellsReferences, TellsCompletions, TellsPrepared, IsAnswer};
+ghost use Rattle.gq_answers.specs.CodeActions.{TellsCodeActions};
+ghost use Rattle.gq_answers.specs.Answers.{offset_at, span_at, TellsHover, TellsDefinitions, TellsReferences, TellsCompletions, TellsPrepared, IsAnswer};
 
+use crate::code_actions::find_code_actions;
 use crate::queries::{
     find_completions, find_definitions, find_hover, find_prepared, find_references, text_of,
 };
@@ -12,7 +14,7 @@ use crate::renames::rename_at;
 use gq_project::Project;
 use gq_rename::Refusal;
 use gq_rpc::{
-    Id, Outgoing, Question, ReferenceParams, RenameParams, ResponseError,
+    CodeActionParams, Id, Outgoing, Question, ReferenceParams, RenameParams, ResponseError,
     TextDocumentPositionParams,
 };
 use gq_text::{NoMemory, OwnedText, offset_in};
@@ -36,6 +38,7 @@ pub fn answer(
         Question::PrepareRename(params) => answer_prepare(alloc, &project, id, params),
         Question::References(params) => answer_references(alloc, &project, id, params),
         Question::Rename(params) => answer_rename(alloc, project, id, params),
+        Question::CodeAction(params) => answer_code_action(alloc, project, id, params),
     }
 }
 
@@ -135,5 +138,20 @@ fn answer_rename(
     match rename_at(alloc, project, params, offset) {
         Ok(edit) => Ok(Outgoing::Renamed(id, edit)),
         Err(refusal) => refuse(alloc, id, refusal),
+    }
+}
+
+fn answer_code_action(
+    alloc: Global,
+    project: Project,
+    id: Id,
+    params: &CodeActionParams,
+) -> Result<Outgoing, NoMemory>
+    requires { AreTexts project }
+    ensures { IfOk result (λ response. (response ≡ refused id refusal.NoMemory) ⊎ TellsCodeActions project id params.now (span_at project params.now.key params.now.range) response) }
+{
+    match find_code_actions(alloc, project, params) {
+        Ok(actions) => Ok(Outgoing::CodeActions(id, actions)),
+        Err(NoMemory) => refuse(alloc, id, Refusal::NoMemory),
     }
 }

@@ -2,6 +2,7 @@
 #![tactic(auto)]
 
 mod answers;
+mod code_actions;
 pub mod laws;
 mod locations;
 mod notifications;

@@ -3,7 +3,6 @@ use Rattle.std.proofs.Common.{◌≡◌, ℕ, ◌<◌, Bool, true, false, cond, 
 use Rattle.std.specs.Prelude.{option_to_list, option_map}
 use mathlib.Core.Path.{fun_ext}
 use Rattle.gq_rpc.specs.declared.messages.Outgoing.{Outgoing}
-use Rattle.gq_rpc.specs.declared.messages.ResponseError.{ResponseError}
 use Rattle.gq_rpc.specs.declared.messages.Id.{Id}
 use Rattle.gq_desk.specs.declared.documents.OpenDocument.{OpenDocument}
 use Rattle.gq_desk.specs.declared.event.Task.{Task}
@@ -13,6 +12,7 @@ use Rattle.gq_desk.specs.declared.event.Answer.TheVariants as answer
 use Rattle.gq_desk.specs.declared.event.Event.{Event}
 use Rattle.gq_desk.specs.declared.event.Out.{Out}
 use Rattle.gq_desk.specs.declared.event.Out.TheVariants as out
+use Rattle.gq_desk.specs.declared.refusals.Denial.{Denial}
 use Rattle.gq_desk.specs.declared.effect.Phase.{Phase}
 use Rattle.gq_desk.specs.declared.effect.Phase.TheVariants.{Stopped}
 use Rattle.gq_desk.specs.declared.effect.Change.{Change}
@@ -20,7 +20,7 @@ use Rattle.gq_desk.specs.declared.effect.Change.TheVariants as change
 use Rattle.gq_desk.specs.declared.effect.Effect.{Effect}
 use Rattle.gq_desk.specs.declared.effect.Effect.TheVariants as effect
 use Rattle.gq_desk.specs.Documents.{docs_of, document_at}
-use Rattle.gq_desk.specs.Rules.{Turn, Session, effect_of, changed_by, session_after, refused_by, taken, answered, refused_with, nothing_wrong, cleared, own_of_change, own, answer_to, FitsTaken}
+use Rattle.gq_desk.specs.Rules.{Turn, Session, effect_of, changed_by, session_after, denied_by, taken, answered, denied_with, nothing_wrong, cleared, own_of_change, own, answer_to, FitsTaken}
 use Rattle.gq_desk.specs.History.{outputs, IsAnswered}
 use Rattle.gq_desk.specs.Machine.{State, start, after, writes, run, reached, effect_in, changed_in, taken_by, DeskSteps, FitsTurn, FitsRun}
 use Rattle.gq_desk.proofs.Alone.{writes_alone}
@@ -107,9 +107,9 @@ brought_goes : (t : Option Task) (a : Answer) → stop_in (answer_to t a) ≡ No
 brought_goes None a = refl
 brought_goes (Some t) a = answered_goes t a
 
-refused_goes : (id : Id) (refused : Option ResponseError) → stop_in (refused_with id refused) ≡ None
-refused_goes id None = refl
-refused_goes id (Some why) = refl
+denied_goes : (id : Id) (denied : Option Denial) → stop_in (denied_with id denied) ≡ None
+denied_goes id None = refl
+denied_goes id (Some how) = refl
 
 closed_goes : (found : Option OpenDocument) → stop_in (option_to_list (option_map nothing_wrong found)) ≡ None
 closed_goes None = refl
@@ -131,22 +131,22 @@ change_goes s c document = stop_in-append (cond s.diagnostics (cleared s.documen
 never : (xs ys : List Out) (status : ℕ) (P : Type 0) → stop_in xs ≡ None → stop_in ys ≡ None → stop_in (xs ++ ys) ≡ Some status → P
 never xs ys status P first next h = let e : None ≡ Some status = sym (stop_in-append xs ys first ∙ next) ∙ h in absurd (cc)
 
-stops_by : (s : Session) (refused : Option ResponseError) (e : Effect) (document : Option OpenDocument) (t : Option Task) (a : Answer) (status : ℕ)
-    → stop_in (own s refused e document ++ answer_to t a) ≡ Some status → (session_after s e document).phase ≡ Stopped
-stops_by s refused (effect.Stops code) document t a status h = refl
-stops_by s refused effect.Nothing document t a status h = never [] (answer_to t a) status _ refl (brought_goes t a) h
-stops_by s refused (effect.Begins id capabilities) document t a status h = never (own s refused (effect.Begins id capabilities) document) (answer_to t a) status _ refl (brought_goes t a) h
-stops_by s refused (effect.Refuses id why) document t a status h = never (own s refused (effect.Refuses id why) document) (answer_to t a) status _ refl (brought_goes t a) h
-stops_by s refused (effect.Asks id asked) document t a status h = never (refused_with id refused) (answer_to t a) status _ (refused_goes id refused) (brought_goes t a) h
-stops_by s refused (effect.Changes c) document t a status h = never (own_of_change s c document) (answer_to t a) status _ (change_goes s c document) (brought_goes t a) h
-stops_by s refused (effect.Cancels id) document t a status h = never [] (answer_to t a) status _ refl (brought_goes t a) h
-stops_by s refused (effect.ShutsDown id) document t a status h = never (own s refused (effect.ShutsDown id) document) (answer_to t a) status _ refl (brought_goes t a) h
-stops_by s refused (effect.Finishes done) document t a status h = never [] (answer_to t a) status _ refl (brought_goes t a) h
+stops_by : (s : Session) (denied : Option Denial) (e : Effect) (document : Option OpenDocument) (t : Option Task) (a : Answer) (status : ℕ)
+    → stop_in (own s denied e document ++ answer_to t a) ≡ Some status → (session_after s e document).phase ≡ Stopped
+stops_by s denied (effect.Stops code) document t a status h = refl
+stops_by s denied effect.Nothing document t a status h = never [] (answer_to t a) status _ refl (brought_goes t a) h
+stops_by s denied (effect.Begins id capabilities) document t a status h = never (own s denied (effect.Begins id capabilities) document) (answer_to t a) status _ refl (brought_goes t a) h
+stops_by s denied (effect.Refuses id why) document t a status h = never (own s denied (effect.Refuses id why) document) (answer_to t a) status _ refl (brought_goes t a) h
+stops_by s denied (effect.Asks id asked) document t a status h = never (denied_with id denied) (answer_to t a) status _ (denied_goes id denied) (brought_goes t a) h
+stops_by s denied (effect.Changes c) document t a status h = never (own_of_change s c document) (answer_to t a) status _ (change_goes s c document) (brought_goes t a) h
+stops_by s denied (effect.Cancels id) document t a status h = never [] (answer_to t a) status _ refl (brought_goes t a) h
+stops_by s denied (effect.ShutsDown id) document t a status h = never (own s denied (effect.ShutsDown id) document) (answer_to t a) status _ refl (brought_goes t a) h
+stops_by s denied (effect.Finishes done) document t a status h = never [] (answer_to t a) status _ refl (brought_goes t a) h
 
 stop_phase : (s : Session) (turn : Turn) (status : ℕ) → stop_in (writes (alone s) turn) ≡ Some status → (after (alone s) turn).session.phase ≡ Stopped
 stop_phase s turn status h =
     let e = effect_in (alone s) turn in
-    stops_by s (refused_by s [] e) e (changed_in (alone s) turn) (taken s.diagnostics (refused_by s [] e) e) turn.answer status (ap stop_in (sym (writes_alone s turn)) ∙ h)
+    stops_by s (denied_by s [] e) e (changed_in (alone s) turn) (taken s.diagnostics (denied_by s [] e) e) turn.answer status (ap stop_in (sym (writes_alone s turn)) ∙ h)
 
 -- ---- turns of bodies that are not served
 
@@ -183,7 +183,7 @@ silent s h (body ∷ bodies) =
     let nothing = nothing_in s turn h in
     let none : writes (alone s) turn ≡ [] =
     writes_alone s turn
-    ∙ ap (λ (e : Effect). own s (refused_by s [] e) e (changed_by s e turn.text_refused) ++ answer_to (taken s.diagnostics (refused_by s [] e) e) turn.answer) nothing in
+    ∙ ap (λ (e : Effect). own s (denied_by s [] e) e (changed_by s e turn.text_refused) ++ answer_to (taken s.diagnostics (denied_by s [] e) e) turn.answer) nothing in
     let same : after (alone s) turn ≡ alone s = ap (λ (e : Effect). alone (session_after s e (changed_by s e turn.text_refused))) nothing in
     ap (λ (l : List Out). l ++ run (after (alone s) turn) (quiet bodies)) none
     ∙ (ap (λ (t : State). run t (quiet bodies)) same ∙ silent s h bodies)

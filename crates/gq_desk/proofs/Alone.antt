@@ -11,8 +11,8 @@ use Rattle.gq_desk.specs.declared.event.Answer.TheVariants as answer
 use Rattle.gq_desk.specs.declared.event.Task.TheVariants as task
 use Rattle.gq_desk.specs.declared.event.Out.{Out}
 use Rattle.gq_desk.specs.declared.event.Out.TheVariants as out
-use Rattle.gq_desk.specs.Rules.{Turn, Session, effect_of, changed_by, session_after, refused_by, taken, own, answer_to, verdict, out_max, FitsTaken}
-use Rattle.gq_desk.specs.History.{Asked, Handed, session_at, effect_at, changed_at, turn_at, refused_at, taken_at, asked_before, pending_of, is_decided_at, is_out, is_waiting, handed_at, handed_before}
+use Rattle.gq_desk.specs.Rules.{Turn, Session, effect_of, changed_by, session_after, denied_by, taken, own, answer_to, verdict, out_max, FitsTaken}
+use Rattle.gq_desk.specs.History.{Asked, Handed, session_at, effect_at, changed_at, turn_at, denied_at, taken_at, asked_before, pending_of, is_decided_at, is_out, is_waiting, handed_at, handed_before}
 use Rattle.gq_desk.specs.Laws.{AnsweredAtOnce, StepsExist}
 use Rattle.gq_desk.specs.Machine.{State, no_jobs, job_for, after, writes, reached, effect_in, changed_in}
 
@@ -42,8 +42,8 @@ after_alone session turn = refl
 abbrev pub own_then_answer : Session → Turn → List Out
 own_then_answer session turn =
     let e = effect_of session.phase session.documents turn.event in
-    let refused = refused_by session [] e in
-    own session refused e (changed_by session e turn.text_refused) ++ answer_to (taken session.diagnostics refused e) turn.answer
+    let denied = denied_by session [] e in
+    own session denied e (changed_by session e turn.text_refused) ++ answer_to (taken session.diagnostics denied e) turn.answer
 
 nothing_behind : (a b : List Out) → a ++ (b ++ []) ≡ a ++ b
 nothing_behind a b = ap (λ (l : List Out). a ++ l) (append-nil b)
@@ -64,7 +64,7 @@ handed_none events j handed =
 abbrev outputs_with : List Turn → ℕ → List Asked → List Job → List Out
 outputs_with events j asked jobs =
     flat_map (λ a. verdict (effect_at events j) a.job) (filter (is_decided_at events j) asked)
-    ++ own (session_at events j) (refused_at events j asked) (effect_at events j) (changed_at events j)
+    ++ own (session_at events j) (denied_at events j asked) (effect_at events j) (changed_at events j)
     ++ (answer_to (taken_at events j asked) (turn_at events j).answer ++ map out.Job jobs)
 
 pub answered_at_once : AnsweredAtOnce

@@ -8,6 +8,7 @@ use Rattle.gq_rpc.specs.declared.messages.Outgoing.{Outgoing}
 use Rattle.gq_rpc.specs.declared.messages.Outgoing.TheVariants as outgoing
 use Rattle.gq_rpc.specs.declared.messages.Question.{Question}
 use Rattle.gq_rpc.specs.declared.messages.ResponseError.{ResponseError}
+use Rattle.gq_desk.specs.declared.refusals.Denial.{Denial}
 use Rattle.gq_answers.specs.Answers.{IsAnswer, AreDiagnosticsMessages}
 use Rattle.gq_desk.specs.declared.effect.Effect.{Effect}
 use Rattle.gq_desk.specs.declared.event.Answer.{Answer}
@@ -20,12 +21,12 @@ use Rattle.gq_desk.specs.Tasks.{Answers}
 use Rattle.gq_desk.specs.Rules.{Session, changed_by, session_after, own, failed, answered}
 
 -- what a session becomes by an event, and what it puts out for it
-abbrev pub Replies : Session → Option ResponseError → Effect → Session → List Out → List Out → Type 0
-Replies s refused e t old new = (r : Bool) × (t ≡ session_after s e (changed_by s e r)) × (new ≡ old ++ own s refused e (changed_by s e r))
+abbrev pub Replies : Session → Option Denial → Effect → Session → List Out → List Out → Type 0
+Replies s denied e t old new = (r : Bool) × (t ≡ session_after s e (changed_by s e r)) × (new ≡ old ++ own s denied e (changed_by s e r))
 
 -- an event that changes nothing
-pub quiet : (s : Session) (refused : Option ResponseError) (e f : Effect) (outs : List Out) → e ≡ f → s ≡ session_after s f (changed_by s f false) → [] ≡ own s refused f (changed_by s f false) → Replies s refused e s outs outs
-quiet s refused e f outs is stays nothing = subst (λ (e : Effect). Replies s refused e s outs outs) (sym is) (false, stays, sym (append-nil outs) ∙ ap (λ (l : List Out). outs ++ l) nothing)
+pub quiet : (s : Session) (denied : Option Denial) (e f : Effect) (outs : List Out) → e ≡ f → s ≡ session_after s f (changed_by s f false) → [] ≡ own s denied f (changed_by s f false) → Replies s denied e s outs outs
+quiet s denied e f outs is stays nothing = subst (λ (e : Effect). Replies s denied e s outs outs) (sym is) (false, stays, sym (append-nil outs) ∙ ap (λ (l : List Out). outs ++ l) nothing)
 
 -- some answer to a task is written
 abbrev pub Answered : List Doc → Task → List Out → List Out → Type 0

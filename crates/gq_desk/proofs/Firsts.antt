@@ -1,5 +1,5 @@
 -- The first event that decides a job.
-use Rattle.std.proofs.Common.{◌≡◌, ℕ, zero, suc, ◌<◌, nat_lt, ℤ, Bool, true, false, not, ◌&&◌, ◌||◌, ◌==◌, List, [], ◌∷◌, ap, sym, refl, ◌∙◌, subst, arith, ◌↔◌, inl, inr, Option, bytes_eq}
+use Rattle.std.proofs.Common.{◌≡◌, ℕ, zero, suc, ◌<◌, nat_lt, ℤ, Bool, true, false, not, ◌&&◌, ◌||◌, ◌==◌, List, [], ◌∷◌, ap, sym, refl, ◌∙◌, subst, arith, ◌↔◌, inl, inr, Option, Some, None, bytes_eq}
 use Rattle.std.proofs.lemmas.Bool.{cases_lt}
 use Rattle.std.proofs.lemmas.Bool.Decides.{nat_tests}
 use Rattle.std.proofs.lemmas.Slice.Eq.{bytes_eq-Decides}
@@ -21,7 +21,7 @@ use Rattle.gq_desk.specs.declared.event.Done.{Done}
 use Rattle.gq_desk.specs.declared.effect.Effect.{Effect}
 use Rattle.gq_desk.specs.declared.effect.Effect.TheVariants as effect
 use Rattle.gq_desk.specs.Documents.{docs_of}
-use Rattle.gq_desk.specs.Tasks.{same_id, kind_of, place_of, includes_declaration, new_name_of, same_position, same_place, same_question, same_task, same_doc, same_docs, Answers}
+use Rattle.gq_desk.specs.Tasks.{same_id, kind_of, place_of, includes_declaration, new_name_of, end_of, kinds_of, same_position, same_place, same_texts, same_kinds, same_question, same_task, same_doc, same_docs, Answers}
 use Rattle.gq_desk.specs.Rules.{Turn, Session, session_after, decides}
 use Rattle.gq_desk.specs.History.{is_between, Asked, may_decide, is_pending, is_decided_at, session_at, docs_at, effect_at, changed_at}
 use Rattle.gq_desk.specs.Laws.{IsFirst}
@@ -160,34 +160,55 @@ place_same a b h =
     let parts = and_true (bytes_eq a.key b.key) (same_position a.position b.position) h in
     same_params (texts_same a.key b.key parts.0) (position_same a.position b.position parts.1)
 
--- a question out of its parts
-abbrev question_of : ℕ → TextDocumentPositionParams → Bool → List ℕ → Question
-question_of zero at includes name = question.Completion at
-question_of (suc zero) at includes name = question.Definition at
-question_of (suc (suc zero)) at includes name = question.Hover at
-question_of (suc (suc (suc zero))) at includes name = question.PrepareRename at
-question_of (suc (suc (suc (suc zero)))) at includes name = question.References (record { key = at.key; position = at.position; include_declaration = includes })
-question_of (suc (suc (suc (suc (suc more))))) at includes name = question.Rename (record { key = at.key; position = at.position; new_name = name })
+same_all : {a b : List ℕ} {as_ bs : List (List ℕ)} → a ≡ b → as_ ≡ bs → a ∷ as_ ≡ b ∷ bs
+same_all e f = cc
 
-of_parts : (q : Question) → question_of (kind_of q) (place_of q) (includes_declaration q) (new_name_of q) ≡ q
+all_same : (as_ bs : List (List ℕ)) → same_texts as_ bs ≡ true → as_ ≡ bs
+all_same [] [] h = refl
+all_same [] (b ∷ bs) h = absurd (cc)
+all_same (a ∷ as_) [] h = absurd (cc)
+all_same (a ∷ as_) (b ∷ bs) h = let parts = and_true (bytes_eq a b) (same_texts as_ bs) h in same_all (texts_same a b parts.0) (all_same as_ bs parts.1)
+
+kinds_same : (a b : Option (List (List ℕ))) → same_kinds a b ≡ true → a ≡ b
+kinds_same None None h = refl
+kinds_same (Some a) (Some b) h = ap (λ (kinds : List (List ℕ)). Some kinds) (all_same a b h)
+kinds_same None (Some b) h = absurd (cc)
+kinds_same (Some a) None h = absurd (cc)
+
+-- a question out of its parts
+abbrev question_of : ℕ → TextDocumentPositionParams → Bool → List ℕ → Position → Option (List (List ℕ)) → Question
+question_of zero at includes name end kinds = question.Completion at
+question_of (suc zero) at includes name end kinds = question.Definition at
+question_of (suc (suc zero)) at includes name end kinds = question.Hover at
+question_of (suc (suc (suc zero))) at includes name end kinds = question.PrepareRename at
+question_of (suc (suc (suc (suc zero)))) at includes name end kinds = question.References (record { key = at.key; position = at.position; include_declaration = includes })
+question_of (suc (suc (suc (suc (suc zero))))) at includes name end kinds = question.Rename (record { key = at.key; position = at.position; new_name = name })
+question_of (suc (suc (suc (suc (suc (suc more)))))) at includes name end kinds = question.CodeAction (record { key = at.key; range = record { start = at.position; end = end }; only = kinds })
+
+of_parts : (q : Question) → question_of (kind_of q) (place_of q) (includes_declaration q) (new_name_of q) (end_of q) (kinds_of q) ≡ q
 of_parts (question.Completion params) = refl
 of_parts (question.Definition params) = refl
 of_parts (question.Hover params) = refl
 of_parts (question.PrepareRename params) = refl
 of_parts (question.References params) = refl
 of_parts (question.Rename params) = refl
+of_parts (question.CodeAction params) = refl
 
-same_parts : {k k' : ℕ} {p p' : TextDocumentPositionParams} {f f' : Bool} {n n' : List ℕ} → k ≡ k' → p ≡ p' → f ≡ f' → n ≡ n' → question_of k p f n ≡ question_of k' p' f' n'
-same_parts e f g h = cc
+same_parts : {k k' : ℕ} {p p' : TextDocumentPositionParams} {f f' : Bool} {n n' : List ℕ} {e e' : Position} {o o' : Option (List (List ℕ))}
+    → k ≡ k' → p ≡ p' → f ≡ f' → n ≡ n' → e ≡ e' → o ≡ o' → question_of k p f n e o ≡ question_of k' p' f' n' e' o'
+same_parts a b c d e f = cc
 
 pub question_same : (a b : Question) → same_question a b ≡ true → a ≡ b
 question_same a b h =
     let first = and_true (kind_of a == kind_of b) _ h in
     let second = and_true (same_place (place_of a) (place_of b)) _ first.1 in
     let third = and_true (beq (includes_declaration a) (includes_declaration b)) _ second.1 in
+    let fourth = and_true (bytes_eq (new_name_of a) (new_name_of b)) _ third.1 in
+    let fifth = and_true (same_position (end_of a) (end_of b)) _ fourth.1 in
     sym (of_parts a)
     ∙ (same_parts (numbers_same (kind_of a) (kind_of b) first.0) (place_same (place_of a) (place_of b) second.0)
-    (flags_same (includes_declaration a) (includes_declaration b) third.0) (texts_same (new_name_of a) (new_name_of b) third.1)
+    (flags_same (includes_declaration a) (includes_declaration b) third.0) (texts_same (new_name_of a) (new_name_of b) fourth.0)
+    (position_same (end_of a) (end_of b) fifth.0) (kinds_same (kinds_of a) (kinds_of b) fifth.1)
     ∙ of_parts b)
 
 abbrev ask : Id → Question → Task

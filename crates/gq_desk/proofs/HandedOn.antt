@@ -13,13 +13,14 @@ use Rattle.gq_desk.specs.declared.event.Answer.{Answer}
 use Rattle.gq_desk.specs.declared.event.Answer.TheVariants as answer
 use Rattle.gq_desk.specs.declared.event.Out.{Out}
 use Rattle.gq_desk.specs.declared.event.Out.TheVariants as out
+use Rattle.gq_desk.specs.declared.refusals.Denial.{Denial}
 use Rattle.gq_desk.specs.declared.effect.Change.{Change}
 use Rattle.gq_desk.specs.declared.effect.Change.TheVariants as change
 use Rattle.gq_desk.specs.declared.effect.Effect.{Effect}
 use Rattle.gq_desk.specs.declared.effect.Effect.TheVariants as effect
 use Rattle.gq_desk.specs.Documents.{document_at, key_of, published}
-use Rattle.gq_desk.specs.Rules.{Session, refused_as, answered, verdict, refused_with, nothing_wrong, cleared, own, answer_to}
-use Rattle.gq_desk.specs.History.{Asked, is_decided_at, session_at, effect_at, changed_at, asked_before, refused_at, handed_at, handed_before, decided_at, at_once}
+use Rattle.gq_desk.specs.Rules.{Session, refused_as, answered, verdict, denied_with, nothing_wrong, cleared, own, answer_to}
+use Rattle.gq_desk.specs.History.{Asked, is_decided_at, session_at, effect_at, changed_at, asked_before, denied_at, handed_at, handed_before, decided_at, at_once}
 use Rattle.gq_desk.specs.Laws.{Handing, Given, handing_of, handings, published_by, HandedOnInItsStep}
 
 -- outputs of which nothing is handed on
@@ -54,9 +55,9 @@ all_written : {X : Type 0} (f : X → List Out) → ((x : X) → IsWritten (f x)
 all_written f h [] = refl
 all_written f h (x ∷ xs) = flat_map-append handing_of (f x) (flat_map f xs) ∙ (ap (λ (l : List Handing). l ++ handings (flat_map f xs)) (h x) ∙ all_written f h xs)
 
-refused_written : (id : Id) (refused : Option ResponseError) → IsWritten (refused_with id refused)
-refused_written id None = refl
-refused_written id (Some why) = refl
+denied_written : (id : Id) (denied : Option Denial) → IsWritten (denied_with id denied)
+denied_written id None = refl
+denied_written id (Some how) = refl
 
 nothing_wrong_handed : (document : Option OpenDocument) (o : Out) → handings (option_to_list (option_map nothing_wrong document) ++ o ∷ []) ≡ handing_of o ++ []
 nothing_wrong_handed None o = refl
@@ -68,16 +69,16 @@ change_handed true documents (change.Edit params) o = refl
 change_handed true documents (change.Close key) o = nothing_wrong_handed (document_at key documents) o
 change_handed false documents c o = refl
 
-own_handed : (s : Session) (refused : Option ResponseError) (e : Effect) (document : Option OpenDocument) → handings (own s refused e document) ≡ published_by e document
-own_handed s refused (effect.Changes c) document = change_handed s.diagnostics s.documents c (out.Publish (published (key_of c) document))
-own_handed s refused (effect.Asks id asked) document = refused_written id refused
-own_handed s refused (effect.Begins id capabilities) document = refl
-own_handed s refused (effect.Refuses id why) document = refl
-own_handed s refused (effect.ShutsDown id) document = refl
-own_handed s refused (effect.Stops status) document = refl
-own_handed s refused effect.Nothing document = refl
-own_handed s refused (effect.Cancels id) document = refl
-own_handed s refused (effect.Finishes done) document = refl
+own_handed : (s : Session) (denied : Option Denial) (e : Effect) (document : Option OpenDocument) → handings (own s denied e document) ≡ published_by e document
+own_handed s denied (effect.Changes c) document = change_handed s.diagnostics s.documents c (out.Publish (published (key_of c) document))
+own_handed s denied (effect.Asks id asked) document = denied_written id denied
+own_handed s denied (effect.Begins id capabilities) document = refl
+own_handed s denied (effect.Refuses id why) document = refl
+own_handed s denied (effect.ShutsDown id) document = refl
+own_handed s denied (effect.Stops status) document = refl
+own_handed s denied effect.Nothing document = refl
+own_handed s denied (effect.Cancels id) document = refl
+own_handed s denied (effect.Finishes done) document = refl
 
 once_written : (alone : Bool) (t : Option Task) (a : Answer) → IsWritten (cond alone (answer_to t a) [])
 once_written true None a = refl
@@ -96,7 +97,7 @@ joined a b c d p q ha hb hc hd =
 
 pub handed_on_in_its_step : HandedOnInItsStep
 handed_on_in_its_step workers events j =
-    joined (decided_at workers events j) (own (session_at events j) (refused_at events j (asked_before workers events j)) (effect_at events j) (changed_at events j)) (at_once workers events j)
+    joined (decided_at workers events j) (own (session_at events j) (denied_at events j (asked_before workers events j)) (effect_at events j) (changed_at events j)) (at_once workers events j)
     (map out.Job (handed_at workers events j (handed_before workers events j))) _ _
     (all_written {X = Asked} (λ a. verdict (effect_at events j) a.job) (λ a. verdict_written (effect_at events j) a.job) (filter (is_decided_at events j) (asked_before workers events j)))
     (own_handed (session_at events j) _ (effect_at events j) _) (once_written (workers == 0) _ _) (jobs_handed _)

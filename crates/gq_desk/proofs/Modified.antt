@@ -28,6 +28,8 @@ use Rattle.gq_desk.specs.declared.event.Event.{Event}
 use Rattle.gq_desk.specs.declared.event.Event.TheVariants as event
 use Rattle.gq_desk.specs.declared.event.Out.{Out}
 use Rattle.gq_desk.specs.declared.event.Out.TheVariants as out
+use Rattle.gq_desk.specs.declared.refusals.Denial.{Denial}
+use Rattle.gq_desk.specs.declared.refusals.Denial.TheVariants as denial
 use Rattle.gq_desk.specs.declared.effect.Phase.{Phase}
 use Rattle.gq_desk.specs.declared.effect.Phase.TheVariants.{Fresh, Running, Down, Stopped}
 use Rattle.gq_desk.specs.declared.effect.Change.{Change}
@@ -36,7 +38,7 @@ use Rattle.gq_desk.specs.declared.effect.Effect.{Effect}
 use Rattle.gq_desk.specs.declared.effect.Effect.TheVariants as effect
 use Rattle.gq_desk.specs.Documents.{document_at, is_open, is_any_lost, is_change, key_of, published}
 use Rattle.gq_desk.specs.Tasks.{is_of, place_of}
-use Rattle.gq_desk.specs.Rules.{Turn, Session, failed, refused_as, answered, refused_with, nothing_wrong, cleared, own, wants_document_changes, are_too_many, refusal_of_question, refusal_of_ask, refused_by, effect_of_request, effect_while_running, effect_while_not, effect_of_notification, effect_of_message, effect_going, effect_of}
+use Rattle.gq_desk.specs.Rules.{Turn, Session, failed, refused_as, answered, denied, denied_with, nothing_wrong, cleared, own, wants_document_changes, wants_code_actions, are_too_many, denial_of_question, denial_of_ask, denied_by, effect_of_request, effect_while_running, effect_while_not, effect_of_notification, effect_of_message, effect_going, effect_of}
 use Rattle.gq_desk.specs.History.{session_at, effect_at, docs_at, turn_at, asked_before, pending_of}
 use Rattle.gq_desk.specs.Laws.{tells_modified, ModifiedAtChange}
 use Rattle.gq_desk.proofs.Lists.{both}
@@ -53,9 +55,10 @@ All_may e outs = AllByRecursion (May e) outs
 abbrev IsOther : ResponseError → Type 0
 IsOther why = why ≡ error.ContentModified → ⊥
 
-abbrev IsOtherIfAny : Option ResponseError → Type 0
+abbrev IsOtherIfAny : Option Denial → Type 0
 IsOtherIfAny None = Unit {0}
-IsOtherIfAny (Some why) = IsOther why
+IsOtherIfAny (Some (denial.Error why)) = IsOther why
+IsOtherIfAny (Some denial.NoActions) = Unit {0}
 
 error_is : (to id : Option Id) (why : ResponseError) → outgoing.Error to why ≡ outgoing.Error id error.ContentModified → why ≡ error.ContentModified
 error_is to id why h = cc
@@ -94,6 +97,7 @@ response_other id (outgoing.Hover of hover) h to is = cc
 response_other id (outgoing.Locations of locations) h to is = cc
 response_other id (outgoing.Prepared of prepared) h to is = cc
 response_other id (outgoing.Renamed of edit) h to is = cc
+response_other id (outgoing.CodeActions of actions) h to is = cc
 response_other id (outgoing.Error of why) h to is = failure_other why h.1 (error_is of to why is)
 response_other id (outgoing.Diagnostics params) h to is = h
 
@@ -111,35 +115,36 @@ module _ (respond : AnswersRespond) where
   answer_may e events j t (answer.Report messages) given = all_notify e messages
   answer_may e events j t answer.NoMemory given = refused_other e t _ (λ h. cc)
 
--- why an ask is refused
-cond_other : (b : Bool) (x y : Option ResponseError) → IsOtherIfAny x → IsOtherIfAny y → IsOtherIfAny (cond b x y)
+-- how an ask is denied
+cond_other : (b : Bool) (x y : Option Denial) → IsOtherIfAny x → IsOtherIfAny y → IsOtherIfAny (cond b x y)
 cond_other true x y h k = h
 cond_other false x y h k = k
 
 failed_other : (why : List ℕ) → IsOther (failed why)
 failed_other why h = cc
 
-question_other : (s : Session) (pending : List Job) (q : Question) → IsOtherIfAny (refusal_of_question s pending q)
+question_other : (s : Session) (pending : List Job) (q : Question) → IsOtherIfAny (denial_of_question s pending q)
 question_other s pending q =
-    cond_other (not (is_open (place_of q).key s.documents)) (Some error.InvalidParams) _ (λ h. cc)
-    (cond_other (is_any_lost s.documents) (Some (failed (codes "document lost"))) _ (failed_other _)
-    (cond_other (wants_document_changes q && not s.document_changes) (Some (failed (codes "no documentChanges"))) _ (failed_other _)
-    (cond_other (are_too_many pending) (Some (failed (codes "too many pending"))) None (failed_other _) tt)))
+    cond_other (not (is_open (place_of q).key s.documents)) (Some (denial.Error error.InvalidParams)) _ (λ h. cc)
+    (cond_other (is_any_lost s.documents) (Some (denied (codes "document lost"))) _ (failed_other _)
+    (cond_other (wants_document_changes q && not s.document_changes) (Some (denied (codes "no documentChanges"))) _ (failed_other _)
+    (cond_other (wants_code_actions q && not s.code_actions) (Some denial.NoActions) _ tt
+    (cond_other (are_too_many pending) (Some (denied (codes "too many pending"))) None (failed_other _) tt))))
 
-ask_other : (s : Session) (pending : List Job) (asked : Option Question) → IsOtherIfAny (refusal_of_ask s pending asked)
+ask_other : (s : Session) (pending : List Job) (asked : Option Question) → IsOtherIfAny (denial_of_ask s pending asked)
 ask_other s pending None = λ h. cc
 ask_other s pending (Some q) = question_other s pending q
 
-refusal_other : (s : Session) (pending : List Job) (e : Effect) → IsOtherIfAny (refused_by s pending e)
-refusal_other s pending (effect.Asks id asked) = cond_other (list_any (λ job. is_of id job.task) pending) (Some error.InvalidRequest) _ (λ h. cc) (ask_other s pending asked)
-refusal_other s pending effect.Nothing = tt
-refusal_other s pending (effect.Begins id capabilities) = tt
-refusal_other s pending (effect.Refuses id why) = tt
-refusal_other s pending (effect.Changes c) = tt
-refusal_other s pending (effect.Cancels id) = tt
-refusal_other s pending (effect.ShutsDown id) = tt
-refusal_other s pending (effect.Finishes done) = tt
-refusal_other s pending (effect.Stops status) = tt
+denial_other : (s : Session) (pending : List Job) (e : Effect) → IsOtherIfAny (denied_by s pending e)
+denial_other s pending (effect.Asks id asked) = cond_other (list_any (λ job. is_of id job.task) pending) (Some (denial.Error error.InvalidRequest)) _ (λ h. cc) (ask_other s pending asked)
+denial_other s pending effect.Nothing = tt
+denial_other s pending (effect.Begins id capabilities) = tt
+denial_other s pending (effect.Refuses id why) = tt
+denial_other s pending (effect.Changes c) = tt
+denial_other s pending (effect.Cancels id) = tt
+denial_other s pending (effect.ShutsDown id) = tt
+denial_other s pending (effect.Finishes done) = tt
+denial_other s pending (effect.Stops status) = tt
 
 -- why an event is refused whatever is pending
 abbrev IsFair : Effect → Type 0
@@ -211,9 +216,13 @@ effect_fair Running documents e = going_fair Running documents e
 effect_fair Down documents e = going_fair Down documents e
 effect_fair Stopped documents e = tt
 
-refusal_all : (e : Effect) (id : Id) (refused : Option ResponseError) → IsOtherIfAny refused → All_may e (refused_with id refused)
-refusal_all e id None h = tt
-refusal_all e id (Some why) h = (other_error e (Some id) why h, tt)
+not_actions : (id : Id) (to : Option Id) → outgoing.CodeActions id [] ≡ outgoing.Error to error.ContentModified → ⊥
+not_actions id to is = cc
+
+denied_all : (e : Effect) (id : Id) (denied : Option Denial) → IsOtherIfAny denied → All_may e (denied_with id denied)
+denied_all e id None h = tt
+denied_all e id (Some (denial.Error why)) h = (other_error e (Some id) why h, tt)
+denied_all e id (Some denial.NoActions) h = ((λ g. absurd (not_actions id g.0 g.1)), tt)
 
 closed_all : (e : Effect) (document : Option OpenDocument) → All_may e (option_to_list (option_map nothing_wrong document))
 closed_all e None = tt
@@ -231,22 +240,22 @@ not_begun id capabilities to is = cc
 not_down : (id : Id) (to : Option Id) → outgoing.ShutDown id ≡ outgoing.Error to error.ContentModified → ⊥
 not_down id to is = cc
 
-own_all : (s : Session) (refused : Option ResponseError) (e : Effect) (document : Option OpenDocument) → IsOtherIfAny refused → IsFair e → All_may e (own s refused e document)
-own_all s refused (effect.Begins id capabilities) document h k = ((λ g. absurd (not_begun id _ g.0 g.1)), tt)
-own_all s refused (effect.Refuses id why) document h k = (other_error _ id why k, tt)
-own_all s refused (effect.Asks id asked) document h k = refusal_all _ id refused h
-own_all s refused (effect.Changes c) document h k =
+own_all : (s : Session) (denied : Option Denial) (e : Effect) (document : Option OpenDocument) → IsOtherIfAny denied → IsFair e → All_may e (own s denied e document)
+own_all s denied (effect.Begins id capabilities) document h k = ((λ g. absurd (not_begun id _ g.0 g.1)), tt)
+own_all s denied (effect.Refuses id why) document h k = (other_error _ id why k, tt)
+own_all s denied (effect.Asks id asked) document h k = denied_all _ id denied h
+own_all s denied (effect.Changes c) document h k =
     both _ (cond s.diagnostics (cleared s.documents c) []) (out.Publish (published (key_of c) document) ∷ []) (cleared_all _ s.diagnostics s.documents c) ((λ g. absurd g), tt)
-own_all s refused (effect.ShutsDown id) document h k = ((λ g. absurd (not_down id g.0 g.1)), tt)
-own_all s refused (effect.Stops status) document h k = ((λ g. absurd g), tt)
-own_all s refused effect.Nothing document h k = tt
-own_all s refused (effect.Cancels id) document h k = tt
-own_all s refused (effect.Finishes done) document h k = tt
+own_all s denied (effect.ShutsDown id) document h k = ((λ g. absurd (not_down id g.0 g.1)), tt)
+own_all s denied (effect.Stops status) document h k = ((λ g. absurd g), tt)
+own_all s denied effect.Nothing document h k = tt
+own_all s denied (effect.Cancels id) document h k = tt
+own_all s denied (effect.Finishes done) document h k = tt
 
 pub modified_at_change : AnswersRespond → ModifiedAtChange
 modified_at_change respond workers events j fits =
     let e = effect_at events j in
     of_outputs workers events j (May e)
-    (own_all (session_at events j) _ e _ (refusal_other (session_at events j) (pending_of events j (asked_before workers events j)) e)
+    (own_all (session_at events j) _ e _ (denial_other (session_at events j) (pending_of events j (asked_before workers events j)) e)
     (effect_fair (session_at events j).phase (session_at events j).documents (turn_at events j).event))
     (λ c is t. refused_change e c is t) (λ t. refused_other e t _ (failed_other _)) (λ t. refused_other e t _ (λ h. cc)) (answer_may respond e events j) (λ job. λ h. absurd h) fits

@@ -5,7 +5,7 @@ use Rattle.std.specs.List.{AllByRecursion}
 use Rattle.std.proofs.lemmas.Bool.Decides.{nat_tests}
 use Rattle.gq_rpc.specs.declared.messages.Id.{Id}
 use Rattle.gq_rpc.specs.declared.messages.Question.{Question}
-use Rattle.gq_rpc.specs.declared.messages.ResponseError.{ResponseError}
+use Rattle.gq_desk.specs.declared.refusals.Denial.{Denial}
 use Rattle.gq_rpc.specs.declared.messages.ResponseError.TheVariants as error
 use Rattle.gq_desk.specs.declared.event.Task.{Task}
 use Rattle.gq_desk.specs.declared.event.Task.TheVariants as task
@@ -18,7 +18,7 @@ use Rattle.gq_desk.specs.declared.effect.Effect.{Effect}
 use Rattle.gq_desk.specs.declared.effect.Effect.TheVariants as effect
 use Rattle.gq_desk.specs.Tasks.{Answers}
 use Rattle.gq_desk.specs.Rules.{Turn, failed, refused_as, answered, verdict, accepted, taken, own, FitsTaken, answer_to}
-use Rattle.gq_desk.specs.History.{session_at, effect_at, changed_at, docs_at, turn_at, Asked, is_decided_at, asked_before, refused_at, taken_at, numbered, handed_at, handed_before, decided_at, at_once, outputs_at, IsAnswered}
+use Rattle.gq_desk.specs.History.{session_at, effect_at, changed_at, docs_at, turn_at, Asked, is_decided_at, asked_before, denied_at, taken_at, numbered, handed_at, handed_before, decided_at, at_once, outputs_at, IsAnswered}
 use Rattle.gq_desk.proofs.Lists.{both, weaker}
 use Rattle.gq_desk.proofs.Firsts.{decided_at_first, answers_are_defined}
 
@@ -42,21 +42,21 @@ check_if : (b : Bool) (c : Change) → IsTakenBy (effect.Changes c) (cond b (Som
 check_if true c = refl
 check_if false c = tt
 
-ask_if : (id : Id) (asked : Option Question) (refused : Option ResponseError) → IsTakenBy (effect.Asks id asked) (accepted id asked refused)
-ask_if id None refused = tt
+ask_if : (id : Id) (asked : Option Question) (denied : Option Denial) → IsTakenBy (effect.Asks id asked) (accepted id asked denied)
+ask_if id None denied = tt
 ask_if id (Some q) None = (q, (refl, refl))
 ask_if id (Some q) (Some why) = tt
 
-taken_by : (diagnostics : Bool) (refused : Option ResponseError) (e : Effect) → IsTakenBy e (taken diagnostics refused e)
-taken_by diagnostics refused (effect.Asks id asked) = ask_if id asked refused
-taken_by diagnostics refused (effect.Changes c) = check_if diagnostics c
-taken_by diagnostics refused effect.Nothing = tt
-taken_by diagnostics refused (effect.Begins id capabilities) = tt
-taken_by diagnostics refused (effect.Refuses id why) = tt
-taken_by diagnostics refused (effect.Cancels id) = tt
-taken_by diagnostics refused (effect.ShutsDown id) = tt
-taken_by diagnostics refused (effect.Finishes done) = tt
-taken_by diagnostics refused (effect.Stops status) = tt
+taken_by : (diagnostics : Bool) (denied : Option Denial) (e : Effect) → IsTakenBy e (taken diagnostics denied e)
+taken_by diagnostics denied (effect.Asks id asked) = ask_if id asked denied
+taken_by diagnostics denied (effect.Changes c) = check_if diagnostics c
+taken_by diagnostics denied effect.Nothing = tt
+taken_by diagnostics denied (effect.Begins id capabilities) = tt
+taken_by diagnostics denied (effect.Refuses id why) = tt
+taken_by diagnostics denied (effect.Cancels id) = tt
+taken_by diagnostics denied (effect.ShutsDown id) = tt
+taken_by diagnostics denied (effect.Finishes done) = tt
+taken_by diagnostics denied (effect.Stops status) = tt
 
 -- an answer to a task that an event at place i brought, about the documents after it
 pub record IsGiven (events : List Turn) (j : ℕ) (t : Task) (a : Answer) : Type 0 where
@@ -66,7 +66,7 @@ pub record IsGiven (events : List Turn) (j : ℕ) (t : Task) (a : Answer) : Type
   pub fits : Answers (docs_at events (suc place)) t a
 
 module _ (workers : ℕ) (events : List Turn) (j : ℕ) (P : Out → Type 0)
-    (of_own : AllByRecursion P (own (session_at events j) (refused_at events j (asked_before workers events j)) (effect_at events j) (changed_at events j)))
+    (of_own : AllByRecursion P (own (session_at events j) (denied_at events j (asked_before workers events j)) (effect_at events j) (changed_at events j)))
     (of_change : (c : Change) → effect_at events j ≡ effect.Changes c → (t : Task) → AllByRecursion P (refused_as t error.ContentModified))
     (of_shutdown : (t : Task) → AllByRecursion P (refused_as t (failed (codes "shutdown"))))
     (of_cancel : (t : Task) → AllByRecursion P (refused_as t error.Cancelled))
@@ -134,7 +134,7 @@ module _ (workers : ℕ) (events : List Turn) (j : ℕ) (P : Out → Type 0)
   pub of_outputs : IsAnswered workers events j → All_hold (outputs_at workers events j)
   of_outputs fits =
       let asked = asked_before workers events j in
-      let own_outs = own (session_at events j) (refused_at events j asked) (effect_at events j) (changed_at events j) in
+      let own_outs = own (session_at events j) (denied_at events j asked) (effect_at events j) (changed_at events j) in
       let jobs = map out.Job (handed_at workers events j (handed_before workers events j)) in
       both P (decided_at workers events j ++ own_outs) (at_once workers events j ++ jobs)
       (both P (decided_at workers events j) own_outs (of_decided asked (all_come j)) of_own)

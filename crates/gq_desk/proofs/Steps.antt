@@ -13,8 +13,9 @@ use Rattle.std.proofs.Math.Seq.{drop-cons, take-nil}
 use Rattle.gq_rpc.specs.declared.messages.Id.{Id}
 use Rattle.gq_rpc.specs.declared.messages.Id.TheVariants as ids
 use Rattle.gq_rpc.specs.declared.messages.Question.{Question}
-use Rattle.gq_rpc.specs.declared.messages.ResponseError.{ResponseError}
 use Rattle.gq_rpc.specs.declared.messages.ResponseError.TheVariants as error
+use Rattle.gq_desk.specs.declared.refusals.Denial.{Denial}
+use Rattle.gq_desk.specs.declared.refusals.Denial.TheVariants as denial
 use Rattle.gq_desk.specs.declared.documents.OpenDocument.{OpenDocument}
 use Rattle.gq_desk.specs.declared.event.Task.{Task}
 use Rattle.gq_desk.specs.declared.event.Task.TheVariants as task
@@ -28,8 +29,8 @@ use Rattle.gq_desk.specs.declared.effect.Phase.TheVariants.{Stopped}
 use Rattle.gq_desk.specs.declared.effect.Effect.{Effect}
 use Rattle.gq_desk.specs.declared.effect.Effect.TheVariants as effect
 use Rattle.gq_desk.specs.Tasks.{same_id, is_of}
-use Rattle.gq_desk.specs.Rules.{accepted, taken, refused_by, refusal_of_ask, effect_of, changed_by, Turn, Session, decides, verdict, own, finishes, out_max}
-use Rattle.gq_desk.specs.History.{idle, outputs, session_at, docs_at, effect_at, turn_at, Asked, may_decide, is_pending, numbered, refused_at, taken_at, asked_before, Handed, is_out, is_waiting, waiting_at, handed_at, handed_in, handed_before, decided_at, pending_at, at_once, changed_at, outputs_at, outputs_before, IsAnswered}
+use Rattle.gq_desk.specs.Rules.{accepted, taken, denied_by, denial_of_ask, effect_of, changed_by, Turn, Session, decides, verdict, own, finishes, out_max}
+use Rattle.gq_desk.specs.History.{idle, outputs, session_at, docs_at, effect_at, turn_at, Asked, may_decide, is_pending, numbered, denied_at, taken_at, asked_before, Handed, is_out, is_waiting, waiting_at, handed_at, handed_in, handed_before, decided_at, pending_at, at_once, changed_at, outputs_at, outputs_before, IsAnswered}
 use Rattle.gq_desk.specs.Laws.{AreAscending, Differs, HaveOwnIds}
 use Rattle.gq_desk.specs.Machine.{State, Table, start, left, job_for, jobs_then, still_out, room_for, after, writes, run, handed_on, next_jobs, writes_effect, FitsTurn, FitsRun}
 use Rattle.gq_desk.proofs.Lists.{filter_both, filter_swap, filter_all, filter_none, every, filter_shorter, map_filter, weaker, both, kept}
@@ -230,9 +231,9 @@ own_id id q (job ∷ pending) h =
     let parts = or_parts (is_of id job.task) (list_any (λ job. is_of id job.task) pending) h in
     (other_id id q job.task parts.0, own_id id q pending parts.1)
 
-if_accepted : (id : Id) (asked : Option Question) (is_pending : Bool) (pending : List Job) (r : Option ResponseError)
+if_accepted : (id : Id) (asked : Option Question) (is_pending : Bool) (pending : List Job) (r : Option Denial)
     → (is_pending ≡ false → (q : Question) → AllByRecursion (λ job. Differs job.task (task.Ask id q)) pending)
-    → OwnIdAmong pending (accepted id asked (cond is_pending (Some error.InvalidRequest) r))
+    → OwnIdAmong pending (accepted id asked (cond is_pending (Some (denial.Error error.InvalidRequest)) r))
 if_accepted id None b pending r h = tt
 if_accepted id (Some q) true pending r h = tt
 if_accepted id (Some q) false pending None h = h refl q
@@ -242,9 +243,9 @@ if_checked : (b : Bool) (pending : List Job) → OwnIdAmong pending (cond b (Som
 if_checked true pending = no_id pending
 if_checked false pending = tt
 
-taken_differs : (s : Session) (pending : List Job) (diagnostics : Bool) (e : Effect) → OwnIdAmong pending (taken diagnostics (refused_by s pending e) e)
+taken_differs : (s : Session) (pending : List Job) (diagnostics : Bool) (e : Effect) → OwnIdAmong pending (taken diagnostics (denied_by s pending e) e)
 taken_differs s pending diagnostics (effect.Asks id asked) =
-    if_accepted id asked (list_any (λ job. is_of id job.task) pending) pending (refusal_of_ask s pending asked) (λ h q. own_id id q pending h)
+    if_accepted id asked (list_any (λ job. is_of id job.task) pending) pending (denial_of_ask s pending asked) (λ h q. own_id id q pending h)
 taken_differs s pending diagnostics (effect.Changes c) = if_checked diagnostics pending
 taken_differs s pending diagnostics effect.Nothing = tt
 taken_differs s pending diagnostics (effect.Begins id d) = tt
@@ -391,7 +392,7 @@ module _ (workers : ℕ) (events : List Turn) where
   outputs_step j =
       let s = state_at workers events j in
       let e = effect_at events j in
-      same_outputs (own (session_at events j) (refused_at events j (asked j)) e (changed_at events j)) (at_once workers events j)
+      same_outputs (own (session_at events j) (denied_at events j (asked j)) e (changed_at events j)) (at_once workers events j)
       (decided_step j)
       (ap (λ n. map out.Job (take n (jobs_now j).waiting)) (room_step j) ∙ ap (λ jobs. map out.Job (take (room j) jobs)) (queue_step j))
 

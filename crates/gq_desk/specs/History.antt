@@ -3,7 +3,6 @@ use Rattle.std.specs.Prelude.{◌≡◌, ℕ, zero, suc, ◌+◌, ◌-◌, Bool,
 use Rattle.std.specs.List.{list_any}
 use Rattle.gq_project.specs.declared.document.Doc.{Doc}
 use Rattle.gq_rpc.specs.declared.messages.Incoming.TheVariants as incoming
-use Rattle.gq_rpc.specs.declared.messages.ResponseError.{ResponseError}
 use Rattle.gq_desk.specs.declared.documents.OpenDocument.{OpenDocument}
 use Rattle.gq_desk.specs.declared.event.Task.{Task}
 use Rattle.gq_desk.specs.declared.event.Job.{Job}
@@ -11,9 +10,10 @@ use Rattle.gq_desk.specs.declared.event.Answer.TheVariants as answer
 use Rattle.gq_desk.specs.declared.event.Event.TheVariants as event
 use Rattle.gq_desk.specs.declared.event.Out.{Out}
 use Rattle.gq_desk.specs.declared.event.Out.TheVariants as out
+use Rattle.gq_desk.specs.declared.refusals.Denial.{Denial}
 use Rattle.gq_desk.specs.declared.effect.Effect.{Effect}
 use Rattle.gq_desk.specs.Documents.{docs_of}
-use Rattle.gq_desk.specs.Rules.{Turn, Session, begun, effect_of, changed_by, session_after, decides, verdict, refused_by, taken, own, answer_to, FitsTaken, finishes, out_max}
+use Rattle.gq_desk.specs.Rules.{Turn, Session, begun, effect_of, changed_by, session_after, decides, verdict, denied_by, taken, own, answer_to, FitsTaken, finishes, out_max}
 
 -- nothing comes
 abbrev pub idle : Turn
@@ -72,11 +72,11 @@ pending_of events j asked = map (λ a. a.job) (filter (is_pending events j) aske
 -- ---- which jobs there are
 
 -- the task that the event at place j brings, after those that were asked before it
-abbrev pub refused_at : List Turn → ℕ → List Asked → Option ResponseError
-refused_at events j before = refused_by (session_at events j) (pending_of events j before) (effect_at events j)
+abbrev pub denied_at : List Turn → ℕ → List Asked → Option Denial
+denied_at events j before = denied_by (session_at events j) (pending_of events j before) (effect_at events j)
 
 abbrev pub taken_at : List Turn → ℕ → List Asked → Option Task
-taken_at events j before = taken (session_at events j).diagnostics (refused_at events j before) (effect_at events j)
+taken_at events j before = taken (session_at events j).diagnostics (denied_at events j before) (effect_at events j)
 
 -- its job
 abbrev pub numbered : ℕ → ℕ → Option Task → List Asked
@@ -139,7 +139,7 @@ at_once workers events j =
 abbrev pub outputs_at : ℕ → List Turn → ℕ → List Out
 outputs_at workers events j =
     decided_at workers events j
-    ++ own (session_at events j) (refused_at events j (asked_before workers events j)) (effect_at events j) (changed_at events j)
+    ++ own (session_at events j) (denied_at events j (asked_before workers events j)) (effect_at events j) (changed_at events j)
     ++ (at_once workers events j
     ++ map out.Job (handed_at workers events j (handed_before workers events j)))
 

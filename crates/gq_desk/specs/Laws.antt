@@ -4,7 +4,9 @@ use Rattle.std.specs.List.{AllByRecursion}
 use Rattle.gq_project.specs.declared.document.DocChange.{DocChange}
 use Rattle.gq_project.specs.Documents.{after_change}
 use Rattle.gq_rpc.specs.declared.messages.Id.{Id}
+use Rattle.gq_rpc.specs.declared.messages.CodeActionParams.{CodeActionParams}
 use Rattle.gq_rpc.specs.declared.messages.Question.{Question}
+use Rattle.gq_rpc.specs.declared.messages.Question.TheVariants as question
 use Rattle.gq_rpc.specs.declared.messages.ResponseError.TheVariants as error
 use Rattle.gq_rpc.specs.declared.messages.Outgoing.{Outgoing}
 use Rattle.gq_rpc.specs.declared.messages.Outgoing.TheVariants as outgoing
@@ -25,7 +27,7 @@ use Rattle.gq_desk.specs.declared.effect.Effect.TheVariants as effect
 use Rattle.gq_desk.specs.Documents.{IsInOrder, document_at, key_of, published}
 use Rattle.gq_desk.specs.Tasks.{is_of, Answers}
 use Rattle.gq_desk.specs.Rules.{Turn, nothing_wrong, own, answer_to, decides, out_max}
-use Rattle.gq_desk.specs.History.{Asked, may_decide, is_decided_at, session_at, docs_at, effect_at, changed_at, turn_at, refused_at, taken_at, pending_at, is_out, outputs, outputs_at, handed_at, handed_before, IsAnswered}
+use Rattle.gq_desk.specs.History.{Asked, may_decide, is_decided_at, session_at, docs_at, effect_at, changed_at, turn_at, denied_at, taken_at, pending_at, is_out, outputs, outputs_at, handed_at, handed_before, IsAnswered}
 use Rattle.gq_desk.specs.Machine.{State, Steps, start, run}
 
 -- step by step, a desk puts out what the list of events tells
@@ -39,7 +41,7 @@ StepsExist = (s : State) (e : Event) → (outs : List Out) × (t : State) × Ste
 -- with no workers, an event's own reply is put out, and then the answer to the task that it brings
 abbrev pub AnsweredAtOnce : Type 0
 AnsweredAtOnce = (events : List Turn) (j : ℕ) → outputs_at 0 events j
-    ≡ own (session_at events j) (refused_at events j []) (effect_at events j) (changed_at events j) ++ answer_to (taken_at events j []) (turn_at events j).answer
+    ≡ own (session_at events j) (denied_at events j []) (effect_at events j) (changed_at events j) ++ answer_to (taken_at events j []) (turn_at events j).answer
 
 -- ---- which event decides
 
@@ -88,6 +90,7 @@ is_result (outgoing.Hover id hover) = true
 is_result (outgoing.Locations id locations) = true
 is_result (outgoing.Prepared id prepared) = true
 is_result (outgoing.Renamed id edit) = true
+is_result (outgoing.CodeActions id actions) = true
 is_result (outgoing.Error id why) = false
 is_result (outgoing.Diagnostics params) = false
 
@@ -99,6 +102,14 @@ pub record IsOwnAnswer (events : List Turn) (j : ℕ) (message : Outgoing) : Typ
   pub earlier : place ≤ j
   pub asks : effect_at events place ≡ effect.Asks id (Some question)
   pub is : IsAnswer (docs_at events place) id question message
+
+-- the message tells a client that takes no code actions that there is none
+pub record IsNoActions (events : List Turn) (j : ℕ) (message : Outgoing) : Type 0 where
+  pub id : Id
+  pub params : CodeActionParams
+  pub asks : effect_at events j ≡ effect.Asks id (Some (question.CodeAction params))
+  pub takes_none : (session_at events j).code_actions ≡ false
+  pub is : message ≡ outgoing.CodeActions id []
 
 -- the message tells that a document, which the event at place j closes, has nothing wrong in it
 pub record IsClearing (events : List Turn) (j : ℕ) (message : Outgoing) : Type 0 where
@@ -119,13 +130,14 @@ pub record IsOfCheck (events : List Turn) (j : ℕ) (message : Outgoing) : Type 
   pub among : Contains messages message
 
 abbrev pub IsRightOutput : List Turn → ℕ → Out → Type 0
-IsRightOutput events j (out.Reply message) = is_result message ≡ true → ∥ IsOwnAnswer events j message ∥₁
+IsRightOutput events j (out.Reply message) = is_result message ≡ true → ∥ IsOwnAnswer events j message ⊎ IsNoActions events j message ∥₁
 IsRightOutput events j (out.Notify message) = ∥ IsClearing events j message ⊎ IsOfCheck events j message ∥₁
 IsRightOutput events j (out.Publish change) = Unit {0}
 IsRightOutput events j (out.Job job) = Unit {0}
 IsRightOutput events j (out.Stop status) = Unit {0}
 
--- each result that is replied is exactly its question's, and each notification that of a check or of a close
+-- each result that is replied is exactly its question's, where the client takes such results, and each notification that of a
+-- check or of a close
 abbrev pub ResultsAreTheirQuestions : Type 0
 ResultsAreTheirQuestions = (workers : ℕ) (events : List Turn) (j : ℕ) → IsAnswered workers events j → AllByRecursion (IsRightOutput events j) (outputs_at workers events j)
 

@@ -122,6 +122,7 @@ abbrev pub told : List Turn → Session
 told past = record {
   phase = phase_of past;
   document_changes = is_stated (λ c. c.document_changes) past;
+  code_actions = is_stated (λ c. c.code_actions) past;
   diagnostics = is_stated (λ c. c.publish_diagnostics) past;
   documents = documents_of past;
 }

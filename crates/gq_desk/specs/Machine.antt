@@ -1,7 +1,6 @@
 -- The desk as a machine: a table of what is pending, a queue, and the numbers of the jobs that are out.
 use Rattle.std.specs.Prelude.{◌≡◌, ℕ, ◌+◌, ◌-◌, Bool, not, ◌==◌, List, [], ◌∷◌, ◌++◌, length, map, filter, flat_map, take, drop, Option, Some, None, if◌then◌else◌}
 use Rattle.gq_project.specs.declared.document.Doc.{Doc}
-use Rattle.gq_rpc.specs.declared.messages.ResponseError.{ResponseError}
 use Rattle.gq_desk.specs.declared.documents.OpenDocument.{OpenDocument}
 use Rattle.gq_desk.specs.declared.event.Task.{Task}
 use Rattle.gq_desk.specs.declared.event.Job.{Job}
@@ -9,9 +8,10 @@ use Rattle.gq_desk.specs.declared.event.Answer.{Answer}
 use Rattle.gq_desk.specs.declared.event.Event.{Event}
 use Rattle.gq_desk.specs.declared.event.Out.{Out}
 use Rattle.gq_desk.specs.declared.event.Out.TheVariants as out
+use Rattle.gq_desk.specs.declared.refusals.Denial.{Denial}
 use Rattle.gq_desk.specs.declared.effect.Effect.{Effect}
 use Rattle.gq_desk.specs.Documents.{docs_of}
-use Rattle.gq_desk.specs.Rules.{Turn, Session, begun, effect_of, changed_by, session_after, decides, verdict, refused_by, taken, own, answer_to, FitsTaken, finishes, out_max}
+use Rattle.gq_desk.specs.Rules.{Turn, Session, begun, effect_of, changed_by, session_after, decides, verdict, denied_by, taken, own, answer_to, FitsTaken, finishes, out_max}
 
 -- the jobs that are pending, those of them that wait, the numbers of the jobs that are out, and the next number
 pub record Table : Type 0 where
@@ -65,11 +65,11 @@ abbrev pub start : ℕ → State
 start workers = record { session = begun; workers = workers; jobs = no_jobs }
 
 -- the task that an event brings
-abbrev pub refused_in : Session → Table → Effect → Option ResponseError
-refused_in session jobs e = refused_by session jobs.pending e
+abbrev pub denied_in : Session → Table → Effect → Option Denial
+denied_in session jobs e = denied_by session jobs.pending e
 
 abbrev pub taken_by : Session → Table → Effect → Option Task
-taken_by session jobs e = taken session.diagnostics (refused_in session jobs e) e
+taken_by session jobs e = taken session.diagnostics (denied_in session jobs e) e
 
 -- what is written for the jobs that an event decides
 abbrev pub verdicts : List Doc → Effect → List Job → List Out
@@ -77,7 +77,7 @@ verdicts docs e pending = flat_map (verdict e) (filter (decides docs e) pending)
 
 -- that, then its own reply
 abbrev pub replies_to : Session → Table → Effect → Option OpenDocument → List Out
-replies_to session jobs e document = verdicts (docs_of session.documents) e jobs.pending ++ own session (refused_in session jobs e) e document
+replies_to session jobs e document = verdicts (docs_of session.documents) e jobs.pending ++ own session (denied_in session jobs e) e document
 
 -- the jobs that a task makes, where there are workers
 abbrev pub jobs_for : ℕ → ℕ → Option Task → List Job

@@ -15,6 +15,7 @@ use Rattle.gq_rpc.specs.declared.messages.Incoming.{Incoming}
 use Rattle.gq_rpc.specs.declared.messages.Incoming.TheVariants as incoming
 use Rattle.gq_rpc.specs.declared.messages.ResponseError.{ResponseError}
 use Rattle.gq_rpc.specs.declared.messages.ResponseError.TheVariants as error
+use Rattle.gq_rpc.specs.declared.messages.Outgoing.{Outgoing}
 use Rattle.gq_rpc.specs.declared.messages.Outgoing.TheVariants as outgoing
 use Rattle.gq_desk.specs.declared.documents.OpenDocument.{OpenDocument}
 use Rattle.gq_desk.specs.declared.event.Task.{Task}
@@ -28,6 +29,8 @@ use Rattle.gq_desk.specs.declared.event.Event.{Event}
 use Rattle.gq_desk.specs.declared.event.Event.TheVariants as event
 use Rattle.gq_desk.specs.declared.event.Out.{Out}
 use Rattle.gq_desk.specs.declared.event.Out.TheVariants as out
+use Rattle.gq_desk.specs.declared.refusals.Denial.{Denial}
+use Rattle.gq_desk.specs.declared.refusals.Denial.TheVariants as denial
 use Rattle.gq_desk.specs.declared.effect.Phase.{Phase}
 use Rattle.gq_desk.specs.declared.effect.Phase.TheVariants.{Fresh, Running, Down, Stopped}
 use Rattle.gq_desk.specs.declared.effect.Change.{Change}
@@ -44,16 +47,17 @@ pub record Turn : Type 0 where
   pub text_refused : Bool
   pub answer : Answer
 
--- how far the session has come, whether its client takes edits with versions and whether it takes diagnostics, and its
--- documents, in order of key
+-- how far the session has come, whether its client takes edits with versions, code actions with such edits, and diagnostics,
+-- and its documents, in order of key
 pub record Session : Type 0 where
   pub phase : Phase
   pub document_changes : Bool
+  pub code_actions : Bool
   pub diagnostics : Bool
   pub documents : List OpenDocument
 
 abbrev pub begun : Session
-begun = record { phase = Fresh; document_changes = false; diagnostics = false; documents = [] }
+begun = record { phase = Fresh; document_changes = false; code_actions = false; diagnostics = false; documents = [] }
 
 -- ---- what an event comes to (LSP 3.17, "Server lifecycle")
 
@@ -149,15 +153,16 @@ abbrev pub begun_by : Session → ClientCapabilities → Session
 begun_by s capabilities = record {
   phase = Running;
   document_changes = capabilities.document_changes;
+  code_actions = capabilities.code_actions;
   diagnostics = capabilities.publish_diagnostics;
   documents = s.documents;
 }
 
 abbrev pub with_phase : Session → Phase → Session
-with_phase s phase = record { phase = phase; document_changes = s.document_changes; diagnostics = s.diagnostics; documents = s.documents }
+with_phase s phase = record { phase = phase; document_changes = s.document_changes; code_actions = s.code_actions; diagnostics = s.diagnostics; documents = s.documents }
 
 abbrev pub with_documents : Session → List OpenDocument → Session
-with_documents s documents = record { phase = s.phase; document_changes = s.document_changes; diagnostics = s.diagnostics; documents = documents }
+with_documents s documents = record { phase = s.phase; document_changes = s.document_changes; code_actions = s.code_actions; diagnostics = s.diagnostics; documents = documents }
 
 -- the session after an event of this effect, whose change leaves this document
 abbrev pub session_after : Session → Effect → Option OpenDocument → Session
@@ -171,13 +176,13 @@ session_after s (effect.Asks id question) document = s
 session_after s (effect.Cancels id) document = s
 session_after s (effect.Finishes done) document = s
 
--- ---- what is asked, and why it is refused
+-- ---- what is asked, and how it is denied
 
 -- the request failed (LSP 3.17, RequestFailed)
 abbrev pub failed : List ℕ → ResponseError
 failed why = error.RequestFailed why
 
--- a rename wants a client that takes edits with versions
+-- a rename wants a client that takes edits with versions, and code actions want one that takes actions with such edits
 abbrev pub wants_document_changes : Question → Bool
 wants_document_changes (question.Rename params) = true
 wants_document_changes (question.Completion params) = false
@@ -185,6 +190,16 @@ wants_document_changes (question.Definition params) = false
 wants_document_changes (question.Hover params) = false
 wants_document_changes (question.PrepareRename params) = false
 wants_document_changes (question.References params) = false
+wants_document_changes (question.CodeAction params) = false
+
+abbrev pub wants_code_actions : Question → Bool
+wants_code_actions (question.CodeAction params) = true
+wants_code_actions (question.Completion params) = false
+wants_code_actions (question.Definition params) = false
+wants_code_actions (question.Hover params) = false
+wants_code_actions (question.PrepareRename params) = false
+wants_code_actions (question.References params) = false
+wants_code_actions (question.Rename params) = false
 
 -- so many questions may be pending
 abbrev pub pending_max : ℕ
@@ -193,52 +208,56 @@ pending_max = 64
 abbrev pub are_too_many : List Job → Bool
 are_too_many pending = nat_le pending_max (count_by (λ job. is_ask job.task) pending)
 
--- why a question is refused, if it is, tested in this order: its document is not open, some document is lost, it is a rename and
--- the client does not take edits with versions, too many are pending
-abbrev pub refusal_of_question : Session → List Job → Question → Option ResponseError
-refusal_of_question s pending q =
-    if not (is_open (place_of q).key s.documents) then Some error.InvalidParams
-    else (if is_any_lost s.documents then Some (failed (codes "document lost"))
-    else (if wants_document_changes q && not s.document_changes then Some (failed (codes "no documentChanges"))
-    else (if are_too_many pending then Some (failed (codes "too many pending"))
-    else None)))
+-- How a question is denied, if it is, tested in this order: its document is not open, some document is lost, the client does
+-- not take what it wants (a rename fails, of code actions there is none), too many are pending.
+abbrev pub denied : List ℕ → Denial
+denied why = denial.Error (failed why)
+
+abbrev pub denial_of_question : Session → List Job → Question → Option Denial
+denial_of_question s pending q =
+    if not (is_open (place_of q).key s.documents) then Some (denial.Error error.InvalidParams)
+    else (if is_any_lost s.documents then Some (denied (codes "document lost"))
+    else (if wants_document_changes q && not s.document_changes then Some (denied (codes "no documentChanges"))
+    else (if wants_code_actions q && not s.code_actions then Some denial.NoActions
+    else (if are_too_many pending then Some (denied (codes "too many pending"))
+    else None))))
 
 -- its parameters cannot be read
-abbrev pub refusal_of_ask : Session → List Job → Option Question → Option ResponseError
-refusal_of_ask s pending None = Some error.InvalidParams
-refusal_of_ask s pending (Some q) = refusal_of_question s pending q
+abbrev pub denial_of_ask : Session → List Job → Option Question → Option Denial
+denial_of_ask s pending None = Some (denial.Error error.InvalidParams)
+denial_of_ask s pending (Some q) = denial_of_question s pending q
 
 -- its id is that of a question that is pending
-abbrev pub refusal : Session → List Job → Id → Option Question → Option ResponseError
-refusal s pending id asked = if list_any (λ job. is_of id job.task) pending then Some error.InvalidRequest else refusal_of_ask s pending asked
+abbrev pub denial_of_request : Session → List Job → Id → Option Question → Option Denial
+denial_of_request s pending id asked = if list_any (λ job. is_of id job.task) pending then Some (denial.Error error.InvalidRequest) else denial_of_ask s pending asked
 
-abbrev pub refused_by : Session → List Job → Effect → Option ResponseError
-refused_by s pending (effect.Asks id asked) = refusal s pending id asked
-refused_by s pending effect.Nothing = None
-refused_by s pending (effect.Begins id capabilities) = None
-refused_by s pending (effect.Refuses id why) = None
-refused_by s pending (effect.Changes c) = None
-refused_by s pending (effect.Cancels id) = None
-refused_by s pending (effect.ShutsDown id) = None
-refused_by s pending (effect.Finishes done) = None
-refused_by s pending (effect.Stops status) = None
+abbrev pub denied_by : Session → List Job → Effect → Option Denial
+denied_by s pending (effect.Asks id asked) = denial_of_request s pending id asked
+denied_by s pending effect.Nothing = None
+denied_by s pending (effect.Begins id capabilities) = None
+denied_by s pending (effect.Refuses id why) = None
+denied_by s pending (effect.Changes c) = None
+denied_by s pending (effect.Cancels id) = None
+denied_by s pending (effect.ShutsDown id) = None
+denied_by s pending (effect.Finishes done) = None
+denied_by s pending (effect.Stops status) = None
 
-abbrev pub accepted : Id → Option Question → Option ResponseError → Option Task
-accepted id None refused = None
+abbrev pub accepted : Id → Option Question → Option Denial → Option Task
+accepted id None denied = None
 accepted id (Some q) None = Some (task.Ask id q)
-accepted id (Some q) (Some why) = None
+accepted id (Some q) (Some how) = None
 
--- the task that an event brings: a question that is not refused, or after a change the check, where the client takes diagnostics
-abbrev pub taken : Bool → Option ResponseError → Effect → Option Task
-taken diagnostics refused (effect.Asks id asked) = accepted id asked refused
-taken diagnostics refused (effect.Changes c) = if diagnostics then Some task.Check else None
-taken diagnostics refused effect.Nothing = None
-taken diagnostics refused (effect.Begins id capabilities) = None
-taken diagnostics refused (effect.Refuses id why) = None
-taken diagnostics refused (effect.Cancels id) = None
-taken diagnostics refused (effect.ShutsDown id) = None
-taken diagnostics refused (effect.Finishes done) = None
-taken diagnostics refused (effect.Stops status) = None
+-- the task that an event brings: a question that is not denied, or after a change the check, where the client takes diagnostics
+abbrev pub taken : Bool → Option Denial → Effect → Option Task
+taken diagnostics denied (effect.Asks id asked) = accepted id asked denied
+taken diagnostics denied (effect.Changes c) = if diagnostics then Some task.Check else None
+taken diagnostics denied effect.Nothing = None
+taken diagnostics denied (effect.Begins id capabilities) = None
+taken diagnostics denied (effect.Refuses id why) = None
+taken diagnostics denied (effect.Cancels id) = None
+taken diagnostics denied (effect.ShutsDown id) = None
+taken diagnostics denied (effect.Finishes done) = None
+taken diagnostics denied (effect.Stops status) = None
 
 -- ---- what decides a job that is pending, and what is written for it
 
@@ -279,8 +298,8 @@ verdict (effect.Stops status) job = []
 
 -- ---- what an event itself puts out
 
--- what this server does for a client (LSP 3.17, ServerCapabilities): what the client knows, and renames where it takes edits
--- with versions
+-- what this server does for a client (LSP 3.17, ServerCapabilities): what the client knows, renames where it takes edits with
+-- versions, and code actions where it takes those with such edits
 abbrev pub server_capabilities : ClientCapabilities → ServerCapabilities
 server_capabilities client = record {
   completion_provider = client.completion;
@@ -289,11 +308,17 @@ server_capabilities client = record {
   references_provider = client.references;
   rename_provider = client.document_changes;
   prepare_provider = client.document_changes && client.prepare_support;
+  code_action_provider = client.code_actions;
 }
 
-abbrev pub refused_with : Id → Option ResponseError → List Out
-refused_with id None = []
-refused_with id (Some why) = out.Reply (outgoing.Error (Some id) why) ∷ []
+-- the reply to a question that is denied
+abbrev pub denying : Id → Denial → Outgoing
+denying id (denial.Error why) = outgoing.Error (Some id) why
+denying id denial.NoActions = outgoing.CodeActions id []
+
+abbrev pub denied_with : Id → Option Denial → List Out
+denied_with id None = []
+denied_with id (Some how) = out.Reply (denying id how) ∷ []
 
 -- a document that is closed has nothing wrong in it: under the URI that it was opened with, and without a version
 abbrev pub nothing_wrong : OpenDocument → Out
@@ -308,16 +333,16 @@ abbrev pub own_of_change : Session → Change → Option OpenDocument → List O
 own_of_change s c document = (if s.diagnostics then cleared s.documents c else []) ++ out.Publish (published (key_of c) document) ∷ []
 
 -- the event's own reply, and what is published
-abbrev pub own : Session → Option ResponseError → Effect → Option OpenDocument → List Out
-own s refused (effect.Begins id capabilities) document = out.Reply (outgoing.Initialized id (server_capabilities capabilities)) ∷ []
-own s refused (effect.Refuses id why) document = out.Reply (outgoing.Error id why) ∷ []
-own s refused (effect.Asks id asked) document = refused_with id refused
-own s refused (effect.Changes c) document = own_of_change s c document
-own s refused (effect.ShutsDown id) document = out.Reply (outgoing.ShutDown id) ∷ []
-own s refused (effect.Stops status) document = out.Stop status ∷ []
-own s refused effect.Nothing document = []
-own s refused (effect.Cancels id) document = []
-own s refused (effect.Finishes done) document = []
+abbrev pub own : Session → Option Denial → Effect → Option OpenDocument → List Out
+own s denied (effect.Begins id capabilities) document = out.Reply (outgoing.Initialized id (server_capabilities capabilities)) ∷ []
+own s denied (effect.Refuses id why) document = out.Reply (outgoing.Error id why) ∷ []
+own s denied (effect.Asks id asked) document = denied_with id denied
+own s denied (effect.Changes c) document = own_of_change s c document
+own s denied (effect.ShutsDown id) document = out.Reply (outgoing.ShutDown id) ∷ []
+own s denied (effect.Stops status) document = out.Stop status ∷ []
+own s denied effect.Nothing document = []
+own s denied (effect.Cancels id) document = []
+own s denied (effect.Finishes done) document = []
 
 -- the answer to a task that it brings, where no worker is to answer
 abbrev pub answer_to : Option Task → Answer → List Out

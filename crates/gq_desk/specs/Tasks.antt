@@ -25,7 +25,7 @@ same_id (id.Text a) (id.Text b) = bytes_eq a b
 same_id (id.Number a) (id.Text b) = false
 same_id (id.Text a) (id.Number b) = false
 
--- where a question is asked: the key of its document, and the position in it
+-- where a question is asked: the key of its document, and the position in it, or where the range starts
 abbrev pub place_of : Question → TextDocumentPositionParams
 place_of (question.Completion params) = params
 place_of (question.Definition params) = params
@@ -33,6 +33,7 @@ place_of (question.Hover params) = params
 place_of (question.PrepareRename params) = params
 place_of (question.References params) = record { key = params.key; position = params.position }
 place_of (question.Rename params) = record { key = params.key; position = params.position }
+place_of (question.CodeAction params) = record { key = params.key; position = params.range.start }
 
 -- the kinds of questions, numbered
 abbrev pub kind_of : Question → ℕ
@@ -42,6 +43,7 @@ kind_of (question.Hover params) = 2
 kind_of (question.PrepareRename params) = 3
 kind_of (question.References params) = 4
 kind_of (question.Rename params) = 5
+kind_of (question.CodeAction params) = 6
 
 -- what references say beside it
 abbrev pub includes_declaration : Question → Bool
@@ -51,8 +53,9 @@ includes_declaration (question.Definition params) = false
 includes_declaration (question.Hover params) = false
 includes_declaration (question.PrepareRename params) = false
 includes_declaration (question.Rename params) = false
+includes_declaration (question.CodeAction params) = false
 
--- and what a rename does
+-- what a rename does
 abbrev pub new_name_of : Question → List ℕ
 new_name_of (question.Rename params) = params.new_name
 new_name_of (question.Completion params) = []
@@ -60,6 +63,26 @@ new_name_of (question.Definition params) = []
 new_name_of (question.Hover params) = []
 new_name_of (question.PrepareRename params) = []
 new_name_of (question.References params) = []
+new_name_of (question.CodeAction params) = []
+
+-- and where the range ends that code actions are asked for, and the kinds
+abbrev pub end_of : Question → Position
+end_of (question.CodeAction params) = params.range.end
+end_of (question.Completion params) = record { line = 0; character = 0 }
+end_of (question.Definition params) = record { line = 0; character = 0 }
+end_of (question.Hover params) = record { line = 0; character = 0 }
+end_of (question.PrepareRename params) = record { line = 0; character = 0 }
+end_of (question.References params) = record { line = 0; character = 0 }
+end_of (question.Rename params) = record { line = 0; character = 0 }
+
+abbrev pub kinds_of : Question → Option (List (List ℕ))
+kinds_of (question.CodeAction params) = params.only
+kinds_of (question.Completion params) = None
+kinds_of (question.Definition params) = None
+kinds_of (question.Hover params) = None
+kinds_of (question.PrepareRename params) = None
+kinds_of (question.References params) = None
+kinds_of (question.Rename params) = None
 
 abbrev pub same_position : Position → Position → Bool
 same_position a b = (a.line == b.line) && (a.character == b.character)
@@ -67,12 +90,26 @@ same_position a b = (a.line == b.line) && (a.character == b.character)
 abbrev pub same_place : TextDocumentPositionParams → TextDocumentPositionParams → Bool
 same_place a b = bytes_eq a.key b.key && same_position a.position b.position
 
+abbrev pub same_texts : List (List ℕ) → List (List ℕ) → Bool
+same_texts [] [] = true
+same_texts (a ∷ as_) (b ∷ bs) = bytes_eq a b && same_texts as_ bs
+same_texts [] (b ∷ bs) = false
+same_texts (a ∷ as_) [] = false
+
+abbrev pub same_kinds : Option (List (List ℕ)) → Option (List (List ℕ)) → Bool
+same_kinds None None = true
+same_kinds (Some a) (Some b) = same_texts a b
+same_kinds None (Some b) = false
+same_kinds (Some a) None = false
+
 abbrev pub same_question : Question → Question → Bool
 same_question a b =
     (kind_of a == kind_of b)
     && (same_place (place_of a) (place_of b)
     && (beq (includes_declaration a) (includes_declaration b)
-    && bytes_eq (new_name_of a) (new_name_of b)))
+    && (bytes_eq (new_name_of a) (new_name_of b)
+    && (same_position (end_of a) (end_of b)
+    && same_kinds (kinds_of a) (kinds_of b)))))
 
 abbrev pub same_task : Task → Task → Bool
 same_task (task.Ask i a) (task.Ask j b) = same_id i j && same_question a b

@@ -29,8 +29,8 @@ fn take_event(
     ensures { OnOk result (Steps (record { session = session.old; workers = 0; jobs = no_jobs }) event outs.new.items (record { session = session.new; workers = 0; jobs = no_jobs })) }
 {
     let effect = session.effect(event);
-    let refused = session.refused_by(alloc, &[], &effect)?;
-    let task = session.take_in(alloc, refused, effect, outs)?;
+    let denied = session.denied_by(alloc, &[], &effect)?;
+    let task = session.take_in(alloc, denied, effect, outs)?;
     answer_task(alloc, session.documents(), task, outs)
 }
 

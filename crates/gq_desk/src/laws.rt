@@ -45,7 +45,7 @@ pub fn answers_are_defined()
 {}
 
 /// Each result that is replied is exactly its question's, about the documents as they were when it was asked, whatever
-/// events come between.
+/// events come between; or it tells a client that takes no code actions that there is none.
 pub fn results_are_their_questions()
     ensures { spec.ResultsAreTheirQuestions }
 {}

@@ -1,4 +1,4 @@
-//! Why a question is refused before it is looked at.
+//! How a question is denied before it is looked at.
 ghost use Rattle.std.specs.Prelude.{◌≡◌, ◌==◌, nat_le, IfOk, count_by};
 ghost use Rattle.std.specs.List.{list_any};
 ghost use Rattle.gq_desk.specs.Tasks as tasks;
@@ -9,6 +9,15 @@ use gq_rpc::{Id, Question, ResponseError};
 use gq_text::{NoMemory, OwnedText};
 use std::alloc::Global;
 
+/// How a question is denied.
+#[derive(Drop)]
+pub enum Denial {
+    /// By an error.
+    Error(ResponseError),
+    /// By no code action.
+    NoActions,
+}
+
 /// So many questions may be pending.
 const PENDING_MAX: usize = 64;
 
@@ -17,6 +26,13 @@ pub(crate) fn failed(alloc: Global, why: &str) -> Result<ResponseError, NoMemory
     ensures { IfOk result (λ error. error ≡ spec.failed why.now) }
 {
     Ok(ResponseError::RequestFailed(OwnedText::from_str(alloc, why)?))
+}
+
+/// A question is right, and is refused for this.
+pub(crate) fn denied(alloc: Global, why: &str) -> Result<Denial, NoMemory>
+    ensures { IfOk result (λ denial. denial ≡ spec.denied why.now) }
+{
+    Ok(Denial::Error(failed(alloc, why)?))
 }
 
 fn same_id(a: &Id, b: &Id) -> bool
@@ -74,6 +90,7 @@ pub(crate) fn key_of(question: &Question) -> &str
         | Question::PrepareRename(params) => params.key.as_str(),
         Question::References(params) => params.key.as_str(),
         Question::Rename(params) => params.key.as_str(),
+        Question::CodeAction(params) => params.key.as_str(),
     }
 }
 
@@ -82,4 +99,11 @@ pub(crate) fn wants_document_changes(question: &Question) -> bool
     ensures { result ≡ spec.wants_document_changes question.now }
 {
     matches!(question, Question::Rename(_))
+}
+
+/// Whether a question wants a client that takes code actions.
+pub(crate) fn wants_code_actions(question: &Question) -> bool
+    ensures { result ≡ spec.wants_code_actions question.now }
+{
+    matches!(question, Question::CodeAction(_))
 }

@@ -9,7 +9,9 @@ ghost use Rattle.gq_desk.specs.Rules as spec;
 use crate::documents::{OpenDocument, OpenDocuments};
 use crate::effect::{Change, Effect, Phase, effect_of};
 use crate::event::{Event, Job, Out, Task};
-use crate::refusals::{are_too_many, failed, is_pending, key_of, wants_document_changes};
+use crate::refusals::{
+    Denial, are_too_many, denied, is_pending, key_of, wants_code_actions, wants_document_changes,
+};
 use gq_project::{Doc, DocChange};
 use gq_rpc::{
     ClientCapabilities, Id, Outgoing, PublishDiagnosticsParams, Question, ResponseError,
@@ -30,6 +32,7 @@ fn server_capabilities(client: ClientCapabilities) -> ServerCapabilities
         references_provider: client.references,
         rename_provider: client.document_changes,
         prepare_provider: client.document_changes && client.prepare_support,
+        code_action_provider: client.code_actions,
     }
 }
 
@@ -72,19 +75,30 @@ fn check_after(diagnostics: bool) -> Option<Task>
     if diagnostics { Some(Task::Check) } else { None }
 }
 
-/// Adds why a question is refused, if it is; else it is a task.
+/// The reply to a question that is denied.
+fn reply_to_denied(alloc: Global, id: Id, denial: Denial) -> Outgoing
+    ensures { result ≡ spec.denying id denial }
+{
+    match denial {
+        Denial::Error(why) => Outgoing::Error(Some(id), why),
+        Denial::NoActions => Outgoing::CodeActions(id, Items::new(alloc)),
+    }
+}
+
+/// Adds how a question is denied, if it is; else it is a task.
 fn take_question(
+    alloc: Global,
     id: Id,
     asked: Option<Question>,
-    refused: Option<ResponseError>,
+    denied: Option<Denial>,
     outs: &mut Vec<Out>,
 ) -> Result<Option<Task>, NoMemory>
-    ensures task { IfOk result (λ task. task ≡ spec.accepted id asked refused) }
-    ensures outs { OnOk result (outs.new.items ≡ outs.old.items ++ spec.refused_with id refused) }
+    ensures task { IfOk result (λ task. task ≡ spec.accepted id asked denied) }
+    ensures outs { OnOk result (outs.new.items ≡ outs.old.items ++ spec.denied_with id denied) }
 {
-    match (asked, refused) {
-        (_, Some(why)) => {
-            outs.push(Out::Reply(Outgoing::Error(Some(id), why)))?;
+    match (asked, denied) {
+        (_, Some(denial)) => {
+            outs.push(Out::Reply(reply_to_denied(alloc, id, denial)))?;
             Ok(None)
         }
         (Some(question), None) => Ok(Some(Task::Ask(id, question))),
@@ -98,6 +112,8 @@ pub struct ClientSession {
     phase: Phase,
     /// Its client takes edits with versions.
     document_changes: bool,
+    /// Its client takes code actions that hold such edits.
+    code_actions: bool,
     /// Its client takes diagnostics.
     diagnostics: bool,
     documents: OpenDocuments,
@@ -108,7 +124,7 @@ impl Model for ClientSession {
 
     ghost Value = { Session };
 
-    ghost view = { λ s. record { phase = s.phase; document_changes = s.document_changes; diagnostics = s.diagnostics; documents = s.documents } };
+    ghost view = { λ s. record { phase = s.phase; document_changes = s.document_changes; code_actions = s.code_actions; diagnostics = s.diagnostics; documents = s.documents } };
 }
 
 impl ClientSession {
@@ -119,6 +135,7 @@ impl ClientSession {
         ClientSession {
             phase: Phase::Fresh,
             document_changes: false,
+            code_actions: false,
             diagnostics: false,
             documents: OpenDocuments::new(alloc),
         }
@@ -137,59 +154,62 @@ impl ClientSession {
         effect_of(self.phase, &self.documents, event)
     }
 
-    /// Why a question is refused, if it is.
-    fn refusal_of_question(
+    /// How a question is denied, if it is.
+    fn denial_of_question(
         &self,
         alloc: Global,
         pending: &[Job],
         question: &Question,
-    ) -> Result<Option<ResponseError>, NoMemory>
-        ensures { IfOk result (λ refused. refused ≡ spec.refusal_of_question self.now pending.now question.now) }
+    ) -> Result<Option<Denial>, NoMemory>
+        ensures { IfOk result (λ denied. denied ≡ spec.denial_of_question self.now pending.now question.now) }
     {
         if !self.documents.is_open(key_of(question)) {
-            return Ok(Some(ResponseError::InvalidParams));
+            return Ok(Some(Denial::Error(ResponseError::InvalidParams)));
         }
         if self.documents.any_lost() {
-            return Ok(Some(failed(alloc, "document lost")?));
+            return Ok(Some(denied(alloc, "document lost")?));
         }
         if wants_document_changes(question) && !self.document_changes {
-            return Ok(Some(failed(alloc, "no documentChanges")?));
+            return Ok(Some(denied(alloc, "no documentChanges")?));
+        }
+        if wants_code_actions(question) && !self.code_actions {
+            return Ok(Some(Denial::NoActions));
         }
         if are_too_many(pending) {
-            return Ok(Some(failed(alloc, "too many pending")?));
+            return Ok(Some(denied(alloc, "too many pending")?));
         }
         Ok(None)
     }
 
-    fn refusal(
+    fn denial_of_request(
         &self,
         alloc: Global,
         pending: &[Job],
         id: &Id,
         asked: &Option<Question>,
-    ) -> Result<Option<ResponseError>, NoMemory>
-        ensures { IfOk result (λ refused. refused ≡ spec.refusal self.now pending.now id.now asked.now) }
+    ) -> Result<Option<Denial>, NoMemory>
+        ensures { IfOk result (λ denied. denied ≡ spec.denial_of_request self.now pending.now id.now asked.now) }
     {
         if is_pending(pending, id) {
-            return Ok(Some(ResponseError::InvalidRequest));
+            return Ok(Some(Denial::Error(ResponseError::InvalidRequest)));
         }
         match asked {
-            Some(question) => self.refusal_of_question(alloc, pending, question),
-            None => Ok(Some(ResponseError::InvalidParams)),
+            Some(question) => self.denial_of_question(alloc, pending, question),
+            None => Ok(Some(Denial::Error(ResponseError::InvalidParams))),
         }
     }
 
-    /// Why an event is refused, where it asks.
-    pub(crate) fn refused_by(
+    /// How an event is denied, where it asks.
+    pub(crate) fn denied_by(
         &self,
         alloc: Global,
         pending: &[Job],
         effect: &Effect,
-    ) -> Result<Option<ResponseError>, NoMemory>
-        ensures { IfOk result (λ refused. refused ≡ spec.refused_by self.now pending.now effect.now) }
+    ) -> Result<Option<Denial>, NoMemory>
+        ensures { IfOk result (λ denied. denied ≡ spec.denied_by self.now pending.now effect.now) }
     {
         match effect {
-            Effect::Asks(id, asked) => self.refusal(alloc, pending, id, asked),
+            Effect::Asks(id, asked) => self.denial_of_request(alloc, pending, id, asked),
             _ => Ok(None),
         }
     }
@@ -222,17 +242,18 @@ impl ClientSession {
     pub(crate) fn take_in(
         &mut self,
         alloc: Global,
-        refused: Option<ResponseError>,
+        denied: Option<Denial>,
         effect: Effect,
         outs: &mut Vec<Out>,
     ) -> Result<Option<Task>, NoMemory>
-        ensures task { IfOk result (λ task. task ≡ spec.taken self.old.diagnostics refused effect) }
-        ensures own { OnOk result ((text_refused : Bool) × (self.new ≡ spec.session_after self.old effect (spec.changed_by self.old effect text_refused)) × (outs.new.items ≡ outs.old.items ++ spec.own self.old refused effect (spec.changed_by self.old effect text_refused))) }
+        ensures task { IfOk result (λ task. task ≡ spec.taken self.old.diagnostics denied effect) }
+        ensures own { OnOk result ((text_refused : Bool) × (self.new ≡ spec.session_after self.old effect (spec.changed_by self.old effect text_refused)) × (outs.new.items ≡ outs.old.items ++ spec.own self.old denied effect (spec.changed_by self.old effect text_refused))) }
     {
         match effect {
             Effect::Begins(id, capabilities) => {
                 self.phase = Phase::Running;
                 self.document_changes = capabilities.document_changes;
+                self.code_actions = capabilities.code_actions;
                 self.diagnostics = capabilities.publish_diagnostics;
                 let server = server_capabilities(capabilities);
                 outs.push(Out::Reply(Outgoing::Initialized(id, server)))?;
@@ -242,7 +263,7 @@ impl ClientSession {
                 outs.push(Out::Reply(Outgoing::Error(id, why)))?;
                 Ok(None)
             }
-            Effect::Asks(id, asked) => take_question(id, asked, refused, outs),
+            Effect::Asks(id, asked) => take_question(alloc, id, asked, denied, outs),
             Effect::Changes(change) => {
                 self.change(alloc, change, outs)?;
                 Ok(check_after(self.diagnostics))

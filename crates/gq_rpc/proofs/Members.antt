@@ -3,7 +3,7 @@ use Rattle.std.proofs.Common.{◌≡◌, ℕ, List, Bool, true, false, cond, Les
 use Rattle.std.specs.Cmp.Lexicographic.{slice_cmp}
 use Rattle.std.specs.Ordering.{match_ordering}
 use Rattle.serde_json.specs.Data.{Data, boolean, object, Members, no_members, member, put}
-use Rattle.gq_rpc.specs.Encoding.{member_where, rename_options, capability_members, synchronization}
+use Rattle.gq_rpc.specs.Encoding.{member_where, rename_options, code_action_options, capability_members, synchronization}
 use Rattle.gq_rpc.specs.declared.messages.ServerCapabilities.{ServerCapabilities}
 
 -- the name stands before the first member's
@@ -35,6 +35,9 @@ from_references c = member_where c.references_provider (codes "referencesProvide
 abbrev from_hover : ServerCapabilities → Members
 from_hover c = member_where c.hover_provider (codes "hoverProvider") (boolean true) (from_references c)
 
+abbrev from_definition : ServerCapabilities → Members
+from_definition c = member_where c.definition_provider (codes "definitionProvider") (boolean true) (from_hover c)
+
 before_rename : (k : List ℕ) (c : ServerCapabilities) → slice_cmp nat_cmp k (codes "renameProvider") ≡ Less → IsInFront k from_sync → IsInFront k (from_rename c)
 before_rename k c e h = in_front-where c.rename_provider k (codes "renameProvider") (rename_options c.prepare_provider) from_sync e h
 
@@ -44,21 +47,26 @@ before_references k c e h = in_front-where c.references_provider k (codes "refer
 before_hover : (k : List ℕ) (c : ServerCapabilities) → slice_cmp nat_cmp k (codes "hoverProvider") ≡ Less → IsInFront k (from_references c) → IsInFront k (from_hover c)
 before_hover k c e h = in_front-where c.hover_provider k (codes "hoverProvider") (boolean true) (from_references c) e h
 
+before_definition : (k : List ℕ) (c : ServerCapabilities) → slice_cmp nat_cmp k (codes "definitionProvider") ≡ Less → IsInFront k (from_hover c) → IsInFront k (from_definition c)
+before_definition k c e h = in_front-where c.definition_provider k (codes "definitionProvider") (boolean true) (from_hover c) e h
+
 -- the capabilities, put one after another from the last
-pub capability_members-from_puts : (c : ServerCapabilities) (none m0 m1 m2 m3 m4 m5 : Members) (sync rename references hover definition completion : Data)
+pub capability_members-from_puts : (c : ServerCapabilities) (none m0 m1 m2 m3 m4 m5 m6 : Members) (sync rename references hover definition completion actions : Data)
     → none ≡ no_members → m0 ≡ put (codes "textDocumentSync") sync none → sync ≡ synchronization
     → m1 ≡ cond c.rename_provider (put (codes "renameProvider") rename m0) m0 → rename ≡ rename_options c.prepare_provider
     → m2 ≡ cond c.references_provider (put (codes "referencesProvider") references m1) m1 → references ≡ boolean true
     → m3 ≡ cond c.hover_provider (put (codes "hoverProvider") hover m2) m2 → hover ≡ boolean true
     → m4 ≡ cond c.definition_provider (put (codes "definitionProvider") definition m3) m3 → definition ≡ boolean true
     → m5 ≡ cond c.completion_provider (put (codes "completionProvider") completion m4) m4 → completion ≡ object no_members
-    → m5 ≡ capability_members c
-capability_members-from_puts c none m0 m1 m2 m3 m4 m5 sync rename references hover definition completion empty e0 d0 e1 d1 e2 d2 e3 d3 e4 d4 e5 d5 =
+    → m6 ≡ cond c.code_action_provider (put (codes "codeActionProvider") actions m5) m5 → actions ≡ code_action_options
+    → m6 ≡ capability_members c
+capability_members-from_puts c none m0 m1 m2 m3 m4 m5 m6 sync rename references hover definition completion actions empty e0 d0 e1 d1 e2 d2 e3 d3 e4 d4 e5 d5 e6 d6 =
     let w0 : Members = from_sync in
     let w1 : Members = from_rename c in
     let w2 : Members = from_references c in
     let w3 : Members = from_hover c in
-    let w4 : Members = member_where c.definition_provider (codes "definitionProvider") (boolean true) w3 in
+    let w4 : Members = from_definition c in
+    let w5 : Members = member_where c.completion_provider (codes "completionProvider") (object no_members) w4 in
     let s0 : m0 ≡ w0 = e0 ∙ ap (put (codes "textDocumentSync") sync) empty ∙ ap (λ d. member (codes "textDocumentSync") d no_members) d0 in
     let s1 : m1 ≡ w1 = e1 ∙ put_where c.rename_provider (codes "renameProvider") _ _ m0 w0 d1 s0 refl in
     let f2 : IsInFront (codes "referencesProvider") w1 = before_rename (codes "referencesProvider") c refl refl in
@@ -69,6 +77,11 @@ capability_members-from_puts c none m0 m1 m2 m3 m4 m5 sync rename references hov
     before_hover (codes "definitionProvider") c refl (before_references (codes "definitionProvider") c refl (before_rename (codes "definitionProvider") c refl refl)) in
     let s4 : m4 ≡ w4 = e4 ∙ put_where c.definition_provider (codes "definitionProvider") _ _ m3 w3 d4 s3 f4 in
     let f5 : IsInFront (codes "completionProvider") w4 =
-    in_front-where c.definition_provider (codes "completionProvider") (codes "definitionProvider") (boolean true) w3 refl
+    before_definition (codes "completionProvider") c refl
     (before_hover (codes "completionProvider") c refl (before_references (codes "completionProvider") c refl (before_rename (codes "completionProvider") c refl refl))) in
-    e5 ∙ put_where c.completion_provider (codes "completionProvider") _ _ m4 w4 d5 s4 f5
+    let s5 : m5 ≡ w5 = e5 ∙ put_where c.completion_provider (codes "completionProvider") _ _ m4 w4 d5 s4 f5 in
+    let f6 : IsInFront (codes "codeActionProvider") w5 =
+    in_front-where c.completion_provider (codes "codeActionProvider") (codes "completionProvider") (object no_members) w4 refl
+    (before_definition (codes "codeActionProvider") c refl
+    (before_hover (codes "codeActionProvider") c refl (before_references (codes "codeActionProvider") c refl (before_rename (codes "codeActionProvider") c refl refl)))) in
+    e6 ∙ put_where c.code_action_provider (codes "codeActionProvider") _ _ m5 w5 d6 s5 f6

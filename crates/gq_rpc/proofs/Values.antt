@@ -14,11 +14,12 @@ use Rattle.gq_rpc.specs.declared.messages.Hover.{Hover}
 use Rattle.gq_rpc.specs.declared.messages.Location.{Location}
 use Rattle.gq_rpc.specs.declared.messages.CompletionItem.{CompletionItem}
 use Rattle.gq_rpc.specs.declared.messages.PrepareRename.{PrepareRename}
+use Rattle.gq_rpc.specs.declared.messages.CodeAction.{CodeAction}
 use Rattle.gq_rpc.specs.declared.messages.Diagnostic.{Diagnostic}
 use Rattle.gq_rpc.specs.declared.messages.PublishDiagnosticsParams.{PublishDiagnosticsParams}
 use Rattle.gq_rpc.specs.declared.messages.Outgoing.{Outgoing}
 use Rattle.gq_rpc.specs.declared.messages.Outgoing.TheVariants as outgoing
-use Rattle.gq_rpc.specs.Encoding.{id_value, id_or_null, response, error_response, member_where, rename_options, initialize_result, capability_members, text_edit_value, document_edit_value, workspace_edit_value, hover_or_null, location_value, completion_value, prepared_or_null, diagnostic_value, version_members, diagnostics_value, told, code_of, words_of, value_of}
+use Rattle.gq_rpc.specs.Encoding.{id_value, id_or_null, response, error_response, member_where, rename_options, initialize_result, capability_members, text_edit_value, document_edit_value, workspace_edit_value, hover_or_null, location_value, completion_value, prepared_or_null, code_action_value, diagnostic_value, version_members, diagnostics_value, told, code_of, words_of, value_of}
 
 integer_no_float : (z : ℤ) → is_float (of_integer z) ≡ false
 integer_no_float (pos n) = refl
@@ -55,11 +56,12 @@ rename_options_no_float false = refl
 
 members_no_float : (c : ServerCapabilities) → members_have_float (capability_members c) ≡ false
 members_no_float c =
-    where_no_float c.completion_provider _ _ _ refl
+    where_no_float c.code_action_provider _ _ _ refl
+    (where_no_float c.completion_provider _ _ _ refl
     (where_no_float c.definition_provider _ _ _ refl
     (where_no_float c.hover_provider _ _ _ refl
     (where_no_float c.references_provider _ _ _ refl
-    (where_no_float c.rename_provider _ _ _ (rename_options_no_float c.prepare_provider) refl))))
+    (where_no_float c.rename_provider _ _ _ (rename_options_no_float c.prepare_provider) refl)))))
 
 hover_no_float : (found : Option Hover) → has_float (hover_or_null found) ≡ false
 hover_no_float None = refl
@@ -76,6 +78,13 @@ completions_no_float (c ∷ completions) = completions_no_float completions
 prepared_no_float : (found : Option PrepareRename) → has_float (prepared_or_null found) ≡ false
 prepared_no_float None = refl
 prepared_no_float (Some p) = refl
+
+code_action_no_float : (action : CodeAction) → has_float (code_action_value action) ≡ false
+code_action_no_float action = ap (λ t. (t || false) || false) (document_edits_no_float action.edit.document_changes)
+
+code_actions_no_float : (actions : List CodeAction) → items_have_float (items_of (map code_action_value actions)) ≡ false
+code_actions_no_float [] = refl
+code_actions_no_float (action ∷ actions) = ap (λ t. t || items_have_float (items_of (map code_action_value actions))) (code_action_no_float action) ∙ code_actions_no_float actions
 
 diagnostic_list_no_float : (diagnostics : List Diagnostic) → items_have_float (items_of (map diagnostic_value diagnostics)) ≡ false
 diagnostic_list_no_float [] = refl
@@ -111,5 +120,6 @@ value_of-no_float (outgoing.Locations name locations) = response_no_float name (
 value_of-no_float (outgoing.Prepared name found) = response_no_float name (prepared_or_null found) (prepared_no_float found)
 value_of-no_float (outgoing.Renamed name edit) =
     response_no_float name (workspace_edit_value edit) (ap (λ t. t || false) (document_edits_no_float edit.document_changes))
+value_of-no_float (outgoing.CodeActions name actions) = response_no_float name (array (items_of (map code_action_value actions))) (code_actions_no_float actions)
 value_of-no_float (outgoing.Error name why) = error_no_float name (code_of why) (words_of why)
 value_of-no_float (outgoing.Diagnostics parameters) = told_no_float (codes "textDocument/publishDiagnostics") (diagnostics_value parameters) (diagnostics_no_float parameters)

@@ -1,5 +1,5 @@
 -- Which message a JSON value is: requests, notifications and answers of JSON-RPC 2.0, with the parameters of LSP 3.17.
-use Rattle.std.specs.Prelude.{ℕ, ◌^◌, ℤ, Bool, List, [], ◌∷◌, false, nat_lt, codes, Option, Some, None, is_some, unwrap_or, ◌||◌, option_map, option_and_then, if◌then◌else◌, bytes_eq}
+use Rattle.std.specs.Prelude.{ℕ, ◌^◌, ℤ, Bool, List, [], ◌∷◌, false, nat_lt, codes, Option, Some, None, is_some, unwrap_or, ◌||◌, ◌&&◌, option_map, option_and_then, if◌then◌else◌, bytes_eq}
 use Rattle.std.specs.Str.{is_utf8}
 use Rattle.serde_json.specs.Data.{Data, null, boolean, number, string, array, object, Items, no_items, item}
 use Rattle.serde_json.specs.Find.{get, as_null, as_bool, as_str, as_number, as_array, as_object, as_i64, as_u64}
@@ -13,6 +13,7 @@ use Rattle.gq_rpc.specs.declared.messages.Id.{Id}
 use Rattle.gq_rpc.specs.declared.messages.Id.TheVariants as id
 use Rattle.gq_rpc.specs.declared.messages.ClientCapabilities.{ClientCapabilities}
 use Rattle.gq_rpc.specs.declared.messages.TextDocumentPositionParams.{TextDocumentPositionParams}
+use Rattle.gq_rpc.specs.declared.messages.CodeActionContext.{CodeActionContext}
 use Rattle.gq_rpc.specs.declared.messages.Question.{Question}
 use Rattle.gq_rpc.specs.declared.messages.Question.TheVariants as question
 use Rattle.gq_rpc.specs.declared.messages.Request.{Request}
@@ -95,10 +96,17 @@ is_true_in found = unwrap_or (boolean_in found) false
 abbrev pub is_object_in : Option Data → Bool
 is_object_in found = is_some (option_and_then as_object found)
 
+-- code actions can hold edits with versions: they need not be commands, and versions are taken
+abbrev pub takes_code_actions : Data → Bool
+takes_code_actions message =
+    is_true_in (edit_capability (codes "documentChanges") message)
+    && is_object_in (member_in (codes "codeActionLiteralSupport") (document_capability (codes "codeAction") message))
+
 abbrev pub client_capabilities_of : Data → ClientCapabilities
 client_capabilities_of message = record {
   document_changes = is_true_in (edit_capability (codes "documentChanges") message);
   prepare_support = is_true_in (member_in (codes "prepareSupport") (document_capability (codes "rename") message));
+  code_actions = takes_code_actions message;
   completion = is_object_in (document_capability (codes "completion") message);
   definition = is_object_in (document_capability (codes "definition") message);
   hover = is_object_in (document_capability (codes "hover") message);
@@ -158,6 +166,40 @@ rename_of None new_name = None
 abbrev pub rename_in : Data → Option Question
 rename_in message = rename_of (place_in message) (string_in (parameter (codes "newName") message))
 
+-- ---- textDocument/codeAction (LSP 3.17, CodeActionParams and CodeActionContext)
+
+abbrev pub before_strings : Option (List ℕ) → Option (List (List ℕ)) → Option (List (List ℕ))
+before_strings (Some first) (Some others) = Some (first ∷ others)
+before_strings (Some first) None = None
+before_strings None others = None
+
+-- the strings that the items of an array are, unless one of them is none
+abbrev pub strings_from : Items → Option (List (List ℕ))
+strings_from no_items = Some []
+strings_from (item value values) = before_strings (as_str value) (strings_from values)
+
+-- an array of strings, where it is not left out
+abbrev pub only_of : Option Data → Option CodeActionContext
+only_of None = Some (record { only = None })
+only_of (Some kinds) = option_map (λ names. record { only = Some names }) (option_and_then strings_from (as_array kinds))
+
+-- an object; of its members `only` alone is looked at
+abbrev pub context_from : Data → Option CodeActionContext
+context_from value = if is_some (as_object value) then only_of (optional_in (get (codes "only") value)) else None
+
+-- `context` is required
+abbrev pub context_in : Data → Option CodeActionContext
+context_in message = option_and_then context_from (parameter (codes "context") message)
+
+abbrev pub code_action_of : Option (List ℕ) → Option Range → Option CodeActionContext → Option Question
+code_action_of (Some key) (Some range) (Some context) = Some (question.CodeAction (record { key = key; range = range; only = context.only }))
+code_action_of (Some key) (Some range) None = None
+code_action_of (Some key) None context = None
+code_action_of None range context = None
+
+abbrev pub code_action_in : Data → Option Question
+code_action_in message = code_action_of (key_in message) (option_and_then range_from (parameter (codes "range") message)) (context_in message)
+
 -- a question, unless its parameters cannot be read
 abbrev pub asked : Option Question → Request
 asked (Some q) = request.Ask q
@@ -172,7 +214,8 @@ question_of method message =
     else (if bytes_eq method (codes "textDocument/prepareRename") then asked (option_map question.PrepareRename (place_in message))
     else (if bytes_eq method (codes "textDocument/references") then asked (references_in message)
     else (if bytes_eq method (codes "textDocument/rename") then asked (rename_in message)
-    else request.Unknown)))))
+    else (if bytes_eq method (codes "textDocument/codeAction") then asked (code_action_in message)
+    else request.Unknown))))))
 
 -- which request a method with its message is
 abbrev pub request_of : List ℕ → Data → Request

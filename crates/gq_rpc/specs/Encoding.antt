@@ -1,6 +1,6 @@
 -- Which JSON value a message to the client is, the members of objects in byte order of their names, and its frame.
 use Rattle.std.specs.Prelude.{ℕ, ℤ, negsuc, Bool, true, List, map, codes, Option, Some, None, if◌then◌else◌}
-use Rattle.serde_json.specs.Data.{Data, null, boolean, number, string, array, object, Members, no_members, member, unsigned}
+use Rattle.serde_json.specs.Data.{Data, null, boolean, number, string, array, object, no_items, item, Members, no_members, member, unsigned}
 use Rattle.serde_json.specs.Find.{of_integer}
 use Rattle.serde_json.specs.View.{items_of}
 use Rattle.serde_json.specs.Written.{compact_text}
@@ -10,6 +10,7 @@ use Rattle.gq_edit.specs.declared.workspace.TextEdit.{TextEdit}
 use Rattle.gq_edit.specs.declared.workspace.TextDocumentEdit.{TextDocumentEdit}
 use Rattle.gq_edit.specs.declared.workspace.WorkspaceEdit.{WorkspaceEdit}
 use Rattle.gq_rpc.specs.Frames.{frame}
+use Rattle.gq_rpc.specs.Actions.{action_name, action_title}
 use Rattle.gq_rpc.specs.declared.messages.Id.{Id}
 use Rattle.gq_rpc.specs.declared.messages.Id.TheVariants as id
 use Rattle.gq_rpc.specs.declared.messages.ServerCapabilities.{ServerCapabilities}
@@ -19,6 +20,9 @@ use Rattle.gq_rpc.specs.declared.messages.CompletionItemKind.{CompletionItemKind
 use Rattle.gq_rpc.specs.declared.messages.CompletionItemKind.TheVariants as kind
 use Rattle.gq_rpc.specs.declared.messages.CompletionItem.{CompletionItem}
 use Rattle.gq_rpc.specs.declared.messages.PrepareRename.{PrepareRename}
+use Rattle.gq_rpc.specs.declared.messages.CodeActionKind.{CodeActionKind}
+use Rattle.gq_rpc.specs.declared.messages.CodeActionKind.TheVariants as action
+use Rattle.gq_rpc.specs.declared.messages.CodeAction.{CodeAction}
 use Rattle.gq_rpc.specs.declared.messages.Diagnostic.{Diagnostic}
 use Rattle.gq_rpc.specs.declared.messages.PublishDiagnosticsParams.{PublishDiagnosticsParams}
 use Rattle.gq_rpc.specs.declared.messages.ResponseError.{ResponseError}
@@ -60,14 +64,25 @@ member_where flag name value rest = if flag then member name value rest else res
 abbrev pub rename_options : Bool → Data
 rename_options prepare = if prepare then object (member (codes "prepareProvider") (boolean true) no_members) else boolean true
 
+abbrev pub action_kind : CodeActionKind → Data
+action_kind kind = string (action_name kind)
+
+-- the kinds of code actions that are answered
+abbrev pub code_action_options : Data
+code_action_options =
+    object (member (codes "codeActionKinds")
+    (array (item (action_kind action.Extract) (item (action_kind action.Inline) (item (action_kind action.Rewrite) no_items))))
+    no_members)
+
 abbrev pub capability_members : ServerCapabilities → Members
 capability_members capabilities =
-    member_where capabilities.completion_provider (codes "completionProvider") (object no_members)
+    member_where capabilities.code_action_provider (codes "codeActionProvider") code_action_options
+    (member_where capabilities.completion_provider (codes "completionProvider") (object no_members)
     (member_where capabilities.definition_provider (codes "definitionProvider") (boolean true)
     (member_where capabilities.hover_provider (codes "hoverProvider") (boolean true)
     (member_where capabilities.references_provider (codes "referencesProvider") (boolean true)
     (member_where capabilities.rename_provider (codes "renameProvider") (rename_options capabilities.prepare_provider)
-    (member (codes "textDocumentSync") synchronization no_members)))))
+    (member (codes "textDocumentSync") synchronization no_members))))))
 
 abbrev pub initialize_result : ServerCapabilities → Data
 initialize_result capabilities =
@@ -124,6 +139,12 @@ prepared_value p = object (member (codes "placeholder") (string p.placeholder) (
 abbrev pub prepared_or_null : Option PrepareRename → Data
 prepared_or_null (Some p) = prepared_value p
 prepared_or_null None = null
+
+abbrev pub code_action_value : CodeAction → Data
+code_action_value a =
+    object (member (codes "edit") (workspace_edit_value a.edit)
+    (member (codes "kind") (action_kind a.kind)
+    (member (codes "title") (string (action_title a.kind)) no_members)))
 
 -- ---- diagnostics
 
@@ -184,6 +205,7 @@ value_of (outgoing.Hover name found) = response name (hover_or_null found)
 value_of (outgoing.Locations name locations) = response name (array (items_of (map location_value locations)))
 value_of (outgoing.Prepared name found) = response name (prepared_or_null found)
 value_of (outgoing.Renamed name edit) = response name (workspace_edit_value edit)
+value_of (outgoing.CodeActions name actions) = response name (array (items_of (map code_action_value actions)))
 value_of (outgoing.Error name why) = error_response name (code_of why) (words_of why)
 value_of (outgoing.Diagnostics parameters) = told (codes "textDocument/publishDiagnostics") (diagnostics_value parameters)
 

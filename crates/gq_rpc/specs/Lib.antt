@@ -3,5 +3,6 @@ pub mod Frames
 pub mod Cutting
 pub mod Devices
 pub mod Decoding
+pub mod Actions
 pub mod Encoding
 pub mod Keys

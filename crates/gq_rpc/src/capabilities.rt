@@ -2,9 +2,9 @@
 ghost use Rattle.std.specs.Prelude.{◌≡◌, codes, IfOk, OnOk, if◌then◌else◌};
 ghost use Rattle.serde_json.specs.Data.{object, put};
 ghost use Rattle.serde_json.specs.View.{view, members_view};
-ghost use Rattle.gq_rpc.specs.Encoding.{rename_options, capability_members, initialize_result, synchronization};
+ghost use Rattle.gq_rpc.specs.Encoding.{rename_options, code_action_options, capability_members, initialize_result, synchronization};
 
-use crate::messages::ServerCapabilities;
+use crate::messages::{CodeActionKind, ServerCapabilities};
 use serde_json::{Map, Value, json};
 use std::alloc::{AllocError, Global};
 
@@ -17,6 +17,16 @@ fn write_rename_options(alloc: Global, prepare_provider: bool) -> Result<Value, 
     } else {
         Ok(Value::Bool(true))
     }
+}
+
+/// What is said of code actions, where they are answered.
+fn write_code_action_options(alloc: Global) -> Result<Value, AllocError>
+    ensures { IfOk result (λ v. view v ≡ code_action_options) }
+{
+    let extract = CodeActionKind::Extract.name();
+    let inline = CodeActionKind::Inline.name();
+    let rewrite = CodeActionKind::Rewrite.name();
+    json!(in alloc; {"codeActionKinds": [extract, inline, rewrite]})
 }
 
 /// How texts are sent.
@@ -90,6 +100,14 @@ fn write_capabilities(alloc: Global, offered: ServerCapabilities) -> Result<Valu
         offered.completion_provider,
         "completionProvider",
         completion,
+    )?;
+    let code_actions = write_code_action_options(alloc)?;
+    put_where(
+        &mut members,
+        alloc,
+        offered.code_action_provider,
+        "codeActionProvider",
+        code_actions,
     )?;
     Ok(Value::Object(members))
 }

@@ -2,6 +2,7 @@
 #![tactic(auto)]
 
 pub mod capabilities;
+pub mod code_actions;
 pub mod devices;
 pub mod edits;
 pub mod framer;
@@ -21,9 +22,10 @@ pub use framer::Framer;
 pub use header::{FrameFault, Scan, scan_front};
 pub use keys::key_of;
 pub use messages::{
-    ClientCapabilities, CompletionItem, CompletionItemKind, Diagnostic, DidChangeParams, Hover, Id,
-    Incoming, Location, Notification, Outgoing, PrepareRename, PublishDiagnosticsParams, Question,
-    ReferenceParams, RenameParams, Request, ResponseError, ServerCapabilities, TextDocumentItem,
+    ClientCapabilities, CodeAction, CodeActionContext, CodeActionKind, CodeActionParams,
+    CompletionItem, CompletionItemKind, Diagnostic, DidChangeParams, Hover, Id, Incoming, Location,
+    Notification, Outgoing, PrepareRename, PublishDiagnosticsParams, Question, ReferenceParams,
+    RenameParams, Request, ResponseError, ServerCapabilities, TextDocumentItem,
     TextDocumentPositionParams,
 };
 pub use reads::{decode, read_message};

@@ -1,4 +1,6 @@
 //! Messages of the language server protocol (LSP 3.17) as plain data: contracts see their texts as lists of bytes.
+ghost use Rattle.std.specs.Prelude.{◌≡◌, List, ℕ};
+ghost use Rattle.gq_rpc.specs.Actions.{action_name, action_title};
 
 use gq_edit::WorkspaceEdit;
 use gq_text::{Change, Items, OwnedText, Position, Range};
@@ -17,6 +19,9 @@ pub struct ClientCapabilities {
     pub document_changes: bool,
     /// It asks what a rename would be of: `textDocument.rename.prepareSupport` is true.
     pub prepare_support: bool,
+    /// It takes code actions that hold edits with versions: `document_changes`, and
+    /// `textDocument.codeAction.codeActionLiteralSupport` is an object.
+    pub code_actions: bool,
     /// `textDocument` holds an object of this name, as for the four below.
     pub completion: bool,
     pub definition: bool,
@@ -52,6 +57,24 @@ pub struct RenameParams {
     pub new_name: OwnedText,
 }
 
+/// What code actions are asked with (LSP 3.17, CodeActionContext), as far as this server looks at it.
+#[derive(Drop)]
+pub struct CodeActionContext {
+    /// The kinds that are asked for, where not all are.
+    pub only: Option<Items<OwnedText>>,
+}
+
+/// Code actions that are asked for (LSP 3.17, CodeActionParams).
+#[derive(Drop)]
+pub struct CodeActionParams {
+    /// The key of the document.
+    pub key: OwnedText,
+    /// As the client wrote it: its start may lie after its end.
+    pub range: Range,
+    /// The kinds that are asked for, where not all are.
+    pub only: Option<Items<OwnedText>>,
+}
+
 /// What is asked about an open document (LSP 3.17, "Language Features").
 #[derive(Drop)]
 pub enum Question {
@@ -61,6 +84,7 @@ pub enum Question {
     PrepareRename(TextDocumentPositionParams),
     References(ReferenceParams),
     Rename(RenameParams),
+    CodeAction(CodeActionParams),
 }
 
 /// What a request asks for.
@@ -132,6 +156,7 @@ pub struct ServerCapabilities {
     pub rename_provider: bool,
     /// What a rename would be of is answered, where renames are.
     pub prepare_provider: bool,
+    pub code_action_provider: bool,
 }
 
 /// What is shown where a pointer rests (LSP 3.17, Hover).
@@ -172,6 +197,48 @@ pub struct CompletionItem {
 pub struct PrepareRename {
     pub placeholder: OwnedText,
     pub range: Range,
+}
+
+/// What a code action does (LSP 3.17, CodeActionKind).
+#[derive(Clone, Copy, Debug, PartialEq, Eq)]
+pub enum CodeActionKind {
+    /// Selections become a fragment.
+    Extract,
+    /// A fragment takes the place of its spread.
+    Inline,
+    /// The braces of an inline fragment go.
+    Rewrite,
+}
+
+impl CodeActionKind {
+    /// Its name in messages, as `refactor.extract`.
+    pub fn name(self) -> &'static str
+        ensures { result.now ≡ action_name self }
+    {
+        match self {
+            CodeActionKind::Extract => "refactor.extract",
+            CodeActionKind::Inline => "refactor.inline",
+            CodeActionKind::Rewrite => "refactor.rewrite",
+        }
+    }
+
+    /// Its title, as an editor shows it.
+    pub fn title(self) -> &'static str
+        ensures { result.now ≡ action_title self }
+    {
+        match self {
+            CodeActionKind::Extract => "Extract fragment",
+            CodeActionKind::Inline => "Inline fragment",
+            CodeActionKind::Rewrite => "Remove redundant inline fragment",
+        }
+    }
+}
+
+/// An edit that is offered (LSP 3.17, CodeAction).
+#[derive(Drop)]
+pub struct CodeAction {
+    pub kind: CodeActionKind,
+    pub edit: WorkspaceEdit,
 }
 
 /// What is wrong at a range of a document (LSP 3.17, Diagnostic): an error of this server.
@@ -217,6 +284,7 @@ pub enum Outgoing {
     Locations(Id, Items<Location>),
     Prepared(Id, Option<PrepareRename>),
     Renamed(Id, WorkspaceEdit),
+    CodeActions(Id, Items<CodeAction>),
     /// An error, where there is an id for the request that has it.
     Error(Option<Id>, ResponseError),
     /// A notification, not an answer.

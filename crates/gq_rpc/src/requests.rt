@@ -1,8 +1,9 @@
 //! Requests read: what a client says that it can do, and what it asks about open documents.
 ghost use Rattle.std.specs.Prelude.{◌≡◌, codes, IfOk, option_map, option_and_then};
 ghost use Rattle.serde_json.specs.View.{view};
-ghost use Rattle.gq_rpc.specs.Decoding.{member_in, capability, edit_capability, document_capability, is_true_in, is_object_in, boolean_in, parameter, client_capabilities_of, place_in, references_in, rename_in, asked, question_of, request_of};
+ghost use Rattle.gq_rpc.specs.Decoding.{member_in, capability, edit_capability, document_capability, is_true_in, is_object_in, takes_code_actions, boolean_in, parameter, client_capabilities_of, place_in, references_in, rename_in, asked, question_of, request_of};
 
+use crate::code_actions::read_code_action;
 use crate::messages::{
     ClientCapabilities, Question, ReferenceParams, RenameParams, Request,
     TextDocumentPositionParams,
@@ -68,6 +69,26 @@ fn prepares_renames(message: &Value) -> bool
     }
 }
 
+/// Whether code actions need not be commands.
+fn has_code_action_literals(message: &Value) -> bool
+    ensures { result ≡ is_object_in (member_in (codes "codeActionLiteralSupport")
+        (document_capability (codes "codeAction") (view message.now))) }
+{
+    match find_document_capability(message, "codeAction") {
+        Some(actions) => actions
+            .get("codeActionLiteralSupport")
+            .is_some_and(Value::is_object),
+        None => false,
+    }
+}
+
+/// Whether code actions can hold edits with versions.
+fn can_take_code_actions(message: &Value) -> bool
+    ensures { result ≡ takes_code_actions (view message.now) }
+{
+    takes_document_changes(message) && has_code_action_literals(message)
+}
+
 /// What the client says that it can do.
 fn read_client_capabilities(message: &Value) -> ClientCapabilities
     ensures { result ≡ client_capabilities_of (view message.now) }
@@ -75,6 +96,7 @@ fn read_client_capabilities(message: &Value) -> ClientCapabilities
     ClientCapabilities {
         document_changes: takes_document_changes(message),
         prepare_support: prepares_renames(message),
+        code_actions: can_take_code_actions(message),
         completion: has_document_capability(message, "completion"),
         definition: has_document_capability(message, "definition"),
         hover: has_document_capability(message, "hover"),
@@ -174,6 +196,9 @@ fn read_question(alloc: Global, method: &str, message: &Value) -> Result<Request
     }
     if method == "textDocument/rename" {
         return Ok(ask(read_rename(alloc, message)?));
+    }
+    if method == "textDocument/codeAction" {
+        return Ok(ask(read_code_action(alloc, message)?));
     }
     Ok(Request::Unknown)
 }

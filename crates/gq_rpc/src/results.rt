@@ -2,11 +2,11 @@
 ghost use Rattle.std.specs.Prelude.{◌≡◌, List, ℕ, map, codes, IfOk};
 ghost use Rattle.serde_json.specs.Data.{Data, array};
 ghost use Rattle.serde_json.specs.View.{view, items_of};
-ghost use Rattle.gq_rpc.specs.Encoding.{hover_value, hover_or_null, location_value, kind_number, completion_value, prepared_value, prepared_or_null, diagnostic_value, diagnostics_value};
+ghost use Rattle.gq_rpc.specs.Encoding.{hover_value, hover_or_null, location_value, kind_number, completion_value, prepared_value, prepared_or_null, code_action_value, diagnostic_value, diagnostics_value};
 
-use crate::edits::write_range;
+use crate::edits::{write_range, write_workspace_edit};
 use crate::messages::{
-    CompletionItem, CompletionItemKind, Diagnostic, Hover, Location, PrepareRename,
+    CodeAction, CompletionItem, CompletionItemKind, Diagnostic, Hover, Location, PrepareRename,
     PublishDiagnosticsParams,
 };
 use serde_json::{Value, json};
@@ -94,6 +94,25 @@ pub fn write_found_prepared(
         Some(prepared) => write_prepared(alloc, prepared),
         None => Ok(Value::Null),
     }
+}
+
+fn write_code_action(alloc: Global, action: &CodeAction) -> Result<Value, AllocError>
+    ensures { IfOk result (λ v. view v ≡ code_action_value action.now) }
+{
+    let edit = write_workspace_edit(alloc, &action.edit)?;
+    let kind = action.kind.name();
+    let title = action.kind.title();
+    json!(in alloc; {"edit": edit, "kind": kind, "title": title})
+}
+
+pub fn write_code_actions(alloc: Global, actions: &[CodeAction]) -> Result<Value, AllocError>
+    ensures { IfOk result (λ v. view v ≡ array (items_of (map code_action_value actions.now))) }
+{
+    let mut values = Vec::new(alloc);
+    for action in actions {
+        values.push(write_code_action(alloc, action)?)?;
+    }
+    Ok(Value::Array(values))
 }
 
 fn write_diagnostic(alloc: Global, diagnostic: &Diagnostic) -> Result<Value, AllocError>

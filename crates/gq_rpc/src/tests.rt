@@ -1,9 +1,10 @@
 ghost use Rattle.std.specs.Prelude.{◌<◌};
 
 use crate::{
-    Flagged, FrameFault, Framer, Id, Incoming, Notification, Outgoing, PublishDiagnosticsParams,
-    Question, Reading, Request, ResponseError, ServerCapabilities, Sink, SinkFailed, Source,
-    TextDocumentPositionParams, encode, key_of, read_message, send,
+    CodeAction, CodeActionKind, CodeActionParams, Flagged, FrameFault, Framer, Id, Incoming,
+    Notification, Outgoing, PublishDiagnosticsParams, Question, Reading, Request, ResponseError,
+    ServerCapabilities, Sink, SinkFailed, Source, TextDocumentPositionParams, encode, key_of,
+    read_message, send,
 };
 use gq_edit::{TextDocumentEdit, TextEdit, WorkspaceEdit};
 use gq_text::{Change, Items, OwnedText, Position, Range};
@@ -144,6 +145,28 @@ fn show_place(
     )?)
 }
 
+fn show_names(alloc: Global, only: &Option<Items<OwnedText>>) -> Result<String, Fail> {
+    let mut told = String::new(alloc);
+    let Some(names) = only else {
+        return Ok(told);
+    };
+    told.push_str(" only")?;
+    for name in names.as_slice() {
+        write!(told, " '{}'", name.as_str())?;
+    }
+    Ok(told)
+}
+
+fn show_code_action(alloc: Global, p: &CodeActionParams) -> Result<String, Fail> {
+    Ok(format!(in alloc;
+        "actions {} {}-{}{}",
+        p.key.as_str(),
+        p.range.start.character,
+        p.range.end.character,
+        show_names(alloc, &p.only)?.as_str()
+    )?)
+}
+
 fn show_question(alloc: Global, question: &Question) -> Result<String, Fail> {
     match question {
         Question::Completion(p) => show_place(alloc, "completion", p),
@@ -157,6 +180,7 @@ fn show_question(alloc: Global, question: &Question) -> Result<String, Fail> {
             p.position.character,
             p.include_declaration
         )?),
+        Question::CodeAction(p) => show_code_action(alloc, p),
         Question::Rename(p) => Ok(format!(in alloc;
             "rename {} {}:{} {}",
             p.key.as_str(),
@@ -170,8 +194,8 @@ fn show_question(alloc: Global, question: &Question) -> Result<String, Fail> {
 fn show_request(alloc: Global, request: &Request) -> Result<String, Fail> {
     match request {
         Request::Initialize(client) => Ok(format!(in alloc;
-            "initialize {} {} {}",
-            client.document_changes, client.prepare_support, client.hover
+            "initialize {} {} {} {}",
+            client.document_changes, client.prepare_support, client.hover, client.code_actions
         )?),
         Request::Shutdown => Ok(format!(in alloc; "shutdown")?),
         Request::Ask(question) => show_question(alloc, question),
@@ -257,9 +281,9 @@ fn assert_shown(alloc: Global, rt: &impl Abort, rows: &str) -> Result<(), Fail> 
 #[test]
 fn bodies_are_messages(rt: HostRuntime) -> Result<(), Fail> {
     let rows = r#"
-        {"jsonrpc":"2.0","id":1,"method":"initialize","params":{"processId":null,"rootUri":null,"capabilities":{"workspace":{"workspaceEdit":{"documentChanges":true}},"textDocument":{"hover":{},"rename":{"prepareSupport":true}}}}} => 1 initialize true true true
-        {"id":"1","method":"initialize","params":null} => '1' initialize false false false
-        {"id":-5,"method":"initialize","params":{"capabilities":{"workspace":{"workspaceEdit":{"documentChanges":1}},"textDocument":{"hover":true}}}} => -5 initialize false false false
+        {"jsonrpc":"2.0","id":1,"method":"initialize","params":{"processId":null,"rootUri":null,"capabilities":{"workspace":{"workspaceEdit":{"documentChanges":true}},"textDocument":{"codeAction":{"codeActionLiteralSupport":{}},"hover":{},"rename":{"prepareSupport":true}}}}} => 1 initialize true true true true
+        {"id":"1","method":"initialize","params":null} => '1' initialize false false false false
+        {"id":-5,"method":"initialize","params":{"capabilities":{"workspace":{"workspaceEdit":{"documentChanges":1}},"textDocument":{"codeAction":{"codeActionLiteralSupport":{}},"hover":true}}}} => -5 initialize false false false false
         {"jsonrpc":"2.0","id":2,"method":"textDocument/rename","params":{"textDocument":{"uri":"file:///q.graphql"},"position":{"line":0,"character":11},"newName":"B"}} => 2 rename file:///q.graphql 0:11 B
         {"id":2,"method":"textDocument/rename","params":{"textDocument":{"uri":"file:///q"},"position":{"line":2147483647,"character":2147483648},"newName":"B"}} => 2 invalid
         {"id":2,"method":"textDocument/rename","params":{"textDocument":{"uri":"file:///q"},"position":{"line":0,"character":-1},"newName":"B"}} => 2 invalid
@@ -284,6 +308,13 @@ fn bodies_are_messages(rt: HostRuntime) -> Result<(), Fail> {
         {"id":5,"method":"textDocument/references","params":{"textDocument":{"uri":"file:///q"},"position":{"line":1,"character":2},"context":{"includeDeclaration":true}}} => 5 references file:///q 1:2 true
         {"id":5,"method":"textDocument/references","params":{"textDocument":{"uri":"file:///q"},"position":{"line":1,"character":2}}} => 5 invalid
         {"id":5,"method":"textDocument/hover","params":{"textDocument":{"uri":"file:///q"},"position":{"line":1,"character":2}}} => 5 hover file:///q 1:2
+        {"id":6,"method":"textDocument/codeAction","params":{"textDocument":{"uri":"file:///q"},"range":{"start":{"line":0,"character":8},"end":{"line":0,"character":2}},"context":{"diagnostics":[],"only":["refactor",""]}}} => 6 actions file:///q 8-2 only 'refactor' ''
+        {"id":6,"method":"textDocument/codeAction","params":{"textDocument":{"uri":"file:///q"},"range":{"start":{"line":0,"character":8},"end":{"line":0,"character":2}},"context":{"only":null}}} => 6 actions file:///q 8-2
+        {"id":6,"method":"textDocument/codeAction","params":{"textDocument":{"uri":"file:///q"},"range":{"start":{"line":0,"character":8},"end":{"line":0,"character":2}},"context":{"only":["refactor",1]}}} => 6 invalid
+        {"id":6,"method":"textDocument/codeAction","params":{"textDocument":{"uri":"file:///q"},"range":{"start":{"line":0,"character":8},"end":{"line":0,"character":2}},"context":{"only":"refactor"}}} => 6 invalid
+        {"id":6,"method":"textDocument/codeAction","params":{"textDocument":{"uri":"file:///q"},"range":{"start":{"line":0,"character":8},"end":{"line":0,"character":2}},"context":[]}} => 6 invalid
+        {"id":6,"method":"textDocument/codeAction","params":{"textDocument":{"uri":"file:///q"},"range":{"start":{"line":0,"character":8},"end":{"line":0,"character":2}}}} => 6 invalid
+        {"id":6,"method":"textDocument/codeAction","params":{"textDocument":{"uri":"file:///q"},"range":{"start":{"line":0,"character":8}},"context":{}}} => 6 invalid
         {"jsonrpc":"2.0","method":"exit"} => exit
         {"method":"shutdown"} => unknown
         {"id":4,"result":null} => ignored
@@ -327,15 +358,32 @@ fn renamed(alloc: Global) -> Result<WorkspaceEdit, Fail> {
     Ok(WorkspaceEdit { document_changes })
 }
 
-/// What a server offers whose only offer is renames, or that offers nothing.
-fn offering(renames: bool) -> ServerCapabilities {
+/// An offer of that rename as an extraction, and an offer that changes nothing.
+fn actions(alloc: Global) -> Result<Items<CodeAction>, Fail> {
+    let mut actions = Items::new(alloc);
+    actions.push(CodeAction {
+        kind: CodeActionKind::Extract,
+        edit: renamed(alloc)?,
+    })?;
+    actions.push(CodeAction {
+        kind: CodeActionKind::Rewrite,
+        edit: WorkspaceEdit {
+            document_changes: Items::new(alloc),
+        },
+    })?;
+    Ok(actions)
+}
+
+/// What a server offers whose only offers are edits, or that offers nothing.
+fn offering(edits: bool) -> ServerCapabilities {
     ServerCapabilities {
         completion_provider: false,
         definition_provider: false,
         hover_provider: false,
         references_provider: false,
-        rename_provider: renames,
+        rename_provider: edits,
         prepare_provider: false,
+        code_action_provider: edits,
     }
 }
 
@@ -355,6 +403,7 @@ fn outgoing(alloc: Global, name: &str) -> Result<Outgoing, Fail> {
         "offered" => Outgoing::Initialized(Id::Number(1), offering(true)),
         "withheld" => Outgoing::Initialized(Id::Number(-1), offering(false)),
         "renamed" => Outgoing::Renamed(Id::Number(2), renamed(alloc)?),
+        "actions" => Outgoing::CodeActions(Id::Number(2), actions(alloc)?),
         "shut down" => Outgoing::ShutDown(Id::Number(3)),
         "name taken" => Outgoing::Error(Some(Id::Number(2)), taken),
         "faultless" => Outgoing::Diagnostics(faultless(alloc)?),
@@ -377,9 +426,10 @@ fn assert_written(alloc: Global, rt: &impl Abort, rows: &str) -> Result<(), Fail
 #[test]
 fn messages_are_written_byte_for_byte(rt: HostRuntime) -> Result<(), Fail> {
     let rows = r#"
-        offered => Content-Length: 152␍␊␍␊{"id":1,"jsonrpc":"2.0","result":{"capabilities":{"renameProvider":true,"textDocumentSync":{"change":2,"openClose":true}},"serverInfo":{"name":"gqls"}}}
+        offered => Content-Length: 251␍␊␍␊{"id":1,"jsonrpc":"2.0","result":{"capabilities":{"codeActionProvider":{"codeActionKinds":["refactor.extract","refactor.inline","refactor.rewrite"]},"renameProvider":true,"textDocumentSync":{"change":2,"openClose":true}},"serverInfo":{"name":"gqls"}}}
         withheld => Content-Length: 131␍␊␍␊{"id":-1,"jsonrpc":"2.0","result":{"capabilities":{"textDocumentSync":{"change":2,"openClose":true}},"serverInfo":{"name":"gqls"}}}
         renamed => Content-Length: 306␍␊␍␊{"id":2,"jsonrpc":"2.0","result":{"documentChanges":[{"edits":[{"newText":"B","range":{"end":{"character":12,"line":0},"start":{"character":11,"line":0}}},{"newText":"B","range":{"end":{"character":24,"line":0},"start":{"character":23,"line":0}}}],"textDocument":{"uri":"file:///q.graphql","version":1}}]}}
+        actions => Content-Length: 471␍␊␍␊{"id":2,"jsonrpc":"2.0","result":[{"edit":{"documentChanges":[{"edits":[{"newText":"B","range":{"end":{"character":12,"line":0},"start":{"character":11,"line":0}}},{"newText":"B","range":{"end":{"character":24,"line":0},"start":{"character":23,"line":0}}}],"textDocument":{"uri":"file:///q.graphql","version":1}}]},"kind":"refactor.extract","title":"Extract fragment"},{"edit":{"documentChanges":[]},"kind":"refactor.rewrite","title":"Remove redundant inline fragment"}]}
         shut down => Content-Length: 38␍␊␍␊{"id":3,"jsonrpc":"2.0","result":null}
         name taken => Content-Length: 72␍␊␍␊{"error":{"code":-32803,"message":"5 NameTaken"},"id":2,"jsonrpc":"2.0"}
         faultless => Content-Length: 126␍␊␍␊{"jsonrpc":"2.0","method":"textDocument/publishDiagnostics","params":{"diagnostics":[],"uri":"file:///s.graphql","version":1}}

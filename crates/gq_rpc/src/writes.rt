@@ -9,7 +9,8 @@ use crate::edits::write_workspace_edit;
 use crate::framer::framed;
 use crate::messages::{Id, Outgoing, PublishDiagnosticsParams, ResponseError};
 use crate::results::{
-    write_completions, write_diagnostics, write_found_hover, write_found_prepared, write_locations,
+    write_code_actions, write_completions, write_diagnostics, write_found_hover,
+    write_found_prepared, write_locations,
 };
 use gq_text::NoMemory;
 use serde_json::{Value, json};
@@ -120,6 +121,9 @@ fn write_value(alloc: Global, message: &Outgoing) -> Result<Value, AllocError>
         }
         Outgoing::Renamed(id, edit) => {
             write_response(alloc, id, write_workspace_edit(alloc, edit)?)
+        }
+        Outgoing::CodeActions(id, actions) => {
+            write_response(alloc, id, write_code_actions(alloc, actions.as_slice())?)
         }
         Outgoing::Error(id, error) => write_error(alloc, id, error),
         Outgoing::Diagnostics(params) => write_publish(alloc, params),
