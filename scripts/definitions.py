@@ -16,6 +16,9 @@ THEOREMS = [
     ("What a run of the server writes", "gq_crew", "run", "run_one"),
     ("What a rename of a fragment is", "gq_rename", "renames", "rename_fragment"),
     ("What a rename of a variable is", "gq_rename", "renames", "rename_variable"),
+    ("What an extract is", "gq_reshape", "extracting", "extract"),
+    ("What an inline is", "gq_reshape", "inlining", "inline"),
+    ("What a remove is", "gq_reshape", "removing", "remove_redundant"),
     ("What `gqls check` prints", "gq_check", "checking", "check"),
     ("What `gqls exec` prints", "gq_check", "executing", "exec"),
 ]
