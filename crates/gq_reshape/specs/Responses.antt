@@ -11,8 +11,8 @@ use Rattle.gq_unchanged.specs.Unchanged.{ResponsesStay}
 use Rattle.gq_rename.specs.declared.refusal.Refusal.{Refusal}
 use Rattle.gq_reshape.specs.Asks.{RangeAsk}
 
--- However the documents and the edited ones are read: over every table and for all values of variables, each operation has after
--- the edit the responses that it had before, with their data, the order of keys and the paths of errors.
+-- However the documents and the edited ones are read: over every table and for all values of variables, each operation has after the edit
+-- exactly the responses that it had before, with their data, the order of keys and the paths of errors.
 abbrev pub KeepsResponses : List Doc → List DocumentEdit → Type 0
 KeepsResponses documents edits = (before after : List Reading) → AreReadings documents before → AreReadings (after_edit edits documents) after → ResponsesStay before after
 

@@ -4,10 +4,13 @@ use Rattle.std.specs.Prelude.{map}
 use Rattle.gq_tree.specs.Plain.{erase_document}
 use Rattle.gq_types.specs.BuiltIn.{built_in}
 use Rattle.gq_types.specs.Entries.{EntryOf}
+use Rattle.gq_project.specs.declared.document.Doc.{Doc}
 use Rattle.gq_read.specs.declared.reader.Reading.{Reading}
-use Rattle.gq_document.specs.Definitions.{OperationOf, operations_of, fragments_of}
+use Rattle.gq_read.specs.Readings.{AreReadings}
+use Rattle.gq_document.specs.Definitions.{OperationOf, entries_of, operations_of, fragments_of}
 use Rattle.gq_document.specs.Executable.{ExecutableOf}
 use Rattle.gq_rules.specs.Project.{type_system_of, executable_of}
+use Rattle.gq_rules.specs.Validity.{IsValid}
 use Rattle.gq_table.specs.Rows.{RowOf}
 use Rattle.gq_meaning.specs.Values.{Text, Values}
 use Rattle.gq_meaning.specs.Selected.{set_of}
@@ -15,6 +18,8 @@ use Rattle.gq_meaning.specs.Acyclic.{Rankable}
 use Rattle.gq_response.specs.Responses.{ResponseOf}
 use Rattle.gq_answer.specs.Fragments.{definition_of}
 use Rattle.gq_answer.specs.Operations.{IsResponse}
+use Rattle.gq_answerable.specs.Answerable.{RequestsHaveAResponse}
+use Rattle.gq_exec.specs.Executed.{RequestsHaveOneResponse}
 use Rattle.gq_exec.specs.Validity.{FragmentsAreRanked}
 use Rattle.gq_static.specs.Subtypes.{ObjectsHaveSubtypes}
 use Rattle.gq_agree.specs.Agree.{OperationAgrees, NamesAgreeInValid}
@@ -45,8 +50,24 @@ over_equal x y es bs rs e f restates ranked ranked' subtypes agree rows name raw
 project_is : (rs : List Reading) (es : List EntryOf) → type_system_of rs ≡ es → executable_of rs ≡ project_over es rs
 project_is rs es e = ap (λ (x : List EntryOf). let y : ExecutableOf = record { entries = x; operations = operations_of rs; fragments = fragments_of rs } in y) e
 
-pub restated_keep : FragmentsAreRanked → ObjectsHaveSubtypes → NamesAgreeInValid → RestatedProjectsKeepResponses
-restated_keep ranked subtypes agree documents edited valid valid' bs rs are are' same restates rows name raw response h =
+one_way : FragmentsAreRanked → ObjectsHaveSubtypes → NamesAgreeInValid → (documents edited : List Doc) → ∥ IsValid documents ∥₁ → ∥ IsValid edited ∥₁ → (bs rs : List Reading) → AreReadings documents bs → AreReadings edited rs → entries_of bs ≡ entries_of rs →
+    Restates (static_of (type_system_of bs)) (roots_in (type_system_of bs)) (trees_read bs) (map erase_document (trees_read rs)) →
+    (rows : List RowOf) (name : Option Text) (raw : Values) (response : ResponseOf) → IsResponse (executable_of bs) rows name raw response → IsResponse (executable_of rs) rows name raw response
+one_way ranked subtypes agree documents edited valid valid' bs rs are are' same restates rows name raw response h =
     let es = type_system_of bs in
     let types : type_system_of rs ≡ es = ap (λ (xs : List EntryOf). built_in ++ xs) (sym same) in
     over_equal (executable_of bs) (executable_of rs) es bs rs (project_is bs es refl) (project_is rs es types) restates (ranked documents valid bs are) (ranked edited valid' rs are') (subtypes documents valid bs are) (agree documents valid bs are) rows name raw response h
+
+-- A response after is the one that the response before became, since there is no other.
+other_way : RequestsHaveAResponse → RequestsHaveOneResponse → (documents edited : List Doc) → ∥ IsValid documents ∥₁ → (bs rs : List Reading) → AreReadings documents bs → AreReadings edited rs → (rows : List RowOf) (name : Option Text) (raw : Values) →
+    ((response : ResponseOf) → IsResponse (executable_of bs) rows name raw response → IsResponse (executable_of rs) rows name raw response) →
+    (response : ResponseOf) → IsResponse (executable_of rs) rows name raw response → IsResponse (executable_of bs) rows name raw response
+other_way have one documents edited valid bs rs are are' rows name raw there response h =
+    let old = have documents valid bs are rows name raw in
+    let same : old.0 ≡ response = one edited rows name raw old.0 response (record { readings = rs; are_readings = are'; is_response = there old.0 old.1 }) (record { readings = rs; are_readings = are'; is_response = h }) in
+    subst (λ (r : ResponseOf). IsResponse (executable_of bs) rows name raw r) same old.1
+
+pub restated_keep : FragmentsAreRanked → ObjectsHaveSubtypes → NamesAgreeInValid → RequestsHaveAResponse → RequestsHaveOneResponse → RestatedProjectsKeepResponses
+restated_keep ranked subtypes agree have one documents edited valid valid' bs rs are are' same restates rows name raw response =
+    let there = one_way ranked subtypes agree documents edited valid valid' bs rs are are' same restates rows name raw in
+    (there response, other_way have one documents edited valid bs rs are are' rows name raw there response)

@@ -1,5 +1,5 @@
 -- Two valid projects of the same types, where the second one's documents ask for what those of the first do (section 6).
-use Rattle.std.specs.Prelude.{◌≡◌, List, Option, map}
+use Rattle.std.specs.Prelude.{◌≡◌, ◌↔◌, List, Option, map}
 use Rattle.gq_tree.specs.Plain.{erase_document}
 use Rattle.gq_project.specs.declared.document.Doc.{Doc}
 use Rattle.gq_read.specs.declared.reader.Reading.{Reading}
@@ -14,9 +14,9 @@ use Rattle.gq_meaning.specs.Values.{Text, Values}
 use Rattle.gq_response.specs.Responses.{ResponseOf}
 use Rattle.gq_answer.specs.Operations.{IsResponse}
 
--- Over every table and for all values of variables, each operation has in the second the responses that it has in the first.
+-- Over every table and for all values of variables, each operation has in the second exactly the responses that it has in the first.
 abbrev pub ResponsesStay : List Reading → List Reading → Type 0
-ResponsesStay before after = (rows : List RowOf) (name : Option Text) (raw : Values) (response : ResponseOf) → IsResponse (executable_of before) rows name raw response → IsResponse (executable_of after) rows name raw response
+ResponsesStay before after = (rows : List RowOf) (name : Option Text) (raw : Values) (response : ResponseOf) → IsResponse (executable_of before) rows name raw response ↔ IsResponse (executable_of after) rows name raw response
 
 -- So it is for what is read of two valid projects, where the definitions of the type system are the same, and the operations
 -- and fragments of the one become those of the other, places forgotten.

@@ -1,0 +1,2 @@
+pub mod Existing
+pub mod Requests
