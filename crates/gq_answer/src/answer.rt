@@ -17,6 +17,7 @@ ghost use Rattle.gq_answer.specs.Answers.{IsAnswer, IsFieldAnswer, IsItemAnswer}
 use crate::collect::{Taken, collect};
 use crate::groups::grouped;
 use crate::world::{World, applies, is_composite, is_leaf_of, leaf_at, look, type_of};
+use gq_names::NameList;
 use gq_response::{Data, Member, Step};
 use gq_table::{Leaf, Outcome};
 use gq_text::{NoMemory, SmallText};
@@ -226,8 +227,8 @@ fn put_error(alloc: Global, path: &[Step], errors: &mut Vec<Vec<Step>>) -> Resul
     Ok(())
 }
 
-/// The data of a place: what was found for a group of fields, and all below it. The errors at it and below it are put behind
-/// those before, each with its path.
+/// The data of a place: what was found for a group of fields, and all below it. The errors at it and below it are put
+/// behind those before, each with its path.
 #[cycle(answer)]
 fn answer<'a>(
     alloc: Global,
@@ -237,6 +238,7 @@ fn answer<'a>(
     group: &[Taken<'a>],
     path: &mut Vec<Step>,
     errors: &mut Vec<Vec<Step>>,
+    visited: &mut NameList,
 ) -> Result<Data, NoMemory>
     requires { Rankable (definitions_in world) (sets_of (asked_all group.now)) }
     ensures path { OnOk result (path.new.items ≡ path.old.items) }
@@ -248,7 +250,9 @@ fn answer<'a>(
     }
     match found {
         None => Ok(Data::Null),
-        Some(outcome) => answer_outcome(alloc, world, type_ref, outcome, group, path, errors),
+        Some(outcome) => answer_outcome(
+            alloc, world, type_ref, outcome, group, path, errors, visited,
+        ),
     }
 }
 
@@ -262,6 +266,7 @@ fn answer_outcome<'a>(
     group: &[Taken<'a>],
     path: &mut Vec<Step>,
     errors: &mut Vec<Vec<Step>>,
+    visited: &mut NameList,
 ) -> Result<Data, NoMemory>
     requires ranked { Rankable (definitions_in world) (sets_of (asked_all group.now)) }
     requires fits { is_unfit (given_by world) (type_seen type_ref) (Some (answer_view outcome.now)) ≡ false }
@@ -277,13 +282,18 @@ fn answer_outcome<'a>(
         },
         Outcome::Object { type_name, number } => {
             let object = type_name.as_str();
-            answer_object(alloc, world, type_ref, object, *number, group, path, errors)
+            answer_object(
+                alloc, world, type_ref, object, *number, group, path, errors, visited,
+            )
         }
-        Outcome::List(items) => answer_list(alloc, world, type_ref, items, group, path, errors),
+        Outcome::List(items) => answer_list(
+            alloc, world, type_ref, items, group, path, errors, visited,
+        ),
     }
 }
 
-/// An object that fits.
+/// An object that fits. One list `visited` serves all levels of the response: it may hold anything, and is emptied
+/// wherever the fields of an object are collected.
 #[cycle(answer)]
 pub fn answer_object<'a>(
     alloc: Global,
@@ -294,19 +304,22 @@ pub fn answer_object<'a>(
     group: &[Taken<'a>],
     path: &mut Vec<Step>,
     errors: &mut Vec<Vec<Step>>,
+    visited: &mut NameList,
 ) -> Result<Data, NoMemory>
     requires ranked { Rankable (definitions_in world) (sets_of (asked_all group.now)) }
     requires fits { is_unfit (given_by world) (type_seen type_ref) (Some (record { label = result_of.object object.now number; below = none })) ≡ false }
     ensures path { OnOk result (path.new.items ≡ path.old.items) }
     ensures answer { IfOk result (λ d. IsAnswer world.entry (type_seen type_ref.entry) (Some (record { label = result_of.object object.now number; below = none })) (asked_all group.now) (path_view path.old.items) (errors_view errors.old.items) (errors_view errors.new.items) (data_view d)) }
 {
-    let fields = collect(alloc, world, object, group)?;
+    let fields = collect(alloc, world, object, group, visited)?;
     let groups = grouped(alloc, &fields)?;
     let mut members = Vec::new(alloc);
     let mut blocked = false;
     for (place, one) in groups.groups.iter().enumerate() {
         let key = groups.keys.get(place);
-        let (stops, value) = answer_key(alloc, world, object, number, key, one, path, errors)?;
+        let (stops, value) = answer_key(
+            alloc, world, object, number, key, one, path, errors, visited,
+        )?;
         let key = SmallText::from_str(alloc, key)?;
         members.push(Member { key, value })?;
         blocked = blocked | stops;
@@ -328,6 +341,7 @@ fn answer_key<'a>(
     group: &[Taken<'a>],
     path: &mut Vec<Step>,
     errors: &mut Vec<Vec<Step>>,
+    visited: &mut NameList,
 ) -> Result<(bool, Data), NoMemory>
     requires ranked { Rankable (definitions_in world) (sets_of (asked_all group.now)) }
     requires there { 0 < length group.now }
@@ -336,7 +350,7 @@ fn answer_key<'a>(
 {
     let step = Step::Key(SmallText::from_str(alloc, key)?);
     path.push(step)?;
-    let answered = answer_field(alloc, world, object, number, group, path, errors)?;
+    let answered = answer_field(alloc, world, object, number, group, path, errors, visited)?;
     let _ = path.pop();
     Ok(answered)
 }
@@ -351,6 +365,7 @@ fn answer_field<'a>(
     group: &[Taken<'a>],
     path: &mut Vec<Step>,
     errors: &mut Vec<Vec<Step>>,
+    visited: &mut NameList,
 ) -> Result<(bool, Data), NoMemory>
     requires ranked { Rankable (definitions_in world) (sets_of (asked_all group.now)) }
     requires there { 0 < length group.now }
@@ -364,7 +379,7 @@ fn answer_field<'a>(
     }
     let type_ref = type_of(world, object, first.name);
     let found = look(alloc, world, object, number, first.name, first.arguments)?;
-    let value = answer(alloc, world, type_ref, found, group, path, errors)?;
+    let value = answer(alloc, world, type_ref, found, group, path, errors, visited)?;
     let stops = is_non_null(type_ref) & is_null(&value);
     Ok((stops, value))
 }
@@ -379,6 +394,7 @@ fn answer_list<'a>(
     group: &[Taken<'a>],
     path: &mut Vec<Step>,
     errors: &mut Vec<Vec<Step>>,
+    visited: &mut NameList,
 ) -> Result<Data, NoMemory>
     requires ranked { Rankable (definitions_in world) (sets_of (asked_all group.now)) }
     requires fits { is_unfit (given_by world) (type_seen type_ref) (Some (record { label = result_of.list; below = answers_view items.now })) ≡ false }
@@ -388,7 +404,9 @@ fn answer_list<'a>(
     let mut values = Vec::new(alloc);
     let mut blocked = false;
     for (index, item) in items.iter().enumerate() {
-        let (stops, value) = answer_item(alloc, world, type_ref, index, item, group, path, errors)?;
+        let (stops, value) = answer_item(
+            alloc, world, type_ref, index, item, group, path, errors, visited,
+        )?;
         values.push(value)?;
         blocked = blocked | stops;
     }
@@ -409,6 +427,7 @@ fn answer_item<'a>(
     group: &[Taken<'a>],
     path: &mut Vec<Step>,
     errors: &mut Vec<Vec<Step>>,
+    visited: &mut NameList,
 ) -> Result<(bool, Data), NoMemory>
     requires { Rankable (definitions_in world) (sets_of (asked_all group.now)) }
     ensures path { OnOk result (path.new.items ≡ path.old.items) }
@@ -416,7 +435,16 @@ fn answer_item<'a>(
 {
     let item_type = item_type(type_ref);
     path.push(Step::Index(index))?;
-    let value = answer(alloc, world, item_type, Some(item), group, path, errors)?;
+    let value = answer(
+        alloc,
+        world,
+        item_type,
+        Some(item),
+        group,
+        path,
+        errors,
+        visited,
+    )?;
     let _ = path.pop();
     let stops = is_non_null(item_type) & is_null(&value);
     Ok((stops, value))

@@ -59,21 +59,23 @@ fn key_of(field: &Field) -> &str
 }
 
 /// The fields that the joined sets of the group give for an object of this type: those of the expansion in their
-/// order, some repeats left out.
+/// order, some repeats left out. The list `visited` may hold anything: it is emptied first, and then takes the names of
+/// the fragments that are entered.
 pub fn collect<'a>(
     alloc: Global,
     world: World<'a>,
     object: &str,
     group: &[Taken<'a>],
+    visited: &mut NameList,
 ) -> Result<Vec<Taken<'a>>, NoMemory>
     ensures { IfOk result (λ out. (rank : Text → ℕ) → IsRanked rank (definitions_in world.entry) →
         SpreadsBelow rank (length (definitions_in world.entry)) (sets_of (asked_all group.now)) →
         Thin [] (expand (setting_in world.entry object.now) (definitions_in world.entry) (sets_of (asked_all group.now))) (asked_all out.items)) }
 {
-    let mut visited = NameList::new(alloc);
+    *visited = NameList::new(alloc);
     let mut out = Vec::new(alloc);
     for taken in group {
-        collect_set(world, object, taken.set, &mut visited, &mut out)?;
+        collect_set(world, object, taken.set, visited, &mut out)?;
     }
     Ok(out)
 }

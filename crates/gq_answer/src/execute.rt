@@ -25,6 +25,7 @@ use crate::fragments::Fragments;
 use crate::world::{World, applies, is_composite, types};
 use gq_coerce::{Coercion, Variables};
 use gq_document::{Executable, OperationEntry};
+use gq_names::NameList;
 use gq_response::{Data, Response, Step};
 use gq_table::{Entry, Table};
 use gq_text::{NoMemory, SmallText, Span};
@@ -185,6 +186,7 @@ fn answer_root<'a>(
         set,
     }];
     let mut path = Vec::new(alloc);
+    let mut visited = NameList::new(alloc);
     let data = answer_object(
         alloc,
         world,
@@ -194,6 +196,7 @@ fn answer_root<'a>(
         &group,
         &mut path,
         errors,
+        &mut visited,
     )?;
     Ok(data)
 }
