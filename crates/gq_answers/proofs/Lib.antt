@@ -6,3 +6,4 @@ pub mod Asking
 pub mod Renaming
 pub mod Offering
 pub mod Responding
+pub mod Safe

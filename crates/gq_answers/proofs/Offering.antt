@@ -21,7 +21,7 @@ abbrev asked : List ℕ → Span → RangeAsk
 asked key range = record { key = key; range = range }
 
 none_given : (b : Bool) (documents : List Doc) (ask : RangeAsk) (kind : CodeActionKind) → IsRefactoring kind documents ask (Err ProjectInvalid) → IsOfferedIf b documents ask kind []
-none_given true documents ask kind h = record { answer = Err ProjectInvalid; is_answer = h; is = refl }
+none_given true documents ask kind h = record { answer = Err ProjectInvalid; is_answer = h; is = refl; sound = tt; responses = tt }
 none_given false documents ask kind h = refl
 
 -- a project with a report is not valid

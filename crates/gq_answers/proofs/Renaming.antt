@@ -8,11 +8,13 @@ use Rattle.gq_edit.specs.Workspace.{workspace_edit_of}
 use Rattle.gq_rename.specs.declared.refusal.Refusal.{Refusal}
 use Rattle.gq_rename.specs.declared.refusal.Refusal.TheVariants.{ProjectInvalid, NoMemory}
 use Rattle.gq_rename.specs.Rename.{IsRenameAnswer}
+use Rattle.gq_rename.specs.Responses.{KeepsResponses}
 use Rattle.gq_rules.specs.Validity.{IsInvalid}
 use Rattle.gq_rpc.specs.declared.messages.Id.{Id}
 use Rattle.gq_rpc.specs.declared.messages.RenameParams.{RenameParams}
 use Rattle.gq_rpc.specs.declared.messages.Outgoing.{Outgoing}
 use Rattle.gq_rpc.specs.declared.messages.Outgoing.TheVariants as outgoing
+use Rattle.gq_answers.specs.Sound.{IsSound}
 use Rattle.gq_answers.specs.Renames.{refused, TellsRename}
 use Rattle.gq_answers.specs.Answers.{text_at, offset_at}
 use Rattle.gq_answers.specs.Results.{IsEditByPosition, IsRenameResult, IsRefusedProject}
@@ -25,10 +27,14 @@ module _ (documents : List Doc) (params : RenameParams) (offset : ℕ) (key name
   not_renamed answer why is (inl none) = inl (cc)
   not_renamed answer why is (inr h) = inr (named (Err why) (subst (IsRenameAnswer documents key offset name) is h))
 
+  kept : (edit : List DocumentEdit) → KeepsResponses documents key offset name edit → KeepsResponses documents params.key offset params.new_name edit
+  kept edit h = subst (λ (k : List ℕ). KeepsResponses documents k offset params.new_name edit) same_key (subst (λ (n : List ℕ). KeepsResponses documents key offset n edit) same_name h)
+
   pub renamed : (answer : Result (List DocumentEdit) Refusal) (edit : List DocumentEdit) (by_position : WorkspaceEdit) → answer ≡ Ok edit → (answer ≡ Err NoMemory) ⊎ IsRenameAnswer documents key offset name answer
-      → by_position ≡ workspace_edit_of documents edit → IsEditByPosition documents params offset by_position
-  renamed answer edit by_position is (inl none) same = absurd (cc)
-  renamed answer edit by_position is (inr h) same = record { edit = edit; is_answer = named (Ok edit) (subst (IsRenameAnswer documents key offset name) is h); is = same }
+      → by_position ≡ workspace_edit_of documents edit → IsSound documents edit → KeepsResponses documents key offset name edit → IsEditByPosition documents params offset by_position
+  renamed answer edit by_position is (inl none) same sound responses = absurd (cc)
+  renamed answer edit by_position is (inr h) same sound responses =
+      record { edit = edit; is_answer = named (Ok edit) (subst (IsRenameAnswer documents key offset name) is h); is = same; sound = sound; responses = kept edit responses }
 
 -- a project that is no valid one has one answer
 pub refused_project : (documents : List Doc) (params : RenameParams) (offset : ℕ) (why : Refusal)
@@ -46,9 +52,9 @@ offset-asked documents key text offset params same_key same_text same_offset = s
 
 pub tells_edit : (documents : List Doc) (id : Id) (params : RenameParams) (offset : ℕ) (by_position : WorkspaceEdit) → IsEditByPosition documents params offset by_position
     → TellsRename documents id params offset (outgoing.Renamed id by_position)
-tells_edit documents id params offset by_position h = record { answer = Ok h.edit; is_answer = h.is_answer; is = ap (λ (w : WorkspaceEdit). outgoing.Renamed id w) h.is }
+tells_edit documents id params offset by_position h = record { answer = Ok h.edit; is_answer = h.is_answer; is = ap (λ (w : WorkspaceEdit). outgoing.Renamed id w) h.is; sound = h.sound; responses = h.responses }
 
 pub tells_refused : (documents : List Doc) (id : Id) (params : RenameParams) (offset : ℕ) (why : Refusal) (response : Outgoing)
     → (why ≡ NoMemory) ⊎ IsRenameAnswer documents params.key offset params.new_name (Err why) → response ≡ refused id why → (response ≡ refused id NoMemory) ⊎ TellsRename documents id params offset response
 tells_refused documents id params offset why response (inl none) is = inl (is ∙ ap (refused id) none)
-tells_refused documents id params offset why response (inr h) is = inr (record { answer = Err why; is_answer = h; is = is })
+tells_refused documents id params offset why response (inr h) is = inr (record { answer = Err why; is_answer = h; is = is; sound = tt; responses = tt })

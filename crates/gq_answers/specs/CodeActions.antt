@@ -1,5 +1,5 @@
 -- The code actions that are answered (LSP 3.17, "Code Action Request").
-use Rattle.std.specs.Prelude.{◌≡◌, ℕ, Bool, true, false, ◌&&◌, ◌||◌, nat_eq, nat_le, List, [], ◌∷◌, ◌++◌, length, slice_get, Option, Some, None, Result, Ok, Err, if◌then◌else◌}
+use Rattle.std.specs.Prelude.{◌≡◌, ℕ, Bool, true, false, ◌&&◌, ◌||◌, nat_eq, nat_le, List, [], ◌∷◌, ◌++◌, length, slice_get, Option, Some, None, Result, Ok, Err, IfOk, if◌then◌else◌}
 use Rattle.std.specs.List.{list_any, starts_with}
 use Rattle.std.specs.Option.{option_map_or}
 use Rattle.std.specs.Str.{bytes_eq}
@@ -10,6 +10,7 @@ use Rattle.gq_edit.specs.Workspace.{workspace_edit_of}
 use Rattle.gq_rename.specs.declared.refusal.Refusal.{Refusal}
 use Rattle.gq_reshape.specs.Asks.{RangeAsk}
 use Rattle.gq_reshape.specs.Reshape.{IsExtractAnswer, IsInlineAnswer, IsRemoveAnswer}
+use Rattle.gq_reshape.specs.Responses.{KeepsResponses}
 use Rattle.gq_rpc.specs.Actions.{action_name}
 use Rattle.gq_rpc.specs.declared.messages.Id.{Id}
 use Rattle.gq_rpc.specs.declared.messages.CodeActionKind.{CodeActionKind}
@@ -18,6 +19,7 @@ use Rattle.gq_rpc.specs.declared.messages.CodeAction.{CodeAction}
 use Rattle.gq_rpc.specs.declared.messages.CodeActionParams.{CodeActionParams}
 use Rattle.gq_rpc.specs.declared.messages.Outgoing.{Outgoing}
 use Rattle.gq_rpc.specs.declared.messages.Outgoing.TheVariants as outgoing
+use Rattle.gq_answers.specs.Sound.{IsSound}
 
 -- ---- what is asked for
 
@@ -51,10 +53,13 @@ abbrev pub actions_of : List Doc → CodeActionKind → Result (List DocumentEdi
 actions_of documents kind (Ok edit) = record { kind = kind; edit = workspace_edit_of documents edit } ∷ []
 actions_of documents kind (Err why) = []
 
+-- the answer to the refactoring of a kind gives these actions; where it is an edit it is sound, and keeps all responses
 pub record IsOffered (documents : List Doc) (ask : RangeAsk) (kind : CodeActionKind) (actions : List CodeAction) : Type 0 where
   pub answer : Result (List DocumentEdit) Refusal
   pub is_answer : IsRefactoring kind documents ask answer
   pub is : actions ≡ actions_of documents kind answer
+  pub sound : IfOk answer (IsSound documents)
+  pub responses : IfOk answer (KeepsResponses documents)
 
 -- none, where the kind is not asked for
 abbrev pub IsOfferedIf : Bool → List Doc → RangeAsk → CodeActionKind → List CodeAction → Type 0

@@ -1,4 +1,5 @@
 pub mod Ranges
+pub mod Sound
 pub mod Places
 pub mod Rows
 pub mod Locations
@@ -7,5 +8,6 @@ pub mod CodeActions
 pub mod Notifications
 pub mod Answers
 pub mod Responses
+pub mod Offers
 pub mod Laws
 pub mod Results

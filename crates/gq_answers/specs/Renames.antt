@@ -1,16 +1,18 @@
 -- What a rename is answered with.
-use Rattle.std.specs.Prelude.{◌≡◌, ℕ, List, Some, Result, Ok, Err}
+use Rattle.std.specs.Prelude.{◌≡◌, ℕ, List, Some, Result, Ok, Err, IfOk}
 use Rattle.gq_project.specs.declared.document.Doc.{Doc}
 use Rattle.gq_edit.specs.declared.edit.DocumentEdit.{DocumentEdit}
 use Rattle.gq_edit.specs.Workspace.{workspace_edit_of}
 use Rattle.gq_rename.specs.declared.refusal.Refusal.{Refusal}
 use Rattle.gq_rename.specs.Refusals.{message_of}
 use Rattle.gq_rename.specs.Rename.{IsRenameAnswer}
+use Rattle.gq_rename.specs.Responses.{KeepsResponses}
 use Rattle.gq_rpc.specs.declared.messages.Id.{Id}
 use Rattle.gq_rpc.specs.declared.messages.RenameParams.{RenameParams}
 use Rattle.gq_rpc.specs.declared.messages.ResponseError.TheVariants as error
 use Rattle.gq_rpc.specs.declared.messages.Outgoing.{Outgoing}
 use Rattle.gq_rpc.specs.declared.messages.Outgoing.TheVariants as outgoing
+use Rattle.gq_answers.specs.Sound.{IsSound}
 
 -- the request is right, and is refused for this
 abbrev pub refused : Id → Refusal → Outgoing
@@ -21,8 +23,11 @@ abbrev pub rename_response : Id → List Doc → Result (List DocumentEdit) Refu
 rename_response id documents (Ok edit) = outgoing.Renamed id (workspace_edit_of documents edit)
 rename_response id documents (Err why) = refused id why
 
--- the response tells the answer that is defined for a rename at this offset in these documents
+-- the response tells the answer that is defined for a rename at this offset in these documents; where that is an edit it is sound, and keeps all
+-- responses
 pub record TellsRename (documents : List Doc) (id : Id) (params : RenameParams) (offset : ℕ) (response : Outgoing) : Type 0 where
   pub answer : Result (List DocumentEdit) Refusal
   pub is_answer : IsRenameAnswer documents params.key offset params.new_name answer
   pub is : response ≡ rename_response id documents answer
+  pub sound : IfOk answer (IsSound documents)
+  pub responses : IfOk answer (KeepsResponses documents params.key offset params.new_name)

@@ -7,11 +7,14 @@ use Rattle.gq_edit.specs.Workspace.{workspace_edit_of}
 use Rattle.gq_rename.specs.declared.refusal.Refusal.{Refusal}
 use Rattle.gq_rename.specs.declared.refusal.Refusal.TheVariants.{ProjectInvalid, NoMemory}
 use Rattle.gq_rename.specs.Rename.{IsRenameAnswer}
+use Rattle.gq_rename.specs.Responses as renames
 use Rattle.gq_rules.specs.Validity.{IsInvalid}
 use Rattle.gq_rpc.specs.declared.messages.RenameParams.{RenameParams}
 use Rattle.gq_rpc.specs.declared.messages.CodeActionKind.{CodeActionKind}
 use Rattle.gq_rpc.specs.declared.messages.CodeAction.{CodeAction}
 use Rattle.gq_reshape.specs.Asks.{RangeAsk}
+use Rattle.gq_reshape.specs.Responses as reshapes
+use Rattle.gq_answers.specs.Sound.{IsSound}
 use Rattle.gq_answers.specs.CodeActions.{IsRefactoring, IsGiven}
 
 -- the edit of a rename, by positions in the texts
@@ -19,6 +22,8 @@ pub record IsEditByPosition (documents : List Doc) (params : RenameParams) (offs
   pub edit : List DocumentEdit
   pub is_answer : IsRenameAnswer documents params.key offset params.new_name (Ok edit)
   pub is : by_position ≡ workspace_edit_of documents edit
+  pub sound : IsSound documents edit
+  pub responses : renames.KeepsResponses documents params.key offset params.new_name edit
 
 -- that edit, or a refusal, of which want of memory always may be one
 abbrev pub IsRenameResult : List Doc → RenameParams → ℕ → Result WorkspaceEdit Refusal → Type 0
@@ -29,9 +34,15 @@ IsRenameResult documents params offset (Err why) = (why ≡ NoMemory) ⊎ IsRena
 abbrev pub IsRefusedProject : List Doc → Refusal → Type 0
 IsRefusedProject documents why = (why ≡ NoMemory) ⊎ ((why ≡ ProjectInvalid) × IsInvalid documents)
 
--- the edit of the refactoring of a kind, or none where that is refused
+-- the edit of the refactoring of a kind
+pub record IsEditOf (kind : CodeActionKind) (documents : List Doc) (ask : RangeAsk) (edit : List DocumentEdit) : Type 0 where
+  pub is_answer : IsRefactoring kind documents ask (Ok edit)
+  pub sound : IsSound documents edit
+  pub responses : reshapes.KeepsResponses documents edit
+
+-- that edit, or none where the refactoring is refused
 abbrev pub IsEditIfAny : CodeActionKind → List Doc → RangeAsk → Option (List DocumentEdit) → Type 0
-IsEditIfAny kind documents ask (Some edit) = IsRefactoring kind documents ask (Ok edit)
+IsEditIfAny kind documents ask (Some edit) = IsEditOf kind documents ask edit
 IsEditIfAny kind documents ask None = (why : Refusal) × IsRefactoring kind documents ask (Err why)
 
 -- the actions of a kind are added

@@ -2,9 +2,11 @@
 ghost use Rattle.std.specs.Prelude.{◌≡◌, ◌⊎◌, false, nat_eq, slice_get, Err, IfOk, IfSome, OnOk};
 ghost use Rattle.std.specs.List.{list_any, starts_with};
 ghost use Rattle.std.specs.Option.{option_map_or};
-ghost use Rattle.gq_edit.specs.Edits.{FitDocuments};
+ghost use Rattle.gq_edit.specs.Edits.{FitDocuments, after_edit};
 ghost use Rattle.gq_edit.specs.Workspace.{AreTexts};
+ghost use Rattle.gq_rules.specs.Validity.{IsValid};
 ghost use Rattle.gq_rename.specs.declared.refusal.Refusal.TheVariants as refusal;
+ghost use Rattle.gq_reshape.specs.Responses.{KeepsResponses};
 ghost use Rattle.gq_rpc.specs.declared.messages.Id.{Id};
 ghost use Rattle.gq_rpc.specs.declared.messages.Outgoing.TheVariants as outgoing;
 ghost use Rattle.gq_answers.specs.CodeActions as spec;
@@ -91,12 +93,21 @@ fn refactoring(
 ) -> Result<Edit, Refusal>
     ensures answer { (result ≡ Err refusal.NoMemory) ⊎ spec.IsRefactoring kind valid.now (record { key = key.now; range = range }) result }
     ensures fits { IfOk result (FitDocuments valid.now) }
+    ensures valid { IfOk result (λ edit. ∥ IsValid (after_edit edit valid.now) ∥₁) }
+    ensures responses { IfOk result (KeepsResponses valid.now) }
 {
     match kind {
         CodeActionKind::Extract => extract(alloc, valid, key, range),
         CodeActionKind::Inline => inline(alloc, valid, key, range),
         CodeActionKind::Rewrite => remove_redundant(alloc, valid, key, range),
     }
+}
+
+/// What is kept of a project: that it is valid.
+fn projects_are_valid(valid: &Valid)
+    ensures { ∥ IsValid valid.now ∥₁ }
+{
+    let _project = valid.project();
 }
 
 /// The edit of the refactoring, unless it is refused.
@@ -110,6 +121,7 @@ fn edit_if_any(
     ensures edit { IfOk result (λ edit. IsEditIfAny kind valid.now (record { key = key.now; range = range }) edit) }
     ensures fits { IfOk result (λ edit. IfSome edit (FitDocuments valid.now)) }
 {
+    projects_are_valid(valid);
     match refactoring(alloc, valid, kind, key, range) {
         Ok(edit) => Ok(Some(edit)),
         Err(Refusal::NoMemory) => Err(NoMemory),

@@ -12,5 +12,5 @@ mod ranges;
 mod renames;
 
 pub use answers::answer;
-pub use laws::answers_respond;
+pub use laws::{answered_edits_are_safe, answers_respond};
 pub use notifications::diagnostics_messages;

@@ -15,3 +15,4 @@ returns c =
     renamed c.args.valid.now c.args.params.now c.args.offset c.as_str.result.now c.as_str-2.result.now c.as_str.ensures c.as_str-2.ensures
     (Ok c.in_ok-edit.edit) c.in_ok-edit.edit c.in_ok-to_positions.field-0 refl c.in_ok-edit.ensures.answer
     (c.in_ok-to_positions.ensures ∙ ap (λ documents. workspace_edit_of documents c.in_ok-edit.edit) c.project.ensures.same)
+    (record { valid = c.project.ensures.valid; fits = c.in_ok-edit.ensures.fits; stays_valid = c.in_ok-edit.ensures.valid }) c.in_ok-edit.ensures.responses
