@@ -2,9 +2,9 @@
 use Rattle.std.proofs.Common.{◌≡◌, ℕ, zero, suc, ◌<◌, ◌≤◌, List, [], ◌∷◌, ◌++◌, length, map, take, drop, ap, sym, refl, ◌∙◌, arith}
 use Rattle.std.proofs.Math.Seq.{take-nil}
 use Rattle.std.proofs.lemmas.List.{length-append, append-nil, append_assoc}
-use Rattle.gq_desk.specs.declared.event.Job.{Job}
-use Rattle.gq_desk.specs.Rules.{out_max}
-use Rattle.gq_desk.specs.Machine.{room_for}
+use Rattle.gq_events.specs.declared.event.Job.{Job}
+use Rattle.gq_events.specs.Rules.{out_max}
+use Rattle.gq_events.specs.Machine.{room_for}
 
 one_more : (out : List ℕ) (number : ℕ) → length out < out_max → room_for out ≡ suc (room_for (out ++ number ∷ []))
 one_more out number h = omega (arith, length-append out (number ∷ []))

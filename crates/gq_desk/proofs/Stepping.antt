@@ -1,15 +1,21 @@
 -- What the parts of a step come to.
-use Rattle.std.proofs.Common.{◌≡◌, ℕ, Bool, List, ◌++◌, Option, Result, Ok, Err, OnOk, ap, ◌∙◌, subst}
+use Rattle.std.proofs.Common.{◌≡◌, ℕ, ◌==◌, Bool, List, [], ◌++◌, map, Option, Result, Ok, Err, OnOk, ap, refl, ◌∙◌, subst}
+use Rattle.std.specs.Prelude.{if◌then◌else◌}
+use Rattle.std.proofs.lemmas.List.{append_assoc}
 use Rattle.gq_text.specs.declared.buffer.NoMemory.{NoMemory}
-use Rattle.gq_desk.specs.declared.documents.OpenDocument.{OpenDocument}
-use Rattle.gq_desk.specs.declared.event.Task.{Task}
-use Rattle.gq_desk.specs.declared.event.Answer.{Answer}
-use Rattle.gq_desk.specs.declared.event.Event.{Event}
-use Rattle.gq_desk.specs.declared.event.Out.{Out}
-use Rattle.gq_desk.specs.declared.effect.Effect.{Effect}
-use Rattle.gq_desk.specs.Documents.{docs_of}
-use Rattle.gq_desk.specs.Rules.{FitsTaken, Session, effect_of, changed_by, session_after}
-use Rattle.gq_desk.specs.Machine.{Table, State, taken_by, replies_to, brings, jobs_after, Steps}
+use Rattle.gq_events.specs.declared.documents.OpenDocument.{OpenDocument}
+use Rattle.gq_events.specs.declared.event.Task.{Task}
+use Rattle.gq_events.specs.declared.event.Answer.{Answer}
+use Rattle.gq_events.specs.declared.event.Event.{Event}
+use Rattle.gq_events.specs.declared.event.Out.{Out}
+use Rattle.gq_events.specs.declared.event.Out.TheVariants as out
+use Rattle.gq_events.specs.declared.refusals.Denial.{Denial}
+use Rattle.gq_events.specs.declared.effect.Effect.{Effect}
+use Rattle.gq_events.specs.Documents.{docs_of}
+use Rattle.gq_events.specs.Rules.{FitsTaken, Session, effect_of, changed_by, session_after, denied_by, taken, own, answer_to}
+use Rattle.gq_events.specs.Machine.{Table, State, settled, with_jobs, jobs_for, jobs_then, next_jobs, handed_on, taken_by, verdicts, replies_to, brings, jobs_after, Steps}
+use Rattle.gq_desk.specs.Settling.{rest_of}
+use Rattle.gq_desk.proofs.Settled.{session_stays, changed_stays, own_stays, taken_stays}
 
 abbrev state : Session → ℕ → Table → State
 state session workers jobs = record { session = session; workers = workers; jobs = jobs }
@@ -46,8 +52,51 @@ module _ (s : State) (event : Event) (e : Effect) (document : Option OpenDocumen
             ∙ ap (λ (e : Effect). state (session_after ss e (changed_by ss e d_is.0)) w (jobs_after w ss sj e (taken_by ss sj e))) e_is)));
       }
 
-  pub stepped : (result : Result (Unit {0}) NoMemory) → e ≡ effect_of s.session.phase s.session.documents event → (r : Bool) × (document ≡ changed_by s.session e r) → mid ≡ replies_to s.session s.jobs e document
-      → t ≡ taken_by s.session s.jobs e → OnOk result (session ≡ session_after s.session e document) → OnOk result (jobs ≡ jobs_after s.workers s.session s.jobs e t)
-      → OnOk result Given → OnOk result (Steps s event new (state session s.workers jobs))
-  stepped (Ok u) e_is d_is mid_is t_is h k l = done e_is d_is mid_is t_is h k l
-  stepped (Err w) e_is d_is mid_is t_is h k l = tt
+-- an event's own reply is that of what is left of it
+abbrev pub Replied : Session → Option Denial → Effect → Session → List Out → List Out → Type 0
+Replied s denied e t old new = (r : Bool) × (t ≡ session_after s e (changed_by s e r)) × (new ≡ old ++ own s denied e (changed_by s e r))
+
+whole : (s t : Session) (denied : Option Denial) (e : Effect) (old new : List Out) → Replied s denied (rest_of e) t old new → Replied s denied e t old new
+whole s t denied e old new replied =
+    let r = replied.0 in (
+      r,
+      replied.1 ∙ (session_stays s e (changed_by s (rest_of e) r) ∙ ap (session_after s e) (changed_stays s e r)),
+      replied.2 ∙ ap (λ (l : List Out). old ++ l) (own_stays s denied e (changed_by s (rest_of e) r) ∙ ap (own s denied e) (changed_stays s e r)),
+    )
+
+module _ (s : State) (event : Event) (e rest : Effect) (denied : Option Denial) (task : Option Task) (told mid brought new : List Out) (session : Session) (settled_jobs jobs jobs' : Table) where
+  -- what a step tells, up to what it hands on
+  abbrev Brought : Type 0
+  Brought = (a : Answer) × (s.workers ≡ 0 → FitsTaken (docs_of session.documents) task a) × (brought ≡ mid ++ (if s.workers == 0 then answer_to task a else []))
+
+  joined : e ≡ effect_of s.session.phase s.session.documents event → denied ≡ denied_by s.session s.jobs.pending e → rest ≡ rest_of e → settled_jobs ≡ settled (docs_of s.session.documents) e s.jobs
+      → told ≡ verdicts (docs_of s.session.documents) e s.jobs.pending → task ≡ taken s.session.diagnostics denied rest → Replied s.session denied rest session told mid
+      → jobs ≡ with_jobs settled_jobs (jobs_for s.workers settled_jobs.next task) → Brought → jobs' ≡ handed_on jobs → new ≡ brought ++ map out.Job (next_jobs jobs) → Steps s event new (state session s.workers jobs')
+  joined e_is denied_is rest_is settled_is told_is task_is replied jobs_is given handed_is new_is =
+      let ss = s.session in
+      let sj = s.jobs in
+      let w = s.workers in
+      let by_event = whole ss session denied e told mid (subst (λ (x : Effect). Replied ss denied x session told mid) rest_is replied) in
+      let d = changed_by ss e by_event.0 in
+      let t_is : task ≡ taken_by ss sj e = task_is ∙ (ap (taken ss.diagnostics denied) rest_is ∙ (taken_stays ss.diagnostics denied e ∙ ap (λ (x : Option Denial). taken ss.diagnostics x e) denied_is)) in
+      let then_is : jobs ≡ jobs_then w ss sj e task = jobs_is ∙ ap (λ (x : Table). with_jobs x (jobs_for w x.next task)) settled_is in
+      let mid_is : mid ≡ replies_to ss sj e d =
+      by_event.2 ∙ (ap (λ (l : List Out). l ++ own ss denied e d) told_is ∙ ap (λ (x : Option Denial). verdicts (docs_of ss.documents) e sj.pending ++ own ss x e d) denied_is) in
+      let a = given.0 in
+      let new_then : new ≡ mid ++ brings w ss sj e task a =
+      new_is ∙ (ap (λ (l : List Out). l ++ map out.Job (next_jobs jobs)) given.2
+      ∙ (append_assoc mid (if w == 0 then answer_to task a else []) (map out.Job (next_jobs jobs))
+      ∙ ap (λ (x : Table). mid ++ ((if w == 0 then answer_to task a else []) ++ map out.Job (next_jobs x))) then_is)) in
+      done s event e d task mid new session jobs' e_is (by_event.0, refl) mid_is t_is by_event.1 (handed_is ∙ ap handed_on then_is) (a, given.1, new_then)
+
+  pub stepped : (result : Result (Unit {0}) NoMemory) → e ≡ effect_of s.session.phase s.session.documents event → denied ≡ denied_by s.session s.jobs.pending e → rest ≡ rest_of e
+      → settled_jobs ≡ settled (docs_of s.session.documents) e s.jobs → told ≡ verdicts (docs_of s.session.documents) e s.jobs.pending → task ≡ taken s.session.diagnostics denied rest
+      → Replied s.session denied rest session told mid → jobs ≡ with_jobs settled_jobs (jobs_for s.workers settled_jobs.next task) → Brought
+      → OnOk result (jobs' ≡ handed_on jobs) → OnOk result (new ≡ brought ++ map out.Job (next_jobs jobs)) → OnOk result (Steps s event new (state session s.workers jobs'))
+  stepped (Ok u) e_is denied_is rest_is settled_is told_is task_is replied jobs_is given handed_is new_is =
+      joined e_is denied_is rest_is settled_is told_is task_is replied jobs_is given handed_is new_is
+  stepped (Err why) e_is denied_is rest_is settled_is told_is task_is replied jobs_is given handed_is new_is = tt
+
+-- what is written first
+pub from_none : (old told new : List Out) → old ≡ [] → new ≡ old ++ told → new ≡ told
+from_none old told new none is = rw none at is

@@ -1,7 +1,5 @@
-pub mod Documents
-pub mod Tasks
-pub mod Rules
-pub mod History
-pub mod Machine
-pub mod Laws
-pub mod Lifecycle
+pub mod Frames
+pub mod Faults
+pub mod Settling
+pub mod Driving
+pub mod Turns

@@ -1,10 +1,14 @@
 //! The desk: one event after another.
-ghost use Rattle.std.specs.Prelude.{◌≡◌, ◌<◌, ◌^◌, [], Some, None, Err, IfOk, IfSome, OnOk, OnErr, IsErrOf};
-ghost use Rattle.gq_desk.specs.Machine.{start, no_jobs, Steps, DeskSteps};
+ghost use Rattle.std.specs.Prelude.{◌≡◌, ◌++◌, ◌<◌, ◌^◌, ◌==◌, [], Some, None, Err, IfOk, IfSome, OnOk, OnErr, IsErrOf, if◌then◌else◌};
+ghost use Rattle.gq_events.specs.declared.event.Answer.{Answer};
+ghost use Rattle.gq_events.specs.Documents.{docs_of};
+ghost use Rattle.gq_events.specs.Rules.{answer_to, FitsTaken};
+ghost use Rattle.gq_events.specs.Machine as spec;
 
-use crate::answers::answer_task;
-use crate::event::{Event, Out};
-use crate::session::ClientSession;
+use crate::jobs::Jobs;
+use gq_events::answers::answer_task;
+use gq_events::documents::OpenDocuments;
+use gq_events::{ClientSession, Event, Out, Task};
 use gq_text::NoMemory;
 use std::alloc::Global;
 use std::marker::Model;
@@ -18,45 +22,77 @@ pub enum DeskFault {
     Failed,
 }
 
-/// One step over a session.
+/// Answers a task at once where there are no workers, else makes a job for it.
+fn bring(
+    alloc: Global,
+    documents: &OpenDocuments,
+    workers: u8,
+    jobs: &mut Jobs,
+    task: Option<Task>,
+    outs: &mut Vec<Out>,
+) -> Result<(), NoMemory>
+    requires { jobs.old.next < 2 ^ 62 }
+    ensures jobs { OnOk result (jobs.new ≡ spec.with_jobs jobs.old (spec.jobs_for workers jobs.old.next task)) }
+    ensures outs { OnOk result ((answer : Answer) × (workers ≡ 0 → FitsTaken (docs_of documents.now) task answer) × (outs.new.items ≡ outs.old.items ++ (if workers == 0 then answer_to task answer else []))) }
+{
+    if workers == 0 {
+        return answer_task(alloc, documents, task, outs);
+    }
+    match task {
+        Some(task) => jobs.add(alloc, task),
+        None => Ok(()),
+    }
+}
+
+/// One step over a session and its jobs.
 fn take_event(
     alloc: Global,
     session: &mut ClientSession,
+    workers: u8,
+    jobs: &mut Jobs,
     event: Event,
     outs: &mut Vec<Out>,
 ) -> Result<(), NoMemory>
-    requires { outs.old.items ≡ [] }
-    ensures { OnOk result (Steps (record { session = session.old; workers = 0; jobs = no_jobs }) event outs.new.items (record { session = session.new; workers = 0; jobs = no_jobs })) }
+    requires next { jobs.old.next < 2 ^ 62 }
+    requires empty { outs.old.items ≡ [] }
+    ensures { OnOk result (spec.Steps (record { session = session.old; workers = workers; jobs = jobs.old }) event outs.new.items (record { session = session.new; workers = workers; jobs = jobs.new })) }
 {
     let effect = session.effect(event);
-    let denied = session.denied_by(alloc, &[], &effect)?;
-    let task = session.take_in(alloc, denied, effect, outs)?;
-    answer_task(alloc, session.documents(), task, outs)
+    let denied = session.denied_by(alloc, jobs.pending(), &effect)?;
+    let rest = jobs.settle(alloc, session.documents(), effect, outs)?;
+    let task = session.take_in(alloc, denied, rest, outs)?;
+    bring(alloc, session.documents(), workers, jobs, task, outs)?;
+    jobs.hand_on(outs)
 }
 
-/// A session that is answered without workers. Contracts see its state, or nothing once it has failed.
+/// A session with its jobs. Contracts see its state, or nothing once it has failed.
 #[derive(Drop)]
 pub struct Desk {
     session: ClientSession,
+    workers: u8,
+    jobs: Jobs,
     failed: bool,
 }
 
 impl Model for Desk {
     ghost use Rattle.std.specs.Prelude.{Option, Some, None, if◌then◌else◌};
-    ghost use Rattle.gq_desk.specs.Machine.{State, no_jobs};
+    ghost use Rattle.gq_events.specs.Machine.{State};
 
     ghost Value = { Option State };
 
-    ghost view = { λ d. if d.failed then None else Some (record { session = d.session; workers = 0; jobs = no_jobs }) };
+    ghost view = { λ d. if d.failed then None else Some (record { session = d.session; workers = d.workers; jobs = d.jobs }) };
 }
 
 impl Desk {
-    /// A desk without workers, the only kind so far: it answers each question in its own step. It takes no memory.
-    pub fn new(alloc: Global) -> Desk
-        ensures { result ≡ Some (start 0) }
+    /// A desk with so many workers. With none it answers each task itself, in the step that brings it. It takes no
+    /// memory.
+    pub fn new(alloc: Global, workers: u8) -> Desk
+        ensures { result ≡ Some (spec.start workers) }
     {
         Desk {
             session: ClientSession::new(alloc),
+            workers,
+            jobs: Jobs::new(alloc),
             failed: false,
         }
     }
@@ -64,7 +100,7 @@ impl Desk {
     /// Takes an event. After `NoMemory` the desk has failed.
     pub fn step(&mut self, alloc: Global, event: Event) -> Result<Vec<Out>, DeskFault>
         requires { IfSome self.old (λ s. s.jobs.next < 2 ^ 62) }
-        ensures step { IfOk result (λ outs. DeskSteps self.old event outs.items self.new) }
+        ensures step { IfOk result (λ outs. spec.DeskSteps self.old event outs.items self.new) }
         ensures err { OnErr result (self.new ≡ None) }
         ensures failed { self.old ≡ None → result ≡ Err DeskFault.Failed }
         ensures only_failed { IsErrOf result DeskFault.Failed → self.old ≡ None }
@@ -73,7 +109,15 @@ impl Desk {
             return Err(DeskFault::Failed);
         }
         let mut outs = Vec::new(alloc);
-        match take_event(alloc, &mut self.session, event, &mut outs) {
+        let done = take_event(
+            alloc,
+            &mut self.session,
+            self.workers,
+            &mut self.jobs,
+            event,
+            &mut outs,
+        );
+        match done {
             Ok(()) => Ok(outs),
             Err(NoMemory) => {
                 self.failed = true;

@@ -1,16 +1,12 @@
-//! The desk: what came from the client and from workers, event by event, and what is put out for it.
+//! The desk: event after event, what is put out for it, and where that goes.
 #![tactic(auto)]
 
-pub mod answers;
 pub mod desk;
-pub mod documents;
-pub mod effect;
-pub mod event;
-pub mod laws;
-pub mod refusals;
-pub mod session;
+pub mod driving;
+pub mod hands;
+mod jobs;
 
 pub use desk::{Desk, DeskFault};
-pub use documents::OpenDocument;
-pub use effect::{Change, Effect, Phase};
-pub use event::{Answer, Done, Event, InputEnd, Job, Out, Task};
+pub use driving::{DriveFault, drive};
+pub use gq_events::{Answer, Done, Event, InputEnd, Job, OpenDocument, Out, Task};
+pub use hands::{Hands, HandsFault, NoHands};

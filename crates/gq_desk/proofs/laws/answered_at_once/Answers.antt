@@ -1,5 +1,0 @@
-use Rattle.gq_desk.proofs.Alone.{answered_at_once}
-use Rattle.gq_desk.proofs.laws.answered_at_once.Goals as goal
-
-pub returns : goal.returns
-returns c = answered_at_once

@@ -1,5 +1,0 @@
-use Rattle.gq_desk.proofs.Publishing.{changes_are_published}
-use Rattle.gq_desk.proofs.laws.changes_are_published.Goals as goal
-
-pub returns : goal.returns
-returns c = changes_are_published

@@ -1,5 +1,0 @@
-use Rattle.gq_desk.proofs.Firsts.{decided_at_first}
-use Rattle.gq_desk.proofs.laws.decided_at_first.Goals as goal
-
-pub returns : goal.returns
-returns c = decided_at_first

@@ -1,5 +1,0 @@
-use Rattle.gq_desk.proofs.Keeping.{documents_are_kept}
-use Rattle.gq_desk.proofs.laws.documents_are_kept.Goals as goal
-
-pub returns : goal.returns
-returns c = documents_are_kept

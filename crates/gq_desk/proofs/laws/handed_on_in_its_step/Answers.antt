@@ -1,5 +1,0 @@
-use Rattle.gq_desk.proofs.HandedOn.{handed_on_in_its_step}
-use Rattle.gq_desk.proofs.laws.handed_on_in_its_step.Goals as goal
-
-pub returns : goal.returns
-returns c = handed_on_in_its_step

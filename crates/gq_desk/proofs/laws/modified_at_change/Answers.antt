@@ -1,5 +1,0 @@
-use Rattle.gq_desk.proofs.Modified.{modified_at_change}
-use Rattle.gq_desk.proofs.laws.modified_at_change.Goals as goal
-
-pub returns : goal.returns
-returns c = modified_at_change c.answers_respond.ensures

@@ -1,5 +1,0 @@
-use Rattle.gq_desk.proofs.Steps.{one_is_decided}
-use Rattle.gq_desk.proofs.laws.one_is_decided.Goals as goal
-
-pub returns : goal.returns
-returns c = one_is_decided

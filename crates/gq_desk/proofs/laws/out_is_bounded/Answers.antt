@@ -1,5 +1,0 @@
-use Rattle.gq_desk.proofs.Steps.{out_is_bounded}
-use Rattle.gq_desk.proofs.laws.out_is_bounded.Goals as goal
-
-pub returns : goal.returns
-returns c = out_is_bounded

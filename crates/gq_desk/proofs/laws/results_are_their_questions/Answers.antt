@@ -1,5 +1,0 @@
-use Rattle.gq_desk.proofs.Results.{results_are_their_questions}
-use Rattle.gq_desk.proofs.laws.results_are_their_questions.Goals as goal
-
-pub returns : goal.returns
-returns c = results_are_their_questions

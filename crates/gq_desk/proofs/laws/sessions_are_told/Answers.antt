@@ -1,5 +1,0 @@
-use Rattle.gq_desk.proofs.Lifecycles.{sessions_are_told}
-use Rattle.gq_desk.proofs.laws.sessions_are_told.Goals as goal
-
-pub returns : goal.returns
-returns c = sessions_are_told

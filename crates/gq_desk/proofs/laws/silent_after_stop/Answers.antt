@@ -1,5 +1,0 @@
-use Rattle.gq_desk.proofs.Steps.{silent_after_stop}
-use Rattle.gq_desk.proofs.laws.silent_after_stop.Goals as goal
-
-pub returns : goal.returns
-returns c = silent_after_stop

@@ -1,0 +1,142 @@
+-- Where each output of a step comes from: what holds of the outputs of each source holds of all.
+use Rattle.std.proofs.Common.{◌≤◌, ◌≡◌, ℕ, zero, suc, ◌+◌, ◌<◌, Bool, true, false, cond, ◌==◌, List, [], ◌∷◌, ◌++◌, length, map, Option, Some, None, refl, arith}
+use Rattle.std.specs.Prelude.{filter, flat_map, codes}
+use Rattle.std.specs.List.{AllByRecursion}
+use Rattle.std.proofs.lemmas.Bool.Decides.{nat_tests}
+use Rattle.gq_rpc.specs.declared.messages.Id.{Id}
+use Rattle.gq_rpc.specs.declared.messages.Question.{Question}
+use Rattle.gq_events.specs.declared.refusals.Denial.{Denial}
+use Rattle.gq_rpc.specs.declared.messages.ResponseError.TheVariants as error
+use Rattle.gq_events.specs.declared.event.Task.{Task}
+use Rattle.gq_events.specs.declared.event.Task.TheVariants as task
+use Rattle.gq_events.specs.declared.event.Job.{Job}
+use Rattle.gq_events.specs.declared.event.Answer.{Answer}
+use Rattle.gq_events.specs.declared.event.Out.{Out}
+use Rattle.gq_events.specs.declared.event.Out.TheVariants as out
+use Rattle.gq_events.specs.declared.effect.Change.{Change}
+use Rattle.gq_events.specs.declared.effect.Effect.{Effect}
+use Rattle.gq_events.specs.declared.effect.Effect.TheVariants as effect
+use Rattle.gq_events.specs.Tasks.{Answers}
+use Rattle.gq_events.specs.Rules.{Turn, failed, refused_as, answered, verdict, accepted, taken, own, FitsTaken, answer_to}
+use Rattle.gq_events.specs.History.{session_at, effect_at, changed_at, docs_at, turn_at, Asked, is_decided_at, asked_before, denied_at, taken_at, numbered, handed_at, handed_before, decided_at, at_once, outputs_at, IsAnswered}
+use Rattle.gq_events.proofs.Lists.{both, weaker}
+use Rattle.gq_events.proofs.Firsts.{decided_at_first, answers_are_defined}
+
+-- the event of this effect brings the task: a client's question, or after a change the check
+abbrev pub IsBroughtBy : Effect → Task → Type 0
+IsBroughtBy (effect.Asks id asked) t = (q : Question) × ((asked ≡ Some q) × (t ≡ task.Ask id q))
+IsBroughtBy (effect.Changes c) t = t ≡ task.Check
+IsBroughtBy effect.Nothing t = ⊥
+IsBroughtBy (effect.Begins id capabilities) t = ⊥
+IsBroughtBy (effect.Refuses id why) t = ⊥
+IsBroughtBy (effect.Cancels id) t = ⊥
+IsBroughtBy (effect.ShutsDown id) t = ⊥
+IsBroughtBy (effect.Finishes done) t = ⊥
+IsBroughtBy (effect.Stops status) t = ⊥
+
+abbrev IsTakenBy : Effect → Option Task → Type 0
+IsTakenBy e None = Unit {0}
+IsTakenBy e (Some t) = IsBroughtBy e t
+
+check_if : (b : Bool) (c : Change) → IsTakenBy (effect.Changes c) (cond b (Some task.Check) None)
+check_if true c = refl
+check_if false c = tt
+
+ask_if : (id : Id) (asked : Option Question) (denied : Option Denial) → IsTakenBy (effect.Asks id asked) (accepted id asked denied)
+ask_if id None denied = tt
+ask_if id (Some q) None = (q, (refl, refl))
+ask_if id (Some q) (Some why) = tt
+
+taken_by : (diagnostics : Bool) (denied : Option Denial) (e : Effect) → IsTakenBy e (taken diagnostics denied e)
+taken_by diagnostics denied (effect.Asks id asked) = ask_if id asked denied
+taken_by diagnostics denied (effect.Changes c) = check_if diagnostics c
+taken_by diagnostics denied effect.Nothing = tt
+taken_by diagnostics denied (effect.Begins id capabilities) = tt
+taken_by diagnostics denied (effect.Refuses id why) = tt
+taken_by diagnostics denied (effect.Cancels id) = tt
+taken_by diagnostics denied (effect.ShutsDown id) = tt
+taken_by diagnostics denied (effect.Finishes done) = tt
+taken_by diagnostics denied (effect.Stops status) = tt
+
+-- an answer to a task that an event at place i brought, about the documents after it
+pub record IsGiven (events : List Turn) (j : ℕ) (t : Task) (a : Answer) : Type 0 where
+  pub place : ℕ
+  pub earlier : place ≤ j
+  pub brought : IsBroughtBy (effect_at events place) t
+  pub fits : Answers (docs_at events (suc place)) t a
+
+module _ (workers : ℕ) (events : List Turn) (j : ℕ) (P : Out → Type 0)
+    (of_own : AllByRecursion P (own (session_at events j) (denied_at events j (asked_before workers events j)) (effect_at events j) (changed_at events j)))
+    (of_change : (c : Change) → effect_at events j ≡ effect.Changes c → (t : Task) → AllByRecursion P (refused_as t error.ContentModified))
+    (of_shutdown : (t : Task) → AllByRecursion P (refused_as t (failed (codes "shutdown"))))
+    (of_cancel : (t : Task) → AllByRecursion P (refused_as t error.Cancelled))
+    (of_answer : (t : Task) (a : Answer) → IsGiven events j t a → AllByRecursion P (answered t a))
+    (of_job : (job : Job) → P (out.Job job)) where
+  abbrev All_hold : List Out → Type 0
+  All_hold outs = AllByRecursion P outs
+
+  abbrev Comes : ℕ → Asked → Type 0
+  Comes k a = (a.place < k) × IsBroughtBy (effect_at events a.place) a.job.task
+
+  brought : (alone : Bool) (k number : ℕ) (t : Option Task) → IsTakenBy (effect_at events k) t → AllByRecursion (Comes (suc k)) (cond alone [] (numbered k number t))
+  brought true k number t h = tt
+  brought false k number None h = tt
+  brought false k number (Some t) h = ((omega arith, h), tt)
+
+  all_come : (k : ℕ) → AllByRecursion (Comes k) (asked_before workers events k)
+  all_come zero = tt
+  all_come (suc k) =
+      let asked = asked_before workers events k in
+      both (Comes (suc k)) asked (cond (workers == 0) [] (numbered k (length asked + 1) (taken_at events k asked)))
+      (weaker (Comes k) (Comes (suc k)) (λ a h. (let before : a.place < k = h.0 in omega arith, h.1)) asked (all_come k))
+      (brought (workers == 0) k (length asked + 1) (taken_at events k asked) (taken_by _ _ (effect_at events k)))
+
+  of_verdict : (a : Asked) (e : Effect) → effect_at events j ≡ e → Comes j a → is_decided_at events j a ≡ true → All_hold (verdict e a.job)
+  of_verdict a (effect.Changes c) is come decided = of_change c is a.job.task
+  of_verdict a (effect.ShutsDown id) is come decided = of_shutdown a.job.task
+  of_verdict a (effect.Cancels id) is come decided = of_cancel a.job.task
+  of_verdict a (effect.Finishes done) is come decided =
+      of_answer a.job.task done.answer (record {
+        place = a.place;
+        earlier = let before : a.place < j = come.0 in omega arith;
+        brought = come.1;
+        fits = answers_are_defined events a j done ((decided_at_first events a j come.0).0 decided) is;
+      })
+  of_verdict a effect.Nothing is come decided = tt
+  of_verdict a (effect.Begins id capabilities) is come decided = tt
+  of_verdict a (effect.Refuses id why) is come decided = tt
+  of_verdict a (effect.Asks id asked) is come decided = tt
+  of_verdict a (effect.Stops status) is come decided = tt
+
+  abbrev decided_outs : List Asked → List Out
+  decided_outs asked = flat_map (λ a. verdict (effect_at events j) a.job) asked
+
+  by_decision : (a : Asked) (asked : List Asked) (b : Bool) → is_decided_at events j a ≡ b → Comes j a → All_hold (decided_outs asked) → All_hold (decided_outs (cond b (a ∷ asked) asked))
+  by_decision a asked true e come h = both P (verdict (effect_at events j) a.job) (decided_outs asked) (of_verdict a (effect_at events j) refl come e) h
+  by_decision a asked false e come h = h
+
+  of_decided : (asked : List Asked) → AllByRecursion (Comes j) asked → All_hold (decided_outs (filter (is_decided_at events j) asked))
+  of_decided [] h = tt
+  of_decided (a ∷ asked) h = by_decision a (filter (is_decided_at events j) asked) (is_decided_at events j a) refl h.0 (of_decided asked h.1)
+
+  of_jobs : (jobs : List Job) → All_hold (map out.Job jobs)
+  of_jobs [] = tt
+  of_jobs (job ∷ jobs) = (of_job job, of_jobs jobs)
+
+  of_once : (alone : Bool) (t : Option Task) (a : Answer) → IsTakenBy (effect_at events j) t → (alone ≡ true → FitsTaken (docs_at events (suc j)) t a) → All_hold (cond alone (answer_to t a) [])
+  of_once true None a h f = tt
+  of_once true (Some t) a h f = of_answer t a (record { place = j; earlier = omega arith; brought = h; fits = f refl })
+  of_once false t a h f = tt
+
+  alone_is : (n : ℕ) → (n == 0) ≡ true → n ≡ 0
+  alone_is n h = grind (arith, nat_tests)
+
+  pub of_outputs : IsAnswered workers events j → All_hold (outputs_at workers events j)
+  of_outputs fits =
+      let asked = asked_before workers events j in
+      let own_outs = own (session_at events j) (denied_at events j asked) (effect_at events j) (changed_at events j) in
+      let jobs = map out.Job (handed_at workers events j (handed_before workers events j)) in
+      both P (decided_at workers events j ++ own_outs) (at_once workers events j ++ jobs)
+      (both P (decided_at workers events j) own_outs (of_decided asked (all_come j)) of_own)
+      (both P (at_once workers events j) jobs
+      (of_once (workers == 0) (taken_at events j asked) (turn_at events j).answer (taken_by _ _ (effect_at events j)) (λ e. fits (alone_is workers e))) (of_jobs _))

@@ -1,0 +1,140 @@
+-- What a session has come to, told by looking for its first `initialize` and `shutdown` among the events that came (LSP 3.17, "Server lifecycle").
+use Rattle.std.specs.Prelude.{◌≡◌, ◌≤◌, ℕ, Bool, true, false, List, [], take, length, fold, find, Option, Some, None, is_some, option_and_then, if◌then◌else◌}
+use Rattle.std.specs.List.{list_any, before_first, after_first}
+use Rattle.std.specs.Option.{option_map_or}
+use Rattle.gq_rpc.specs.declared.messages.ClientCapabilities.{ClientCapabilities}
+use Rattle.gq_rpc.specs.declared.messages.Request.{Request}
+use Rattle.gq_rpc.specs.declared.messages.Request.TheVariants as request
+use Rattle.gq_rpc.specs.declared.messages.Notification.{Notification}
+use Rattle.gq_rpc.specs.declared.messages.Notification.TheVariants as notification
+use Rattle.gq_rpc.specs.declared.messages.Incoming.TheVariants as incoming
+use Rattle.gq_events.specs.declared.documents.OpenDocument.{OpenDocument}
+use Rattle.gq_events.specs.declared.event.Event.{Event}
+use Rattle.gq_events.specs.declared.event.Event.TheVariants as event
+use Rattle.gq_events.specs.declared.effect.Phase.{Phase}
+use Rattle.gq_events.specs.declared.effect.Phase.TheVariants.{Fresh, Running, Down, Stopped}
+use Rattle.gq_events.specs.declared.effect.Change.{Change}
+use Rattle.gq_events.specs.declared.effect.Change.TheVariants as change
+use Rattle.gq_events.specs.Documents.{is_change, key_of, changed, with_changed}
+use Rattle.gq_events.specs.Rules.{Turn, Session, begun}
+use Rattle.gq_events.specs.History.{session_step, session_at}
+
+-- the request, the notification that an event is
+abbrev pub request_in : Event → Option Request
+request_in (event.Message (incoming.Request id r)) = Some r
+request_in (event.Message (incoming.Notification n)) = None
+request_in (event.Message (incoming.Invalid id)) = None
+request_in (event.Message incoming.Ignored) = None
+request_in (event.Message incoming.NotJson) = None
+request_in (event.Done done) = None
+request_in (event.End end) = None
+
+abbrev pub notification_in : Event → Option Notification
+notification_in (event.Message (incoming.Notification n)) = Some n
+notification_in (event.Message (incoming.Request id r)) = None
+notification_in (event.Message (incoming.Invalid id)) = None
+notification_in (event.Message incoming.Ignored) = None
+notification_in (event.Message incoming.NotJson) = None
+notification_in (event.Done done) = None
+notification_in (event.End end) = None
+
+-- what the client states with `initialize`
+abbrev pub stated_by : Request → Option ClientCapabilities
+stated_by (request.Initialize capabilities) = Some capabilities
+stated_by request.Shutdown = None
+stated_by (request.Ask question) = None
+stated_by request.InvalidParams = None
+stated_by request.Unknown = None
+
+abbrev pub stated_in : Turn → Option ClientCapabilities
+stated_in turn = option_and_then stated_by (request_in turn.event)
+
+abbrev pub is_initialize : Turn → Bool
+is_initialize turn = is_some (stated_in turn)
+
+abbrev pub shuts_down : Request → Bool
+shuts_down (request.Initialize capabilities) = false
+shuts_down request.Shutdown = true
+shuts_down (request.Ask question) = false
+shuts_down request.InvalidParams = false
+shuts_down request.Unknown = false
+
+abbrev pub is_shutdown : Turn → Bool
+is_shutdown turn = option_map_or shuts_down (request_in turn.event) false
+
+-- the change that a notification tells
+abbrev pub change_by : Notification → Option Change
+change_by (notification.DidOpen item) = Some (change.Open item)
+change_by (notification.DidChange params) = Some (change.Edit params)
+change_by (notification.DidClose key) = Some (change.Close key)
+change_by (notification.Cancel id) = None
+change_by notification.Exit = None
+change_by notification.Unknown = None
+
+abbrev pub change_in : Turn → Option Change
+change_in turn = option_and_then change_by (notification_in turn.event)
+
+-- `exit`, or the end of the input
+abbrev pub is_end : Event → Bool
+is_end (event.Message m) = false
+is_end (event.Done done) = false
+is_end (event.End end) = true
+
+abbrev pub exits : Notification → Bool
+exits notification.Exit = true
+exits (notification.DidOpen item) = false
+exits (notification.DidChange params) = false
+exits (notification.DidClose key) = false
+exits (notification.Cancel id) = false
+exits notification.Unknown = false
+
+abbrev pub is_stop : Turn → Bool
+is_stop turn = if is_end turn.event then true else option_map_or exits (notification_in turn.event) false
+
+-- what came after the first `initialize`
+abbrev pub in_session : List Turn → List Turn
+in_session past = after_first is_initialize past
+
+-- down where a `shutdown` came in the session, running where it has begun
+abbrev pub phase_of : List Turn → Phase
+phase_of past = if list_any is_shutdown (in_session past) then Down else (if list_any is_initialize past then Running else Fresh)
+
+-- what the client stated at first
+abbrev pub states : (ClientCapabilities → Bool) → Turn → Bool
+states capability turn = option_map_or capability (stated_in turn) false
+
+abbrev pub is_stated : (ClientCapabilities → Bool) → List Turn → Bool
+is_stated capability past = option_map_or (states capability) (find is_initialize past) false
+
+-- the documents after what an event tells of them
+abbrev pub with_change : List OpenDocument → Bool → Option Change → List OpenDocument
+with_change documents refused None = documents
+with_change documents refused (Some c) = if is_change documents c then with_changed documents (key_of c) (changed documents c refused) else documents
+
+abbrev pub documents_after : List OpenDocument → Turn → List OpenDocument
+documents_after documents turn = with_change documents turn.text_refused (change_in turn)
+
+-- the changes of the session before its first `shutdown`, one after another
+abbrev pub documents_of : List Turn → List OpenDocument
+documents_of past = fold documents_after [] (before_first is_shutdown (in_session past))
+
+abbrev pub told : List Turn → Session
+told past = record {
+  phase = phase_of past;
+  document_changes = is_stated (λ c. c.document_changes) past;
+  code_actions = is_stated (λ c. c.code_actions) past;
+  diagnostics = is_stated (λ c. c.publish_diagnostics) past;
+  documents = documents_of past;
+}
+
+-- event by event, a session comes to what is told of all that came, unless it has stopped
+abbrev pub SessionsAreTold : Type 0
+SessionsAreTold = (past : List Turn) → list_any is_stop past ≡ false → fold session_step begun past ≡ told past
+
+-- it has stopped where `exit` or the end of the input came
+abbrev pub StopsAreTold : Type 0
+StopsAreTold = (past : List Turn) → list_any is_stop past ≡ true → (fold session_step begun past).phase ≡ Stopped
+
+-- the session before the event at place j is that after the first j events
+abbrev pub SessionsAreFolds : Type 0
+SessionsAreFolds = (events : List Turn) (j : ℕ) → j ≤ length events → session_at events j ≡ fold session_step begun (take j events)

@@ -1,0 +1,79 @@
+//! What comes to the desk, and what it puts out.
+ghost use Rattle.gq_events.specs.Tasks.{Answers};
+
+use gq_project::{DocChange, Project};
+use gq_rpc::{Id, Incoming, Outgoing, Question};
+use gq_text::Items;
+
+/// What is to be answered about the documents.
+#[derive(Drop)]
+pub enum Task {
+    /// A client's question, under the id of its request.
+    Ask(Id, Question),
+    /// What is wrong with each document.
+    Check,
+}
+
+/// A task under its number.
+#[derive(Drop)]
+pub struct Job {
+    /// Jobs count from 1, in the order in which their tasks came.
+    pub number: u64,
+    pub task: Task,
+}
+
+/// What a task came to.
+#[derive(Drop)]
+pub enum Answer {
+    /// The response to a question.
+    Response(Outgoing),
+    /// The notifications of a check, one for each document, in order of key.
+    Report(Items<Outgoing>),
+    /// A growth was refused.
+    NoMemory,
+}
+
+/// What a worker made of a job.
+#[derive(Drop)]
+pub struct Done {
+    /// The number of the job.
+    pub job: u64,
+    pub task: Task,
+    /// The documents that the worker saw.
+    pub texts: Project,
+    pub answer: Answer,
+    /// The answer is the one that is defined for this task and these documents, or that memory was refused.
+    ghost fits: { Answers texts task answer },
+}
+
+/// How the input ended.
+#[derive(Clone, Copy)]
+pub enum InputEnd {
+    /// Behind a whole frame, or before any.
+    Border,
+    /// Inside a frame, at what is none, or the reader failed.
+    Fault,
+}
+
+/// What comes to the desk.
+#[derive(Drop)]
+pub enum Event {
+    Message(Incoming),
+    Done(Done),
+    End(InputEnd),
+}
+
+/// What the desk puts out.
+#[derive(Drop)]
+pub enum Out {
+    /// The reply to a message.
+    Reply(Outgoing),
+    /// A notification to the client.
+    Notify(Outgoing),
+    /// What workers are to see changed.
+    Publish(DocChange),
+    /// What a worker is to do.
+    Job(Job),
+    /// The session stops, with this status of the process.
+    Stop(u8),
+}

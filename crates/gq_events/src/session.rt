@@ -1,0 +1,286 @@
+//! How far a session has come, and the documents that its client has open.
+ghost use Rattle.std.specs.Prelude.{◌≡◌, ◌++◌, Bool, [], ◌∷◌, Some, None, IfOk, OnOk, option_to_list, option_map, if◌then◌else◌};
+ghost use Rattle.std.specs.Option.{option_map_or};
+ghost use Rattle.gq_project.specs.declared.document.DocChange.TheVariants as doc_change;
+ghost use Rattle.gq_events.specs.declared.event.Task.TheVariants as task;
+ghost use Rattle.gq_events.specs.Documents.{key_of, changed, with_changed};
+ghost use Rattle.gq_events.specs.Rules as spec;
+
+use crate::documents::{OpenDocument, OpenDocuments};
+use crate::effect::{Change, Effect, Phase, effect_of};
+use crate::event::{Event, Job, Out, Task};
+use crate::refusals::{
+    Denial, are_too_many, denied, is_pending, key_of, wants_code_actions, wants_document_changes,
+};
+use gq_project::{Doc, DocChange};
+use gq_rpc::{
+    ClientCapabilities, Id, Outgoing, PublishDiagnosticsParams, Question, ResponseError,
+    ServerCapabilities,
+};
+use gq_text::{Items, NoMemory, OwnedText};
+use std::alloc::Global;
+use std::marker::Model;
+
+/// What this server does for a client (LSP 3.17, ServerCapabilities).
+fn server_capabilities(client: ClientCapabilities) -> ServerCapabilities
+    ensures { result ≡ spec.server_capabilities client }
+{
+    ServerCapabilities {
+        completion_provider: client.completion,
+        definition_provider: client.definition,
+        hover_provider: client.hover,
+        references_provider: client.references,
+        rename_provider: client.document_changes,
+        prepare_provider: client.document_changes && client.prepare_support,
+        code_action_provider: client.code_actions,
+    }
+}
+
+/// Adds that a document which was closed has nothing wrong in it, where the client takes diagnostics.
+fn clear(
+    alloc: Global,
+    diagnostics: bool,
+    closed: Option<OpenDocument>,
+    outs: &mut Vec<Out>,
+) -> Result<(), NoMemory>
+    ensures { OnOk result (outs.new.items ≡ outs.old.items ++ (if diagnostics then option_to_list (option_map spec.nothing_wrong closed) else [])) }
+{
+    match closed {
+        Some(document) if diagnostics => {
+            outs.push(Out::Notify(Outgoing::Diagnostics(PublishDiagnosticsParams {
+                uri: document.uri,
+                version: None,
+                diagnostics: Items::new(alloc),
+            })))?;
+            Ok(())
+        }
+        _ => Ok(()),
+    }
+}
+
+/// What workers are told of a document that is open now, or of the key that no document has.
+fn told(key: OwnedText, doc: Option<Doc>) -> DocChange
+    ensures { result ≡ option_map_or doc_change.Put doc (doc_change.Close key) }
+{
+    match doc {
+        Some(doc) => DocChange::Put(doc),
+        None => DocChange::Close(key),
+    }
+}
+
+/// After a change the documents are checked, where the client takes diagnostics.
+fn check_after(diagnostics: bool) -> Option<Task>
+    ensures { result ≡ (if diagnostics then Some task.Check else None) }
+{
+    if diagnostics { Some(Task::Check) } else { None }
+}
+
+/// The reply to a question that is denied.
+fn reply_to_denied(alloc: Global, id: Id, denial: Denial) -> Outgoing
+    ensures { result ≡ spec.denying id denial }
+{
+    match denial {
+        Denial::Error(why) => Outgoing::Error(Some(id), why),
+        Denial::NoActions => Outgoing::CodeActions(id, Items::new(alloc)),
+    }
+}
+
+/// Adds how a question is denied, if it is; else it is a task.
+fn take_question(
+    alloc: Global,
+    id: Id,
+    asked: Option<Question>,
+    denied: Option<Denial>,
+    outs: &mut Vec<Out>,
+) -> Result<Option<Task>, NoMemory>
+    ensures task { IfOk result (λ task. task ≡ spec.accepted id asked denied) }
+    ensures outs { OnOk result (outs.new.items ≡ outs.old.items ++ spec.denied_with id denied) }
+{
+    match (asked, denied) {
+        (_, Some(denial)) => {
+            outs.push(Out::Reply(reply_to_denied(alloc, id, denial)))?;
+            Ok(None)
+        }
+        (Some(question), None) => Ok(Some(Task::Ask(id, question))),
+        (None, None) => Ok(None),
+    }
+}
+
+/// How far a session has come, and the documents that its client has open.
+#[derive(Drop)]
+pub struct ClientSession {
+    phase: Phase,
+    /// Its client takes edits with versions.
+    document_changes: bool,
+    /// Its client takes code actions that hold such edits.
+    code_actions: bool,
+    /// Its client takes diagnostics.
+    diagnostics: bool,
+    documents: OpenDocuments,
+}
+
+impl Model for ClientSession {
+    ghost use Rattle.gq_events.specs.Rules.{Session};
+
+    ghost Value = { Session };
+
+    ghost view = { λ s. record { phase = s.phase; document_changes = s.document_changes; code_actions = s.code_actions; diagnostics = s.diagnostics; documents = s.documents } };
+}
+
+impl ClientSession {
+    /// A session that has not begun. It takes no memory.
+    pub fn new(alloc: Global) -> ClientSession
+        ensures { result ≡ spec.begun }
+    {
+        ClientSession {
+            phase: Phase::Fresh,
+            document_changes: false,
+            code_actions: false,
+            diagnostics: false,
+            documents: OpenDocuments::new(alloc),
+        }
+    }
+
+    pub fn documents(&self) -> &OpenDocuments
+        ensures { result.now ≡ self.now.documents }
+    {
+        &self.documents
+    }
+
+    /// What an event comes to.
+    pub fn effect(&self, event: Event) -> Effect
+        ensures { result ≡ spec.effect_of self.now.phase self.now.documents event }
+    {
+        effect_of(self.phase, &self.documents, event)
+    }
+
+    /// How a question is denied, if it is.
+    fn denial_of_question(
+        &self,
+        alloc: Global,
+        pending: &[Job],
+        question: &Question,
+    ) -> Result<Option<Denial>, NoMemory>
+        ensures { IfOk result (λ denied. denied ≡ spec.denial_of_question self.now pending.now question.now) }
+    {
+        if !self.documents.is_open(key_of(question)) {
+            return Ok(Some(Denial::Error(ResponseError::InvalidParams)));
+        }
+        if self.documents.any_lost() {
+            return Ok(Some(denied(alloc, "document lost")?));
+        }
+        if wants_document_changes(question) && !self.document_changes {
+            return Ok(Some(denied(alloc, "no documentChanges")?));
+        }
+        if wants_code_actions(question) && !self.code_actions {
+            return Ok(Some(Denial::NoActions));
+        }
+        if are_too_many(pending) {
+            return Ok(Some(denied(alloc, "too many pending")?));
+        }
+        Ok(None)
+    }
+
+    fn denial_of_request(
+        &self,
+        alloc: Global,
+        pending: &[Job],
+        id: &Id,
+        asked: &Option<Question>,
+    ) -> Result<Option<Denial>, NoMemory>
+        ensures { IfOk result (λ denied. denied ≡ spec.denial_of_request self.now pending.now id.now asked.now) }
+    {
+        if is_pending(pending, id) {
+            return Ok(Some(Denial::Error(ResponseError::InvalidRequest)));
+        }
+        match asked {
+            Some(question) => self.denial_of_question(alloc, pending, question),
+            None => Ok(Some(Denial::Error(ResponseError::InvalidParams))),
+        }
+    }
+
+    /// How an event is denied, where it asks.
+    pub fn denied_by(
+        &self,
+        alloc: Global,
+        pending: &[Job],
+        effect: &Effect,
+    ) -> Result<Option<Denial>, NoMemory>
+        ensures { IfOk result (λ denied. denied ≡ spec.denied_by self.now pending.now effect.now) }
+    {
+        match effect {
+            Effect::Asks(id, asked) => self.denial_of_request(alloc, pending, id, asked),
+            _ => Ok(None),
+        }
+    }
+
+    /// Changes the documents, and adds what that makes known.
+    fn change(&mut self, alloc: Global, change: Change, outs: &mut Vec<Out>) -> Result<(), NoMemory>
+        ensures { OnOk result ((refused : Bool) × (self.new ≡ spec.with_documents self.old (with_changed self.old.documents (key_of change) (changed self.old.documents change refused))) × (outs.new.items ≡ outs.old.items ++ spec.own_of_change self.old change (changed self.old.documents change refused))) }
+    {
+        match change {
+            Change::Open(item) => {
+                let doc = self.documents.open(alloc, item)?;
+                outs.push(Out::Publish(DocChange::Put(doc)))?;
+                Ok(())
+            }
+            Change::Edit(params) => {
+                let doc = self.documents.edit(alloc, &params)?;
+                outs.push(Out::Publish(told(params.key, doc)))?;
+                Ok(())
+            }
+            Change::Close(key) => {
+                let closed = self.documents.close(key.as_str());
+                clear(alloc, self.diagnostics, closed, outs)?;
+                outs.push(Out::Publish(DocChange::Close(key)))?;
+                Ok(())
+            }
+        }
+    }
+
+    /// Takes in an event of this effect, and adds its own reply and what it publishes: the task that it brings.
+    pub fn take_in(
+        &mut self,
+        alloc: Global,
+        denied: Option<Denial>,
+        effect: Effect,
+        outs: &mut Vec<Out>,
+    ) -> Result<Option<Task>, NoMemory>
+        ensures task { IfOk result (λ task. task ≡ spec.taken self.old.diagnostics denied effect) }
+        ensures own { OnOk result ((text_refused : Bool) × (self.new ≡ spec.session_after self.old effect (spec.changed_by self.old effect text_refused)) × (outs.new.items ≡ outs.old.items ++ spec.own self.old denied effect (spec.changed_by self.old effect text_refused))) }
+    {
+        match effect {
+            Effect::Begins(id, capabilities) => {
+                self.phase = Phase::Running;
+                self.document_changes = capabilities.document_changes;
+                self.code_actions = capabilities.code_actions;
+                self.diagnostics = capabilities.publish_diagnostics;
+                let server = server_capabilities(capabilities);
+                outs.push(Out::Reply(Outgoing::Initialized(id, server)))?;
+                Ok(None)
+            }
+            Effect::Refuses(id, why) => {
+                outs.push(Out::Reply(Outgoing::Error(id, why)))?;
+                Ok(None)
+            }
+            Effect::Asks(id, asked) => take_question(alloc, id, asked, denied, outs),
+            Effect::Changes(change) => {
+                self.change(alloc, change, outs)?;
+                Ok(check_after(self.diagnostics))
+            }
+            Effect::ShutsDown(id) => {
+                self.phase = Phase::Down;
+                outs.push(Out::Reply(Outgoing::ShutDown(id)))?;
+                Ok(None)
+            }
+            Effect::Stops(status) => {
+                self.phase = Phase::Stopped;
+                outs.push(Out::Stop(status))?;
+                Ok(None)
+            }
+            Effect::Nothing => Ok(None),
+            Effect::Cancels(_) => Ok(None),
+            Effect::Finishes(_) => Ok(None),
+        }
+    }
+}

@@ -1,0 +1,90 @@
+//! What a worker makes of a job.
+ghost use Rattle.std.specs.Prelude.{◌≡◌, true, IfOk};
+ghost use Rattle.gq_edit.specs.Workspace.{AreTexts};
+ghost use Rattle.gq_answers.specs.Answers.{IsAnswer, AreDiagnosticsMessages};
+ghost use Rattle.gq_events.specs.Tasks.{Answers};
+
+use crate::copies::copy_id;
+use crate::event::{Answer, Done, Task};
+use gq_answers::{answer, diagnostics_messages};
+use gq_project::Project;
+use gq_rpc::{Id, Outgoing, Question};
+use gq_text::text::TEXT_MAX;
+use gq_text::{Items, NoMemory};
+use std::alloc::Global;
+
+/// The response to a question about the texts.
+fn respond(
+    alloc: Global,
+    id: &Id,
+    question: &Question,
+    texts: &Project,
+) -> Result<Outgoing, NoMemory>
+    requires { AreTexts texts.now }
+    ensures { IfOk result (λ message. IsAnswer texts.now id.now question.now message) }
+{
+    let project = texts.copied(alloc)?;
+    let id = copy_id(alloc, id)?;
+    answer(alloc, project, id, question)
+}
+
+/// The notifications that tell what is wrong with each of the texts.
+fn report(alloc: Global, texts: &Project) -> Result<Items<Outgoing>, NoMemory>
+    requires { AreTexts texts.now }
+    ensures { IfOk result (λ messages. AreDiagnosticsMessages texts.now messages) }
+{
+    Ok(Items::from_vec(diagnostics_messages(alloc, texts)?))
+}
+
+fn find_answer(alloc: Global, task: &Task, texts: &Project) -> Result<Answer, NoMemory>
+    requires { AreTexts texts.now }
+    ensures { IfOk result (λ answer. Answers texts.now task.now answer) }
+{
+    match task {
+        Task::Ask(id, question) => Ok(Answer::Response(respond(alloc, id, question, texts)?)),
+        Task::Check => Ok(Answer::Report(report(alloc, texts)?)),
+    }
+}
+
+/// Whether each text has at most 4 MiB, as those of open documents have.
+fn are_texts(texts: &Project) -> bool
+    ensures { result ≡ true → AreTexts texts.now }
+{
+    texts
+        .documents()
+        .iter()
+        .all(|doc| doc.text.as_str().len() <= TEXT_MAX)
+}
+
+/// The answer to a task about the texts. Want of memory is an answer, too, and that of a longer text, which no open document
+/// has.
+fn answer_task(alloc: Global, task: &Task, texts: &Project) -> Answer
+    ensures { Answers texts.now task.now result }
+{
+    if !are_texts(texts) {
+        return Answer::NoMemory;
+    }
+    match find_answer(alloc, task, texts) {
+        Ok(answer) => answer,
+        Err(NoMemory) => Answer::NoMemory,
+    }
+}
+
+impl Done {
+    /// What a worker makes of the job of that number: the answer to its task about these texts. A question comes to a
+    /// response, and a check to a report of a notification for each text, in order of key. Want of memory is an answer,
+    /// too, and that to any task about texts of which one has more than 4 MiB, which no open document has.
+    pub fn of(alloc: Global, job: u64, task: Task, texts: Project) -> Done
+        ensures job { result.job ≡ job }
+        ensures task { result.task ≡ task }
+        ensures texts { result.texts ≡ texts }
+    {
+        let answer = answer_task(alloc, &task, &texts);
+        Done {
+            job,
+            task,
+            texts,
+            answer,
+        }
+    }
+}
