@@ -1,95 +1,39 @@
--- A desk without workers: turns and then more, and what follows a stop.
-use Rattle.std.proofs.Common.{◌≡◌, ℕ, ◌<◌, Bool, true, false, cond, List, [], ◌∷◌, ◌++◌, map, length, Option, Some, None, ap, sym, refl, ◌∙◌, subst, append_assoc, arith}
+-- A desk without workers, and what follows a stop.
+use Rattle.std.proofs.Common.{◌≡◌, ℕ, suc, ◌<◌, Bool, true, false, cond, List, [], ◌∷◌, ◌++◌, map, length, drop, Option, Some, None, ap, sym, refl, ◌∙◌, subst, append-nil, length-drop, arith}
+use Rattle.std.proofs.Math.Seq.{drop-cons}
 use Rattle.std.specs.Prelude.{option_to_list, option_map}
-use mathlib.Core.Path.{fun_ext}
 use Rattle.gq_rpc.specs.declared.messages.Outgoing.{Outgoing}
 use Rattle.gq_rpc.specs.declared.messages.Id.{Id}
-use Rattle.gq_desk.specs.declared.documents.OpenDocument.{OpenDocument}
-use Rattle.gq_desk.specs.declared.event.Task.{Task}
-use Rattle.gq_desk.specs.declared.event.Task.TheVariants as task
-use Rattle.gq_desk.specs.declared.event.Answer.{Answer}
-use Rattle.gq_desk.specs.declared.event.Answer.TheVariants as answer
-use Rattle.gq_desk.specs.declared.event.Event.{Event}
-use Rattle.gq_desk.specs.declared.event.Out.{Out}
-use Rattle.gq_desk.specs.declared.event.Out.TheVariants as out
-use Rattle.gq_desk.specs.declared.refusals.Denial.{Denial}
-use Rattle.gq_desk.specs.declared.effect.Phase.{Phase}
-use Rattle.gq_desk.specs.declared.effect.Phase.TheVariants.{Stopped}
-use Rattle.gq_desk.specs.declared.effect.Change.{Change}
-use Rattle.gq_desk.specs.declared.effect.Change.TheVariants as change
-use Rattle.gq_desk.specs.declared.effect.Effect.{Effect}
-use Rattle.gq_desk.specs.declared.effect.Effect.TheVariants as effect
-use Rattle.gq_desk.specs.Documents.{docs_of, document_at}
-use Rattle.gq_desk.specs.Rules.{Turn, Session, effect_of, changed_by, session_after, denied_by, taken, answered, denied_with, nothing_wrong, cleared, own_of_change, own, answer_to, FitsTaken}
-use Rattle.gq_desk.specs.History.{outputs, IsAnswered}
-use Rattle.gq_desk.specs.Machine.{State, start, after, writes, run, reached, effect_in, changed_in, taken_by, DeskSteps, FitsTurn, FitsRun}
-use Rattle.gq_desk.proofs.Alone.{writes_alone}
-use Rattle.gq_desk.proofs.Steps.{run_tells, answered_from}
-use Rattle.gq_crew.specs.Output.{event_of, AreTurnsOf, stop_in}
-use Rattle.gq_crew.specs.Serving.{session_in, alone, IsAlone}
-
--- ---- turns, and then more turns
-
-pub run-append : (s : State) (turns more : List Turn) → run s (turns ++ more) ≡ run s turns ++ run (reached s turns) more
-run-append s [] more = refl
-run-append s (turn ∷ turns) more =
-    ap (λ (l : List Out). writes s turn ++ l) (run-append (after s turn) turns more)
-    ∙ sym (append_assoc (writes s turn) (run (after s turn) turns) (run (reached (after s turn) turns) more))
-
-pub reached-append : (s : State) (turns more : List Turn) → reached s (turns ++ more) ≡ reached (reached s turns) more
-reached-append s [] more = refl
-reached-append s (turn ∷ turns) more = reached-append (after s turn) turns more
-
-pub FitsRun-append : (s : State) (turns more : List Turn) → FitsRun s turns → FitsRun (reached s turns) more → FitsRun s (turns ++ more)
-FitsRun-append s [] more f g = g
-FitsRun-append s (turn ∷ turns) more f g = (f.0, FitsRun-append (after s turn) turns more f.1 g)
-
-pub stop_in-append : (outs more : List Out) → stop_in outs ≡ None → stop_in (outs ++ more) ≡ stop_in more
-stop_in-append [] more h = refl
-stop_in-append (out.Stop status ∷ outs) more h = absurd (cc)
-stop_in-append (out.Reply message ∷ outs) more h = stop_in-append outs more h
-stop_in-append (out.Notify message ∷ outs) more h = stop_in-append outs more h
-stop_in-append (out.Publish c ∷ outs) more h = stop_in-append outs more h
-stop_in-append (out.Job job ∷ outs) more h = stop_in-append outs more h
-
--- ---- a step
-
--- a step, with its choices
-pub record IsStep (s : State) (e : Event) (outs : List Out) (new : Option State) : Type 0 where
-  pub turn : Turn
-  pub of : turn.event ≡ e
-  pub fits : FitsTurn s turn
-  pub outputs : outs ≡ writes s turn
-  pub state : new ≡ Some (after s turn)
-
-step_of : (s : State) (e : Event) (outs : List Out) (new : Option State) → DeskSteps (Some s) e outs new → IsStep s e outs new
-step_of s e outs None h = absurd h
-step_of s e outs (Some t) h = record {
-  turn = record { event = e; text_refused = h.text_refused; answer = h.answer };
-  of = refl;
-  fits = h.fits;
-  outputs = h.outputs;
-  state = ap (λ (u : State). Some u) h.state;
-}
-
-pub step_at : (s : State) (old : Option State) (e : Event) (outs : List Out) (new : Option State) → old ≡ Some s → DeskSteps old e outs new → IsStep s e outs new
-step_at s old e outs new is h = step_of s e outs new (subst (λ (o : Option State). DeskSteps o e outs new) is h)
+use Rattle.gq_events.specs.declared.documents.OpenDocument.{OpenDocument}
+use Rattle.gq_events.specs.declared.event.Task.{Task}
+use Rattle.gq_events.specs.declared.event.Task.TheVariants as task
+use Rattle.gq_events.specs.declared.event.Answer.{Answer}
+use Rattle.gq_events.specs.declared.event.Answer.TheVariants as answer
+use Rattle.gq_events.specs.declared.event.Event.{Event}
+use Rattle.gq_events.specs.declared.event.Out.{Out}
+use Rattle.gq_events.specs.declared.event.Out.TheVariants as out
+use Rattle.gq_events.specs.declared.refusals.Denial.{Denial}
+use Rattle.gq_events.specs.declared.effect.Phase.{Phase}
+use Rattle.gq_events.specs.declared.effect.Phase.TheVariants.{Stopped}
+use Rattle.gq_events.specs.declared.effect.Change.{Change}
+use Rattle.gq_events.specs.declared.effect.Change.TheVariants as change
+use Rattle.gq_events.specs.declared.effect.Effect.{Effect}
+use Rattle.gq_events.specs.declared.effect.Effect.TheVariants as effect
+use Rattle.gq_events.specs.Documents.{docs_of, document_at}
+use Rattle.gq_events.specs.Rules.{Turn, Session, begun, effect_of, changed_by, session_after, denied_by, taken, answered, denied_with, nothing_wrong, cleared, own_of_change, own, answer_to, FitsTaken}
+use Rattle.gq_events.specs.History.{idle, turn_at, outputs, IsAnswered}
+use Rattle.gq_events.specs.Machine.{State, start, after, writes, run, reached, effect_in, changed_in, taken_by, FitsTurn, FitsRun}
+use Rattle.gq_events.proofs.Alone.{alone, writes_alone}
+use Rattle.gq_events.proofs.Steps.{run_tells, answered_from, state_at, state_step}
+use Rattle.gq_desk.specs.Frames.{stop_in}
+use Rattle.gq_desk.proofs.Runs.{run-append, stop_in-append}
+use Rattle.gq_crew.specs.Output.{event_of, AreTurnsOf}
 
 -- ---- it stays without workers
 
 pub reached_alone : (s : Session) (turns : List Turn) → reached (alone s) turns ≡ alone (reached (alone s) turns).session
 reached_alone s [] = refl
 reached_alone s (turn ∷ turns) = reached_alone (session_after s (effect_in (alone s) turn) (changed_in (alone s) turn)) turns
-
-pub stays_alone : (s : Session) (turns : List Turn) (desk : Option State) → desk ≡ Some (reached (alone s) turns) → IsAlone desk
-stays_alone s turns desk is = subst IsAlone (sym is) (ap (λ (t : State). Some t) (reached_alone s turns))
-
-pub state_is : (s : State) (desk : Option State) → IsAlone desk → desk ≡ Some s → alone (session_in desk) ≡ s
-state_is s desk is at = ap (λ (d : Option State). state_or d) (sym is ∙ at)
-  where
-    state_or : Option State → State
-    state_or (Some t) = t
-    state_or None = s
 
 -- ---- what stops
 
@@ -198,8 +142,47 @@ silent_after s is turn status bodies h =
 
 -- ---- as the list of events tells it
 
-pub told : run (start 0) ≡ outputs 0
-told = fun_ext (λ (turns : List Turn). run_tells 0 turns)
-
 pub answered_all : (turns : List Turn) → FitsRun (start 0) turns → (j : ℕ) → j < length turns → IsAnswered 0 turns j
 answered_all turns f j h = answered_from 0 turns turns 0 refl f j (omega arith) h
+
+-- turns whose answers are right are those of a run
+fits_from : (events rest : List Turn) (j : ℕ) → drop j events ≡ rest → ((k : ℕ) → k < length events → IsAnswered 0 events k) → FitsRun (state_at 0 events j) rest
+fits_from events [] j h a = tt
+fits_from events (turn ∷ rest) j h a =
+    let many : length (drop j events) ≡ suc (length rest) = ap length h in
+    let within : j < length events = omega (arith, length-drop j events) in
+    let here = drop-cons events j idle within in
+    let is : turn_at events j ≡ turn = cc in
+    let rest_is : drop (suc j) events ≡ rest = cc in (
+      subst (λ (t : Turn). FitsTurn (state_at 0 events j) t) is (a j within),
+      subst (λ (s : State). FitsRun s rest) (sym (ap (λ (t : Turn). after (state_at 0 events j) t) (sym is) ∙ state_step 0 events j)) (fits_from events rest (suc j) rest_is a),
+    )
+
+pub fits_all : (turns : List Turn) → ((j : ℕ) → j < length turns → IsAnswered 0 turns j) → FitsRun (start 0) turns
+fits_all turns a = fits_from turns turns 0 refl a
+
+-- ---- what more turns put out
+
+pub outputs_more : (turns more : List Turn) → outputs 0 (turns ++ more) ≡ outputs 0 turns ++ run (reached (start 0) turns) more
+outputs_more turns more = sym (run_tells 0 (turns ++ more)) ∙ (run-append (start 0) turns more ∙ ap (λ (l : List Out). l ++ run (reached (start 0) turns) more) (run_tells 0 turns))
+
+-- behind a stop nothing more is put out
+pub outputs_stopped : (front : List Turn) (last : Turn) (status : ℕ) (bodies : List (List ℕ)) → stop_in (outputs 0 front) ≡ None → stop_in (outputs 0 (front ++ last ∷ [])) ≡ Some status
+    → outputs 0 (front ++ last ∷ quiet bodies) ≡ outputs 0 (front ++ last ∷ [])
+outputs_stopped front last status bodies goes stops =
+    let s = reached (start 0) front in
+    let one : outputs 0 (front ++ last ∷ []) ≡ outputs 0 front ++ writes s last =
+    outputs_more front (last ∷ []) ∙ ap (λ (l : List Out). outputs 0 front ++ l) (append-nil (writes s last)) in
+    let by : stop_in (writes s last) ≡ Some status = sym (stop_in-append (outputs 0 front) (writes s last) goes) ∙ (sym (ap stop_in one) ∙ stops) in
+    outputs_more front (last ∷ quiet bodies)
+    ∙ (ap (λ (l : List Out). outputs 0 front ++ (writes s last ++ l)) (silent_after s (reached_alone begun front) last status bodies by)
+    ∙ (ap (λ (l : List Out). outputs 0 front ++ l) (append-nil (writes s last)) ∙ sym one))
+
+-- where all of it does not stop, a front does not
+pub goes_before : (outs more : List Out) → stop_in (outs ++ more) ≡ None → stop_in outs ≡ None
+goes_before [] more h = refl
+goes_before (out.Stop status ∷ outs) more h = absurd (cc)
+goes_before (out.Reply message ∷ outs) more h = goes_before outs more h
+goes_before (out.Notify message ∷ outs) more h = goes_before outs more h
+goes_before (out.Publish c ∷ outs) more h = goes_before outs more h
+goes_before (out.Job job ∷ outs) more h = goes_before outs more h

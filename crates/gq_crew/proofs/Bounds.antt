@@ -1,15 +1,16 @@
--- A run ends: each read completes a body, of which there may be so many, or makes the beginning of a frame that is held longer.
-use Rattle.std.proofs.Common.{◌≡◌, ◌<◌, ◌≤◌, ◌+◌, ◌-◌, ◌*◌, ◌^◌, min, ℕ, List, [], ◌∷◌, ◌++◌, length, length-append, Bool, true, false, cond, Option, Some, None, refl, ap, sym, ◌∙◌, arith}
+-- Reading on ends: each read that completes no body makes the beginning of a frame that is held longer.
+use Rattle.std.proofs.Common.{◌≡◌, ◌<◌, ◌≤◌, ◌+◌, ◌-◌, ℕ, suc, List, [], ◌∷◌, length, Bool, true, false, cond, Option, Some, None, refl, arith}
 use Rattle.std.specs.Prelude.{nat_lt, nat_le}
 use Rattle.std.specs.Option.{option_map_or}
 use Rattle.std.proofs.lemmas.Bool.Decides.{nat_tests}
 use Rattle.gq_rpc.specs.Lines.{ended_lines, head_of}
-use Rattle.gq_rpc.specs.Frames.{Cuts, scan_of, with_head, max_header, max_body}
+use Rattle.gq_rpc.specs.Frames.{scan_of, with_head, max_header, max_body}
 use Rattle.gq_rpc.specs.declared.header.FrameFault.TheVariants.{BadHeader, NoLength, TooLong}
 use Rattle.gq_rpc.specs.declared.header.Head.{Head}
 use Rattle.gq_rpc.specs.declared.header.Head.TheVariants as head
 use Rattle.gq_rpc.specs.declared.header.Scan.TheVariants.{Whole, Partial, Bad}
-use Rattle.gq_crew.specs.Runs.{bodies_max}
+use Rattle.gq_crew.specs.declared.inbox.NoMore.{NoMore}
+use Rattle.gq_crew.specs.Inbox.{View}
 
 -- the beginning of a frame is shorter
 abbrev pub held_max : ℕ
@@ -46,13 +47,11 @@ head_short head.Malformed len e = absurd (cc)
 pub partial_short : (text : List ℕ) → scan_of text ≡ Partial → length text < held_max
 partial_short text e = head_short (head_of 0 None (ended_lines text)) (length text) e
 
--- how much a run may still take
-abbrev pub to_do : ℕ → Option (List ℕ) → ℕ
-to_do served framer = (bodies_max - served) * held_max + (held_max - option_map_or length framer 0)
+-- how much may still be read before there is a body, or no more to read
+abbrev pub more_to_read : List (List ℕ) → Option NoMore → ℕ → ℕ
+more_to_read [] None n = n
+more_to_read [] (Some why) n = 0
+more_to_read (body ∷ bodies) no_more n = 0
 
-pub turn_smaller : (served later : ℕ) (before piece rest : List ℕ) (bodies : List (List ℕ)) → Cuts (before ++ piece) bodies rest → served < bodies_max → min (served + length bodies) (2 ^ 64 - 1) ≤ later
-    → length before < held_max → length rest < held_max → 0 < length piece → to_do later (Some rest) < to_do served (Some before)
-turn_smaller served later before piece rest [] cuts more sum old new some =
-    let same : length before + length piece ≡ length rest = sym (length-append before piece) ∙ ap length cuts in
-    omega arith
-turn_smaller served later before piece rest (body ∷ bodies) cuts more sum old new some = omega arith
+abbrev pub to_read : View → ℕ
+to_read v = more_to_read v.bodies v.no_more (suc held_max - option_map_or length v.framer 0)

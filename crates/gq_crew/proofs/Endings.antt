@@ -1,81 +1,176 @@
--- A run ends at a read that gives no bytes.
-use Rattle.std.proofs.Common.{◌≡◌, inl, inr, ℕ, List, [], ◌∷◌, Bool, true, Option, Some, None, Ok, Err, refl, sym, subst, append-nil, arith}
-use Rattle.std.specs.Prelude.{IfSome}
-use Rattle.std.specs.Io.KnownBytes.{Consumes, IsAtEnd}
-use Rattle.gq_rpc.specs.Frames.{scan_of, end_of}
-use Rattle.gq_rpc.specs.declared.header.Scan.TheVariants.{Partial}
-use Rattle.gq_rpc.specs.declared.header.FrameFault.{FrameFault}
-use Rattle.gq_rpc.specs.declared.header.FrameFault.TheVariants as frame
-use Rattle.gq_rpc.proofs.Sends.{Appends-nil}
-use Rattle.gq_desk.specs.Machine.{State, run}
-use Rattle.gq_crew.specs.declared.run.RunFault.TheVariants.{Frame, Device}
+-- How a run ends, by the turns that were answered and the bodies behind them.
+use Rattle.std.proofs.Common.{◌≡◌, inl, inr, ℕ, List, [], ◌∷◌, ◌++◌, length, true, Option, Some, None, ap, sym, refl, ◌∙◌, subst, append-nil, append_assoc}
+use Rattle.std.specs.Io.KnownBytes.{Appends}
+use Rattle.std.proofs.lemmas.List.Concat.{flat_map-append}
+use Rattle.gq_rpc.specs.Devices.{Sent}
+use Rattle.gq_rpc.proofs.Sends.{Appends-trans}
+use Rattle.gq_events.specs.declared.event.Out.{Out}
+use Rattle.gq_events.specs.Rules.{Turn}
+use Rattle.gq_events.specs.History.{outputs}
+use Rattle.gq_events.specs.Machine.{start, run, reached, FitsRun}
+use Rattle.gq_desk.specs.Frames.{frame_in, frames_in, stop_in}
+use Rattle.gq_desk.specs.Driving.{AreAnswered}
+use Rattle.gq_crew.specs.declared.inbox.NoMore.{NoMore}
+use Rattle.gq_crew.specs.declared.inbox.NoMore.TheVariants as no_more
 use Rattle.gq_crew.specs.declared.run.Ended.{Ended}
-use Rattle.gq_crew.specs.declared.run.Progress.{Progress}
-use Rattle.gq_crew.specs.declared.run.Progress.TheVariants.{Done}
-use Rattle.gq_crew.specs.Output.{WroteAll}
-use Rattle.gq_crew.specs.Runs.{SourceAfter, SinkAfter, Reached, IsFrameFault, Ends}
-use Rattle.gq_crew.specs.Progress.{ReadsOnce}
+use Rattle.gq_crew.specs.declared.run.RunFault.{RunFault}
+use Rattle.gq_crew.specs.declared.run.RunFault.TheVariants as fault
+use Rattle.gq_crew.specs.Output.{event_of, AreTurnsOf}
+use Rattle.gq_crew.specs.Runs.{SourceAfter, SinkAfter, Reached, IsEnd, Ends, AnswersEarlier, Runs, bodies_max}
+use Rattle.gq_crew.specs.Inbox.{Finds, Tells, fault_of, ended_as}
+use Rattle.gq_desk.proofs.Runs.{FitsRun-append}
+use Rattle.gq_crew.proofs.Alone.{quiet, quiet_turn, quiet_of, quiet_fits, fits_all, answered_all, outputs_more, outputs_stopped, goes_before}
+use Rattle.gq_crew.proofs.Outputs.{AreTurnsOf-append, AreTurnsOf-cons, parts_of, Sent-more, Sent-behind}
+use Rattle.gq_crew.proofs.Inboxes.{Stands, not_failed}
 
-module _ (s : State) (new : Option State) (room : ℕ) (framer left : Option (List ℕ)) (source : SourceAfter) (held : Option (List ℕ)) (failed : Bool) (progress : Progress) (nothing : Consumes left source.left []) where
-  abbrev sink : SinkAfter
-  sink = record { held = held; failed = failed }
+-- turns that are answered, and any turns of bodies behind them
+fits_behind : (turns : List Turn) (bodies : List (List ℕ)) → AreAnswered 0 turns → FitsRun (start 0) (turns ++ quiet bodies)
+fits_behind turns bodies a = FitsRun-append (start 0) turns (quiet bodies) (fits_all turns a) (quiet_fits (reached (start 0) turns) bodies)
 
-  -- a run that has come to no body, with this rest
-  abbrev at : List ℕ → Reached
-  at rest = record { puts = run s; turns = []; rest = rest; source = source; held = held; sink = sink }
+fits_last : (front : List Turn) (last : Turn) (bodies : List (List ℕ)) → AreAnswered 0 (front ++ last ∷ []) → FitsRun (start 0) (front ++ last ∷ quiet bodies)
+fits_last front last bodies a = subst (FitsRun (start 0)) (append_assoc front (last ∷ []) (quiet bodies)) (fits_behind (front ++ last ∷ []) bodies a)
 
-  none_wrote : WroteAll (run s) [] held held
-  none_wrote = record { no_stop = refl; written = Appends-nil held }
+last_of : (last : Turn) (body : List ℕ) (bodies : List (List ℕ)) → last.event ≡ event_of body → AreTurnsOf (body ∷ bodies) (last ∷ quiet bodies)
+last_of last body bodies of = AreTurnsOf-cons body bodies last (quiet bodies) of (quiet_of bodies)
 
-  abbrev Ended_so : List ℕ → Type 0
-  Ended_so before = scan_of before ≡ Partial → ReadsOnce s new room before framer left source held sink progress
+-- what a front puts out is written first
+frames_more : (turns more : List Turn) → frames_in (outputs 0 (turns ++ more)) ≡ frames_in (outputs 0 turns) ++ frames_in (run (reached (start 0) turns) more)
+frames_more turns more = ap frames_in (outputs_more turns more) ∙ flat_map-append frame_in (outputs 0 turns) (run (reached (start 0) turns) more)
 
-  reads_nothing : (ended : Ended) → progress ≡ Done ended → (before : List ℕ) → Ends (at before) ended.status ended.fault → ReadsOnce s new room before framer left source held sink progress
-  reads_nothing ended is before ends =
-      subst (λ (p : Progress). ReadsOnce s new room before framer left source held sink p) (sym is)
-      (record {
-        piece = [];
-        short = omega arith;
-        took = nothing;
-        takes = record {
-          bodies = [];
-          rest = before;
-          cuts = append-nil before;
-          comes = record { turns = []; are_turns = refl; fits = tt; ends = ends };
-        };
-      })
+module _ (first : Option (List ℕ)) (source : SourceAfter) (held : Option (List ℕ)) (sink : SinkAfter) where
+  abbrev reach : List Turn → List ℕ → Reached
+  reach turns rest = record { puts = outputs 0; turns = turns; rest = rest; source = source; held = held; sink = sink }
 
-  ended_within : (f : Option (List ℕ)) → source.ended ≡ true → IsAtEnd source.left → end_of f ≡ Ok tt → progress ≡ Done (record { status = 1; fault = None }) → IfSome f Ended_so
-  ended_within None told left_none whole is = tt
-  ended_within (Some []) told left_none whole is =
-      λ partial. reads_nothing _ is [] (record { written = Appends-nil held; is_end = (refl, refl, record { told = told; nothing_left = left_none }) })
-  ended_within (Some (b ∷ bytes)) told left_none whole is = absurd (cc)
-
-  truncated : (f : Option (List ℕ)) (why : FrameFault) → source.ended ≡ true → IsAtEnd source.left → end_of f ≡ Err why → progress ≡ Done (record { status = 3; fault = Some (Frame why) }) → IfSome f Ended_so
-  truncated None why told left_none whole is = tt
-  truncated (Some []) why told left_none whole is = absurd (cc)
-  truncated (Some (b ∷ bytes)) why told left_none whole is =
-      let same : why ≡ frame.Truncated = cc in
-      λ partial. reads_nothing _ is (b ∷ bytes) (
-        refl,
+  -- bodies whose turns were answered, without a stop, and some of whose frames, or of those behind them, were written last
+  module _ (given behind : List (List ℕ)) (rest : List ℕ) (st : Stands first source.left given behind rest) (done : List Turn) (are : AreTurnsOf given done) (goes : stop_in (outputs 0 done) ≡ None) where
+    earlier_of : (later : List Turn) (more : List ℕ) → Appends held sink.held (frames_in (outputs 0 done) ++ more) → AnswersEarlier (outputs 0) (done ++ later) (st.earlier ++ st.piece) held sink.held
+    earlier_of later more written =
+        let p = parts_of st.early st.later done (subst (λ (b : List (List ℕ)). AreTurnsOf b done) st.begins are) in
+        let behind_front = run (reached (start 0) p.front) p.back in
+        let puts : outputs 0 done ≡ outputs 0 p.front ++ behind_front = ap (outputs 0) p.whole ∙ outputs_more p.front p.back in
+        let frames : frames_in (outputs 0 done) ≡ frames_in (outputs 0 p.front) ++ frames_in behind_front = ap frames_in puts ∙ flat_map-append frame_in (outputs 0 p.front) behind_front in
         record {
-          answers = none_wrote;
-          is_fault = subst (λ (w : FrameFault). IsFrameFault w (b ∷ bytes) source) (sym same) ((λ e. absurd (cc)), partial, record { told = told; nothing_left = left_none });
-        },
-      )
+          earlier = st.earlier;
+          piece = st.piece;
+          bodies = st.early;
+          rest = st.early_rest;
+          front = p.front;
+          later = p.back ++ later;
+          more = frames_in behind_front ++ more;
+          whole = refl;
+          short = st.short;
+          cuts = st.early_cuts;
+          partial = st.partial;
+          are_turns = p.are_turns;
+          begins = ap (λ (l : List Turn). l ++ later) p.whole ∙ append_assoc p.front p.back later;
+          no_stop = goes_before (outputs 0 p.front) behind_front (sym (ap stop_in puts) ∙ goes);
+          written = subst (Appends held sink.held) (ap (λ (l : List ℕ). l ++ more) frames ∙ append_assoc (frames_in (outputs 0 p.front)) (frames_in behind_front) more) written;
+        }
 
-  source_failed : (f : Option (List ℕ)) → source.failed ≡ true → progress ≡ Done (record { status = 3; fault = Some Device }) → IfSome f Ended_so
-  source_failed None flag is = tt
-  source_failed (Some before) flag is = λ partial. reads_nothing _ is before (refl, inr (record { failed = inl flag; answers = none_wrote; partial = partial }))
+    runs_of : (later : List Turn) → AreTurnsOf behind later → FitsRun (start 0) (done ++ later) → (more : List ℕ) → Appends held sink.held (frames_in (outputs 0 done) ++ more)
+        → (ended : Ended) → Ends (reach (done ++ later) rest) ended.status ended.fault → Runs first source held sink ended
+    runs_of later later_are fits more written ended ends = record {
+      read = st.earlier ++ st.piece;
+      bodies = given ++ behind;
+      rest = rest;
+      turns = done ++ later;
+      took = st.took;
+      cuts = st.cuts;
+      are_turns = AreTurnsOf-append given behind done later are later_are;
+      answered = answered_all (done ++ later) fits;
+      earlier = earlier_of later more written;
+      ends = ends;
+    }
 
-  -- at the end of the input, behind a whole frame
-  pub ends_whole : source.ended ≡ true → IsAtEnd source.left → end_of framer ≡ Ok tt → progress ≡ Done (record { status = 1; fault = None }) → IfSome framer Ended_so
-  ends_whole = ended_within framer
+    nothing_more : Appends held sink.held (frames_in (outputs 0 done)) → Appends held sink.held (frames_in (outputs 0 done) ++ [])
+    nothing_more written = subst (Appends held sink.held) (sym (append-nil (frames_in (outputs 0 done)))) written
 
-  -- inside one
-  pub ends_inside : (why : FrameFault) → source.ended ≡ true → IsAtEnd source.left → end_of framer ≡ Err why → progress ≡ Done (record { status = 3; fault = Some (Frame why) }) → IfSome framer Ended_so
-  ends_inside = truncated framer
+    -- so many were given
+    pub runs_too_long : AreAnswered 0 done → Appends held sink.held (frames_in (outputs 0 done)) → length done ≡ bodies_max → Runs first source held sink (record { status = 3; fault = Some fault.Device })
+    runs_too_long answered written many =
+        runs_of (quiet behind) (quiet_of behind) (fits_behind done behind answered) [] (nothing_more written) _
+        (refl, inr (inr (record { answered = done; left = quiet behind; whole = refl; many = many; wrote = record { no_stop = goes; written = written } })))
 
-  -- where the source fails
-  pub ends_failed : source.failed ≡ true → progress ≡ Done (record { status = 3; fault = Some Device }) → IfSome framer Ended_so
-  ends_failed = source_failed framer
+  -- memory was refused for a body, or for its turn
+  pub runs_refused : (given : List (List ℕ)) (body : List ℕ) (bodies : List (List ℕ)) (rest : List ℕ) → Stands first source.left given (body ∷ bodies) rest → (front : List Turn) → AreTurnsOf given front
+      → stop_in (outputs 0 front) ≡ None → (last : Turn) → last.event ≡ event_of body → FitsRun (start 0) (front ++ last ∷ quiet bodies) → Appends held sink.held (frames_in (outputs 0 front))
+      → Runs first source held sink (record { status = 3; fault = Some fault.NoMemory })
+  runs_refused given body bodies rest st front are goes last of fits written =
+      runs_of given (body ∷ bodies) rest st front are goes (last ∷ quiet bodies) (last_of last body bodies of) fits [] (nothing_more given (body ∷ bodies) rest st front are goes written) _
+      (refl, record { answered = front; turn = last; left = quiet bodies; whole = refl; wrote = record { no_stop = goes; written = written } })
+
+  -- ---- the end of the input, or what is no frame
+
+  module _ (given : List (List ℕ)) (rest : List ℕ) (turns : List Turn) (are : AreTurnsOf given turns) (goes : stop_in (outputs 0 turns) ≡ None) (answered : AreAnswered 0 turns)
+      (written : Appends held sink.held (frames_in (outputs 0 turns))) (status : ℕ) (one : status ≡ 1) where
+    abbrev ends_so : Option RunFault → Type 0
+    ends_so told = Ends (reach turns rest) (ended_as status told).status (ended_as status told).fault
+
+    ends_for : (why : NoMore) → Finds (Some why) rest source [] → ends_so (fault_of why)
+    ends_for no_more.End f = record { written = written; is_end = subst (λ (o : Option ℕ). IsEnd o status rest source) (sym goes) (one, f.2, f.3) }
+    ends_for (no_more.Fault (fault.Frame why)) f = (refl, record { answers = record { no_stop = goes; written = written }; is_fault = f.1 })
+    ends_for (no_more.Fault fault.Device) f = (refl, inr (inl (record { failed = f.0; answers = record { no_stop = goes; written = written }; partial = f.2 })))
+    ends_for (no_more.Fault fault.NoMemory) f = absurd f
+
+    told_device : (why : NoMore) → Finds (Some why) rest source [] → source.failed ≡ true → fault_of why ≡ Some fault.Device
+    told_device no_more.End f bad = let good = f.0 in absurd (cc)
+    told_device (no_more.Fault (fault.Frame why)) f bad = let good = f.0 in absurd (cc)
+    told_device (no_more.Fault fault.Device) f bad = refl
+    told_device (no_more.Fault fault.NoMemory) f bad = absurd f
+
+    -- a run that ends so, and a source that has failed is told
+    abbrev Told : Option RunFault → Type 0
+    Told told = Runs first source held sink (ended_as status told) × (source.failed ≡ true → told ≡ Some fault.Device)
+
+    pub runs_told : (bodies : List (List ℕ)) (no_more : Option NoMore) (told : Option RunFault) → Stands first source.left given bodies rest → Finds no_more rest source bodies → Tells bodies no_more told
+        → Told told
+    runs_told [] no_more told st finds tells =
+        let f : Finds (Some tells.0) rest source [] = subst (λ (o : Option NoMore). Finds o rest source []) tells.1 finds in
+        let ends = ends_for tells.0 f in
+        subst Told (sym tells.2) (
+          runs_of given [] rest st turns are goes [] refl (fits_behind turns [] answered) [] (nothing_more given [] rest st turns are goes written) _
+              (subst (λ (t : List Turn). Ends (reach t rest) (ended_as status (fault_of tells.0)).status (ended_as status (fault_of tells.0)).fault) (sym (append-nil turns)) ends),
+          told_device tells.0 f,
+        )
+    runs_told (body ∷ bodies) no_more told st finds tells =
+        subst Told (sym tells) (
+          runs_refused given body bodies rest st turns are goes (quiet_turn body) refl (fits_behind turns (body ∷ bodies) answered) written,
+          λ bad. let good = not_failed no_more rest source body bodies finds in absurd (cc),
+        )
+
+  -- ---- at a body
+
+  module _ (given : List (List ℕ)) (body : List ℕ) (bodies : List (List ℕ)) (rest : List ℕ) (st : Stands first source.left given (body ∷ bodies) rest)
+      (front : List Turn) (are : AreTurnsOf given front) (goes : stop_in (outputs 0 front) ≡ None) (last : Turn) (of : last.event ≡ event_of body) (answered : AreAnswered 0 (front ++ last ∷ [])) where
+    -- it stopped the session
+    pub runs_stopped : (status : ℕ) → stop_in (outputs 0 (front ++ last ∷ [])) ≡ Some status → Appends held sink.held (frames_in (outputs 0 (front ++ last ∷ [])))
+        → Runs first source held sink (record { status = status; fault = None })
+    runs_stopped status stops written =
+        let puts = outputs_stopped front last status bodies goes stops in
+        runs_of given (body ∷ bodies) rest st front are goes (last ∷ quiet bodies) (last_of last body bodies of) (fits_last front last bodies answered)
+        (frames_in (run (reached (start 0) front) (last ∷ []))) (subst (Appends held sink.held) (frames_more front (last ∷ [])) written) _
+        (record {
+          written = subst (λ (o : List Out). Appends held sink.held (frames_in o)) (sym puts) written;
+          is_end = subst (λ (o : Option ℕ). IsEnd o status rest source) (sym (ap stop_in puts ∙ stops)) refl;
+        })
+
+    -- memory was refused for it
+    pub runs_without_memory : Appends held sink.held (frames_in (outputs 0 front)) → Runs first source held sink (record { status = 3; fault = Some fault.NoMemory })
+    runs_without_memory written = runs_refused given body bodies rest st front are goes last of (fits_last front last bodies answered) written
+
+    -- the sink failed at it
+    pub runs_unwritten : (outs : List Out) → outputs 0 (front ++ last ∷ []) ≡ outputs 0 front ++ outs → (held_then : Option (List ℕ)) → Appends held held_then (frames_in (outputs 0 front))
+        → Sent held_then sink.held (frames_in outs) → sink.failed ≡ true → Runs first source held sink (record { status = 3; fault = Some fault.Device })
+    runs_unwritten outs puts_out held_then written sent failed =
+        let last_frames : frames_in (outputs 0 (front ++ last ∷ [])) ≡ frames_in (outputs 0 front) ++ frames_in outs = ap frames_in puts_out ∙ flat_map-append frame_in (outputs 0 front) outs in
+        let behind = frames_in (run (reached (start 0) (front ++ last ∷ [])) (quiet bodies)) in
+        let frames : (frames_in (outputs 0 front) ++ frames_in outs) ++ behind ≡ frames_in (outputs 0 (front ++ last ∷ quiet bodies)) =
+        ap (λ (l : List ℕ). l ++ behind) (sym last_frames) ∙ (sym (frames_more (front ++ last ∷ []) (quiet bodies)) ∙ ap (λ (t : List Turn). frames_in (outputs 0 t)) (append_assoc front (last ∷ []) (quiet bodies))) in
+        runs_of given (body ∷ bodies) rest st front are goes (last ∷ quiet bodies) (last_of last body bodies of) (fits_last front last bodies answered)
+        sent.front (Appends-trans held held_then sink.held (frames_in (outputs 0 front)) sent.front written sent.written) _ (
+          refl,
+          inl (record {
+            failed = failed;
+            front = subst (Sent held sink.held) frames (Sent-more held sink.held (frames_in (outputs 0 front) ++ frames_in outs) behind (Sent-behind held held_then sink.held (frames_in (outputs 0 front)) (frames_in outs) written sent));
+          }),
+        )

@@ -1,5 +1,7 @@
 pub mod Bounds
+pub mod Reading
 pub mod Alone
 pub mod Outputs
-pub mod Joins
+pub mod Inboxes
 pub mod Endings
+pub mod Driven

@@ -1,4 +1,3 @@
 pub mod Output
-pub mod Serving
 pub mod Runs
-pub mod Progress
+pub mod Inbox

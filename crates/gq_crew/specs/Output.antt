@@ -1,14 +1,13 @@
 -- What a desk without workers puts out for bodies of messages, and the bytes that are written of it.
-use Rattle.std.specs.Prelude.{◌≡◌, ℕ, ◌<◌, length, List, [], ◌∷◌, ◌++◌, map, flat_map, Option, Some, None}
+use Rattle.std.specs.Prelude.{◌≡◌, ℕ, ◌<◌, length, List, ◌∷◌, ◌++◌, map, Option, None}
 use Rattle.std.specs.Io.KnownBytes.{Appends}
 use Rattle.gq_rpc.specs.Decoding.{message_of}
-use Rattle.gq_rpc.specs.Encoding.{frame_of}
-use Rattle.gq_desk.specs.declared.event.Event.{Event}
-use Rattle.gq_desk.specs.declared.event.Event.TheVariants as event
-use Rattle.gq_desk.specs.declared.event.Out.{Out}
-use Rattle.gq_desk.specs.declared.event.Out.TheVariants as out
-use Rattle.gq_desk.specs.Rules.{Turn}
-use Rattle.gq_desk.specs.History.{IsAnswered}
+use Rattle.gq_events.specs.declared.event.Event.{Event}
+use Rattle.gq_events.specs.declared.event.Event.TheVariants as event
+use Rattle.gq_events.specs.declared.event.Out.{Out}
+use Rattle.gq_desk.specs.Frames.{frames_in, stop_in}
+use Rattle.gq_events.specs.Rules.{Turn}
+use Rattle.gq_events.specs.History.{IsAnswered}
 
 -- the event that a body is
 abbrev pub event_of : List ℕ → Event
@@ -17,31 +16,6 @@ event_of body = event.Message (message_of body)
 -- the turns of these bodies, in order
 abbrev pub AreTurnsOf : List (List ℕ) → List Turn → Type 0
 AreTurnsOf bodies turns = map (λ turn. turn.event) turns ≡ map event_of bodies
-
--- the frame of a reply or a notification
-abbrev pub frame_in : Out → List ℕ
-frame_in (out.Reply message) = frame_of message
-frame_in (out.Notify message) = frame_of message
-frame_in (out.Publish change) = []
-frame_in (out.Job job) = []
-frame_in (out.Stop status) = []
-
--- the frames of all, in order
-abbrev pub frames_in : List Out → List ℕ
-frames_in outs = flat_map frame_in outs
-
--- the status of a stop, or else that of a later one
-abbrev pub or_stop : Out → Option ℕ → Option ℕ
-or_stop (out.Stop status) later = Some status
-or_stop (out.Reply message) later = later
-or_stop (out.Notify message) later = later
-or_stop (out.Publish change) later = later
-or_stop (out.Job job) later = later
-
--- the status of the first stop
-abbrev pub stop_in : List Out → Option ℕ
-stop_in [] = None
-stop_in (o ∷ outs) = or_stop o (stop_in outs)
 
 -- what was written, where `puts` is what turns put out: all frames, and no stop
 pub record WroteAll (puts : List Turn → List Out) (turns : List Turn) (held held' : Option (List ℕ)) : Type 0 where

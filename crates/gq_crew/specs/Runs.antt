@@ -6,13 +6,14 @@ use Rattle.gq_rpc.specs.Frames.{Cuts, scan_of}
 use Rattle.gq_rpc.specs.declared.header.Scan.TheVariants.{Partial, Bad}
 use Rattle.gq_rpc.specs.declared.header.FrameFault.{FrameFault}
 use Rattle.gq_rpc.specs.declared.header.FrameFault.TheVariants as frame
-use Rattle.gq_desk.specs.declared.event.Out.{Out}
-use Rattle.gq_desk.specs.Rules.{Turn}
-use Rattle.gq_desk.specs.History.{outputs, IsAnswered}
+use Rattle.gq_events.specs.declared.event.Out.{Out}
+use Rattle.gq_events.specs.Rules.{Turn}
+use Rattle.gq_events.specs.History.{outputs, IsAnswered}
 use Rattle.gq_crew.specs.declared.run.Ended.{Ended}
 use Rattle.gq_crew.specs.declared.run.RunFault.{RunFault}
 use Rattle.gq_crew.specs.declared.run.RunFault.TheVariants.{Frame, Device, NoMemory}
-use Rattle.gq_crew.specs.Output.{AreTurnsOf, frames_in, stop_in, WroteAll, WroteBefore}
+use Rattle.gq_desk.specs.Frames.{frames_in, stop_in}
+use Rattle.gq_crew.specs.Output.{AreTurnsOf, WroteAll, WroteBefore}
 
 -- how a source stands after a run: the bytes that it has left, where they are known, and whether a read has told the
 -- end, or has failed
@@ -74,21 +75,29 @@ pub record SinkFails (run : Reached) : Type 0 where
   pub failed : run.sink.failed ≡ true
   pub front : Sent run.held run.sink.held (frames_in (run.puts run.turns))
 
+-- the source has failed; all bodies were answered, and what is left is less than a frame
+pub record SourceFails (run : Reached) : Type 0 where
+  pub failed : run.source.failed ≡ true
+  pub answers : AnswersAll run
+  pub partial : scan_of run.rest ≡ Partial
+
 -- so many bodies a run answers; then it ends
 abbrev pub bodies_max : ℕ
 bodies_max = 2 ^ 60
 
--- the source has failed, or so many bodies were read; all were answered, and what is left is less than a frame
-pub record SourceFails (run : Reached) : Type 0 where
-  pub failed : (run.source.failed ≡ true) ⊎ (bodies_max ≤ length run.turns)
-  pub answers : AnswersAll run
-  pub partial : scan_of run.rest ≡ Partial
+-- so many of the bodies, the first of them, were answered, without a stop
+pub record AnswersSoMany (run : Reached) : Type 0 where
+  pub answered : List Turn
+  pub left : List Turn
+  pub whole : run.turns ≡ answered ++ left
+  pub many : length answered ≡ bodies_max
+  pub wrote : WroteAll run.puts answered run.held run.sink.held
 
 -- how a run ended
 abbrev pub Ends : Reached → ℕ → Option RunFault → Type 0
 Ends run status None = Finishes run status
 Ends run status (Some (Frame why)) = (status ≡ 3) × FindsNoFrame run why
-Ends run status (Some Device) = (status ≡ 3) × (SinkFails run ⊎ SourceFails run)
+Ends run status (Some Device) = (status ≡ 3) × (SinkFails run ⊎ (SourceFails run ⊎ AnswersSoMany run))
 Ends run status (Some NoMemory) = (status ≡ 3) × WroteBefore run.puts run.turns run.held run.sink.held
 
 -- so many bytes one read gives, at most

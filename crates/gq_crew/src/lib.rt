@@ -1,9 +1,9 @@
 //! The server on one thread: bytes in to bytes out.
 #![tactic(auto)]
 
+mod inbox;
 pub mod laws;
 pub mod run;
-mod serving;
 
 pub use run::{Ended, RunFault, run_one};
 

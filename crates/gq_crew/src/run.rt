@@ -1,28 +1,17 @@
 //! A run: the frames that come in, and the frames of the replies.
-ghost use Rattle.std.specs.Prelude.{Bool, Option, List, ℕ, ◌≡◌, ◌<◌, length, true, false, Some, None, IfSome};
-ghost use Rattle.gq_rpc.specs.Frames.{scan_of};
-ghost use Rattle.gq_rpc.specs.declared.header.Scan.TheVariants.{Partial};
-ghost use Rattle.gq_crew.specs.Runs.{SourceAfter, Runs};
-ghost use Rattle.gq_crew.specs.Serving.{IsAlone, alone, session_in};
-ghost use Rattle.gq_crew.specs.Progress.{TellsFault, TakesPiece, ReadsOnce};
+ghost use Rattle.std.specs.Prelude.{◌≡◌, Option, true, false, Some};
+ghost use Rattle.gq_crew.specs.Runs.{Runs};
+ghost use Rattle.gq_crew.specs.Inbox.{seen_in, unread, ended_as};
+ghost use Rattle.gq_crew.specs.Inbox as spec;
 
-use crate::serving::{ServeFault, Served, serve_bodies};
-use gq_desk::Desk;
-use gq_rpc::{FrameFault, Framer, Reading, Sink, Source};
+use crate::inbox::{Inbox, Pending};
+use gq_desk::{Desk, DriveFault, NoHands, drive};
+use gq_rpc::{FrameFault, Sink, Source};
 use std::alloc::Global;
 use thiserror::Error;
 
-/// How many bytes are read at once, at most.
-const BUFFER_LEN: usize = 16_384;
-
-/// How many bodies a run answers before it ends.
-const BODIES_MAX: u64 = 1 << 60;
-
 /// The status of a run that a fault ended.
 const FAULT_STATUS: u8 = 3;
-
-/// The status of a run that the end of its input ended.
-const END_STATUS: u8 = 1;
 
 /// Why a run ended early. It is printed as its name.
 #[derive(Clone, Copy, Debug, PartialEq, Eq, Error)]
@@ -30,7 +19,7 @@ pub enum RunFault {
     /// No frame can be read from the input.
     #[error("{0}")]
     Frame(FrameFault),
-    /// The source or the sink has failed, or 2^60 bodies were read.
+    /// The source or the sink has failed, or 2^60 bodies were answered.
     #[error("Device")]
     Device,
     /// A growth was refused.
@@ -46,88 +35,54 @@ pub struct Ended {
     pub fault: Option<RunFault>,
 }
 
-/// What one read led to.
-#[derive(Clone, Copy, Debug, PartialEq, Eq)]
-pub enum Progress {
-    /// So many bodies were answered, and there is more to read.
-    Again(usize),
-    Done(Ended),
-}
-
 /// The end at a fault.
-fn failed(fault: RunFault) -> Progress
-    ensures { result ≡ Progress.Done (record { status = 3; fault = Some fault }) }
+fn failed(fault: RunFault) -> Ended
+    ensures { result ≡ record { status = 3; fault = Some fault } }
 {
-    Progress::Done(Ended {
+    Ended {
         status: FAULT_STATUS,
         fault: Some(fault),
-    })
+    }
 }
 
-/// The end without one.
-fn stopped(status: u8) -> Progress
-    ensures { result ≡ Progress.Done (record { status = status; fault = None }) }
+/// The end with a status, or at the fault that was told.
+fn stopped(status: u8, told: Option<RunFault>) -> Ended
+    ensures { result ≡ ended_as status told }
 {
-    Progress::Done(Ended {
-        status,
-        fault: None,
-    })
-}
-
-/// Serves the bodies that a piece of the input completes.
-fn take_piece<K: Sink>(
-    alloc: Global,
-    desk: &mut Desk,
-    framer: &mut Framer,
-    piece: &[u8],
-    output: &mut K,
-) -> Progress
-    requires works { K.failed output.old ≡ false }
-    requires alone { IsAlone desk.old }
-    requires some { 0 < length piece.now }
-    ensures takes { IfSome framer.old (λ before. (source : SourceAfter) → TakesPiece (alone (session_in desk.old)) desk.new before piece.now framer.new source
-        (K.held output.old) (record { held = K.held output.new; failed = K.failed output.new }) result) }
-    ensures sink { TellsFault (K.failed output.new) result }
-{
-    let mut bodies = Vec::new(alloc);
-    let answer = framer.feed(alloc, piece, &mut bodies);
-    match serve_bodies(alloc, desk, &bodies, output) {
-        Served::Stop(status) => stopped(status),
-        Served::Failed(ServeFault::Device) => failed(RunFault::Device),
-        Served::Failed(ServeFault::NoMemory) => failed(RunFault::NoMemory),
-        Served::Go => match answer {
-            Ok(()) => Progress::Again(bodies.len()),
-            Err(fault) => failed(RunFault::Frame(fault)),
+    match told {
+        Some(fault) => failed(fault),
+        None => Ended {
+            status,
+            fault: None,
         },
     }
 }
 
-/// Reads once, and serves what the bytes complete.
-fn read_once<S: Source, K: Sink>(
-    alloc: Global,
-    desk: &mut Desk,
-    framer: &mut Framer,
-    buffer: &mut [u8],
-    input: &mut S,
-    output: &mut K,
-) -> Progress
-    requires sound { S.failed input.old ≡ false }
-    requires works { K.failed output.old ≡ false }
-    requires alone { IsAlone desk.old }
-    requires room { 0 < length buffer.old }
-    ensures reads { IfSome framer.old (λ before. scan_of before ≡ Partial → ReadsOnce (alone (session_in desk.old)) desk.new (length buffer.old) before framer.new (S.left input.old)
-        (record { left = S.left input.new; ended = S.ended input.new; failed = S.failed input.new })
-        (K.held output.old) (record { held = K.held output.new; failed = K.failed output.new }) result) }
-    ensures source { TellsFault (S.failed input.new) result }
-    ensures sink { TellsFault (K.failed output.new) result }
+/// The fault of a run at one of driving. Hands that do nothing are never closed, and a desk that is new has not failed.
+fn fault_at(fault: DriveFault) -> RunFault
+    ensures { result ≡ spec.fault_at fault }
 {
-    match input.read(buffer) {
-        Reading::Bytes(n) => take_piece(alloc, desk, framer, &buffer[..n], output),
-        Reading::End => match framer.end() {
-            Ok(()) => stopped(END_STATUS),
-            Err(fault) => failed(RunFault::Frame(fault)),
-        },
-        Reading::Failed => failed(RunFault::Device),
+    match fault {
+        DriveFault::NoMemory => RunFault::NoMemory,
+        DriveFault::Device | DriveFault::Closed | DriveFault::Failed => RunFault::Device,
+    }
+}
+
+/// Serves what an inbox gives of which nothing was read.
+fn serve<S: Source, K: Sink>(alloc: Global, inbox: &mut Inbox<'_, S>, output: &mut K) -> Ended
+    requires unread { seen_in S.left S.ended S.failed inbox.old ≡ unread (seen_in S.left S.ended S.failed inbox.old).source }
+    requires sound { S.failed inbox.old.input.now ≡ false }
+    requires works { K.failed output.old ≡ false }
+    ensures same_input { inbox.new.input.ghost_name ≡ inbox.old.input.ghost_name }
+    ensures runs { Runs (S.left inbox.old.input.now) (seen_in S.left S.ended S.failed inbox.new).source
+        (K.held output.old) (record { held = K.held output.new; failed = K.failed output.new }) result }
+    ensures source { S.failed inbox.new.input.now ≡ true → result.fault ≡ Some RunFault.Device }
+    ensures sink { K.failed output.new ≡ true → result.fault ≡ Some RunFault.Device }
+{
+    let mut desk = Desk::new(alloc, 0);
+    match drive(alloc, &mut desk, inbox, &mut NoHands, output) {
+        Ok(status) => stopped(status, inbox.pending.told()),
+        Err(fault) => failed(fault_at(fault)),
     }
 }
 
@@ -143,18 +98,10 @@ pub fn run_one<S: Source, K: Sink>(alloc: Global, input: &mut S, output: &mut K)
     ensures source { S.failed input.new ≡ true → result.fault ≡ Some RunFault.Device }
     ensures sink { K.failed output.new ≡ true → result.fault ≡ Some RunFault.Device }
 {
-    let mut desk = Desk::new(alloc);
-    let mut framer = Framer::new(alloc);
-    let mut buffer = [0u8; BUFFER_LEN];
-    let mut served: u64 = 0;
-    while served < BODIES_MAX {
-        match read_once(alloc, &mut desk, &mut framer, &mut buffer, input, output) {
-            Progress::Again(count) => served = served.saturating_add(count as u64),
-            Progress::Done(ended) => return ended,
-        }
-    }
-    Ended {
-        status: FAULT_STATUS,
-        fault: Some(RunFault::Device),
-    }
+    let mut pending = Pending::new(alloc);
+    let mut inbox = Inbox {
+        input,
+        pending: &mut pending,
+    };
+    serve(alloc, &mut inbox, output)
 }

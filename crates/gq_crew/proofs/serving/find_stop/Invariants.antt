@@ -1,8 +1,0 @@
-use Rattle.std.proofs.Common.{◌≡◌, drop}
-use Rattle.gq_crew.specs.Output.{stop_in}
-use Rattle.gq_crew.proofs.serving.find_stop.Given as goal
-
-abbrev pub invariant-loop-out : goal.invariant-loop-out
-invariant-loop-out l = record {
-  same : stop_in l.outs ≡ stop_in (drop l.out-index l.outs);
-}

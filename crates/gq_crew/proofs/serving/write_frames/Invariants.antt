@@ -1,8 +1,0 @@
-use Rattle.std.proofs.Common.{◌≡◌, ◌++◌, drop}
-use Rattle.gq_crew.specs.Output.{frames_in}
-use Rattle.gq_crew.proofs.serving.write_frames.Given as goal
-
-abbrev pub invariant-loop-out : goal.invariant-loop-out
-invariant-loop-out l = record {
-  all : l.bytes.items ++ frames_in (drop l.out-index l.outs) ≡ frames_in l.outs;
-}

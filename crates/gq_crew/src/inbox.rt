@@ -1,0 +1,178 @@
+//! The messages of an input, one after another.
+ghost use Rattle.std.specs.Prelude.{◌≡◌, [], Some, None, false, IfSome};
+ghost use Rattle.gq_rpc.specs.Frames.{contents};
+ghost use Rattle.std.specs.Option.{option_and_then};
+ghost use Rattle.gq_crew.specs.Inbox.{TakesFrames, end_in};
+
+use crate::run::RunFault;
+use gq_desk::Event;
+use gq_rpc::{Framer, Reading, Source, read_message};
+use std::alloc::Global;
+use std::collections::VecDeque;
+
+/// How many bytes are read at once, at most.
+const BUFFER_LEN: usize = 16_384;
+
+/// Why no more is read.
+#[derive(Clone, Copy, Debug, PartialEq, Eq)]
+pub enum NoMore {
+    /// The input has ended behind a whole frame, or before any.
+    End,
+    Fault(RunFault),
+}
+
+/// The bodies that a piece completes, and why no more is read where no frame follows.
+fn take_frames(
+    alloc: Global,
+    framer: &mut Framer,
+    piece: &[u8],
+) -> (VecDeque<Vec<u8>>, Option<NoMore>)
+    ensures { IfSome framer.old (λ held. TakesFrames held piece.now framer.new (contents result.0.items) result.1) }
+{
+    let mut bodies = Vec::new(alloc);
+    let no_more = match framer.feed(alloc, piece, &mut bodies) {
+        Ok(()) => None,
+        Err(fault) => Some(NoMore::Fault(RunFault::Frame(fault))),
+    };
+    (VecDeque::from_vec(bodies), no_more)
+}
+
+/// Why no more is read where the source ends.
+fn find_end(framer: &Framer) -> NoMore
+    ensures { result ≡ end_in framer.now }
+{
+    match framer.end() {
+        Ok(()) => NoMore::End,
+        Err(fault) => NoMore::Fault(RunFault::Frame(fault)),
+    }
+}
+
+/// What was read of an input, and was not given yet.
+#[derive(Drop)]
+pub struct Pending {
+    alloc: Global,
+    buffer: [u8; BUFFER_LEN],
+    framer: Framer,
+    bodies: VecDeque<Vec<u8>>,
+    /// Why no more is read. The bodies before it are given first.
+    no_more: Option<NoMore>,
+    /// The fault at which it ended.
+    told: Option<RunFault>,
+}
+
+impl Pending {
+    ghost use Rattle.gq_crew.specs.Inbox.{seen, Holds, Ready, ReadsOnce, Fills, IsFull, Gives, fault_of};
+
+    /// Nothing was read. It takes no memory.
+    pub fn new(alloc: Global) -> Pending
+        ensures framer { result.framer ≡ Some [] }
+        ensures bodies { result.bodies.items ≡ [] }
+        ensures no_more { result.no_more ≡ None }
+        ensures told { result.told ≡ None }
+    {
+        Pending {
+            alloc,
+            buffer: [0u8; BUFFER_LEN],
+            framer: Framer::new(alloc),
+            bodies: VecDeque::new(alloc),
+            no_more: None,
+            told: None,
+        }
+    }
+
+    /// The fault at which it ended.
+    pub fn told(&self) -> Option<RunFault>
+        ensures { result ≡ self.now.told }
+    {
+        self.told
+    }
+
+    /// Reads once, where it has no body.
+    fn read_once<S: Source>(&mut self, input: &mut S)
+        requires ready { Holds (seen S.left S.ended S.failed input.old self.old) }
+        requires empty { self.old.bodies.items ≡ [] }
+        requires going { self.old.no_more ≡ None }
+        ensures { ReadsOnce (seen S.left S.ended S.failed input.old self.old) (seen S.left S.ended S.failed input.new self.new) }
+    {
+        match input.read(&mut self.buffer) {
+            Reading::Bytes(count) => {
+                let (bodies, no_more) = take_frames(
+                    self.alloc,
+                    &mut self.framer,
+                    &self.buffer[..count],
+                );
+                self.bodies = bodies;
+                self.no_more = no_more;
+            }
+            Reading::End => self.no_more = Some(find_end(&self.framer)),
+            Reading::Failed => self.no_more = Some(NoMore::Fault(RunFault::Device)),
+        }
+    }
+
+    /// Reads until it has a body, or there is no more to read.
+    fn fill<S: Source>(&mut self, input: &mut S)
+        requires ready { Ready (seen S.left S.ended S.failed input.old self.old) }
+        ensures fills { Fills (seen S.left S.ended S.failed input.old self.old) (seen S.left S.ended S.failed input.new self.new) }
+        ensures full { IsFull (seen S.left S.ended S.failed input.new self.new) }
+    {
+        'reads: while self.bodies.is_empty() && self.no_more.is_none() {
+            self.read_once(input);
+        }
+    }
+
+    /// Tells why no more is given.
+    fn tell(&mut self)
+        ensures told { self.new.told ≡ option_and_then fault_of self.old.no_more }
+        ensures framer { self.new.framer ≡ self.old.framer }
+        ensures bodies { self.new.bodies ≡ self.old.bodies }
+        ensures no_more { self.new.no_more ≡ self.old.no_more }
+    {
+        self.told = match self.no_more {
+            Some(NoMore::Fault(fault)) => Some(fault),
+            _ => None,
+        };
+    }
+
+    /// The next message; at the end, at a fault and where memory is refused none.
+    fn give<S: Source>(&mut self, input: &mut S) -> Option<Event>
+        requires ready { Ready (seen S.left S.ended S.failed input.old self.old) }
+        ensures ready { IfSome result (λ _. Ready (seen S.left S.ended S.failed input.new self.new)) }
+        ensures gives { Gives (seen S.left S.ended S.failed input.old self.old) result (seen S.left S.ended S.failed input.new self.new) }
+    {
+        self.fill(input);
+        match self.bodies.pop_front() {
+            Some(body) => match read_message(self.alloc, &body) {
+                Ok(message) => Some(Event::Message(message)),
+                Err(_) => {
+                    self.told = Some(RunFault::NoMemory);
+                    None
+                }
+            },
+            None => {
+                self.tell();
+                None
+            }
+        }
+    }
+}
+
+/// The messages of an input, one after another, up to its end or a fault.
+#[derive(Drop)]
+pub struct Inbox<'a, S> {
+    pub input: &'a mut S,
+    pub pending: &'a mut Pending,
+}
+
+impl<S: Source> Iterator for Inbox<'_, S> {
+    ghost use Rattle.gq_crew.specs.Inbox.{seen_in, Ready, Steps};
+
+    type Item = Event;
+
+    ghost can_next = { λ s. Ready (seen_in S.left S.ended S.failed s) };
+
+    ghost next_gives = { Steps S.left S.ended S.failed };
+
+    fn next(&mut self) -> Option<Event> {
+        self.pending.give(self.input)
+    }
+}
