@@ -1,11 +1,15 @@
-//! Judges sessions: each file that the command line names holds what a client sends, and what it is to get. It prints each session
-//! that is served otherwise, and then, for each file, how many sessions it has.
+//! Judges sessions: each file that the command line names holds what a client sends, and what it is to get; or, where its name ends
+//! with `.events`, lists of events for a desk with workers. It prints what comes out otherwise, and then, for each file, how many
+//! sessions or lists it has.
 #![tactic(auto)]
 
+mod events;
 mod no_answer;
 mod served;
 mod session;
+mod taker;
 
+use events::judge_events;
 use no_answer::NoAnswer;
 use served::served;
 use session::{Session, read_sessions};
@@ -34,6 +38,11 @@ fn judge_session(rt: &HostRuntime, name: &str, session: &Session) -> Result<bool
 /// Judges the sessions of a file, prints how many there are, and answers how many are not served as wanted.
 fn judge_file(rt: &HostRuntime, name: &str) -> Result<usize, NoAnswer> {
     let text = fs::read_to_string(rt, name)?;
+    if name.ends_with(".events") {
+        let judged = judge_events(rt, name, text.as_str())?;
+        println!(rt; "{name}: {} lists", judged.lists)?;
+        return Ok(judged.wrong);
+    }
     let sessions = read_sessions(rt.alloc(), text.as_str())?;
     let mut wrong: usize = 0;
     for session in &sessions {
