@@ -13,6 +13,8 @@ import sys
 TOP = os.path.dirname(os.path.dirname(os.path.abspath(__file__)))
 # title, crate, source file, function
 THEOREMS = [
+    ("What is promised of each edit", "gq_events", "laws", "edits_are_safe"),
+    ("What driving a desk does", "gq_desk", "driving", "drive"),
     ("What a run of the server writes", "gq_crew", "run", "run_one"),
     ("What a rename of a fragment is", "gq_rename", "renames", "rename_fragment"),
     ("What a rename of a variable is", "gq_rename", "renames", "rename_variable"),
@@ -22,7 +24,7 @@ THEOREMS = [
     ("What `gqls check` prints", "gq_check", "checking", "check"),
     ("What `gqls exec` prints", "gq_check", "executing", "exec"),
 ]
-WORD = re.compile(r"[A-Za-z_][A-Za-z0-9_']*|◌[^\s◌,{}]+◌")
+WORD = re.compile(r"[A-Za-z_][A-Za-z0-9_']*(?:\.[A-Za-z_][A-Za-z0-9_']*)?|◌[^\s◌,{}]+◌")
 START = re.compile(r"^(?:pub )?(?:abbrev|data|record|def|lemma)\b(?: pub)? ?(?:pub )?([A-Za-z_][A-Za-z0-9_]*)|^(?:abbrev|data|record) pub ([A-Za-z_][A-Za-z0-9_]*)")
 
 
@@ -99,8 +101,18 @@ def contract(crate, source, function):
 
 
 def wanted(words, brings, own):
-    """The definitions of this repository that these words name: a crate, a file in it, and a name."""
+    """The definitions of this repository that these words name: a crate, a file in it, and a name. A word with a dot is one of a file that has a
+    name of its own, or a field."""
+    whole = set()
     for word in sorted(words):
+        of, dot, inner = word.partition(".")
+        if dot and of in brings and brings[of][1] is None:
+            module = brings[of][0]
+            if len(module) > 3 and module[1].startswith("gq_") and module[2] == "specs" and module[3] != "declared":
+                yield module[1], "/".join(module[3:]), inner
+        else:
+            whole |= {of, inner} - {""}
+    for word in sorted(whole):
         if own and word in own.defined:
             yield own.crate, own.inside, word
         elif word in brings:
@@ -127,6 +139,11 @@ def below(words, brings):
 def page():
     text = [
         "# Definitions",
+        "",
+        "Where the server offers an edit for a valid project at stated versions, applying it to those texts gives a valid project in which every operation has, for every",
+        "resolver table and all variables, renamed alike, the same data, key order and error paths; and over every list of changes and worker results, each edit answered",
+        "is exactly its request's at the versions it names. The first two parts of this page are this sentence: as a law of lists of events, and as the claim `headline` of",
+        "`drive`, which the program calls, in each of its clauses on what comes of the events.",
         "",
         "What a reader must believe, by theorem. The proofs show that the code meets the contracts; that the contracts say what is meant is for a reader",
         "to see, and these are the definitions that they use, from the top down, and no others. `crate File` is `crates/crate/specs/File.antt`. A theorem is the",
