@@ -28,7 +28,7 @@ module _ (law : AnsweredEditsAreSafe) (events : List Turn) (j : ℕ) where
   of_own : (message : Outgoing) → IsOwnAnswer events j message → Own message (edits_in message)
   of_own message own =
       weaker (IsSafe (docs_at events own.place) own.question) (IsOwnEdit events j message)
-      (λ edit safe. record { place = own.place; id = own.id; question = own.question; earlier = own.earlier; asks = own.asks; answers = own.is; safe = safe }) (edits_in message)
+      (λ edit safe. record { place = own.place; id = own.id; question = own.question; earlier = own.earlier; asks = own.asks; still = own.still; answers = own.is; safe = safe }) (edits_in message)
       (law (docs_at events own.place) own.id own.question message own.is)
 
   -- no action carries no edit

@@ -168,7 +168,7 @@ module _ (events : List Turn) (j : ℕ) where
       let docs = same_docs_after (session_at events given.place) (effect_at events given.place) (changed_at events given.place) id (Some q) asks in
       let at : Answers (docs_at events given.place) (task.Ask id q) (answer.Response message) =
       subst (λ (d : List Doc). Answers d (task.Ask id q) (answer.Response message)) docs given.fits in
-      ∥∥₁_map at (λ e. record { place = given.place; id = id; question = q; earlier = given.earlier; asks = asks; is = e })
+      ∥∥₁_map at (λ e. record { place = given.place; id = id; question = q; earlier = given.earlier; asks = asks; still = sym docs ∙ given.still; is = e })
   of_response task.Check message given = ∥∥₁_map given.fits (λ e. absurd e)
 
   of_answer : (t : Task) (a : Answer) → IsGiven events j t a → All_right (answered t a)

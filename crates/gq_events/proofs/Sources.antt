@@ -1,5 +1,5 @@
 -- Where each output of a step comes from: what holds of the outputs of each source holds of all.
-use Rattle.std.proofs.Common.{◌≤◌, ◌≡◌, ℕ, zero, suc, ◌+◌, ◌<◌, Bool, true, false, cond, ◌==◌, List, [], ◌∷◌, ◌++◌, length, map, Option, Some, None, refl, arith}
+use Rattle.std.proofs.Common.{◌≤◌, ◌≡◌, ℕ, zero, suc, ◌+◌, ◌<◌, Bool, true, false, cond, ◌==◌, List, [], ◌∷◌, ◌++◌, length, map, Option, Some, None, ap, sym, refl, ◌∙◌, arith}
 use Rattle.std.specs.Prelude.{filter, flat_map, codes}
 use Rattle.std.specs.List.{AllByRecursion}
 use Rattle.std.proofs.lemmas.Bool.Decides.{nat_tests}
@@ -10,17 +10,20 @@ use Rattle.gq_rpc.specs.declared.messages.ResponseError.TheVariants as error
 use Rattle.gq_events.specs.declared.event.Task.{Task}
 use Rattle.gq_events.specs.declared.event.Task.TheVariants as task
 use Rattle.gq_events.specs.declared.event.Job.{Job}
+use Rattle.gq_events.specs.declared.event.Done.{Done}
+use Rattle.gq_events.specs.declared.documents.OpenDocument.{OpenDocument}
 use Rattle.gq_events.specs.declared.event.Answer.{Answer}
 use Rattle.gq_events.specs.declared.event.Out.{Out}
 use Rattle.gq_events.specs.declared.event.Out.TheVariants as out
 use Rattle.gq_events.specs.declared.effect.Change.{Change}
 use Rattle.gq_events.specs.declared.effect.Effect.{Effect}
 use Rattle.gq_events.specs.declared.effect.Effect.TheVariants as effect
+use Rattle.gq_events.specs.Documents.{docs_of}
 use Rattle.gq_events.specs.Tasks.{Answers}
-use Rattle.gq_events.specs.Rules.{Turn, failed, refused_as, answered, verdict, accepted, taken, own, FitsTaken, answer_to}
+use Rattle.gq_events.specs.Rules.{Turn, Session, session_after, failed, refused_as, answered, verdict, accepted, taken, own, FitsTaken, answer_to}
 use Rattle.gq_events.specs.History.{session_at, effect_at, changed_at, docs_at, turn_at, Asked, is_decided_at, asked_before, denied_at, taken_at, numbered, handed_at, handed_before, decided_at, at_once, outputs_at, IsAnswered}
 use Rattle.gq_events.proofs.Lists.{both, weaker}
-use Rattle.gq_events.proofs.Firsts.{decided_at_first, answers_are_defined}
+use Rattle.gq_events.proofs.Firsts.{decided_at_first, documents_stay, answers_are_defined}
 
 -- the event of this effect brings the task: a client's question, or after a change the check
 abbrev pub IsBroughtBy : Effect → Task → Type 0
@@ -58,12 +61,17 @@ taken_by diagnostics denied (effect.ShutsDown id) = tt
 taken_by diagnostics denied (effect.Finishes done) = tt
 taken_by diagnostics denied (effect.Stops status) = tt
 
--- an answer to a task that an event at place i brought, about the documents after it
+-- an answer to a task that an event at place i brought, about the documents after it, which are those of now
 pub record IsGiven (events : List Turn) (j : ℕ) (t : Task) (a : Answer) : Type 0 where
   pub place : ℕ
   pub earlier : place ≤ j
   pub brought : IsBroughtBy (effect_at events place) t
+  pub still : docs_at events (suc place) ≡ docs_at events (suc j)
   pub fits : Answers (docs_at events (suc place)) t a
+
+-- what a worker made of a job leaves the documents as they are
+after_finish : (s : Session) (e : Effect) (document : Option OpenDocument) (done : Done) → e ≡ effect.Finishes done → docs_of (session_after s e document).documents ≡ docs_of s.documents
+after_finish s e document done is = ap (λ (x : Effect). docs_of (session_after s x document).documents) is
 
 module _ (workers : ℕ) (events : List Turn) (j : ℕ) (P : Out → Type 0)
     (of_own : AllByRecursion P (own (session_at events j) (denied_at events j (asked_before workers events j)) (effect_at events j) (changed_at events j)))
@@ -96,11 +104,13 @@ module _ (workers : ℕ) (events : List Turn) (j : ℕ) (P : Out → Type 0)
   of_verdict a (effect.ShutsDown id) is come decided = of_shutdown a.job.task
   of_verdict a (effect.Cancels id) is come decided = of_cancel a.job.task
   of_verdict a (effect.Finishes done) is come decided =
+      let first = (decided_at_first events a j come.0).0 decided in
       of_answer a.job.task done.answer (record {
         place = a.place;
         earlier = let before : a.place < j = come.0 in omega arith;
         brought = come.1;
-        fits = answers_are_defined events a j done ((decided_at_first events a j come.0).0 decided) is;
+        still = sym (documents_stay events a j first.later first.none_before) ∙ sym (after_finish (session_at events j) (effect_at events j) (changed_at events j) done is);
+        fits = answers_are_defined events a j done first is;
       })
   of_verdict a effect.Nothing is come decided = tt
   of_verdict a (effect.Begins id capabilities) is come decided = tt
@@ -125,7 +135,7 @@ module _ (workers : ℕ) (events : List Turn) (j : ℕ) (P : Out → Type 0)
 
   of_once : (alone : Bool) (t : Option Task) (a : Answer) → IsTakenBy (effect_at events j) t → (alone ≡ true → FitsTaken (docs_at events (suc j)) t a) → All_hold (cond alone (answer_to t a) [])
   of_once true None a h f = tt
-  of_once true (Some t) a h f = of_answer t a (record { place = j; earlier = omega arith; brought = h; fits = f refl })
+  of_once true (Some t) a h f = of_answer t a (record { place = j; earlier = omega arith; brought = h; still = refl; fits = f refl })
   of_once false t a h f = tt
 
   alone_is : (n : ℕ) → (n == 0) ≡ true → n ≡ 0

@@ -1,5 +1,5 @@
 -- What is promised of each edit that is answered, whatever events come.
-use Rattle.std.specs.Prelude.{◌≡◌, ℕ, ◌<◌, ◌≤◌, List, length, Some}
+use Rattle.std.specs.Prelude.{◌≡◌, ℕ, suc, ◌<◌, ◌≤◌, List, length, Some}
 use Rattle.std.specs.List.{AllByRecursion}
 use Rattle.gq_edit.specs.declared.workspace.WorkspaceEdit.{WorkspaceEdit}
 use Rattle.gq_rpc.specs.declared.messages.Id.{Id}
@@ -14,7 +14,7 @@ use Rattle.gq_events.specs.Rules.{Turn}
 use Rattle.gq_events.specs.History.{docs_at, effect_at, outputs_at, IsAnswered}
 
 -- The message answers a question that was asked at some earlier place, under its id. Its edit is exactly the one that is defined for the documents
--- as they were there: a valid project, at the versions that the edit states; applied to these texts it gives a valid project, in which every
+-- as they were there, and still are: a valid project, at the versions that the edit states; applied to these texts it gives a valid project, in which every
 -- operation has over every table and for all values of variables, renamed alike, the responses that it had.
 pub record IsOwnEdit (events : List Turn) (j : ℕ) (message : Outgoing) (edit : WorkspaceEdit) : Type 0 where
   pub place : ℕ
@@ -22,6 +22,7 @@ pub record IsOwnEdit (events : List Turn) (j : ℕ) (message : Outgoing) (edit :
   pub question : Question
   pub earlier : place ≤ j
   pub asks : effect_at events place ≡ effect.Asks id (Some question)
+  pub still : docs_at events place ≡ docs_at events (suc j)
   pub answers : IsAnswer (docs_at events place) id question message
   pub safe : IsSafe (docs_at events place) question edit
 

@@ -94,13 +94,14 @@ is_result (outgoing.CodeActions id actions) = true
 is_result (outgoing.Error id why) = false
 is_result (outgoing.Diagnostics params) = false
 
--- the message is the defined answer to a question that was asked, under its id, about the documents as they were then
+-- the message is the defined answer to a question that was asked, under its id, about the documents as they were then, and still are
 pub record IsOwnAnswer (events : List Turn) (j : ℕ) (message : Outgoing) : Type 0 where
   pub place : ℕ
   pub id : Id
   pub question : Question
   pub earlier : place ≤ j
   pub asks : effect_at events place ≡ effect.Asks id (Some question)
+  pub still : docs_at events place ≡ docs_at events (suc j)
   pub is : IsAnswer (docs_at events place) id question message
 
 -- the message tells a client that takes no code actions that there is none
