@@ -1,35 +1,25 @@
--- A row is found by the text of its call.
-use Rattle.std.proofs.Common.{◌≡◌, ◌≤◌, ◌<◌, ℕ, ◌+◌, zero, suc, List, [], ◌∷◌, ◌++◌, Bool, true, false, length, take, drop, get_or, refl, ap, sym, ◌∙◌, subst, Option, None, Some, max, arith, append_assoc, append-nil, add-one}
-use Rattle.std.specs.Prelude.{is_some, not, ◌||◌, slice_get, find, if◌then◌else◌}
-use Rattle.std.specs.Option.{option_map, IfSome}
+-- A row is found by the digest of its call, or by its text.
+use Rattle.std.proofs.Common.{◌≡◌, ◌≤◌, ◌<◌, ◌==◌, ℕ, ◌+◌, zero, suc, List, [], ◌∷◌, ◌++◌, Bool, true, false, length, take, drop, get_or, refl, ap, sym, ◌∙◌, subst, Option, None, Some, max, arith, append-nil}
+use Rattle.std.specs.Prelude.{is_some, not, cond, ◌||◌, slice_get, find, if◌then◌else◌}
+use Rattle.std.specs.BTreeMap.{get}
+use Rattle.std.specs.Option.{option_map, option_or, IfSome}
+use Rattle.std.specs.Ordering.{nat_cmp}
 use Rattle.std.specs.Str.{bytes_eq}
-use Rattle.std.proofs.lemmas.Bool.{false≢true}
-use Rattle.std.proofs.lemmas.List.{take-append-drop, length-map, length-take-le, drop_more, take_more, take_all}
-use Rattle.std.proofs.Math.ListN.{drop_of_length-le}
-use Rattle.gq_names.specs.UnderNames.{UnderNames, items_under, one_if}
-use Rattle.gq_meaning.specs.Values.{Text}
+use Rattle.std.proofs.lemmas.Bool.{false≢true, and_parts, eqb-true, eq-eqb}
+use Rattle.std.proofs.lemmas.List.{drop_more, take_more}
+use Rattle.std.proofs.lemmas.List.Folds.{find-append}
+use Rattle.std.proofs.lemmas.Option.{slice_get_within, get_or_from_slice_get, slice_get-map, slice_get_read}
+use Rattle.gq_names.specs.UnderNames.{items_under, one_if}
 use Rattle.gq_meaning.specs.Results.{Answer, Call}
 use Rattle.gq_meaning.specs.Helping.Depth.{depth}
 use Rattle.gq_meaning.proofs.TextLemmas.{text_same}
 use Rattle.gq_table.specs.Rows.{RowOf, row_of, same_call, deepest, repeats_after}
-use Rattle.gq_table.specs.CallTexts.{call_text, numbers_from}
-use Rattle.gq_table.specs.Index.{IsIndex, first_of, result_if, result_among}
-use Rattle.gq_table.specs.Views.{row_view, rows_view}
+use Rattle.gq_table.specs.Helping.CallTexts.{call_text}
+use Rattle.gq_table.specs.Helping.Index.{IsIndex, IsPutUnder, call_digest, has_digest, behind_first, row_numbered, first_of, result_if, result_among}
+use Rattle.gq_table.specs.Views.{rows_view, row_view}
+use Rattle.gq_table.specs.declared.index.Index.{Index}
 use Rattle.gq_table.specs.declared.table.Row.{Row}
-use Rattle.gq_table.proofs.SameLemmas.{call_alike}
-
--- what begins a list from a place on
-pub at_drop : {A : Type 0} (all : List A) (k : ℕ) (x : A) (rest : List A) → drop k all ≡ x ∷ rest → slice_get all k ≡ Some x
-at_drop [] zero x rest e = cc
-at_drop [] (suc k) x rest e = cc
-at_drop (y ∷ all) zero x rest e = cc
-at_drop (y ∷ all) (suc k) x rest e = at_drop all k x rest e
-
-pub drop_next : {A : Type 0} (all : List A) (k : ℕ) (x : A) (rest : List A) → drop k all ≡ x ∷ rest → drop (suc k) all ≡ rest
-drop_next [] zero x rest e = cc
-drop_next [] (suc k) x rest e = cc
-drop_next (y ∷ all) zero x rest e = cc
-drop_next (y ∷ all) (suc k) x rest e = drop_next all k x rest e
+use Rattle.gq_table.proofs.SameLemmas.{call_alike, digests_alike}
 
 -- one row more
 row_more : (r : RowOf) (rs : List RowOf) (call : Call) → row_of (r ∷ rs) call ≡ (if same_call call r.call then Some r.result else row_of rs call)
@@ -39,41 +29,168 @@ row_more r rs call = by_test (same_call call r.call)
     by_test true = refl
     by_test false = refl
 
-other_text : (r : RowOf) (call : Call) → bytes_eq (call_text call) (call_text r.call) ≡ false → (b : Bool) → same_call call r.call ≡ b → b ≡ false
-other_text r call e true h = absurd (false≢true (sym e ∙ text_same _ _ (call_alike call r.call h)))
-other_text r call e false h = refl
+-- a row whose call has another digest
+other_digest : (r : RowOf) (call : Call) → has_digest (call_digest call) r ≡ false → same_call call r.call ≡ false
+other_digest r call e = by_test (same_call call r.call) refl
+  where
+    by_test : (b : Bool) → same_call call r.call ≡ b → b ≡ false
+    by_test true h = absurd (false≢true (sym e ∙ eq-eqb (call_digest r.call) (call_digest call) (sym (digests_alike call r.call h))))
+    by_test false h = refl
 
 chosen : (b : Bool) (x : Answer) (o : Option Answer) → first_of (if b then Some x else None) o ≡ (if b then Some x else o)
 chosen true x o = refl
 chosen false x o = refl
 
--- the row is among those under its text
-pub found : (all rs after : List RowOf) (k : ℕ) (call : Call) → drop k all ≡ rs ++ after → result_among all call (numbers_from k rs (call_text call)) ≡ row_of rs call
-found all [] after k call e = refl
-found all (r ∷ rs) after k call e =
-    by_text (bytes_eq (call_text call) (call_text r.call)) refl (found all rs after (k + 1) call (ap (λ n. drop n all) (add-one k) ∙ drop_next all k r (rs ++ after) e)) ∙ sym (row_more r rs call)
-  where
-    by_text : (b : Bool) → bytes_eq (call_text call) (call_text r.call) ≡ b → result_among all call (numbers_from (k + 1) rs (call_text call)) ≡ row_of rs call →
-        result_among all call (one_if b k ++ numbers_from (k + 1) rs (call_text call)) ≡ (if same_call call r.call then Some r.result else row_of rs call)
-    by_text true h later =
-        ap (λ o. first_of (result_if call o) (result_among all call (numbers_from (k + 1) rs (call_text call)))) (at_drop all k r (rs ++ after) e)
-        ∙ ap (λ o. first_of (if same_call call r.call then Some r.result else None) o) later ∙ chosen (same_call call r.call) r.result (row_of rs call)
-    by_text false h later = later ∙ sym (ap (λ b. if b then Some r.result else row_of rs call) (other_text r call h (same_call call r.call) refl))
+first_none : (o : Option Answer) → first_of o None ≡ o
+first_none None = refl
+first_none (Some x) = refl
 
--- among all rows, and among those before one
-pub found_in : (rows : List RowOf) (call : Call) → result_among rows call (numbers_from 0 rows (call_text call)) ≡ row_of rows call
-found_in rows call = found rows rows [] 0 call (sym (append-nil rows))
+first_grouped : (a b c : Option Answer) → first_of (first_of a b) c ≡ first_of a (first_of b c)
+first_grouped None b c = refl
+first_grouped (Some x) b c = refl
 
-pub found_before : (rows : List RowOf) (n : ℕ) (call : Call) → result_among rows call (numbers_from 0 (take n rows) (call_text call)) ≡ row_of (take n rows) call
-found_before rows n call = found rows (take n rows) (drop n rows) 0 call (sym (take-append-drop n rows))
+-- a row of a call is the first one of its digest, or stands behind it
+module _ (call : Call) where
+  abbrev digest : ℕ
+  digest = call_digest call
 
--- one row more under its text
-pub numbers_more : (rs : List RowOf) (r : RowOf) (k : ℕ) (text : Text) → numbers_from k (rs ++ r ∷ []) text ≡ numbers_from k rs text ++ one_if (bytes_eq text (call_text r.call)) (k + length rs)
-numbers_more [] r k text = append-nil (one_if (bytes_eq text (call_text r.call)) k) ∙ ap (λ n. one_if (bytes_eq text (call_text r.call)) n) (omega arith)
-numbers_more (x ∷ rs) r k text =
-    ap (λ ns. one_if (bytes_eq text (call_text x.call)) k ++ ns) (numbers_more rs r (k + 1) text)
-    ∙ sym (append_assoc (one_if (bytes_eq text (call_text x.call)) k) (numbers_from (k + 1) rs text) (one_if (bytes_eq text (call_text r.call)) (k + 1 + length rs)))
-    ∙ ap (λ n. one_if (bytes_eq text (call_text x.call)) k ++ numbers_from (k + 1) rs text ++ one_if (bytes_eq text (call_text r.call)) n) (omega arith)
+  pub in_two : (rows : List RowOf) → row_of rows call ≡ first_of (result_if call (find (has_digest digest) rows)) (row_of (behind_first digest rows) call)
+  in_two [] = refl
+  in_two (r ∷ rs) = row_more r rs call ∙ by_test (has_digest digest r) refl (in_two rs)
+    where
+      by_test : (b : Bool) → has_digest digest r ≡ b → row_of rs call ≡ first_of (result_if call (find (has_digest digest) rs)) (row_of (behind_first digest rs) call) → (if same_call call r.call then Some r.result else row_of rs call)
+          ≡ first_of (result_if call (if b then Some r else find (has_digest digest) rs)) (row_of (if b then rs else behind_first digest rs) call)
+      by_test true h later = sym (chosen (same_call call r.call) r.result (row_of rs call))
+      by_test false h later = ap (λ (b : Bool). if b then Some r.result else row_of rs call) (other_digest r call h) ∙ later
+
+  -- where no row has the digest
+  none_behind : (rows : List RowOf) → find (has_digest digest) rows ≡ None → row_of (behind_first digest rows) call ≡ None
+  none_behind [] e = refl
+  none_behind (r ∷ rs) e = by_test (has_digest digest r) (none_behind rs) e
+    where
+      by_test : (b : Bool) → (find (has_digest digest) rs ≡ None → row_of (behind_first digest rs) call ≡ None) → (if b then Some r else find (has_digest digest) rs) ≡ None → row_of (if b then rs else behind_first digest rs) call ≡ None
+      by_test true later e = cc
+      by_test false later e = later e
+
+  -- one row more
+  abbrev now : RowOf → Option Answer
+  now r = result_if call (Some r)
+
+  row_pushed : (rows : List RowOf) (r : RowOf) → row_of (rows ++ r ∷ []) call ≡ first_of (row_of rows call) (now r)
+  row_pushed [] r = row_more r [] call
+  row_pushed (x ∷ rows) r = row_more x (rows ++ r ∷ []) call ∙ by_test (same_call call x.call) (row_pushed rows r) ∙ ap (λ (o : Option Answer). first_of o (now r)) (sym (row_more x rows call))
+    where
+      by_test : (b : Bool) → row_of (rows ++ r ∷ []) call ≡ first_of (row_of rows call) (now r) → (if b then Some x.result else row_of (rows ++ r ∷ []) call) ≡ first_of (if b then Some x.result else row_of rows call) (now r)
+      by_test true later = refl
+      by_test false later = later
+
+  behind_pushed : (rows : List RowOf) (r : RowOf) →
+      row_of (behind_first digest (rows ++ r ∷ [])) call ≡ first_of (row_of (behind_first digest rows) call) (if is_some (find (has_digest digest) rows) then now r else None)
+  behind_pushed [] r = by_test (has_digest digest r)
+    where
+      by_test : (b : Bool) → row_of (if b then [] else []) call ≡ None
+      by_test true = refl
+      by_test false = refl
+  behind_pushed (x ∷ rows) r = by_test (has_digest digest x) (row_pushed rows r) (behind_pushed rows r)
+    where
+      by_test : (b : Bool) → row_of (rows ++ r ∷ []) call ≡ first_of (row_of rows call) (now r)
+          → row_of (behind_first digest (rows ++ r ∷ [])) call ≡ first_of (row_of (behind_first digest rows) call) (if is_some (find (has_digest digest) rows) then now r else None) → row_of (if b then rows ++ r ∷ [] else behind_first digest (rows ++ r ∷ [])) call
+          ≡ first_of (row_of (if b then rows else behind_first digest rows) call) (if is_some (if b then Some x else find (has_digest digest) rows) then now r else None)
+      by_test true here later = here
+      by_test false here later = later
+
+  among_append : (rows : List RowOf) (ns ms : List ℕ) → result_among rows call (ns ++ ms) ≡ first_of (result_among rows call ns) (result_among rows call ms)
+  among_append rows [] ms = refl
+  among_append rows (n ∷ ns) ms =
+      ap (first_of (result_if call (slice_get rows n))) (among_append rows ns ms) ∙ sym (first_grouped (result_if call (slice_get rows n)) (result_among rows call ns) (result_among rows call ms))
+
+-- ---- a call is looked for
+
+module _ (index : Index) (rows these : List RowOf) (holds : IsIndex index rows these) (call : Call) where
+  found_first : row_of these call ≡ first_of (result_if call (row_numbered rows (get nat_cmp index.of_digests (call_digest call)))) (row_of (behind_first (call_digest call) these) call)
+  found_first = in_two call these ∙ ap (λ (o : Option RowOf). first_of (result_if call o) (row_of (behind_first (call_digest call) these) call)) (sym (holds.of_digests (call_digest call)))
+
+  pub none_found : row_numbered rows (get nat_cmp index.of_digests (call_digest call)) ≡ None → row_of these call ≡ None
+  none_found none =
+      found_first ∙ ap (λ (o : Option RowOf). first_of (result_if call o) (row_of (behind_first (call_digest call) these) call)) none
+      ∙ none_behind call these (sym (holds.of_digests (call_digest call)) ∙ none)
+
+  pub found_here : (r : RowOf) (x : Answer) → row_numbered rows (get nat_cmp index.of_digests (call_digest call)) ≡ Some r → result_if call (Some r) ≡ Some x → row_of these call ≡ Some x
+  found_here r x at is =
+      found_first ∙ ap (λ (o : Option RowOf). first_of (result_if call o) (row_of (behind_first (call_digest call) these) call)) at
+      ∙ ap (λ (o : Option Answer). first_of o (row_of (behind_first (call_digest call) these) call)) is
+
+  pub found_other : (r : RowOf) → row_numbered rows (get nat_cmp index.of_digests (call_digest call)) ≡ Some r → result_if call (Some r) ≡ None →
+      row_of these call ≡ result_among rows call (items_under index.others (call_text call))
+  found_other r at is =
+      found_first ∙ ap (λ (o : Option RowOf). first_of (result_if call o) (row_of (behind_first (call_digest call) these) call)) at
+      ∙ ap (λ (o : Option Answer). first_of o (row_of (behind_first (call_digest call) these) call)) is ∙ sym (holds.others call)
+
+-- ---- a row is put
+
+module _ (old new : Index) (rows these : List RowOf) (r : RowOf) (number : ℕ) (holds : IsIndex old rows these) where
+  abbrev none : Option Answer
+  none = None
+
+  or_none : (o : Option RowOf) → o ≡ option_or o None
+  or_none None = refl
+  or_none (Some x) = refl
+
+  no_answer : (b : Bool) → (if b then none else none) ≡ none
+  no_answer true = refl
+  no_answer false = refl
+
+  -- by its digest, which no row has
+  pub index_by_digest : find (has_digest (call_digest r.call)) these ≡ None → slice_get rows number ≡ Some r →
+      ((d : ℕ) → get nat_cmp new.of_digests d ≡ cond (call_digest r.call == d) (Some number) (get nat_cmp old.of_digests d)) → new.others ≡ old.others → IsIndex new rows (these ++ r ∷ [])
+  index_by_digest free at sets kept = record { of_digests = digests; others = texts }
+    where
+      by_digest : (d : ℕ) (b : Bool) → (call_digest r.call == d) ≡ b → row_numbered rows (cond b (Some number) (get nat_cmp old.of_digests d)) ≡ option_or (find (has_digest d) these) (if b then Some r else None)
+      by_digest d true e = at ∙ ap (λ (o : Option RowOf). option_or o (Some r)) (sym (subst (λ n. find (has_digest n) these ≡ None) (eqb-true (call_digest r.call) d e) free))
+      by_digest d false e = holds.of_digests d ∙ or_none (find (has_digest d) these)
+
+      digests : (d : ℕ) → row_numbered rows (get nat_cmp new.of_digests d) ≡ find (has_digest d) (these ++ r ∷ [])
+      digests d = ap (row_numbered rows) (sets d) ∙ by_digest d (call_digest r.call == d) refl ∙ sym (find-append (has_digest d) these (r ∷ []))
+
+      nothing_new : (call : Call) (b : Bool) → same_call call r.call ≡ b → (if is_some (find (has_digest (call_digest call)) these) then (if b then Some r.result else None) else None) ≡ None
+      nothing_new call true e = ap (λ (o : Option RowOf). if is_some o then Some r.result else None) (subst (λ n. find (has_digest n) these ≡ None) (sym (digests_alike call r.call e)) free)
+      nothing_new call false e = no_answer (is_some (find (has_digest (call_digest call)) these))
+
+      texts : (call : Call) → result_among rows call (items_under new.others (call_text call)) ≡ row_of (behind_first (call_digest call) (these ++ r ∷ [])) call
+      texts call =
+          ap (λ u. result_among rows call (items_under u (call_text call))) kept ∙ holds.others call ∙ sym (first_none (row_of (behind_first (call_digest call) these) call))
+          ∙ ap (first_of (row_of (behind_first (call_digest call) these) call)) (sym (nothing_new call (same_call call r.call) refl)) ∙ sym (behind_pushed call these r)
+
+  -- by its text, since another row has its digest
+  pub index_by_text : (x : RowOf) → find (has_digest (call_digest r.call)) these ≡ Some x → slice_get rows number ≡ Some r →
+      new.of_digests ≡ old.of_digests → IsPutUnder r.call number old.others new.others → IsIndex new rows (these ++ r ∷ [])
+  index_by_text x taken at kept put = record { of_digests = digests; others = texts }
+    where
+      by_digest : (d : ℕ) (b : Bool) → (call_digest r.call == d) ≡ b → find (has_digest d) these ≡ option_or (find (has_digest d) these) (if b then Some r else None)
+      by_digest d true e = let is : find (has_digest d) these ≡ Some x = subst (λ n. find (has_digest n) these ≡ Some x) (eqb-true (call_digest r.call) d e) taken in
+          is ∙ ap (λ (o : Option RowOf). option_or o (Some r)) (sym is)
+      by_digest d false e = or_none (find (has_digest d) these)
+
+      digests : (d : ℕ) → row_numbered rows (get nat_cmp new.of_digests d) ≡ find (has_digest d) (these ++ r ∷ [])
+      digests d = ap (λ m. row_numbered rows (get nat_cmp m d)) kept ∙ holds.of_digests d ∙ by_digest d (call_digest r.call == d) refl ∙ sym (find-append (has_digest d) these (r ∷ []))
+
+      one_more : (call : Call) (b : Bool) → result_among rows call (one_if b number) ≡ (if b then result_if call (Some r) else None)
+      one_more call true = ap (λ o. first_of (result_if call o) None) at ∙ first_none (result_if call (Some r))
+      one_more call false = refl
+
+      same_more : (call : Call) (b : Bool) → same_call call r.call ≡ b →
+          (if bytes_eq (call_text call) (call_text r.call) then (if b then Some r.result else None) else None) ≡ (if is_some (find (has_digest (call_digest call)) these) then (if b then Some r.result else None) else None)
+      same_more call true e =
+          ap (λ (b : Bool). if b then Some r.result else None) (text_same _ _ (call_alike call r.call e))
+          ∙ sym (ap (λ (o : Option RowOf). if is_some o then Some r.result else None) (subst (λ n. find (has_digest n) these ≡ Some x) (sym (digests_alike call r.call e)) taken))
+      same_more call false e = no_answer (bytes_eq (call_text call) (call_text r.call)) ∙ sym (no_answer (is_some (find (has_digest (call_digest call)) these)))
+
+      texts : (call : Call) → result_among rows call (items_under new.others (call_text call)) ≡ row_of (behind_first (call_digest call) (these ++ r ∷ [])) call
+      texts call =
+          ap (result_among rows call) (put (call_text call)) ∙ among_append call rows (items_under old.others (call_text call)) (one_if (bytes_eq (call_text call) (call_text r.call)) number)
+          ∙ ap (λ (o : Option Answer). first_of o (result_among rows call (one_if (bytes_eq (call_text call) (call_text r.call)) number))) (holds.others call)
+          ∙ ap (first_of (row_of (behind_first (call_digest call) these) call)) (one_more call (bytes_eq (call_text call) (call_text r.call)) ∙ same_more call (same_call call r.call) refl)
+          ∙ sym (behind_pushed call these r)
 
 -- a row's result nests no deeper than the deepest
 within : (rows : List RowOf) (call : Call) (a : Answer) → row_of rows call ≡ Some a → depth a.below ≤ deepest rows
@@ -88,76 +205,38 @@ pub within_deepest : {B : Type 0} (view : B → Answer) (rows : List RowOf) (cal
 within_deepest view rows call None e = tt
 within_deepest view rows call (Some r) e = within rows call (view r) (sym e)
 
--- what the look-up gives
-pub got : (by_call : UnderNames ℕ) (rows : List RowOf) (call : Call) (text : Text) → IsIndex by_call rows → text ≡ call_text call → result_among rows call (items_under by_call text) ≡ row_of rows call
-got by_call rows call text index is =
-    ap (λ t. result_among rows call (items_under by_call t)) is ∙ ap (result_among rows call) (index (call_text call)) ∙ found_in rows call
+-- ---- the rows one by one
 
-pub got_before : (by_call : UnderNames ℕ) (rows : List RowOf) (n : ℕ) (call : Call) (text : Text) → IsIndex by_call (take n rows) → text ≡ call_text call → result_among rows call (items_under by_call text) ≡ row_of (take n rows) call
-got_before by_call rows n call text index is =
-    ap (λ t. result_among rows call (items_under by_call t)) is ∙ ap (result_among rows call) (index (call_text call)) ∙ found_before rows n call
+module _ {A : Type 0} (xs : List A) (n : ℕ) (x : A) (at : slice_get xs n ≡ Some x) where
+  pub take_next : take (n + 1) xs ≡ take n xs ++ x ∷ []
+  take_next = take_more xs n x (slice_get_within xs n x at) ∙ ap (λ (y : A). take n xs ++ y ∷ []) (get_or_from_slice_get xs n x x at)
+
+  drop_next : drop n xs ≡ x ∷ drop (n + 1) xs
+  drop_next = drop_more xs n x (slice_get_within xs n x at) ∙ ap (λ (y : A). y ∷ drop (n + 1) xs) (get_or_from_slice_get xs n x x at)
+
+module _ (rows : List RowOf) (n : ℕ) (r : RowOf) (whole : Bool) (at : slice_get rows n ≡ Some r) (is : repeats_after (take n rows) (drop n rows) ≡ whole) where
+  one_test : (is_some (row_of (take n rows) r.call) || repeats_after (take (n + 1) rows) (drop (n + 1) rows)) ≡ whole
+  one_test =
+      ap (λ (rs : List RowOf). is_some (row_of (take n rows) r.call) || repeats_after rs (drop (n + 1) rows)) (take_next rows n r at)
+      ∙ sym (ap (repeats_after (take n rows)) (drop_next rows n r at)) ∙ is
+
+  pub fresh_more : is_some (row_of (take n rows) r.call) ≡ false → repeats_after (take (n + 1) rows) (drop (n + 1) rows) ≡ whole
+  fresh_more new = sym (ap (λ (b : Bool). b || repeats_after (take (n + 1) rows) (drop (n + 1) rows)) new) ∙ one_test
+
+  pub repeated : is_some (row_of (take n rows) r.call) ≡ true → false ≡ not whole
+  repeated old = ap not (sym (ap (λ (b : Bool). b || repeats_after (take (n + 1) rows) (drop (n + 1) rows)) old) ∙ one_test)
 
 -- the row at a place
-at_row : (rows : List Row) (n : ℕ) (row : Row) → n < length rows → row ≡ get_or rows n row → get_or (rows_view rows) n (row_view row) ≡ row_view row
-at_row [] n row h e = refl
-at_row (r ∷ rs) zero row h e = ap row_view (sym e)
-at_row (r ∷ rs) (suc n) row h e = at_row rs n row (omega arith) e
+pub row_at_place : (rows : List Row) (n : ℕ) (row : Row) → n < length rows → row ≡ get_or rows n row → slice_get (rows_view rows) n ≡ Some (row_view row)
+row_at_place rows n row inside is = slice_get-map row_view rows n ∙ ap (option_map row_view) (slice_get_read rows (length rows) n row refl inside is)
 
-within_view : (rows : List Row) (n : ℕ) → n < length rows → n < length (rows_view rows)
-within_view rows n h = subst (λ m. n < m) (sym (length-map rows row_view)) h
+pub is_old : (old new : Bool) → new ≡ not old → new ≡ false → old ≡ true
+is_old true new is e = refl
+is_old false new is e = absurd (false≢true (sym e ∙ is))
 
-pub drop_row : (rows : List Row) (n : ℕ) (row : Row) → n < length rows → row ≡ get_or rows n row → drop n (rows_view rows) ≡ row_view row ∷ drop (n + 1) (rows_view rows)
-drop_row rows n row h e = drop_more (rows_view rows) n (row_view row) (within_view rows n h) ∙ ap (λ r. r ∷ drop (n + 1) (rows_view rows)) (at_row rows n row h e)
-
-pub take_row : (rows : List Row) (n : ℕ) (row : Row) → n < length rows → row ≡ get_or rows n row → take (n + 1) (rows_view rows) ≡ take n (rows_view rows) ++ row_view row ∷ []
-take_row rows n row h e = take_more (rows_view rows) n (row_view row) (within_view rows n h) ∙ ap (λ r. take n (rows_view rows) ++ r ∷ []) (at_row rows n row h e)
-
--- one row more in the index
-pub index_more : (rows : List Row) (n : ℕ) (row : Row) (old new : UnderNames ℕ) (name : Text) → n < length rows → row ≡ get_or rows n row → name ≡ call_text (row_view row).call → IsIndex old (take n (rows_view rows)) →
-    ((text : Text) → items_under new text ≡ items_under old text ++ one_if (bytes_eq text name) n) → IsIndex new (take (n + 1) (rows_view rows))
-index_more rows n row old new name h e is index put = λ text.
-    let before = take n (rows_view rows) in
-    let count : length before ≡ n = length-take-le n (rows_view rows) (omega (arith, within_view rows n h)) in
-    put text ∙ ap (λ ns. ns ++ one_if (bytes_eq text name) n) (index text) ∙ ap (λ t. numbers_from 0 before text ++ one_if (bytes_eq text t) n) is
-    ∙ ap (λ m. numbers_from 0 before text ++ one_if (bytes_eq text (call_text (row_view row).call)) m) (let g : n ≡ 0 + length before = omega arith in g)
-    ∙ sym (numbers_more before (row_view row) 0 text) ∙ ap (λ rs. numbers_from 0 rs text) (sym (take_row rows n row h e))
-
--- the row at a place is of a new call, or is not
-one_test : (rows : List Row) (n : ℕ) (row : Row) (whole : Bool) → n < length rows → row ≡ get_or rows n row → repeats_after (take n (rows_view rows)) (drop n (rows_view rows)) ≡ whole →
-    (is_some (row_of (take n (rows_view rows)) (row_view row).call) || repeats_after (take (n + 1) (rows_view rows)) (drop (n + 1) (rows_view rows))) ≡ whole
-one_test rows n row whole h e w =
-    ap (λ rs. is_some (row_of (take n (rows_view rows)) (row_view row).call) || repeats_after rs (drop (n + 1) (rows_view rows))) (take_row rows n row h e)
-    ∙ sym (ap (λ rs. repeats_after (take n (rows_view rows)) rs) (drop_row rows n row h e)) ∙ w
-
-pub fresh_more : (rows : List Row) (n : ℕ) (row : Row) (whole : Bool) → n < length rows → row ≡ get_or rows n row → repeats_after (take n (rows_view rows)) (drop n (rows_view rows)) ≡ whole →
-    is_some (row_of (take n (rows_view rows)) (row_view row).call) ≡ false → repeats_after (take (n + 1) (rows_view rows)) (drop (n + 1) (rows_view rows)) ≡ whole
-fresh_more rows n row whole h e w new = sym (ap (λ b. b || repeats_after (take (n + 1) (rows_view rows)) (drop (n + 1) (rows_view rows))) new) ∙ one_test rows n row whole h e w
-
-pub repeated : (rows : List Row) (n : ℕ) (row : Row) (whole : Bool) → n < length rows → row ≡ get_or rows n row → repeats_after (take n (rows_view rows)) (drop n (rows_view rows)) ≡ whole →
-    is_some (row_of (take n (rows_view rows)) (row_view row).call) ≡ true → false ≡ not whole
-repeated rows n row whole h e w old =
-    let is : true ≡ whole = sym (ap (λ b. b || repeats_after (take (n + 1) (rows_view rows)) (drop (n + 1) (rows_view rows))) old) ∙ one_test rows n row whole h e w in
-    ap not is
-
--- behind the last row
-pub all_new : (rows : List Row) (n : ℕ) (whole : Bool) → length rows ≤ n → repeats_after (take n (rows_view rows)) (drop n (rows_view rows)) ≡ whole → true ≡ not whole
-all_new rows n whole h w =
-    ap not (sym (ap (repeats_after (take n (rows_view rows))) (drop_of_length-le (rows_view rows) (subst (λ m. m ≤ n) (sym (length-map rows row_view)) h))) ∙ w)
-
-pub all_in : (rows : List Row) (n : ℕ) (by_call : UnderNames ℕ) → length rows ≤ n → IsIndex by_call (take n (rows_view rows)) → IsIndex by_call (rows_view rows)
-all_in rows n by_call h index = subst (IsIndex by_call) (take_all n (rows_view rows) (subst (λ m. m ≤ n) (sym (length-map rows row_view)) h)) index
-
-pub is_some_mapped : {A B : Type 0} (f : A → B) (o : Option A) (p : Option B) → option_map f o ≡ p → is_some o ≡ is_some p
-is_some_mapped f None p e = ap is_some e
-is_some_mapped f (Some x) p e = ap is_some e
-
--- whether a row of the call of the row at a place stands before it
-pub test_is : {B : Type 0} (view : B → Answer) (rows : List Row) (n : ℕ) (row : Row) (by_call : UnderNames ℕ) (asked : Call) (name : Text) (numbers : List ℕ) (found : Option B) →
-    asked ≡ (row_view row).call → name ≡ call_text asked → numbers ≡ items_under by_call name → option_map view found ≡ result_among (rows_view rows) asked numbers → IsIndex by_call (take n (rows_view rows)) →
-    is_some found ≡ is_some (row_of (take n (rows_view rows)) (row_view row).call)
-test_is view rows n row by_call asked name numbers found asked_is name_is numbers_are found_is index =
-    is_some_mapped view found (row_of (take n (rows_view rows)) (row_view row).call)
-    (found_is ∙ ap (result_among (rows_view rows) asked) numbers_are ∙ got_before by_call (rows_view rows) n asked name index name_is ∙ ap (row_of (take n (rows_view rows))) asked_is)
+pub is_fresh : (old new : Bool) → new ≡ not old → new ≡ true → old ≡ false
+is_fresh true new is e = absurd (false≢true (sym is ∙ e))
+is_fresh false new is e = refl
 
 -- the first of the numbers that are left
 next_number : (rows : List RowOf) (call : Call) (ns : List ℕ) (i n : ℕ) → i < length ns → n ≡ get_or ns i 0 → result_among rows call (drop i ns) ≡ first_of (result_if call (slice_get rows n)) (result_among rows call (drop (i + 1) ns))

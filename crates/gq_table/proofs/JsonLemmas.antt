@@ -5,8 +5,7 @@ use Rattle.serde_json.specs.View.{view, number_view, items_view, members_view}
 use Rattle.serde_json.specs.declared.number.Number.{Number}
 use Rattle.serde_json.specs.declared.value.Value.{Value, the_lemmas}
 use Rattle.serde_json.specs.declared.value.Value.TheVariants as variant
-use Rattle.serde_json.proofs.Views.{view-Array, view-Object, Entry}
-use Rattle.serde_json.proofs.Views.{members_len-members_view}
+use Rattle.serde_json.proofs.Views.{view-Array, view-Object, Entry, members_len-members_view}
 use Rattle.gq_meaning.specs.Values as value
 use Rattle.gq_table.specs.declared.values.Entry.{Entry as Named}
 use Rattle.gq_table.specs.Views.{under, entry_view}

@@ -1,5 +1,5 @@
 -- Values that are the same, and calls that are one.
-use Rattle.std.proofs.Common.{◌≡◌, ◌≢◌, suc, List, [], ◌∷◌, ◌++◌, Bool, true, false, length, map, refl, ap, sym, ◌∙◌, append_assoc, Option, None, Some}
+use Rattle.std.proofs.Common.{◌≡◌, ◌≢◌, ℕ, suc, List, [], ◌∷◌, ◌++◌, Bool, true, false, length, map, refl, ap, sym, ◌∙◌, append_assoc, Option, None, Some}
 use Rattle.std.specs.Prelude.{◌&&◌, nat_eq, codes}
 use Rattle.std.specs.Str.{bytes_eq}
 use Rattle.std.proofs.lemmas.Bool.{and_parts, eqb-true}
@@ -9,7 +9,8 @@ use Rattle.gq_meaning.specs.Values.{Text, Leaf, Says, Part, Value, Values}
 use Rattle.gq_meaning.specs.Results.{Call}
 use Rattle.gq_meaning.proofs.TextLemmas.{same_text}
 use Rattle.gq_table.specs.Rows.{same_bool, same_leaf, same_says, same_key, same_part, same_call}
-use Rattle.gq_table.specs.CallTexts.{leaf_text, says_text, key_text, values_text, tree_text, call_text}
+use Rattle.gq_table.specs.Helping.CallTexts.{leaf_text, says_text, key_text, values_text, tree_text, call_text}
+use Rattle.gq_table.specs.Helping.Index.{call_digest, text_digest, spread_out}
 use Rattle.gq_table.specs.Views.{under, value_step, entry_step, value_view}
 use Rattle.gq_table.specs.declared.values.Value.{Value as Coded}
 use Rattle.gq_table.specs.declared.values.Entry.{Entry}
@@ -110,16 +111,29 @@ values_alike (more p b r) (more q c s) e =
     let rest : values_text r ≡ values_text s = values_alike r s both.1 in
     cc
 
-pub call_alike : (a b : Call) → same_call a b ≡ true → call_text a ≡ call_text b
-call_alike a b e =
+-- calls that are one have one text and one digest
+parts_alike : (a b : Call) → same_call a b ≡ true → ((a.type_name ≡ b.type_name) × (a.number ≡ b.number)) × ((a.field ≡ b.field) × (agree same_part a.arguments b.arguments ≡ true))
+parts_alike a b e =
     let p = and_parts (bytes_eq a.type_name b.type_name && nat_eq a.number b.number && bytes_eq a.field b.field) (agree same_part a.arguments b.arguments) e in
     let q = and_parts (bytes_eq a.type_name b.type_name && nat_eq a.number b.number) (bytes_eq a.field b.field) p.0 in
     let r = and_parts (bytes_eq a.type_name b.type_name) (nat_eq a.number b.number) q.0 in
-    let type_name : a.type_name ≡ b.type_name = same_text _ _ r.0 in
-    let number : a.number ≡ b.number = eqb-true _ _ r.1 in
-    let field : a.field ≡ b.field = same_text _ _ q.1 in
-    let arguments : values_text a.arguments ≡ values_text b.arguments = values_alike a.arguments b.arguments p.1 in
+    ((same_text _ _ r.0, eqb-true _ _ r.1), (same_text _ _ q.1, p.1))
+
+pub call_alike : (a b : Call) → same_call a b ≡ true → call_text a ≡ call_text b
+call_alike a b e =
+    let parts = parts_alike a b e in
+    let type_name : a.type_name ≡ b.type_name = parts.0.0 in
+    let number : a.number ≡ b.number = parts.0.1 in
+    let field : a.field ≡ b.field = parts.1.0 in
+    let arguments : values_text a.arguments ≡ values_text b.arguments = values_alike a.arguments b.arguments parts.1.1 in
     cc
+
+pub digests_alike : (a b : Call) → same_call a b ≡ true → call_digest a ≡ call_digest b
+digests_alike a b e =
+    let parts = parts_alike a b e in
+    ap (λ (n : ℕ). text_digest (spread_out (text_digest (spread_out n) a.type_name)) a.field) parts.0.1
+    ∙ ap (λ (t : Text). text_digest (spread_out (text_digest (spread_out b.number) t)) a.field) parts.0.0
+    ∙ ap (text_digest (spread_out (text_digest (spread_out b.number) b.type_name))) parts.1.0
 
 -- the text of an entry: its name, and the text of its value
 pub entry_text : (n : Text) (v : Coded) (old after_name after_colon now : Text) → after_name ≡ old ++ n → after_colon ≡ after_name ++ codes ":" → now ≡ after_colon ++ tree_text (value_view v) → now ≡ old ++ tree_text (under n (value_view v))

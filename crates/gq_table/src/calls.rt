@@ -5,7 +5,7 @@ ghost use Rattle.gq_tree.specs.Forest.{none, agree, agree_trees};
 ghost use Rattle.gq_meaning.specs.Values.{null, enum, leaf as says_leaf};
 ghost use Rattle.gq_table.specs.Rows.{same_leaf, same_part, same_call};
 ghost use Rattle.gq_table.specs.Views.{alone, leaf_view, value_view, values_view, entry_view, entries_view, call_of};
-ghost use Rattle.gq_table.specs.CallTexts.{leaf_text, content_text, tree_text, values_text, call_text};
+ghost use Rattle.gq_table.specs.Helping.CallTexts.{leaf_text, content_text, tree_text, values_text, call_text};
 
 use crate::values::{Entry, Leaf, Value};
 use gq_text::NoMemory;

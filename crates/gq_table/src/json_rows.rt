@@ -216,7 +216,7 @@ fn read_outcome_list(alloc: Global, value: &Json) -> Result<Option<Outcome>, NoM
 fn read_outcomes(alloc: Global, items: &[Json]) -> Result<Option<Vec<Outcome>>, NoMemory>
     ensures { IfOk result (λ os. option_map (λ o. map answer_view o.items) os ≡ result_items (items_view items.now)) }
 {
-    let mut outcomes = Vec::new(alloc);
+    let mut outcomes = Vec::with_capacity(alloc, items.len())?;
     for item in items {
         match read_outcome(alloc, item)? {
             Some(outcome) => outcomes.push(outcome)?,
@@ -304,7 +304,7 @@ fn read_row(alloc: Global, value: &Json) -> Result<Option<Row>, NoMemory>
 fn read_row_items(alloc: Global, items: &[Json]) -> Result<Option<Vec<Row>>, NoMemory>
     ensures { IfOk result (λ rs. option_map (λ r. rows_view r.items) rs ≡ rows_in (items_view items.now)) }
 {
-    let mut rows = Vec::new(alloc);
+    let mut rows = Vec::with_capacity(alloc, items.len())?;
     for item in items {
         match read_row(alloc, item)? {
             Some(row) => rows.push(row)?,

@@ -134,7 +134,7 @@ fn named_entry(alloc: Global, name: &str, value: Option<Value>) -> Result<Option
 fn read_argument_items(alloc: Global, items: &[Json]) -> Result<Option<Vec<Value>>, NoMemory>
     ensures { IfOk result (λ vs. option_map (λ v. map value_view v.items) vs ≡ argument_items (items_view items.now)) }
 {
-    let mut values = Vec::new(alloc);
+    let mut values = Vec::with_capacity(alloc, items.len())?;
     for item in items {
         match read_argument(alloc, item)? {
             Some(value) => values.push(value)?,
@@ -200,7 +200,7 @@ pub(crate) fn read_argument_entries(
 ) -> Result<Option<Vec<Entry>>, NoMemory>
     ensures { IfOk result (λ es. option_map (λ v. map entry_view v.items) es ≡ argument_entries (members_view members.now.entries)) }
 {
-    let mut entries = Vec::new(alloc);
+    let mut entries = Vec::with_capacity(alloc, members.len())?;
     for (name, member) in members.iter() {
         let value = read_argument(alloc, member)?;
         match named_entry(alloc, name.as_str(), value)? {
@@ -231,7 +231,7 @@ fn read_plain(alloc: Global, value: &Json) -> Result<Option<Value>, NoMemory>
 fn read_plain_items(alloc: Global, items: &[Json]) -> Result<Option<Vec<Value>>, NoMemory>
     ensures { IfOk result (λ vs. option_map (λ v. map value_view v.items) vs ≡ plain_items (items_view items.now)) }
 {
-    let mut values = Vec::new(alloc);
+    let mut values = Vec::with_capacity(alloc, items.len())?;
     for item in items {
         match read_plain(alloc, item)? {
             Some(value) => values.push(value)?,
@@ -249,7 +249,7 @@ pub(crate) fn read_plain_entries(
 ) -> Result<Option<Vec<Entry>>, NoMemory>
     ensures { IfOk result (λ es. option_map (λ v. map entry_view v.items) es ≡ plain_entries (members_view members.now.entries)) }
 {
-    let mut entries = Vec::new(alloc);
+    let mut entries = Vec::with_capacity(alloc, members.len())?;
     for (name, member) in members.iter() {
         let value = read_plain(alloc, member)?;
         match named_entry(alloc, name.as_str(), value)? {

@@ -3,6 +3,7 @@
 
 pub mod calls;
 pub mod faults;
+mod index;
 mod json_rows;
 mod json_values;
 pub mod numbers;

@@ -1,21 +1,20 @@
 //! Tables of what resolvers answer (GraphQL, October 2021, section 6.4.2).
-ghost use Rattle.std.specs.Prelude.{◌≡◌, ◌≤◌, Some, None, not, is_some, slice_get, IfSome, IfOk, IfErr};
+ghost use Rattle.std.specs.Prelude.{◌≡◌, ◌≤◌, Some, None, not, is_some, IfSome, IfOk, IfErr};
 ghost use Rattle.std.specs.Option.{option_map};
 ghost use Rattle.gq_meaning.specs.Helping.Depth.{depth};
 ghost use Rattle.gq_table.specs.Rows.{row_of, deepest, has_repeated_call};
 ghost use Rattle.serde_json.specs.View.{view};
 ghost use Rattle.gq_table.specs.Json.{unless_repeated, rows_of_json};
 ghost use Rattle.gq_table.specs.declared.faults.TableFault.TheVariants.{Bad};
-ghost use Rattle.gq_table.specs.CallTexts.{call_text};
-ghost use Rattle.gq_table.specs.Index.{IsIndex, result_if, result_among};
+ghost use Rattle.gq_table.specs.Helping.Index.{IsIndex};
 ghost use Rattle.gq_table.specs.Views.{answer_view, rows_view, row_view, call_of};
 
-use crate::calls::{Call, call_text, same_call};
+use crate::calls::Call;
 use crate::faults::TableFault;
+use crate::index::Index;
 use crate::json_rows::read_rows;
 use crate::results::Outcome;
 use crate::values::Entry;
-use gq_names::ByName;
 use gq_text::{NoMemory, SmallText};
 use serde_json::Value as Json;
 use std::alloc::Global;
@@ -31,11 +30,12 @@ pub struct Row {
     pub result: Outcome,
 }
 
-/// Rows, no two of one call. A row is found by a hash of its call.
+/// Rows, no two of one call. A row is found by a hash of its object and field; where rows share one, by a hash of the whole
+/// call.
 #[derive(Drop)]
 pub struct Table {
     rows: Vec<Row>,
-    by_call: ByName<usize>,
+    index: Index,
 }
 
 impl Model for Table {
@@ -44,7 +44,7 @@ impl Model for Table {
     ghost use Rattle.gq_table.specs.contracts.table.Row as row;
     ghost use Rattle.gq_table.specs.declared.table.Row.{Row};
     ghost use Rattle.gq_table.specs.Views.{rows_view};
-    ghost use Rattle.gq_table.specs.Index.{IsIndex};
+    ghost use Rattle.gq_table.specs.Helping.Index.{IsIndex};
 
     ghost Value = { List Row };
 
@@ -52,12 +52,12 @@ impl Model for Table {
 
     ghost view = { λ t. t.rows.items };
 
-    ghost invariant = { λ t. IsIndex t.by_call (rows_view t.rows.items) };
+    ghost invariant = { λ t. IsIndex t.index (rows_view t.rows.items) (rows_view t.rows.items) };
 }
 
 impl Row {
     /// What it is the row of.
-    fn call(&self) -> Call<'_>
+    pub(crate) fn call(&self) -> Call<'_>
         ensures { call_of result ≡ (row_view self.now).call }
     {
         Call {
@@ -75,8 +75,8 @@ impl Table {
         ensures some { IfOk result (λ o. is_some o ≡ not (has_repeated_call (rows_view rows.items))) }
         ensures is { IfOk result (λ o. IfSome o (λ table. table ≡ rows.items)) }
     {
-        match numbers_by_call(alloc, &rows)? {
-            Some(by_call) => Ok(Some(Table { rows, by_call })),
+        match index_of(alloc, &rows)? {
+            Some(index) => Ok(Some(Table { rows, index })),
             None => Ok(None),
         }
     }
@@ -98,8 +98,7 @@ impl Table {
         ensures is { IfOk result (λ o. option_map (λ r. answer_view r.now) o ≡ row_of (rows_view self.now) (call_of call.entry)) }
         ensures within { IfOk result (λ o. IfSome o (λ r. depth (answer_view r.now).below ≤ deepest (rows_view self.now))) }
     {
-        let text = call_text(alloc, call)?;
-        Ok(result_among(&self.rows, self.by_call.get(text.as_str()), call))
+        self.index.get(alloc, &self.rows, call)
     }
 }
 
@@ -123,61 +122,16 @@ fn table_of(alloc: Global, rows: Vec<Row>) -> Result<Option<Table>, NoMemory>
     }
 }
 
-/// The result of the first of the rows with these numbers that is of this call.
-fn result_among<'a>(rows: &'a [Row], numbers: &[usize], call: Call) -> Option<&'a Outcome>
-    ensures { option_map (λ r. answer_view r.now) result ≡ result_among (rows_view rows.now) (call_of call.entry) numbers.now }
-{
-    for number in numbers {
-        match result_at(rows, *number, call) {
-            Some(result) => return Some(result),
-            None => {}
-        }
-    }
-    None
-}
-
-/// The result of the row with that number, if it is of this call.
-fn result_at<'a>(rows: &'a [Row], number: usize, call: Call) -> Option<&'a Outcome>
-    ensures { option_map (λ r. answer_view r.now) result ≡ result_if (call_of call.entry) (slice_get (rows_view rows.now) number) }
-{
-    match row_at(rows, number) {
-        Some(row) => result_of(row, call),
-        None => None,
-    }
-}
-
-fn row_at(rows: &[Row], number: usize) -> Option<&Row>
-    ensures { option_map (λ r. row_view r.now) result ≡ slice_get (rows_view rows.now) number }
-{
-    rows.get(number)
-}
-
-fn result_of<'a>(row: &'a Row, call: Call) -> Option<&'a Outcome>
-    ensures { option_map (λ r. answer_view r.now) result ≡ result_if (call_of call.entry) (Some (row_view row.now)) }
-{
-    if same_call(call, row.call()) {
-        Some(&row.result)
-    } else {
-        None
-    }
-}
-
-/// The numbers of the rows under the texts of their calls; nothing where two rows are of one call.
-fn numbers_by_call(alloc: Global, rows: &[Row]) -> Result<Option<ByName<usize>>, NoMemory>
+/// The index of these rows; nothing where two of them are of one call.
+fn index_of(alloc: Global, rows: &[Row]) -> Result<Option<Index>, NoMemory>
     ensures some { IfOk result (λ o. is_some o ≡ not (has_repeated_call (rows_view rows.now))) }
-    ensures is { IfOk result (λ o. IfSome o (λ by_call. IsIndex by_call (rows_view rows.now))) }
+    ensures is { IfOk result (λ o. IfSome o (λ index. IsIndex index (rows_view rows.now) (rows_view rows.now))) }
 {
-    let mut by_call = ByName::new(alloc);
-    for number in 0..rows.len() {
-        let row = &rows[number];
-        let asked = row.call();
-        let text = call_text(alloc, asked)?;
-        let name = text.as_str();
-        let found = result_among(rows, by_call.get(name), asked);
-        if found.is_some() {
+    let mut index = Index::new(alloc);
+    for (number, row) in rows.iter().enumerate() {
+        if !index.put(alloc, rows, number, row)? {
             return Ok(None);
         }
-        by_call.put(name, number)?;
     }
-    Ok(Some(by_call))
+    Ok(Some(index))
 }

@@ -73,7 +73,7 @@ fn copied_value(alloc: Global, value: &Value) -> Result<Value, NoMemory>
 fn copied_items(alloc: Global, items: &[Value]) -> Result<Vec<Value>, NoMemory>
     ensures { IfOk result (λ copies. map value_view copies.items ≡ map value_view items.now) }
 {
-    let mut copies = Vec::new(alloc);
+    let mut copies = Vec::with_capacity(alloc, items.len())?;
     for item in items {
         copies.push(copied_value(alloc, item)?)?;
     }
@@ -85,7 +85,7 @@ fn copied_items(alloc: Global, items: &[Value]) -> Result<Vec<Value>, NoMemory>
 fn copied_entries(alloc: Global, entries: &[Entry]) -> Result<Vec<Entry>, NoMemory>
     ensures { IfOk result (λ copies. map entry_view copies.items ≡ map entry_view entries.now) }
 {
-    let mut copies = Vec::new(alloc);
+    let mut copies = Vec::with_capacity(alloc, entries.len())?;
     for entry in entries {
         copies.push(copied_entry(alloc, entry)?)?;
     }

@@ -1,6 +1,6 @@
 use Rattle.std.proofs.Common.{◌≡◌, ◌++◌, drop}
 use Rattle.std.specs.Prelude.{string_bytes}
-use Rattle.gq_table.specs.CallTexts.{values_text}
+use Rattle.gq_table.specs.Helping.CallTexts.{values_text}
 use Rattle.gq_table.specs.Views.{values_view, entries_view}
 use Rattle.gq_table.proofs.calls.+text.Given as goal
 

@@ -1,12 +1,9 @@
--- Texts by which the rows of a table are found: calls that are one have one text. No contract of a public call speaks of them.
-use Rattle.std.specs.Prelude.{ℕ, ◌+◌, List, [], ◌∷◌, ◌++◌, Option, Some, None, codes, decimal, if◌then◌else◌}
-use Rattle.std.specs.Str.{bytes_eq}
-use Rattle.gq_names.specs.UnderNames.{one_if}
+-- Texts by which the rows of a table are found: calls that are one have one text. No contract of a public call is about them.
+use Rattle.std.specs.Prelude.{[], ◌++◌, Option, Some, None, codes, decimal, if◌then◌else◌}
 use Rattle.gq_tree.specs.Forest.{none, more}
 use Rattle.gq_meaning.specs.Values as value
 use Rattle.gq_meaning.specs.Values.{Text, Leaf, Says, Part, Value, Values}
 use Rattle.gq_meaning.specs.Results.{Call}
-use Rattle.gq_table.specs.Rows.{RowOf}
 
 abbrev pub leaf_text : Leaf → Text
 leaf_text (value.boolean b) = if b then codes "true" else codes "false"
@@ -36,8 +33,3 @@ tree_text v = content_text v ++ codes ","
 
 abbrev pub call_text : Call → Text
 call_text c = decimal c.number ++ (c.type_name ++ (codes "." ++ (c.field ++ (codes "(" ++ values_text c.arguments))))
-
--- the numbers of the rows whose calls have that text, where the first row has the number k
-abbrev pub numbers_from : ℕ → List RowOf → Text → List ℕ
-numbers_from k [] text = []
-numbers_from k (r ∷ rs) text = one_if (bytes_eq text (call_text r.call)) k ++ numbers_from (k + 1) rs text

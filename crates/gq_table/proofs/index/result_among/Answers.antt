@@ -2,7 +2,7 @@ use Rattle.std.proofs.Common.{ap, sym, ◌∙◌, refl}
 use Rattle.std.specs.Option.{option_map}
 use Rattle.gq_table.specs.Views.{answer_view, rows_view, call_of}
 use Rattle.gq_table.proofs.IndexLemmas.{among_here, among_later}
-use Rattle.gq_table.proofs.table.result_among.Goals as goal
+use Rattle.gq_table.proofs.index.result_among.Goals as goal
 
 pub returns-in-Some : goal.returns-in-Some
 returns-in-Some c =

@@ -1,0 +1,28 @@
+use Rattle.std.proofs.Common.{◌≡◌, ◌<◌, length, get_or, Some, true, sym, ◌∙◌, ap, subst, refl, rules}
+use Rattle.std.specs.Prelude.{slice_get, not}
+use Rattle.std.specs.Option.{option_map}
+use Rattle.std.proofs.lemmas.Option.{slice_get-map, slice_get_read}
+use Rattle.gq_table.specs.Rows.{has_repeated_call}
+use Rattle.gq_table.specs.Views.{rows_view, row_view}
+use Rattle.gq_table.specs.Helping.Index.{IsIndex}
+use Rattle.gq_table.proofs.IndexLemmas.{row_at_place, fresh_more, repeated, take_next, is_old, is_fresh}
+use Rattle.gq_table.proofs.table.index_of.Goals as goal
+
+pub returns-then-not-branch-clause-some : goal.returns-then-not-branch-clause-some
+returns-then-not-branch-clause-some c =
+    let rows = rows_view c.args.rows.now in
+    let row = c.index-rows-number.result in
+    let inside : c.loop-number.number < length c.args.rows.now = search rules in
+    repeated rows c.loop-number.number (row_view row) (has_repeated_call rows) (row_at_place c.args.rows.now c.loop-number.number row inside c.index-rows-number.is) c.loop-number.invariant.fresh
+    (is_old _ _ c.in_ok-put.ensures.new c.if-not-branch.true)
+
+pub loop-number-preserved : goal.loop-number-preserved
+loop-number-preserved c =
+    let rows = rows_view c.args.rows.now in
+    let row = c.index-rows-number.result in
+    let inside : c.loop-number.number < length c.args.rows.now = search rules in
+    let at = row_at_place c.args.rows.now c.loop-number.number row inside c.index-rows-number.is in
+    record {
+      index = subst (IsIndex c.put.new.self rows) (sym (take_next rows c.loop-number.number (row_view row) at)) (c.in_ok-put.ensures.index c.if-not-branch.false);
+      fresh = fresh_more rows c.loop-number.number (row_view row) (has_repeated_call rows) at c.loop-number.invariant.fresh (is_fresh _ _ c.in_ok-put.ensures.new c.if-not-branch.false);
+    }
