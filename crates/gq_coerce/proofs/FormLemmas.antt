@@ -11,7 +11,7 @@ use Rattle.gq_tree.specs.declared.value.ObjectField.{ObjectField}
 use Rattle.gq_tree.specs.declared.value.Value.TheVariants as variant
 use Rattle.gq_tree.proofs.Trees.{view_list, view_object}
 use Rattle.gq_meaning.specs.Response.{item_of}
-use Rattle.gq_meaning.specs.Rewritten.{base_of}
+use Rattle.gq_tree.specs.NamedTypes.{base_name}
 use Rattle.gq_meaning.specs.Values.{Text, Values}
 use Rattle.gq_types.specs.Entries.{EntryOf}
 use Rattle.gq_types.specs.declared.entry.TypeKind.{TypeKind}
@@ -51,7 +51,7 @@ object_form v fs place now is same =
 
 -- what a literal is at a type, by its form
 module _ (s : Setting) (parts : ReadAt → List coerced.Part) where
-  pub formed_single : (t : TypeOf Span) (says : Says) → is_list says ≡ false → formed s t says parts ≡ wrapped_to t (at_name s (base_of t) (kind_named s.entries (base_of t)) says parts)
+  pub formed_single : (t : TypeOf Span) (says : Says) → is_list says ≡ false → formed s t says parts ≡ wrapped_to t (at_name s (base_name t) (kind_named s.entries (base_name t)) says parts)
   formed_single (named name) says fails = refl
   formed_single (list_of item) says fails =
       ap (λ (b : Bool). cond b (list_value (items_of (missing_item item) (parts (at_type item)))) (wrapped (formed s item says parts))) fails ∙ ap wrapped (formed_single item says fails)
@@ -64,7 +64,7 @@ module _ (s : Setting) (parts : ReadAt → List coerced.Part) where
       ∙ ap (λ (i : TypeOf Span). list_value (items_of (missing_item i) (parts (at_type i)))) (same_Some one item is)
   formed_list (non_null inner) item says holds is = formed_list inner item says holds is
 
-  pub formed_named : (t : TypeOf Span) (says : Says) → item_of t ≡ None → formed s t says parts ≡ at_name s (base_of t) (kind_named s.entries (base_of t)) says parts
+  pub formed_named : (t : TypeOf Span) (says : Says) → item_of t ≡ None → formed s t says parts ≡ at_name s (base_name t) (kind_named s.entries (base_name t)) says parts
   formed_named (named name) says nothing = refl
   formed_named (list_of one) says nothing = absurd (none-some one (sym nothing))
   formed_named (non_null inner) says nothing = formed_named inner says nothing
@@ -100,12 +100,12 @@ module _ (s : Setting) (t : TypeOf Span) (v : Val (Unit {0})) where
   pub literal_list : (items : Vals (Unit {0})) (item : TypeOf Span) → v ≡ unnamed (tree.list tt) items → item_of t ≡ Some item → literal_value s t v ≡ list_value (items_of (missing_item item) (read_all s items (at_type item)))
   literal_list items item form is = ap (λ (w : Val (Unit {0})). literal_value s t w) form ∙ formed_list s (read_all s items) t item (tree.list tt) refl is
 
-  pub literal_named : (items : Vals (Unit {0})) → v ≡ unnamed (tree.list tt) items → item_of t ≡ None → literal_value s t v ≡ at_name s (base_of t) (kind_named s.entries (base_of t)) v.label.says (read_all s v.below)
+  pub literal_named : (items : Vals (Unit {0})) → v ≡ unnamed (tree.list tt) items → item_of t ≡ None → literal_value s t v ≡ at_name s (base_name t) (kind_named s.entries (base_name t)) v.label.says (read_all s v.below)
   literal_named items form is =
       ap (λ (w : Val (Unit {0})). literal_value s t w) form ∙ formed_named s (read_all s items) t (tree.list tt) is
-      ∙ sym (ap (λ (w : Val (Unit {0})). at_name s (base_of t) (kind_named s.entries (base_of t)) w.label.says (read_all s w.below)) form)
+      ∙ sym (ap (λ (w : Val (Unit {0})). at_name s (base_name t) (kind_named s.entries (base_name t)) w.label.says (read_all s w.below)) form)
 
-  pub literal_single : is_single v.label.says ≡ true → literal_value s t v ≡ wrapped_to t (at_name s (base_of t) (kind_named s.entries (base_of t)) v.label.says (read_all s v.below))
+  pub literal_single : is_single v.label.says ≡ true → literal_value s t v ≡ wrapped_to t (at_name s (base_name t) (kind_named s.entries (base_name t)) v.label.says (read_all s v.below))
   literal_single is = single_formed s (read_all s v.below) t v.label.says is ∙ formed_single s (read_all s v.below) t v.label.says (single_no_list v.label.says is)
 
 -- an object literal at an input object

@@ -1,4 +1,5 @@
 pub mod Trees
+pub mod Sorting
 pub mod Entries
 pub mod Finding
 pub mod InputLemmas

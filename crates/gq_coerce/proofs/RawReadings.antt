@@ -14,7 +14,7 @@ use Rattle.gq_meaning.specs.Values as value
 use Rattle.gq_meaning.specs.Values.{Text}
 use Rattle.gq_meaning.specs.Directives.{entry_of}
 use Rattle.gq_meaning.specs.Response.{item_of}
-use Rattle.gq_meaning.specs.Rewritten.{base_of}
+use Rattle.gq_tree.specs.NamedTypes.{base_name}
 use Rattle.std.specs.Prelude.{◌||◌, not, is_none, find, option_and_then}
 use Rattle.std.specs.List.{list_any}
 use Rattle.gq_types.specs.Entries.{EntryOf}
@@ -84,7 +84,7 @@ raw_reads s es d name o c is found reads =
 
 -- what a value is at a type
 module _ (s : Setting) (below : value.Values) (parts : TypeOf Span → List coerced.Part) where
-  pub raw_formed_single : (t : TypeOf Span) (says : value.Says) → is_list_value says ≡ false → formed s t says below parts ≡ wrapped_to t (at_name s (base_of t) (kind_named s.entries (base_of t)) says below parts)
+  pub raw_formed_single : (t : TypeOf Span) (says : value.Says) → is_list_value says ≡ false → formed s t says below parts ≡ wrapped_to t (at_name s (base_name t) (kind_named s.entries (base_name t)) says below parts)
   raw_formed_single (named name) says fails = refl
   raw_formed_single (list_of item) says fails =
       ap (λ (b : Bool). cond b (list_value (items_of coerced.fault (parts item))) (wrapped (formed s item says below parts))) fails ∙ ap wrapped (raw_formed_single item says fails)
@@ -96,7 +96,7 @@ module _ (s : Setting) (below : value.Values) (parts : TypeOf Span → List coer
       ap (λ (b : Bool). cond b (list_value (items_of coerced.fault (parts one))) (wrapped (formed s one says below parts))) holds ∙ ap (λ (i : TypeOf Span). list_value (items_of coerced.fault (parts i))) (same_Some one item is)
   raw_formed_list (non_null inner) item says holds is = raw_formed_list inner item says holds is
 
-  pub raw_formed_named : (t : TypeOf Span) (says : value.Says) → item_of t ≡ None → formed s t says below parts ≡ at_name s (base_of t) (kind_named s.entries (base_of t)) says below parts
+  pub raw_formed_named : (t : TypeOf Span) (says : value.Says) → item_of t ≡ None → formed s t says below parts ≡ at_name s (base_name t) (kind_named s.entries (base_name t)) says below parts
   raw_formed_named (named name) says nothing = refl
   raw_formed_named (list_of one) says nothing = absurd (none-some one (sym nothing))
   raw_formed_named (non_null inner) says nothing = raw_formed_named inner says nothing
@@ -108,14 +108,14 @@ is_raw_single value.list = false
 is_raw_single _ = true
 
 module _ (s : Setting) (t : TypeOf Span) (v : value.Value) where
-  single_by : (says : value.Says) → is_raw_single says ≡ true → at_type s t says v.below (read_all s v.below) ≡ wrapped_to t (at_name s (base_of t) (kind_named s.entries (base_of t)) says v.below (read_all s v.below))
+  single_by : (says : value.Says) → is_raw_single says ≡ true → at_type s t says v.below (read_all s v.below) ≡ wrapped_to t (at_name s (base_name t) (kind_named s.entries (base_name t)) says v.below (read_all s v.below))
   single_by value.null is = absurd (cc)
   single_by value.list is = absurd (cc)
   single_by (value.leaf l) is = raw_formed_single s v.below (read_all s v.below) t (value.leaf l) refl
   single_by (value.enum n) is = raw_formed_single s v.below (read_all s v.below) t (value.enum n) refl
   single_by value.object is = raw_formed_single s v.below (read_all s v.below) t value.object refl
 
-  pub raw_single : is_raw_single v.label.says ≡ true → input_value s t v ≡ wrapped_to t (at_name s (base_of t) (kind_named s.entries (base_of t)) v.label.says v.below (read_all s v.below))
+  pub raw_single : is_raw_single v.label.says ≡ true → input_value s t v ≡ wrapped_to t (at_name s (base_name t) (kind_named s.entries (base_name t)) v.label.says v.below (read_all s v.below))
   raw_single is = single_by v.label.says is
 
   pub raw_null : v.label.says ≡ value.null → input_value s t v ≡ unless_null t coerced.null_value
@@ -124,10 +124,10 @@ module _ (s : Setting) (t : TypeOf Span) (v : value.Value) where
   pub raw_list : (items : value.Values) (item : TypeOf Span) → v ≡ alone value.list items → item_of t ≡ Some item → input_value s t v ≡ list_value (items_of coerced.fault (read_all s items item))
   raw_list items item form is = ap (λ (w : value.Value). input_value s t w) form ∙ raw_formed_list s items (read_all s items) t item value.list refl is
 
-  pub raw_list_named : (items : value.Values) → v ≡ alone value.list items → item_of t ≡ None → input_value s t v ≡ at_name s (base_of t) (kind_named s.entries (base_of t)) v.label.says v.below (read_all s v.below)
+  pub raw_list_named : (items : value.Values) → v ≡ alone value.list items → item_of t ≡ None → input_value s t v ≡ at_name s (base_name t) (kind_named s.entries (base_name t)) v.label.says v.below (read_all s v.below)
   raw_list_named items form is =
       ap (λ (w : value.Value). input_value s t w) form ∙ raw_formed_named s items (read_all s items) t value.list is
-      ∙ sym (ap (λ (w : value.Value). at_name s (base_of t) (kind_named s.entries (base_of t)) w.label.says w.below (read_all s w.below)) form)
+      ∙ sym (ap (λ (w : value.Value). at_name s (base_name t) (kind_named s.entries (base_name t)) w.label.says w.below (read_all s w.below)) form)
 
 -- an object at an input object
 module _ (s : Setting) (v : value.Value) (name : Text) (o : Option TypeKind) (found : o ≡ kind_named s.entries name) (is : o ≡ Some kind.InputObject) where

@@ -4,3 +4,4 @@ pub mod Inputs
 pub mod Wrapping
 pub mod Forms
 pub mod Readings
+pub mod Order

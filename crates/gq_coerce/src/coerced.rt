@@ -1,11 +1,11 @@
 //! What values are coerced to, and the entries of objects (GraphQL, October 2021, section 6.4.1).
-ghost use Rattle.std.specs.Prelude.{◌≡◌, ◌≤◌, length, true, false, not, IfOk, OnOk, Some, None, map, if◌then◌else◌};
-ghost use Rattle.std.specs.List.{prefix_len};
+ghost use Rattle.std.specs.Prelude.{◌≡◌, IfOk, OnOk, Some, None, map, if◌then◌else◌};
 ghost use Rattle.std.specs.Option.{option_map};
-ghost use Rattle.std.specs.Ordering.{nat_cmp, match_ordering};
+ghost use Rattle.std.specs.Ordering.{nat_cmp};
 ghost use Rattle.std.specs.Cmp.Lexicographic.{slice_cmp};
 ghost use Rattle.gq_table.specs.Views.{value_view, entry_view};
-ghost use Rattle.gq_coerce.specs.Coerced.{fault, null_value, entry_with, is_before, put_entry, wrapped, list_value, object_value};
+ghost use Rattle.gq_coerce.specs.Coerced.{fault, null_value, entry_with, put_entry, wrapped, list_value, object_value};
+ghost use Rattle.gq_coerce.specs.Helping.Order.{in_order};
 ghost use Rattle.gq_coerce.specs.Helping.Readings.{item_after};
 ghost use Rattle.gq_coerce.specs.Views.{coerced_view};
 
@@ -40,51 +40,43 @@ pub(crate) fn wrapped(alloc: Global, coerced: Coerced) -> Result<Coerced, NoMemo
     }
 }
 
-/// Whether the name comes before the entry's.
-fn is_before(name: &str, entry: &Entry) -> bool
-    ensures { result ≡ is_before name.now (Some entry.now.name) }
+/// The order of entries: that of their names.
+fn by_name(a: &Entry, b: &Entry) -> Ordering
+    ensures { result ≡ slice_cmp nat_cmp a.now.name b.now.name }
 {
-    match name.cmp(entry.name.as_str()) {
-        Ordering::Less => true,
-        Ordering::Equal => false,
-        Ordering::Greater => false,
-    }
+    a.name.as_str().cmp(b.name.as_str())
 }
 
-/// Where an entry of that name goes among others, which stand in the order of their names.
-fn place_for(entries: &[Entry], name: &str) -> usize
-    ensures is { result ≡ prefix_len (λ e. not (is_before name.now (Some e.name))) entries.now }
-    ensures within { result ≤ length entries.now }
+/// Gathered entries in the order of their names. Those of one name stay in their order.
+pub(crate) fn in_order(gathered: Vec<Entry>) -> Result<Vec<Entry>, NoMemory>
+    ensures { IfOk result (λ entries. map entry_view entries.items ≡ in_order gathered.items) }
 {
-    for (place, entry) in entries.iter().enumerate() {
-        if is_before(name, entry) {
-            return place;
-        }
-    }
-    entries.len()
+    let mut entries = gathered;
+    entries.sort_by(|a, b| by_name(a, b))?;
+    Ok(entries)
 }
 
-/// Puts an entry among others, which stand in the order of their names.
+/// Puts an entry behind those that were gathered.
 pub(crate) fn put_entry(
     entries: &mut Vec<Entry>,
     name: SmallText,
     value: Value,
 ) -> Result<(), NoMemory>
-    ensures { OnOk result (map entry_view entries.new.items ≡ put_entry name (value_view value) (map entry_view entries.old.items)) }
+    ensures { OnOk result (in_order entries.new.items ≡ put_entry name (value_view value) (in_order entries.old.items)) }
 {
-    let place = place_for(entries, name.as_str());
-    entries.insert(place, Entry { name, value })?;
+    entries.push(Entry { name, value })?;
     Ok(())
 }
 
-/// Puts what was coerced under its name, and tells whether it is not at fault. What is absent is left out.
+/// Puts what was coerced, under its name, behind the entries that were gathered, and tells whether it is not at fault. What is
+/// absent is left out.
 pub(crate) fn put_coerced(
     alloc: Global,
     entries: &mut Vec<Entry>,
     name: &str,
     coerced: Coerced,
 ) -> Result<bool, NoMemory>
-    ensures { IfOk result (λ fits. (if fits then Some (map entry_view entries.new.items) else None) ≡ entry_with (Some name.now) (coerced_view coerced) (Some (map entry_view entries.old.items))) }
+    ensures { IfOk result (λ fits. (if fits then Some (in_order entries.new.items) else None) ≡ entry_with (Some name.now) (coerced_view coerced) (Some (in_order entries.old.items))) }
 {
     match coerced {
         Coerced::Absent => Ok(true),
@@ -100,7 +92,7 @@ pub(crate) fn put_coerced(
 /// Puts an item behind others, and tells whether it is not at fault. One that is absent is null, or at fault where there is no
 /// null.
 #[tactic(auto, using(crate::proofs::Trees::made))]
-pub(crate) fn put_item(
+pub(crate) fn add_item(
     items: &mut Vec<Value>,
     coerced: Coerced,
     has_null: bool,

@@ -10,7 +10,7 @@ ghost use Rattle.gq_coerce.specs.Literals.{input_count, coerced_arguments};
 ghost use Rattle.gq_coerce.specs.Variables.{variable_part, coerced_variables};
 ghost use Rattle.gq_coerce.specs.Views.{setting_view};
 
-use crate::coerced::put_coerced;
+use crate::coerced::{in_order, put_coerced};
 use crate::inputs::{default_limit, references};
 use crate::literals::input_entries;
 use crate::parts::parts_of_arguments;
@@ -114,5 +114,5 @@ fn variable_entries(
             return Ok(None);
         }
     }
-    Ok(Some(entries))
+    Ok(Some(in_order(entries)?))
 }

@@ -10,7 +10,7 @@ ghost use Rattle.gq_coerce.specs.Literals.{at_any, read_all};
 ghost use Rattle.gq_coerce.specs.Views.{bare, coerced_view, setting_view};
 ghost use Rattle.gq_coerce.specs.Helping.Readings.{read_value};
 
-use crate::coerced::{Coerced, list_of, object_of, put_coerced, put_item};
+use crate::coerced::{Coerced, add_item, in_order, list_of, object_of, put_coerced};
 use crate::scalars::{boolean_leaf, enum_leaf, number_leaf, string_leaf, variable_value};
 use crate::setting::Setting;
 use gq_table::{Entry, Value};
@@ -61,7 +61,7 @@ fn free_items(
     let mut values = Vec::new(alloc);
     for item in items {
         let coerced = free_value(alloc, setting, item)?;
-        if !put_item(&mut values, coerced, true)? {
+        if !add_item(&mut values, coerced, true)? {
             return Ok(None);
         }
     }
@@ -87,7 +87,7 @@ fn free_entries(
             return Ok(None);
         }
     }
-    Ok(Some(entries))
+    Ok(Some(in_order(entries)?))
 }
 
 #[cycle(free)]

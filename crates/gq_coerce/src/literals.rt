@@ -11,17 +11,17 @@ ghost use Rattle.gq_coerce.specs.Literals.{at_type, at_name, read_all, missing_i
 ghost use Rattle.gq_coerce.specs.Views.{bare, coerced_view, setting_view, inputs_view, part_view, value_seen};
 ghost use Rattle.gq_coerce.specs.Helping.Readings.{given_literal};
 
-use crate::coerced::{Coerced, list_of, object_of, put_coerced, put_item};
+use crate::coerced::{Coerced, add_item, in_order, list_of, object_of, put_coerced};
 use crate::forms::{Form, fields_of, form_of};
 use crate::free::free_value;
 use crate::inputs::input_fields;
 use crate::parts::{Part, names_of, part_named, parts_of_fields};
 use crate::scalars::{scalar_value, value_of_enum, variable_value};
 use crate::setting::{Setting, within};
-use crate::wrapping::{base_name, is_non_null, item_type, unless_null, wrapped_to};
+use crate::wrapping::{is_non_null, item_type, unless_null, wrapped_to};
 use gq_table::{Entry, Value};
 use gq_text::NoMemory;
-use gq_tree::{InputValueDefinition, TypeRef, Value as Literal};
+use gq_tree::{InputValueDefinition, TypeRef, Value as Literal, base_name};
 use gq_types::TypeKind;
 use gq_values::fitting::is_built_in_scalar;
 use std::alloc::Global;
@@ -104,7 +104,7 @@ fn list_items(
     let mut values = Vec::new(alloc);
     for item in items {
         let coerced = literal_value(alloc, setting, type_ref, item)?;
-        if !put_item(&mut values, coerced, has_null)? {
+        if !add_item(&mut values, coerced, has_null)? {
             return Ok(None);
         }
     }
@@ -134,7 +134,7 @@ pub(crate) fn input_entries(
             return Ok(None);
         }
     }
-    Ok(Some(entries))
+    Ok(Some(in_order(entries)?))
 }
 
 /// The value of an input for which that literal is given, if one is.

@@ -10,20 +10,20 @@ ghost use Rattle.gq_coerce.specs.Coerced.{fault, alone, items_of, entries_of};
 ghost use Rattle.gq_coerce.specs.Literals.{input_fields, or_default, inputs_from};
 ghost use Rattle.gq_coerce.specs.Variables.{at_name, read_all, input_value, is_known, has_unknown, is_object_value};
 ghost use Rattle.gq_coerce.specs.Views.{coerced_view, setting_view, inputs_view, raw_seen};
-ghost use Rattle.gq_meaning.specs.Rewritten.{base_of};
+ghost use Rattle.gq_tree.specs.NamedTypes.{base_name};
 ghost use Rattle.gq_coerce.specs.Helping.Wrapping.{wrapped_to};
 ghost use Rattle.gq_coerce.specs.Helping.Readings.{given_raw};
 
-use crate::coerced::{Coerced, list_of, object_of, put_coerced, put_item};
+use crate::coerced::{Coerced, add_item, in_order, list_of, object_of, put_coerced};
 use crate::inputs::input_fields;
 use crate::literals::or_default;
 use crate::raw_scalars::{enum_input, scalar_input};
 use crate::setting::Setting;
 use crate::values::{entry_named, entry_names};
-use crate::wrapping::{base_name, item_type, unless_null, wrapped_to};
+use crate::wrapping::{item_type, unless_null, wrapped_to};
 use gq_table::{Entry, Value};
 use gq_text::NoMemory;
-use gq_tree::{InputValueDefinition, TypeRef, Value as Literal};
+use gq_tree::{InputValueDefinition, TypeRef, Value as Literal, base_name};
 use gq_types::{TypeKind, Types};
 use gq_values::fitting::is_built_in_scalar;
 use std::alloc::Global;
@@ -62,7 +62,7 @@ fn single(
     type_ref: &TypeRef,
     value: &Value,
 ) -> Result<Coerced, NoMemory>
-    ensures { IfOk result (λ c. coerced_view c ≡ wrapped_to (type_view type_ref.now) (at_name (setting_view setting.entry) (base_of (type_view type_ref.now)) (kind_named (types_view setting.entry.types.now) (base_of (type_view type_ref.now))) (value_view value.now).label.says (value_view value.now).below (read_all (setting_view setting.entry) (value_view value.now).below))) }
+    ensures { IfOk result (λ c. coerced_view c ≡ wrapped_to (type_view type_ref.now) (at_name (setting_view setting.entry) (base_name (type_view type_ref.now)) (kind_named (types_view setting.entry.types.now) (base_name (type_view type_ref.now))) (value_view value.now).label.says (value_view value.now).below (read_all (setting_view setting.entry) (value_view value.now).below))) }
 {
     let inner = at_name(alloc, setting, base_name(type_ref), value)?;
     wrapped_to(alloc, type_ref, inner)
@@ -148,7 +148,7 @@ fn raw_items(
     let mut values = Vec::new(alloc);
     for item in items {
         let coerced = raw_value(alloc, setting, type_ref, item)?;
-        if !put_item(&mut values, coerced, false)? {
+        if !add_item(&mut values, coerced, false)? {
             return Ok(None);
         }
     }
@@ -179,7 +179,7 @@ fn raw_entries(
             return Ok(None);
         }
     }
-    Ok(Some(entries))
+    Ok(Some(in_order(entries)?))
 }
 
 /// The value of an input field or variable for which that value is given, if one is.

@@ -2,7 +2,6 @@
 ghost use Rattle.std.specs.Prelude.{◌≡◌, IfOk};
 ghost use Rattle.std.specs.Option.{option_map};
 ghost use Rattle.gq_meaning.specs.Response.{item_of};
-ghost use Rattle.gq_meaning.specs.Rewritten.{base_of};
 ghost use Rattle.gq_tree.specs.Views.{type_view};
 ghost use Rattle.gq_types.specs.Required.{is_non_null};
 ghost use Rattle.gq_table.specs.Views.{value_view};
@@ -15,18 +14,6 @@ use gq_table::Value;
 use gq_text::NoMemory;
 use gq_tree::TypeRef;
 use std::alloc::Global;
-
-/// The name at the end of a type.
-#[tactic(auto, using(gq_tree::proofs::Trees::types))]
-pub(crate) fn base_name(type_ref: &TypeRef) -> &str
-    ensures { result.now ≡ base_of (type_view type_ref.now) }
-{
-    match type_ref {
-        TypeRef::Named(name) => name.text.as_str(),
-        TypeRef::List(item) => base_name(item),
-        TypeRef::NonNull(inner) => base_name(inner),
-    }
-}
 
 /// The type of the items of a list.
 #[tactic(auto, using(gq_tree::proofs::Trees::types))]

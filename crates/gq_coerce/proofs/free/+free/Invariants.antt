@@ -1,8 +1,9 @@
-use Rattle.std.proofs.Common.{◌≡◌, map, ℕ, ◌≤◌, length}
-use Rattle.gq_table.specs.Views.{value_view, entry_view}
+use Rattle.std.proofs.Common.{map, ◌≤◌, length}
+use Rattle.gq_table.specs.Views.{value_view}
 use Rattle.gq_coerce.specs.Coerced.{null_value}
 use Rattle.gq_coerce.specs.Literals.{at_any}
 use Rattle.gq_coerce.specs.Views.{setting_view}
+use Rattle.gq_coerce.specs.Helping.Order.{in_order}
 use Rattle.gq_coerce.proofs.Loops.{IsSoFar, AreFrom}
 use Rattle.gq_coerce.proofs.Readings.{item_part, field_part}
 use Rattle.gq_coerce.proofs.free.+free.Given as goal
@@ -14,4 +15,4 @@ abbrev pub decreases-free_entries-fields : goal.decreases-free_entries-fields
 decreases-free_entries-fields l = l.left
 
 abbrev pub invariant-free_entries-fields : goal.invariant-free_entries-fields
-invariant-free_entries-fields l = AreFrom (field_part (setting_view l.setting) at_any) l.fields (map entry_view l.entries.items) l.left × (l.left ≤ length l.fields)
+invariant-free_entries-fields l = AreFrom (field_part (setting_view l.setting) at_any) l.fields (in_order l.entries.items) l.left × (l.left ≤ length l.fields)

@@ -1,15 +1,14 @@
-use Rattle.std.proofs.Common.{◌≡◌, ◌+◌, ◌-◌, cond, not, Bool, Some, None, map, ap, sym, ◌∙◌, subst, arith}
+use Rattle.std.proofs.Common.{◌≡◌, ◌+◌, ◌-◌, cond, not, Some, None, map, ap, sym, ◌∙◌, subst, arith}
 use Rattle.std.specs.Option.{option_map}
 use Rattle.std.proofs.lemmas.Result.{IfOk-weaker}
 use Rattle.gq_tree.specs.Forest.{row}
-use Rattle.gq_tree.specs.Plain.{Val}
 use Rattle.gq_tree.specs.Views.{value_view, type_view}
 use Rattle.std.specs.List.{find}
 use Rattle.std.specs.Str.{bytes_eq}
 use Rattle.gq_types.specs.Joined.{kind_named}
 use Rattle.gq_types.specs.Required.{is_non_null}
 use Rattle.gq_types.specs.Look.{types_view}
-use Rattle.gq_table.specs.Views.{value_view as given_value, entry_view as given_entry}
+use Rattle.gq_table.specs.Views.{value_view as given_value}
 use Rattle.gq_table.proofs.Trees.{view_null}
 use Rattle.gq_coerce.specs.Coerced.{absent, fault, given, null_value, items_of, entries_of, list_value, object_value}
 use Rattle.gq_coerce.specs.Literals.{at_type, at_name, read_all, missing_item, or_default, input_fields, inputs_from, literal_value, unless_null}
@@ -17,9 +16,10 @@ use Rattle.gq_coerce.specs.Views.{bare, coerced_view, setting_view, variables_in
 use Rattle.gq_coerce.specs.Helping.Heights.{given_weight, default_weight, height_of}
 use Rattle.gq_coerce.specs.Helping.Wrapping.{wrapped_to}
 use Rattle.gq_coerce.specs.Helping.Readings.{item_after}
+use Rattle.gq_coerce.specs.Helping.Order.{in_order}
 use Rattle.gq_coerce.proofs.FormLemmas.{literal_null, literal_list, literal_named, literal_single, object_at, default_entered, missing_is}
 use Rattle.gq_coerce.proofs.HeightLemmas.{fields_call, input_call, given_call, item_call, default_call}
-use Rattle.gq_coerce.proofs.Loops.{AreFrom, items_more, items_fault, items_end, entries_more, entries_fault, entries_end}
+use Rattle.gq_coerce.proofs.Loops.{AreFrom, items_fault, items_end, entries_more, entries_fault, entries_end}
 use Rattle.gq_coerce.proofs.Readings.{item_part, items_read, input_of, inputs_read, input_reads}
 use Rattle.gq_coerce.proofs.literals.+literals.Goals as goal
 
@@ -63,8 +63,8 @@ input_entries-inputs-preserved t c =
     let f = input_of s c.args.parts.now in
     let xs = c.args.definitions.now in
     let d = c.index-definitions-left.result in
-    let old = map given_entry c.inputs.entries.items in
-    let new = map given_entry c.put_coerced.new.entries.items in
+    let old = in_order c.inputs.entries.items in
+    let new = in_order c.put_coerced.new.entries.items in
     let back : c.inputs.left ≡ c.inputs.left - 1 + 1 = omega arith in
     let reads = input_reads s c.args.parts.now d (value_seen c.part_named-literal.result) (coerced_view c.in_ok-coerced.coerced)
     (c.part_named-literal.ensures ∙ ap (λ n. option_map (λ p. value_view p.value.now) (find (λ p. bytes_eq n p.name.now) c.args.parts.now)) c.as_str-name.ensures) c.in_ok-coerced.ensures in (
@@ -79,8 +79,8 @@ input_entries-returns-then-not-branch t c =
     let f = input_of s c.args.parts.now in
     let xs = c.args.definitions.now in
     let d = c.index-definitions-left.result in
-    let old = map given_entry c.inputs.entries.items in
-    let new = map given_entry c.put_coerced.new.entries.items in
+    let old = in_order c.inputs.entries.items in
+    let new = in_order c.put_coerced.new.entries.items in
     let back : c.inputs.left ≡ c.inputs.left - 1 + 1 = omega arith in
     let reads = input_reads s c.args.parts.now d (value_seen c.part_named-literal.result) (coerced_view c.in_ok-coerced.coerced)
     (c.part_named-literal.ensures ∙ ap (λ n. option_map (λ p. value_view p.value.now) (find (λ p. bytes_eq n p.name.now) c.args.parts.now)) c.as_str-name.ensures) c.in_ok-coerced.ensures in
@@ -94,7 +94,7 @@ input_entries-returns t c =
     let f = input_of s c.args.parts.now in
     let xs = c.args.definitions.now in
     let last : c.inputs.left ≡ 0 = omega (arith, c.inputs-test.false) in
-    entries_end f xs (map given_entry c.inputs.entries.items) (subst (λ n. AreFrom f xs (map given_entry c.inputs.entries.items) n) last c.inputs.invariant.0) ∙ ap entries_of (inputs_read s c.args.parts.now xs)
+    ap Some c.in_ok-in_order.ensures ∙ entries_end f xs (in_order c.inputs.entries.items) (subst (λ n. AreFrom f xs (in_order c.inputs.entries.items) n) last c.inputs.invariant.0) ∙ ap entries_of (inputs_read s c.args.parts.now xs)
 
 pub input_value-literal_value-requires : goal.input_value-literal_value-requires
 input_value-literal_value-requires t c =
@@ -117,7 +117,7 @@ list_items-returns-then-not-branch t c =
     let coerced = coerced_view c.in_ok-coerced.coerced in
     let missing = ap (λ b. cond (not b) null_value fault) c.is_non_null-has_null.ensures ∙ missing_is (is_non_null u) in
     sym (items_fault (missing_item u) (item_part s (at_type u)) c.args.items.now c.loop-item.item-index c.item-item.result old coerced c.loop-item-test.true c.item-item.is c.in_ok-coerced.ensures
-    (ap (λ b. cond b (Some (map given_value c.put_item.new.items.items)) None) (sym c.if-not-branch.true) ∙ c.in_ok-put_item.ensures ∙ ap (λ m. item_after old m coerced) missing) c.loop-item.invariant)
+    (ap (λ b. cond b (Some (map given_value c.add_item.new.items.items)) None) (sym c.if-not-branch.true) ∙ c.in_ok-add_item.ensures ∙ ap (λ m. item_after old m coerced) missing) c.loop-item.invariant)
     ∙ ap (items_of (missing_item u)) (sym (items_read s (at_type u) c.args.items.now))
 
 pub list_items-returns : goal.list_items-returns

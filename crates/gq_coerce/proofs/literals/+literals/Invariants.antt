@@ -1,13 +1,14 @@
-use Rattle.std.proofs.Common.{◌≡◌, ◌+◌, map, ℕ, ◌≤◌, length}
+use Rattle.std.proofs.Common.{◌+◌, map, ◌≤◌, length}
 use Rattle.std.specs.Prelude.{max}
-use Rattle.std.specs.Option.{option_map, option_map_or}
+use Rattle.std.specs.Option.{option_map}
 use Rattle.gq_tree.specs.Forest.{row}
 use Rattle.gq_tree.specs.Views.{value_view, type_view}
 use Rattle.gq_types.specs.Look.{types_view}
-use Rattle.gq_table.specs.Views.{value_view as given_value, entry_view as given_entry}
-use Rattle.gq_coerce.specs.Literals.{at_type, missing_item, read_all}
+use Rattle.gq_table.specs.Views.{value_view as given_value}
+use Rattle.gq_coerce.specs.Literals.{at_type, missing_item}
 use Rattle.gq_coerce.specs.Views.{bare, setting_view, inputs_view, part_view, value_seen}
 use Rattle.gq_coerce.specs.Helping.Heights.{height, height_of, deepest, weight, default_weight, given_weight}
+use Rattle.gq_coerce.specs.Helping.Order.{in_order}
 use Rattle.gq_coerce.proofs.Loops.{IsSoFar, AreFrom}
 use Rattle.gq_coerce.proofs.Readings.{item_part, input_of}
 use Rattle.gq_coerce.proofs.literals.+literals.Given as goal
@@ -43,4 +44,4 @@ abbrev pub decreases-input_entries-inputs : goal.decreases-input_entries-inputs
 decreases-input_entries-inputs l = l.left
 
 abbrev pub invariant-input_entries-inputs : goal.invariant-input_entries-inputs
-invariant-input_entries-inputs l = AreFrom (input_of (setting_view l.setting) l.parts) l.definitions (map given_entry l.entries.items) l.left × (l.left ≤ length l.definitions)
+invariant-input_entries-inputs l = AreFrom (input_of (setting_view l.setting) l.parts) l.definitions (in_order l.entries.items) l.left × (l.left ≤ length l.definitions)

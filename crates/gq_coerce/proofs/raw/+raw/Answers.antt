@@ -1,15 +1,15 @@
-use Rattle.std.proofs.Common.{◌≡◌, ◌+◌, ◌-◌, cond, Some, None, map, ap, sym, ◌∙◌, subst, arith, refl}
+use Rattle.std.proofs.Common.{◌≡◌, ◌+◌, ◌-◌, cond, Some, None, map, ap, sym, ◌∙◌, subst, arith}
 use Rattle.std.proofs.lemmas.Result.{IfOk-weaker}
 use Rattle.gq_tree.specs.Views.{type_view}
 use Rattle.gq_types.specs.Joined.{kind_named}
-use Rattle.gq_types.specs.Look.{types_view}
 use Rattle.gq_meaning.specs.Values as value
-use Rattle.gq_table.specs.Views.{value_view, values_view, entry_view, entries_view}
+use Rattle.gq_table.specs.Views.{value_view, values_view, entries_view}
 use Rattle.gq_table.proofs.Trees.{view_leaf, view_enum, view_list, view_object}
 use Rattle.gq_coerce.specs.Coerced.{fault, given, alone, items_of, entries_of, list_value, object_value}
 use Rattle.gq_coerce.specs.Literals.{inputs_from}
 use Rattle.gq_coerce.specs.Variables.{at_name, read_all, input_value}
-use Rattle.gq_coerce.specs.Views.{coerced_view, setting_view, inputs_view, raw_seen, type_seen}
+use Rattle.gq_coerce.specs.Views.{coerced_view, setting_view, inputs_view, type_seen}
+use Rattle.gq_coerce.specs.Helping.Order.{in_order}
 use Rattle.gq_coerce.proofs.Trees.{unnamed_view}
 use Rattle.gq_coerce.proofs.Loops.{AreFrom, items_fault, items_end, entries_more, entries_fault, entries_end}
 use Rattle.gq_coerce.proofs.RawReadings.{raw_part, raw_items_read, raw_input_of, raw_inputs_read, raw_reads, is_raw_single, raw_single, raw_list, raw_list_named, raw_object, raw_custom, raw_item_lower, entry_call}
@@ -40,8 +40,8 @@ raw_entries-inputs-preserved t c =
     let f = raw_input_of s c.args.given.now in
     let xs = c.args.definitions.now in
     let d = c.index-definitions-left.result in
-    let old = map entry_view c.inputs.entries.items in
-    let new = map entry_view c.put_coerced.new.entries.items in
+    let old = in_order c.inputs.entries.items in
+    let new = in_order c.put_coerced.new.entries.items in
     let back : c.inputs.left ≡ c.inputs.left - 1 + 1 = omega arith in
     let reads = raw_reads s c.args.given.now d c.as_str-name.result.now c.entry_named-value.result (coerced_view c.in_ok-coerced.coerced) c.as_str-name.ensures c.entry_named-value.ensures c.in_ok-coerced.ensures in (
       entries_more f xs (c.inputs.left - 1) d c.as_str-name.result.now old (coerced_view c.in_ok-coerced.coerced) (omega (arith, c.inputs.invariant.1, c.inputs-test.true)) c.index-definitions-left.is (ap Some (sym c.as_str-name.ensures)) reads
@@ -55,8 +55,8 @@ raw_entries-returns-then-not-branch t c =
     let f = raw_input_of s c.args.given.now in
     let xs = c.args.definitions.now in
     let d = c.index-definitions-left.result in
-    let old = map entry_view c.inputs.entries.items in
-    let new = map entry_view c.put_coerced.new.entries.items in
+    let old = in_order c.inputs.entries.items in
+    let new = in_order c.put_coerced.new.entries.items in
     let back : c.inputs.left ≡ c.inputs.left - 1 + 1 = omega arith in
     let reads = raw_reads s c.args.given.now d c.as_str-name.result.now c.entry_named-value.result (coerced_view c.in_ok-coerced.coerced) c.as_str-name.ensures c.entry_named-value.ensures c.in_ok-coerced.ensures in
     sym (entries_fault f xs (c.inputs.left - 1) d c.as_str-name.result.now old (coerced_view c.in_ok-coerced.coerced) (omega (arith, c.inputs.invariant.1, c.inputs-test.true)) c.index-definitions-left.is (ap Some (sym c.as_str-name.ensures)) reads
@@ -69,7 +69,7 @@ raw_entries-returns t c =
     let f = raw_input_of s c.args.given.now in
     let xs = c.args.definitions.now in
     let last : c.inputs.left ≡ 0 = omega (arith, c.inputs-test.false) in
-    entries_end f xs (map entry_view c.inputs.entries.items) (subst (λ n. AreFrom f xs (map entry_view c.inputs.entries.items) n) last c.inputs.invariant.0) ∙ ap entries_of (raw_inputs_read s c.args.given.now xs)
+    ap Some c.in_ok-in_order.ensures ∙ entries_end f xs (in_order c.inputs.entries.items) (subst (λ n. AreFrom f xs (in_order c.inputs.entries.items) n) last c.inputs.invariant.0) ∙ ap entries_of (raw_inputs_read s c.args.given.now xs)
 
 pub raw_items-raw_value-requires : goal.raw_items-raw_value-requires
 raw_items-raw_value-requires t c =
@@ -81,7 +81,7 @@ raw_items-returns-then-not-branch t c =
     let s = setting_view c.args.setting in
     let u = type_view c.args.type_ref.now in
     sym (items_fault fault (raw_part s u) c.args.items.now c.loop-item.item-index c.item-item.result (map value_view c.loop-item.values.items) (coerced_view c.in_ok-coerced.coerced) c.loop-item-test.true c.item-item.is c.in_ok-coerced.ensures
-    (ap (λ b. cond b (Some (map value_view c.put_item.new.items.items)) None) (sym c.if-not-branch.true) ∙ c.in_ok-put_item.ensures) c.loop-item.invariant)
+    (ap (λ b. cond b (Some (map value_view c.add_item.new.items.items)) None) (sym c.if-not-branch.true) ∙ c.in_ok-add_item.ensures) c.loop-item.invariant)
     ∙ ap (items_of fault) (sym (raw_items_read s u c.args.items.now))
 
 pub raw_items-returns : goal.raw_items-returns

@@ -1,10 +1,10 @@
-use Rattle.std.proofs.Common.{◌≡◌, ◌+◌, ◌*◌, map, ℕ, ◌≤◌, length}
-use Rattle.std.specs.Option.{option_map_or}
+use Rattle.std.proofs.Common.{◌+◌, ◌*◌, map, ◌≤◌, length}
 use Rattle.gq_tree.specs.Views.{type_view}
-use Rattle.gq_table.specs.Views.{value_view, values_view, entry_view, entries_view}
+use Rattle.gq_table.specs.Views.{value_view, values_view, entries_view}
 use Rattle.gq_coerce.specs.Coerced.{fault}
 use Rattle.gq_coerce.specs.Views.{setting_view, raw_seen}
 use Rattle.gq_coerce.specs.Helping.Heights.{height, raw_weight}
+use Rattle.gq_coerce.specs.Helping.Order.{in_order}
 use Rattle.gq_coerce.proofs.Loops.{IsSoFar, AreFrom}
 use Rattle.gq_coerce.proofs.RawReadings.{raw_part, raw_input_of}
 use Rattle.gq_coerce.proofs.raw.+raw.Given as goal
@@ -34,4 +34,4 @@ abbrev pub decreases-raw_entries-inputs : goal.decreases-raw_entries-inputs
 decreases-raw_entries-inputs l = l.left
 
 abbrev pub invariant-raw_entries-inputs : goal.invariant-raw_entries-inputs
-invariant-raw_entries-inputs l = AreFrom (raw_input_of (setting_view l.setting) l.given) l.definitions (map entry_view l.entries.items) l.left × (l.left ≤ length l.definitions)
+invariant-raw_entries-inputs l = AreFrom (raw_input_of (setting_view l.setting) l.given) l.definitions (in_order l.entries.items) l.left × (l.left ≤ length l.definitions)
