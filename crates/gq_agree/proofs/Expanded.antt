@@ -9,8 +9,8 @@ use Rattle.gq_tree.specs.Plain.{NameOf, Sels}
 use Rattle.gq_names.proofs.RepeatLemmas.{contains_first, contains_later}
 use Rattle.gq_document.specs.Definitions.{FragmentOf}
 use Rattle.gq_document.specs.Executable.{ExecutableOf}
-use Rattle.gq_merging.specs.FieldSets as sets
-use Rattle.gq_merging.specs.FieldSets.{SetOf, FieldAt, key, fragment_set, narrowed, InSet}
+use Rattle.gq_document.specs.FieldSets as sets
+use Rattle.gq_document.specs.FieldSets.{SetOf, FieldAt, key, fragment_set, narrowed, InSet}
 use Rattle.gq_meaning.specs.Values.{Text}
 use Rattle.gq_meaning.specs.Selected.{bare, set_of, join}
 use Rattle.gq_meaning.specs.Selected as selected

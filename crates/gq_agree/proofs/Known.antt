@@ -2,20 +2,21 @@
 use Rattle.std.proofs.Common.{◌≡◌, true, Option, Some, None, refl, ap}
 use Rattle.std.specs.Option.{option_map}
 use Rattle.gq_found.specs.declared.code.Code.TheVariants.{UnknownField}
-use Rattle.gq_found.specs.declared.item.Item.{Item}
+use Rattle.gq_found.specs.declared.fault.Fault.{Fault}
 use Rattle.gq_tree.specs.Plain.{field}
 use Rattle.gq_types.specs.Entries.{Text}
 use Rattle.gq_types.specs.SubtypesTests.{is_possible}
 use Rattle.gq_types.proofs.SubtypeLemmas.{possible_decides}
-use Rattle.gq_document.specs.Selections.{FieldOf, field_on, base_name}
+use Rattle.gq_document.specs.Selections.{FieldOf, field_on}
+use Rattle.gq_tree.specs.NamedTypes.{base_name}
 use Rattle.gq_document.specs.Executable.{ExecutableOf}
 use Rattle.gq_fields.specs.FieldSelections.{IsUnknownField}
-use Rattle.gq_merging.specs.FieldSets.{FieldAt}
+use Rattle.gq_document.specs.FieldSets.{FieldAt}
 use Rattle.gq_agree.specs.Agree.{static_of}
 use Rattle.gq_agree.proofs.SelectedFields.{IsSelectedField}
 use Rattle.gq_agree.proofs.Parents.{possible_known}
 
-pub field_known : (x : ExecutableOf) → ((item : Item) → IsUnknownField x item → ⊥) → (f : FieldAt) (p o : Text) → f.parent ≡ Some p → is_possible x.entries p o ≡ true → IsSelectedField x f → (c : Text) × (static_of x.entries p f.name.text ≡ Some c)
+pub field_known : (x : ExecutableOf) → ((item : Fault) → IsUnknownField x item → ⊥) → (f : FieldAt) (p o : Text) → f.parent ≡ Some p → is_possible x.entries p o ≡ true → IsSelectedField x f → (c : Text) × (static_of x.entries p f.name.text ≡ Some c)
 field_known x known f p o is possible selected = by_field (field_on x.entries p f.name.text) refl
   where
     by_field : (d : Option FieldOf) → field_on x.entries p f.name.text ≡ d → (c : Text) × (static_of x.entries p f.name.text ≡ Some c)

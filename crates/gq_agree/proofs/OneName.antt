@@ -1,18 +1,18 @@
 -- Where no two fields are told that do not merge, two that meet and whose parents can coincide have one name (section 5.3.2).
 use Rattle.std.proofs.Common.{◌≡◌, Bool, true, false, refl, sym}
 use Rattle.std.specs.Str.{bytes_eq}
-use Rattle.gq_found.specs.declared.item.Item.{Item}
+use Rattle.gq_found.specs.declared.fault.Fault.{Fault}
 use Rattle.gq_document.specs.Executable.{ExecutableOf}
-use Rattle.gq_merging.specs.FieldSets.{FieldAt}
-use Rattle.gq_merging.specs.FieldsMerge.{can_coincide, Meet, in_call, IsNoLater, item_of, IsMergingFault, of_names}
-use Rattle.gq_merging.specs.Comparisons.{is_no_later}
+use Rattle.gq_document.specs.FieldSets.{FieldAt}
+use Rattle.gq_merging.specs.FieldsMerge.{can_coincide, Meet, in_call, IsNoLater, fault_of, IsMergingFault, of_names}
+use Rattle.gq_merging.specs.Helping.Comparisons.{is_no_later}
 use Rattle.gq_merging.specs.declared.purpose.Purpose.TheVariants.{Names}
 use Rattle.gq_merging.proofs.EarliestLemmas.{no_later, no_later_other}
 use Rattle.gq_meaning.proofs.TextLemmas.{same_text, text_same}
 
-module _ (x : ExecutableOf) (merge : (item : Item) → IsMergingFault x item → ⊥) where
+module _ (x : ExecutableOf) (merge : (item : Fault) → IsMergingFault x item → ⊥) where
   never_differ : (a b : FieldAt) → Meet x Names a b → can_coincide x.entries a.parent b.parent ≡ true → IsNoLater a b → (a.name.text ≡ b.name.text → ⊥) → ⊥
-  never_differ a b met c l other = merge (item_of b) (of_names (record {
+  never_differ a b met c l other = merge (fault_of b) (of_names (record {
     first = a;
     later = b;
     meet = met;

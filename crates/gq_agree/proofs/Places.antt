@@ -3,12 +3,13 @@ use Rattle.std.proofs.Common.{◌≡◌, inl, inr, ℕ, Bool, true, false, cond,
 use Rattle.std.specs.Prelude.{if◌then◌else◌}
 use Rattle.std.specs.Option.{option_map}
 use Rattle.std.specs.Str.{bytes_eq}
-use Rattle.gq_found.specs.declared.item.Item.{Item}
+use Rattle.gq_found.specs.declared.fault.Fault.{Fault}
 use Rattle.gq_types.specs.Roots.{root_of}
 use Rattle.gq_document.specs.Definitions.{OperationOf}
-use Rattle.gq_document.specs.Selections.{selected_field, base_name}
+use Rattle.gq_document.specs.Selections.{selected_field}
+use Rattle.gq_tree.specs.NamedTypes.{base_name}
 use Rattle.gq_document.specs.Executable.{ExecutableOf}
-use Rattle.gq_merging.specs.FieldSets.{SetOf, FieldAt, operation_set, field_set, of_operation}
+use Rattle.gq_document.specs.FieldSets.{SetOf, FieldAt, operation_set, field_set, of_operation}
 use Rattle.gq_merging.specs.FieldsMerge.{HaveOneKey, can_coincide, Meet, together, deeper, IsMergingFault}
 use Rattle.gq_merging.specs.declared.purpose.Purpose.TheVariants.{Names}
 use Rattle.gq_meaning.specs.Values.{Text}
@@ -18,7 +19,7 @@ use Rattle.gq_meaning.specs.Selected.{set_of}
 use Rattle.gq_meaning.specs.Expand.{Asked, Definition, expand, sets_of}
 use Rattle.gq_meaning.specs.Thin.{IsIn}
 use Rattle.gq_meaning.specs.Response.{FieldType, Given, setting, Place, is_unfit, fails, item_at, of_key, place_of, place_in, below_result, below, child, root}
-use Rattle.gq_meaning.specs.Rewritten.{base_of, base_in, HasSubtypes, place_at}
+use Rattle.gq_meaning.specs.Rewritten.{base_in, HasSubtypes, place_at}
 use Rattle.gq_meaning.proofs.TextLemmas.{same_text}
 use Rattle.gq_answer.specs.Operations.{fragments_in}
 use Rattle.gq_agree.specs.Agree.{static_of, NamesAgree}
@@ -38,7 +39,7 @@ in_key k (x ∷ xs) a m = by_test (bytes_eq k x.key) refl m (in_key k xs a)
     by_test false e h rest = let r = rest h in (inr r.0, r.1)
 
 -- the type of which this is the name at the end
-based : (t : Option FieldType) (b : Text) → base_in t ≡ Some b → (type_ref : FieldType) × (t ≡ Some type_ref) × (base_of type_ref ≡ b)
+based : (t : Option FieldType) (b : Text) → base_in t ≡ Some b → (type_ref : FieldType) × (t ≡ Some type_ref) × (base_name type_ref ≡ b)
 based None b e = cc
 based (Some type_ref) b e = (type_ref, refl, cc)
 
@@ -50,7 +51,7 @@ some_one a b e = cc
 pub record Promises (x : ExecutableOf) (g : Given) : Type 0 where
   pub coincide : (s t o : Text) → g.applies s o ≡ true → g.applies t o ≡ true → can_coincide x.entries (Some s) (Some t) ≡ true
   pub are_known : (f : FieldAt) (p o : Text) → f.parent ≡ Some p → g.applies p o ≡ true → IsSelectedField x f → (c : Text) × (static_of x.entries p f.name.text ≡ Some c)
-  pub merge : (item : Item) → IsMergingFault x item → ⊥
+  pub merge : (item : Fault) → IsMergingFault x item → ⊥
   pub subtypes : HasSubtypes (static_of x.entries) g
 
 module _ (x : ExecutableOf) (g : Given) (promises : Promises x g) where
@@ -118,7 +119,7 @@ module _ (x : ExecutableOf) (g : Given) (promises : Promises x g) where
       is_selected : (w : Asked) (m : IsIn w (y ∷ ys)) → IsSelectedField x (field_for w m)
       is_selected w m = let i = group_in w m in field_selected x i.from.stands (sound.are_selected i.by i.is_by)
 
-      parent_below : (type_ref : FieldType) (o' : Text) → g.type_of o y.name ≡ Some type_ref → g.applies (base_of type_ref) o' ≡ true → (w : Asked) (m : IsIn w (y ∷ ys)) → HasParent (setting g o') (field_set x.entries (field_for w m)).parent
+      parent_below : (type_ref : FieldType) (o' : Text) → g.type_of o y.name ≡ Some type_ref → g.applies (base_name type_ref) o' ≡ true → (w : Asked) (m : IsIn w (y ∷ ys)) → HasParent (setting g o') (field_set x.entries (field_for w m)).parent
       parent_below type_ref o' e p w m =
           let i = group_in w m in
           let f = i.from.field_at in

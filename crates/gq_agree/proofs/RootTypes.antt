@@ -9,7 +9,7 @@ use Rattle.gq_tree.specs.declared.tree.OperationKind.TheVariants.{Query, Mutatio
 use Rattle.gq_tree.specs.Plain.{RootOf, TypeSystemOf, schema, type_definition, directive_definition}
 use Rattle.gq_tree.specs.Same.{same_kinds}
 use Rattle.gq_found.specs.declared.code.Code.TheVariants.{UnknownType, WrongKindOfType, NoRootType, SubscriptionOperation}
-use Rattle.gq_found.specs.declared.item.Item.{Item}
+use Rattle.gq_found.specs.declared.fault.Fault.{Fault}
 use Rattle.gq_names.specs.Repeats.{StandsAt}
 use Rattle.gq_types.specs.declared.entry.TypeKind.{TypeKind}
 use Rattle.gq_types.specs.declared.entry.TypeKind.TheVariants as kind
@@ -20,16 +20,15 @@ use Rattle.gq_types.specs.Joined.{In, put_in, is_schema, kind_named, schema_numb
 use Rattle.gq_types.specs.Roots.{roots_in, roots_of, is_object, default_name, default_root, entry_for, named_root, root_of}
 use Rattle.gq_types.proofs.Gathered.{nothing_in, from_flat, from_map, to_map, from_filter, to_filter, cases_cons, found}
 use Rattle.gq_types.proofs.Searches.{place_or_length, first_within}
-use Rattle.gq_type_system.specs.Items.{item_at}
+use Rattle.gq_found.specs.FaultPlaces.{fault_at, fault_over}
 use Rattle.gq_type_system.specs.Uses.{root_use, used_types}
 use Rattle.gq_type_system.specs.UnknownType.{IsUnknownType}
 use Rattle.gq_type_system.specs.RootTypes.{HasRoot, has_default, has_entry, IsNoObject}
-use Rattle.gq_type_system.specs.QueryRoot.{no_query_root_item, HasNoQueryRoot}
+use Rattle.gq_type_system.specs.QueryRoot.{no_query_root_fault, HasNoQueryRoot}
 use Rattle.gq_type_system.specs.SchemaFaults.{IsSchemaFault}
 use Rattle.gq_type_system.specs.SchemaFaults as schema_fault
 use Rattle.gq_document.specs.Definitions.{OperationOf}
 use Rattle.gq_document.specs.Executable.{ExecutableOf}
-use Rattle.gq_fragments.specs.Items.{item_over}
 use Rattle.gq_fragments.specs.OperationPlace.{operation_place}
 use Rattle.gq_fragments.specs.OperationFaults.{IsOperationFault}
 use Rattle.gq_fragments.specs.OperationFaults as operation_fault
@@ -85,7 +84,7 @@ root_used (schema extends description directives roots place) root c = (refl, to
 root_used (type_definition extends description name directives body place) root c = nothing_in root c
 root_used (directive_definition description name arguments repeatable locations place) root c = nothing_in root c
 
-module _ (es : List EntryOf) (has_root : (item : Item) → HasNoQueryRoot es item → ⊥) (objects : (item : Item) → IsNoObject es item → ⊥) (known : (item : Item) → IsUnknownType es item → ⊥) where
+module _ (es : List EntryOf) (has_root : (item : Fault) → HasNoQueryRoot es item → ⊥) (objects : (item : Fault) → IsNoObject es item → ⊥) (known : (item : Fault) → IsUnknownType es item → ⊥) where
   abbrev roots : List (In (RootOf Span))
   roots = roots_of es (schema_number es)
 
@@ -102,7 +101,7 @@ module _ (es : List EntryOf) (has_root : (item : Item) → HasNoQueryRoot es ite
       let own = from_map (λ root. record { file = n.0.entry.file; it = root }) (roots_in n.0.entry.definition) r n.2 in
       let used = root_used n.0.entry.definition own.0 own.1 in
       let stands = (from_filter (λ m. nat_eq (owner es m) (schema_number es)) (numbered es) n.0 n.1).0 in
-      known (item_at n.0.entry.file UnknownType own.0.name) (record {
+      known (fault_at n.0.entry.file UnknownType own.0.name) (record {
         entry = n.0;
         is_judged = to_filter (λ m. not (defines_built_in m.entry.definition)) (numbered es) n.0 stands (ap not used.0);
         one = root_use own.0;
@@ -116,7 +115,7 @@ module _ (es : List EntryOf) (has_root : (item : Item) → HasNoQueryRoot es ite
 
   -- the first root for queries is of an object type
   first_object : default_root es Query ≡ None → (r : In (RootOf Span)) → IsFirst is_for_queries roots r → (k : TypeKind) → kind_named es r.it.name.text ≡ Some k → (k ≡ kind.Object → ⊥) → ⊥
-  first_object none r at k e other = objects (item_at r.file WrongKindOfType r.it.name) (record {
+  first_object none r at k e other = objects (fault_at r.file WrongKindOfType r.it.name) (record {
     number = schema_number es;
     is_number = in_range;
     place = at.place;
@@ -147,7 +146,7 @@ module _ (es : List EntryOf) (has_root : (item : Item) → HasNoQueryRoot es ite
       by_tests false false q e = absurd (none-some t e)
 
   by_entry : default_root es Query ≡ None → (o : Option (In (RootOf Span))) → find is_for_queries roots ≡ o → HasQueryRoot
-  by_entry none None e = absurd (has_root no_query_root_item (record {
+  by_entry none None e = absurd (has_root no_query_root_fault (record {
     no_default = none;
     no_entry = λ root c is. none_passes is_for_queries roots e root c (ap (same_kinds Query) is);
     is = refl;
@@ -173,12 +172,12 @@ module _ (es : List EntryOf) (has_root : (item : Item) → HasNoQueryRoot es ite
       by_default None e = by_entry e (find is_for_queries roots) refl
 
 -- Each operation has a root type.
-pub operation_root : (x : ExecutableOf) → ((item : Item) → IsSchemaFault x.entries item → ⊥) → ((item : Item) → IsOperationFault x item → ⊥) → (o : OperationOf) → Contains x.operations o → (t : Text) × (root_of x.entries o.kind ≡ Some t)
+pub operation_root : (x : ExecutableOf) → ((item : Fault) → IsSchemaFault x.entries item → ⊥) → ((item : Fault) → IsOperationFault x item → ⊥) → (o : OperationOf) → Contains x.operations o → (t : Text) × (root_of x.entries o.kind ≡ Some t)
 operation_root x no_schema no_fault o c = by_kind o.kind refl
   where
     by_root : o.kind ≡ Mutation → (r : Option Text) → root_of x.entries Mutation ≡ r → (t : Text) × (root_of x.entries Mutation ≡ Some t)
     by_root k (Some t) e = (t, e)
-    by_root k None e = absurd (no_fault (item_over o.file NoRootType (operation_place o)) (operation_fault.no_root_type (record {
+    by_root k None e = absurd (no_fault (fault_over o.file NoRootType (operation_place o)) (operation_fault.no_root_type (record {
       operation = o;
       stands = c;
       is_mutation = k;
@@ -189,4 +188,4 @@ operation_root x no_schema no_fault o c = by_kind o.kind refl
     by_kind : (k : OperationKind) → o.kind ≡ k → (t : Text) × (root_of x.entries k ≡ Some t)
     by_kind Query e = query_root x.entries (λ item f. no_schema item (schema_fault.no_query_root f)) (λ item f. no_schema item (schema_fault.no_object f)) (λ item f. no_schema item (schema_fault.unknown_type f))
     by_kind Mutation e = by_root e (root_of x.entries Mutation) refl
-    by_kind Subscription e = absurd (no_fault (item_over o.file SubscriptionOperation (operation_place o)) (operation_fault.subscription (record { operation = o; stands = c; is_subscription = e; is = refl })))
+    by_kind Subscription e = absurd (no_fault (fault_over o.file SubscriptionOperation (operation_place o)) (operation_fault.subscription (record { operation = o; stands = c; is_subscription = e; is = refl })))

@@ -5,14 +5,14 @@ use Rattle.gq_tree.specs.Plain.{NameOf, DirectiveOf, Sel, field, inline}
 use Rattle.gq_types.specs.Entries.{Text, EntryOf}
 use Rattle.gq_document.specs.Definitions.{OperationOf}
 use Rattle.gq_document.specs.Selections as selections
-use Rattle.gq_document.specs.Selections.{StandsAmong, parent_below, of_operation, of_fragment}
+use Rattle.gq_document.specs.Selections.{IsSelectionWithin, parent_below, of_operation, of_fragment}
 use Rattle.gq_document.specs.Executable.{ExecutableOf, Selects}
-use Rattle.gq_merging.specs.FieldSets as sets
-use Rattle.gq_merging.specs.FieldSets.{SetOf, FieldAt, operation_set, fragment_set, field_set, narrowed, InSet}
+use Rattle.gq_document.specs.FieldSets as sets
+use Rattle.gq_document.specs.FieldSets.{SetOf, FieldAt, operation_set, fragment_set, field_set, narrowed, InSet}
 
 -- all selections of a set are selections of the project
 abbrev pub AreSelected : ExecutableOf → SetOf → Type 0
-AreSelected x set = (inner : Option Text) (selection : Sel Span) → StandsAmong x.entries set.parent set.selections inner selection → Selects x (record { file = set.file; parent = inner; selection = selection })
+AreSelected x set = (inner : Option Text) (selection : Sel Span) → IsSelectionWithin x.entries set.parent set.selections inner selection → Selects x (record { file = set.file; parent = inner; selection = selection })
 
 -- a field is a selection of the project, and those in its braces are
 pub record IsSelectedField (x : ExecutableOf) (f : FieldAt) : Type 0 where
@@ -33,7 +33,7 @@ field_selected x (sets.here {directives = directives} {braces = braces}) all = r
   below = λ inner selection s. all inner selection (selections.within s);
 }
 field_selected x (sets.within {file} {parent} {on = on} {directives = directives} {braces = braces} {place = place} {below = below} i) all =
-    field_selected x i (λ inner selection s. all inner selection (selections.within (subst (λ p. StandsAmong x.entries p below inner selection) (narrowed_is x.entries on directives braces place parent) s)))
+    field_selected x i (λ inner selection s. all inner selection (selections.within (subst (λ p. IsSelectionWithin x.entries p below inner selection) (narrowed_is x.entries on directives braces place parent) s)))
 field_selected x (sets.through c e i) all = field_selected x i (λ inner selection s. of_fragment c (refl, s))
 field_selected x (sets.after i) all = field_selected x i (λ inner selection s. all inner selection (selections.after s))
 

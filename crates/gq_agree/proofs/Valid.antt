@@ -1,13 +1,13 @@
 -- What validity promises of the names of fields (sections 5.3.2 and 6.3.2).
 use Rattle.std.proofs.Common.{List, [], sym, ap, subst, Contains}
 use Rattle.std.specs.Prelude.{unwrap_or}
-use Rattle.gq_found.specs.declared.item.Item.{Item}
+use Rattle.gq_found.specs.declared.fault.Fault.{Fault}
 use Rattle.gq_document.specs.Definitions.{OperationOf}
 use Rattle.gq_document.specs.Executable.{ExecutableOf}
 use Rattle.gq_type_system.specs.SchemaFaults.{IsSchemaFault}
 use Rattle.gq_fields.specs.FieldFaults.{unknown_field}
 use Rattle.gq_rules.specs.RuleFaults.{IsRuleFault, of_operations, of_fields, of_merging}
-use Rattle.gq_rules.specs.Demands.{IsToldFirst, type_system, first, rule}
+use Rattle.gq_rules.specs.Faults.{IsToldFirst, type_system, first, rule}
 use Rattle.gq_rules.specs.Project.{executable_of}
 use Rattle.gq_table.specs.Rows.{RowOf}
 use Rattle.gq_meaning.specs.Values.{Values}
@@ -23,7 +23,7 @@ use Rattle.gq_agree.proofs.Known.{field_known}
 use Rattle.gq_agree.proofs.Places.{Promises, operation_agrees}
 use Rattle.gq_agree.proofs.RootTypes.{operation_root}
 
-module _ (x : ExecutableOf) (no_schema : (item : Item) → IsSchemaFault x.entries item → ⊥) (no_rule : (item : Item) → IsRuleFault x item → ⊥) where
+module _ (x : ExecutableOf) (no_schema : (item : Fault) → IsSchemaFault x.entries item → ⊥) (no_rule : (item : Fault) → IsRuleFault x item → ⊥) where
   promised : (rows : List RowOf) (values : Values) → HasSubtypes (static_of x.entries) (given_in x.entries rows values) → Promises x (given_in x.entries rows values)
   promised rows values subtypes = record {
     coincide = coincide x.entries;
@@ -41,5 +41,5 @@ module _ (x : ExecutableOf) (no_schema : (item : Item) → IsSchemaFault x.entri
 pub agree_in_valid : NothingIsDemanded → NamesAgreeInValid
 agree_in_valid nothing documents valid readings are o c rows values =
     let none = nothing documents valid readings are in
-    let no_first : (other : Item) → IsToldFirst readings other → ⊥ = λ other told. none other (first told) in
+    let no_first : (other : Fault) → IsToldFirst readings other → ⊥ = λ other told. none other (first told) in
     agreed (executable_of readings) (λ item f. none item (first (type_system f))) (λ item f. none item (rule no_first f)) o c rows values

@@ -2,8 +2,8 @@
 -- under one response key have one name.
 use Rattle.std.specs.Prelude.{List, Contains}
 use Rattle.gq_project.specs.declared.document.Doc.{Doc}
-use Rattle.gq_read.specs.declared.reader.Reading.{Reading}
-use Rattle.gq_read.specs.Readings.{AreReadings}
+use Rattle.gq_read.specs.declared.reader.Parsed.{Parsed}
+use Rattle.gq_read.specs.Parsed.{AreParsed}
 use Rattle.gq_document.specs.Definitions.{OperationOf}
 use Rattle.gq_document.specs.Executable.{ExecutableOf}
 use Rattle.gq_rules.specs.Project.{executable_of}
@@ -25,5 +25,5 @@ OperationAgrees x o rows values =
 
 -- So it is for each operation of a valid project.
 abbrev pub NamesAgreeInValid : Type 0
-NamesAgreeInValid = (documents : List Doc) → ∥ IsValid documents ∥₁ → (readings : List Reading) → AreReadings documents readings →
+NamesAgreeInValid = (documents : List Doc) → ∥ IsValid documents ∥₁ → (readings : List Parsed) → AreParsed documents readings →
     (o : OperationOf) → Contains (executable_of readings).operations o → (rows : List RowOf) (values : Values) → OperationAgrees (executable_of readings) o rows values

@@ -19,7 +19,7 @@ use Rattle.gq_coerce.specs.Variables.{coerced_variables}
 use Rattle.gq_answer.specs.Given.{given_in}
 use Rattle.gq_response.specs.Responses.{ResponseOf}
 use Rattle.gq_answer.specs.Operations.{is_called, only_operation, operation_of, fragments_in, root_name, IsResponse, no_operation, bad_variables, executed}
-use Rattle.gq_alike.specs.Alike.{ValuesAlike, FoundAlike}
+use Rattle.gq_alike.specs.Helping.Alike.{ValuesAlike, FoundAlike}
 use Rattle.gq_alike.proofs.OneByOne.{OperationsMatch}
 
 -- nothing, or two that are related

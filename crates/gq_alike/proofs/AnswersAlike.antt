@@ -40,8 +40,8 @@ use Rattle.gq_meaning.proofs.TextLemmas.{same_text}
 use Rattle.gq_coerce.specs.Literals.{coerced_arguments}
 use Rattle.gq_answer.specs.Fragments.{definition_of}
 use Rattle.gq_answer.specs.Given.{typename, call_of, given_in}
-use Rattle.gq_alike.specs.Alike.{IsFresh, AreFresh, ValuesAlike, TakesAlike, ArgumentsAlike}
-use Rattle.gq_alike.specs.Paired.{ArePaired, none, more, DefinesVariable, VariablesAreDefined, VariableRenamesAnswerAlike}
+use Rattle.gq_alike.specs.Helping.Alike.{IsFresh, AreFresh, ValuesAlike, TakesAlike, ArgumentsAlike}
+use Rattle.gq_alike.specs.Helping.Paired.{ArePaired, none, more, DefinesVariable, VariablesAreDefined, VariableRenamesAnswerAlike}
 use Rattle.gq_alike.proofs.OneByOne.{OperationsMatch, FragmentsMatch, OperationsIn, operations_in, fragments_in}
 use Rattle.gq_alike.proofs.SetsRenamed.{values_itself, bare_itself}
 use Rattle.gq_alike.proofs.NewNames.{stands_at}

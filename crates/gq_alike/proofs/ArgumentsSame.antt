@@ -18,7 +18,7 @@ use Rattle.gq_meaning.specs.Values.{Text, Value, Values}
 use Rattle.gq_meaning.specs.Directives.{entry_of}
 use Rattle.gq_coerce.specs.Coerced.{Coerced, absent, given, unnamed, Part, items_of, list_value, wrapped, entries_of}
 use Rattle.gq_coerce.specs.Literals.{Says, variable_value, scalar_value, free_value, ReadAt, at_type, at_any, Setting, setting, inputs_from, at_name, missing_item, formed, unless_null, at_type_value, read_at, read_all}
-use Rattle.gq_alike.specs.Alike.{IsFresh, AreFresh, ValuesAlike, ArgumentsAlike}
+use Rattle.gq_alike.specs.Helping.Alike.{IsFresh, AreFresh, ValuesAlike, ArgumentsAlike}
 use Rattle.gq_alike.proofs.Fresh.{FreshIn, from_arguments, first_fresh}
 
 by_under : (o : Option Value) → option_map_or (λ v. given (unnamed v)) o absent ≡ option_map_or given (option_map unnamed o) absent

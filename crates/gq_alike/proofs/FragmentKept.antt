@@ -32,8 +32,8 @@ use Rattle.gq_answer.specs.Given.{typename, call_of, given_in}
 use Rattle.gq_response.specs.Responses.{ResponseOf}
 use Rattle.gq_answer.specs.Operations.{root_name, IsResponse}
 use Rattle.gq_alike.proofs.OneName.{no_variable}
-use Rattle.gq_alike.specs.Alike.{AreFresh, ValuesAlike, TakesAlike, ArgumentsAlike, VariablesAlike}
-use Rattle.gq_alike.specs.Paired.{ArePaired, SpreadsAreDefined}
+use Rattle.gq_alike.specs.Helping.Alike.{AreFresh, ValuesAlike, TakesAlike, ArgumentsAlike, VariablesAlike}
+use Rattle.gq_alike.specs.Helping.Paired.{ArePaired, SpreadsAreDefined}
 use Rattle.gq_alike.proofs.PairedLemmas.{operations_among, executing}
 use Rattle.gq_alike.proofs.OneByOne.{FragmentsMatch, OperationsAt, operations_zip, fragments_zip}
 use Rattle.gq_alike.proofs.SetsRenamed.{IsRenamedFragment, AreRenamedDirectives, AreRenamedArguments, sets_renamed}

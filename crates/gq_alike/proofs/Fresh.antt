@@ -8,7 +8,7 @@ use Rattle.gq_tree.specs.Plain.{NameOf, Val, Vals}
 use Rattle.gq_index.specs.VariableNames.{says_variable, part_variable, value_variables, argument_variables}
 use Rattle.gq_rewrite.specs.Renamings.{Renaming}
 use Rattle.gq_meaning.specs.Values.{Text}
-use Rattle.gq_alike.specs.Alike.{AreFresh}
+use Rattle.gq_alike.specs.Helping.Alike.{AreFresh}
 
 abbrev Bare : Type 0
 Bare = Unit {0}
@@ -44,5 +44,5 @@ module _ (r : Renaming) (new : Text) where
         from_arguments vs (fresh_back (value_variables v) (argument_variables vs) h),
       )
 
-  pub first_fresh : (n : NameOf Bare) → AreFresh r new (n ∷ []) → Rattle.gq_alike.specs.Alike.IsFresh r new n.text
+  pub first_fresh : (n : NameOf Bare) → AreFresh r new (n ∷ []) → Rattle.gq_alike.specs.Helping.Alike.IsFresh r new n.text
   first_fresh n h = h n (Rattle.gq_types.proofs.Gathered.first n n [] refl)

@@ -12,7 +12,7 @@ use Rattle.gq_meaning.specs.Values.{Text}
 use Rattle.gq_meaning.specs.Selected.{set_of}
 use Rattle.gq_meaning.specs.Renamed.{IsUnspread, IsNew}
 use Rattle.gq_answer.specs.Fragments.{definition_of}
-use Rattle.gq_alike.specs.Paired.{SpreadsAreDefined}
+use Rattle.gq_alike.specs.Helping.Paired.{SpreadsAreDefined}
 use Rattle.gq_alike.proofs.SetsRenamed.{Unspread, differs, is_unspread}
 
 -- the definition at a number stands among them

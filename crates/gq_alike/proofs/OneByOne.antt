@@ -11,7 +11,7 @@ use Rattle.gq_index.specs.VariableGroups.{IsOperationAt, fragments_among}
 use Rattle.gq_rewrite.specs.Renamings.{Renaming, renamed_text}
 use Rattle.gq_rewrite.specs.Renamed.{rename_definition, rename_selections, rename_def}
 use Rattle.gq_meaning.specs.Values.{Text}
-use Rattle.gq_alike.specs.Paired.{ArePaired, none, more}
+use Rattle.gq_alike.specs.Helping.Paired.{ArePaired, none, more}
 use Rattle.gq_alike.proofs.PairedLemmas.{operations_among}
 
 zip_append : {A B : Type 0} (R : A → B → Type 0) (xs : List A) (ys : List B) (us : List A) (vs : List B) → AllZip R xs ys → AllZip R us vs → AllZip R (xs ++ us) (ys ++ vs)

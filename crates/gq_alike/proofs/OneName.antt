@@ -6,7 +6,7 @@ use Rattle.std.specs.Cmp.Lexicographic.{bytes_decides}
 use Rattle.gq_rewrite.specs.Renamings.{fragment_called, variable_called, nothing_renamed}
 use Rattle.gq_cut.specs.Cut.{variable_in}
 use Rattle.gq_meaning.specs.Values.{Text}
-use Rattle.gq_alike.specs.Alike.{RenamesOne}
+use Rattle.gq_alike.specs.Helping.Alike.{RenamesOne}
 
 pub no_variable : (old : Text) → RenamesOne (fragment_called old)
 no_variable old u v p q = absurd (cc)

@@ -5,30 +5,30 @@ use Rattle.std.specs.List.{AllByRecursion, list_any}
 use Rattle.gq_text.specs.declared.place.Span.{Span}
 use Rattle.gq_tree.specs.Plain.{Def, operation, fragment, type_system}
 use Rattle.gq_project.specs.declared.document.Doc.{Doc}
-use Rattle.gq_found.specs.declared.item.Item.{Item}
-use Rattle.gq_read.specs.declared.reader.Reading.{Reading}
-use Rattle.gq_read.specs.Readings.{AreReadings}
+use Rattle.gq_found.specs.declared.fault.Fault.{Fault}
+use Rattle.gq_read.specs.declared.reader.Parsed.{Parsed}
+use Rattle.gq_read.specs.Parsed.{AreParsed}
 use Rattle.gq_document.specs.Definitions.{definitions_read}
 use Rattle.gq_index.specs.Occurrences.{executables}
-use Rattle.gq_rules.specs.Demands.{IsDemanded}
+use Rattle.gq_rules.specs.Faults.{IsFaultOf}
 use Rattle.gq_rules.specs.ExecutableDefinitions.{is_executable, first_of_type_system}
 use Rattle.gq_rules.specs.Validity.{IsValid, IsInvalid}
-use Rattle.gq_alike.specs.Paired.{VariablesAreDefined, SpreadsAreDefined}
+use Rattle.gq_alike.specs.Helping.Paired.{VariablesAreDefined, SpreadsAreDefined}
 use Rattle.gq_alike.proofs.SameTypes.{IsExecutable, IsOfTypes, AreOfOneKind}
 
 -- nothing is demanded of it, whatever reads it
 abbrev pub NothingIsDemanded : Type 0
-NothingIsDemanded = (documents : List Doc) → IsValid documents → (readings : List Reading) → AreReadings documents readings → (item : Item) → IsDemanded readings item → ⊥
+NothingIsDemanded = (documents : List Doc) → IsValid documents → (readings : List Parsed) → AreParsed documents readings → (item : Fault) → IsFaultOf readings item → ⊥
 
 pub nothing_demanded : ((documents : List Doc) → IsValid documents → IsInvalid documents → ⊥) → NothingIsDemanded
 nothing_demanded apart documents valid readings are item demanded = apart documents valid (record { readings = readings; are_readings = are; some = (item, demanded) })
 
 -- no document is mixed (section 5.1.1)
-abbrev pub NoneIsMixed : List Reading → Type 0
-NoneIsMixed readings = (n : ℕ) (r : Reading) → slice_get readings n ≡ Some r → list_any is_executable (definitions_read r) ≡ true → first_of_type_system (definitions_read r) ≡ None
+abbrev pub NoneIsMixed : List Parsed → Type 0
+NoneIsMixed readings = (n : ℕ) (r : Parsed) → slice_get readings n ≡ Some r → list_any is_executable (definitions_read r) ≡ true → first_of_type_system (definitions_read r) ≡ None
 
-abbrev pub Promised : (List Reading → Type 0) → Type 0
-Promised P = (documents : List Doc) (readings : List Reading) → ∥ IsValid documents ∥₁ → AreReadings documents readings → P readings
+abbrev pub Promised : (List Parsed → Type 0) → Type 0
+Promised P = (documents : List Doc) (readings : List Parsed) → ∥ IsValid documents ∥₁ → AreParsed documents readings → P readings
 
 abbrev pub NoneIsMixedIn : Type 0
 NoneIsMixedIn = Promised NoneIsMixed
@@ -56,9 +56,9 @@ each_at : {A : Type 0} (P : A → Type 0) (xs : List A) → ((n : ℕ) (x : A) �
 each_at P [] h = tt
 each_at P (x ∷ xs) h = (h 0 x refl, each_at P xs (λ n y e. h (suc n) y e))
 
-pub of_one_kind : (readings : List Reading) → NoneIsMixed readings → AllByRecursion (λ r. AreOfOneKind (definitions_read r)) readings
+pub of_one_kind : (readings : List Parsed) → NoneIsMixed readings → AllByRecursion (λ r. AreOfOneKind (definitions_read r)) readings
 of_one_kind readings unmixed = each_at (λ r. AreOfOneKind (definitions_read r)) readings (λ n r at. by n r at (list_any is_executable (definitions_read r)) refl)
   where
-    by : (n : ℕ) (r : Reading) → slice_get readings n ≡ Some r → (b : Bool) → list_any is_executable (definitions_read r) ≡ b → AreOfOneKind (definitions_read r)
+    by : (n : ℕ) (r : Parsed) → slice_get readings n ≡ Some r → (b : Bool) → list_any is_executable (definitions_read r) ≡ b → AreOfOneKind (definitions_read r)
     by n r at true e = inl (none_of_types (definitions_read r) (unmixed n r at e))
     by n r at false e = inr (none_executable (definitions_read r) e)

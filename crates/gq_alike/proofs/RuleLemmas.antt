@@ -9,12 +9,12 @@ use Rattle.gq_tree.specs.Plain.{NameOf, VariableOf, Def, operation, fragment, ty
 use Rattle.gq_project.specs.declared.document.Doc.{Doc}
 use Rattle.gq_names.specs.Repeats.{IsRepeated}
 use Rattle.gq_found.specs.declared.code.Code.TheVariants.{UnknownFragment, VariableNotDefined, VariableNotUnique}
-use Rattle.gq_found.specs.declared.item.Item.{Item}
-use Rattle.gq_read.specs.declared.reader.Reading.{Reading}
-use Rattle.gq_read.specs.Readings.{AreReadings}
+use Rattle.gq_found.specs.declared.fault.Fault.{Fault}
+use Rattle.gq_read.specs.declared.reader.Parsed.{Parsed}
+use Rattle.gq_read.specs.Parsed.{AreParsed}
 use Rattle.gq_types.specs.Entries.{Text, EntryOf}
 use Rattle.gq_types.proofs.Gathered.{nothing_in, first, later, cases_cons}
-use Rattle.gq_spreads.specs.Items.{item_at}
+use Rattle.gq_found.specs.FaultPlaces.{fault_at}
 use Rattle.gq_document.specs.Definitions.{OperationOf, FragmentOf, operation_in, fragment_in, operations_of, fragments_of}
 use Rattle.gq_document.specs.Executable.{ExecutableOf}
 use Rattle.gq_document.specs.Reaches.{Reaches}
@@ -30,7 +30,7 @@ use Rattle.gq_index.specs.VariableGroups.{IsOperationAt, IsFragmentAt, UsesVaria
 use Rattle.gq_uses.specs.Uses.{UsedInOperation, UsedInFragment, UsesAreThoseOfTheRules}
 use Rattle.gq_rules.specs.RuleFaults.{IsRuleFault, of_spreads, of_variables}
 use Rattle.gq_meaning.proofs.TextLemmas.{same_text, text_same}
-use Rattle.gq_alike.specs.Paired.{DefinesVariable, VariablesAreDefined, SpreadsAreDefined}
+use Rattle.gq_alike.specs.Helping.Paired.{DefinesVariable, VariablesAreDefined, SpreadsAreDefined}
 use Rattle.gq_alike.proofs.ExecutableLemmas.{fragments_same, operation_there, fragment_there, operation_stands}
 
 -- an item that has a text, or that none has it
@@ -48,22 +48,22 @@ search_text {A} text (x ∷ xs) t = by_test (bytes_eq (text x) t) refl (search_t
     ])
 
 -- the executable definitions over a type system
-abbrev pub project_over : List EntryOf → List Reading → ExecutableOf
+abbrev pub project_over : List EntryOf → List Parsed → ExecutableOf
 project_over es readings = record { entries = es; operations = operations_of readings; fragments = fragments_of readings }
 
-module _ (es : List EntryOf) (readings : List Reading) (no_rule : (item : Item) → IsRuleFault (project_over es readings) item → ⊥) where
+module _ (es : List EntryOf) (readings : List Parsed) (no_rule : (item : Fault) → IsRuleFault (project_over es readings) item → ⊥) where
   -- an operation defines the variables of the uses that it reaches
   defines_used : (o : OperationOf) → Contains (operations_of readings) o → (u : UseOf) → ReachesUse (project_over es readings) o u → DefinesVariable o u.name.text
   defines_used o there u reached = elim (search_text (λ (v : VariableOf Span). v.name.text) o.variables u.name.text) [
     | inl v ↦ record { variable = v.0; defined = v.1; named = v.2 }
-    | inr nowhere ↦ absurd (no_rule (item_at u.file VariableNotDefined u.name) (of_variables (record {
+    | inr nowhere ↦ absurd (no_rule (fault_at u.file VariableNotDefined u.name) (of_variables (record {
       operation = o;
       stands = there;
       fault = not_defined (record { one = u; reached = reached; undefined = nowhere; is = refl });
     })))
   ]
 
-  module _ (documents : List Doc) (are : AreReadings documents readings) (uses : UsesAreThoseOfTheRules) where
+  module _ (documents : List Doc) (are : AreParsed documents readings) (uses : UsesAreThoseOfTheRules) where
     -- the name that a definition of a number uses
     used_at : (n : ℕ) (d : DefinitionOf) → slice_get (executables readings) n ≡ Some d → (text : Text) → UsesVariable (executables readings) text n → (name : NameOf Span) × Contains (used_variables d.definition) name × (text ≡ name.text)
     used_at n d at text u =
@@ -120,7 +120,7 @@ module _ (es : List EntryOf) (readings : List Reading) (no_rule : (item : Item) 
   pub defines_spreads : SpreadsAreDefined (executables readings)
   defines_spreads d there name spread = elim (search_text (λ (f : FragmentOf). f.name.text) (fragments_of readings) name.text) [
     | inl f ↦ record { fragment = f.0; stands = subst (λ fs. Contains fs f.0) (sym (fragments_same readings)) f.1; named = f.2 }
-    | inr nowhere ↦ absurd (no_rule (item_at d.file UnknownFragment name) (of_spreads (unknown_fragment (record {
+    | inr nowhere ↦ absurd (no_rule (fault_at d.file UnknownFragment name) (of_spreads (unknown_fragment (record {
       file = d.file;
       name = name;
       is_spread = is_spread_name d.file d.definition (operation_there readings d there) (fragment_there readings d there) name spread;
@@ -131,7 +131,7 @@ module _ (es : List EntryOf) (readings : List Reading) (no_rule : (item : Item) 
 
   -- no variable of an operation has the name of an earlier one
   pub none_repeated : (o : OperationOf) → Contains (operations_of readings) o → (v : VariableOf Span) → IsRepeated (λ (w : VariableOf Span). w.name.text) o.variables v → ⊥
-  none_repeated o there v again = no_rule (item_at o.file VariableNotUnique v.name) (of_variables (record {
+  none_repeated o there v again = no_rule (fault_at o.file VariableNotUnique v.name) (of_variables (record {
     operation = o;
     stands = there;
     fault = not_unique (record { variable = v; repeated = again; is = refl });

@@ -13,7 +13,7 @@ use Rattle.gq_rewrite.specs.Renamed.{rename_says, rename_value, rename_directive
 use Rattle.gq_meaning.specs.Values.{Text, Value, Values}
 use Rattle.gq_meaning.specs.Directives.{is_under, entry_of, is_true, is_variable_true, holds_true, argument_of, if_is_true, leaves_out}
 use Rattle.gq_coerce.specs.Coerced.{unnamed}
-use Rattle.gq_alike.specs.Alike.{IsFresh, AreFresh, ValuesAlike, TakesAlike}
+use Rattle.gq_alike.specs.Helping.Alike.{IsFresh, AreFresh, ValuesAlike, TakesAlike}
 use Rattle.gq_alike.proofs.Fresh.{fresh_front, fresh_back, first_fresh}
 
 abbrev Bare : Type 0

@@ -8,10 +8,10 @@ use Rattle.gq_text.specs.declared.place.Span.{Span}
 use Rattle.gq_tree.specs.Plain.{VariableOf, TypeSystemOf}
 use Rattle.gq_project.specs.declared.document.Doc.{Doc}
 use Rattle.gq_found.specs.declared.code.Code.TheVariants.{MixedFile}
-use Rattle.gq_found.specs.declared.item.Item.{Item}
-use Rattle.gq_read.specs.declared.reader.Reading.{Reading}
-use Rattle.gq_read.specs.Readings.{AreReadings}
-use Rattle.gq_type_system.specs.Items.{item_in}
+use Rattle.gq_found.specs.declared.fault.Fault.{Fault}
+use Rattle.gq_read.specs.declared.reader.Parsed.{Parsed}
+use Rattle.gq_read.specs.Parsed.{AreParsed}
+use Rattle.gq_found.specs.FaultPlaces.{fault_over}
 use Rattle.gq_type_system.specs.DefinedTwice.{definition_place}
 use Rattle.gq_document.specs.Definitions.{OperationOf, definitions_read}
 use Rattle.gq_index.specs.Occurrences.{executables}
@@ -20,18 +20,18 @@ use Rattle.gq_uses.specs.Uses.{UsesAreThoseOfTheRules}
 use Rattle.gq_rules.specs.ExecutableDefinitions.{is_executable, first_of_type_system}
 use Rattle.gq_rules.specs.Project.{type_system_of, executable_of}
 use Rattle.gq_rules.specs.RuleFaults.{IsRuleFault}
-use Rattle.gq_rules.specs.Demands.{IsDemanded, mixed, first as told_first, rule}
+use Rattle.gq_rules.specs.Faults.{IsFaultOf, mixed, first as told_first, rule}
 use Rattle.gq_rules.specs.Validity.{IsValid}
 use Rattle.gq_alike.proofs.Promises.{NothingIsDemanded}
-use Rattle.gq_alike.specs.Paired.{VariablesAreDefined, SpreadsAreDefined}
+use Rattle.gq_alike.specs.Helping.Paired.{VariablesAreDefined, SpreadsAreDefined}
 use Rattle.gq_alike.proofs.RuleLemmas.{defines_variables, defines_spreads, one_place}
 
-module _ (nothing : NothingIsDemanded) (documents : List Doc) (readings : List Reading) (valid : ∥ IsValid documents ∥₁) (are : AreReadings documents readings) where
+module _ (nothing : NothingIsDemanded) (documents : List Doc) (readings : List Parsed) (valid : ∥ IsValid documents ∥₁) (are : AreParsed documents readings) where
   -- nothing is demanded, so no rule finds anything
-  pub none_demanded : (item : Item) → IsDemanded readings item → ⊥
+  pub none_demanded : (item : Fault) → IsFaultOf readings item → ⊥
   none_demanded item demanded = not_there valid (λ v. nothing documents v readings are item demanded)
 
-  pub no_rule : (item : Item) → IsRuleFault (executable_of readings) item → ⊥
+  pub no_rule : (item : Fault) → IsRuleFault (executable_of readings) item → ⊥
   no_rule item fault = none_demanded item (rule (λ other told. none_demanded other (told_first told)) fault)
 
   -- an operation defines the variables that it uses, and each spread names a fragment
@@ -46,12 +46,12 @@ module _ (nothing : NothingIsDemanded) (documents : List Doc) (readings : List R
   variable_names_differ = one_place (type_system_of readings) readings no_rule
 
   -- no document has an operation or a fragment beside a definition of the type system
-  pub no_document_is_mixed : (n : ℕ) (reading : Reading) → slice_get readings n ≡ Some reading → list_any is_executable (definitions_read reading) ≡ true → first_of_type_system (definitions_read reading) ≡ None
+  pub no_document_is_mixed : (n : ℕ) (reading : Parsed) → slice_get readings n ≡ Some reading → list_any is_executable (definitions_read reading) ≡ true → first_of_type_system (definitions_read reading) ≡ None
   no_document_is_mixed n reading at executable = by_first (first_of_type_system (definitions_read reading)) refl
     where
       by_first : (o : Option (TypeSystemOf Span)) → first_of_type_system (definitions_read reading) ≡ o → o ≡ None
       by_first None e = refl
-      by_first (Some definition) e = absurd (none_demanded (item_in n MixedFile (definition_place definition)) (told_first (mixed (record {
+      by_first (Some definition) e = absurd (none_demanded (fault_over n MixedFile (definition_place definition)) (told_first (mixed (record {
         file = n;
         reading = reading;
         at = at;

@@ -27,8 +27,8 @@ use Rattle.gq_response.specs.Responses.{ResponseOf}
 use Rattle.gq_answer.specs.Operations.{operation_of, root_name, IsResponse}
 use Rattle.gq_alike.specs.GivenValues.{value_under, AreRenamedValues}
 use Rattle.gq_alike.proofs.OneName.{one_variable}
-use Rattle.gq_alike.specs.Alike.{AreFresh, ValuesAlike, VariablesAlike}
-use Rattle.gq_alike.specs.Paired.{ArePaired, DefinesVariable, VariablesAreDefined, VariableRenamesAnswerAlike}
+use Rattle.gq_alike.specs.Helping.Alike.{AreFresh, ValuesAlike, VariablesAlike}
+use Rattle.gq_alike.specs.Helping.Paired.{ArePaired, DefinesVariable, VariablesAreDefined, VariableRenamesAnswerAlike}
 use Rattle.gq_alike.proofs.PairedLemmas.{operations_among, executing}
 use Rattle.gq_alike.proofs.OneByOne.{OperationsMatch, OperationsAt, operations_zip}
 use Rattle.gq_alike.proofs.Answering.{OperationsAlike, AnswersAlike, found_weaker, found_operations, responses_alike, values_found, called_alike}

@@ -18,7 +18,7 @@ use Rattle.gq_coerce.specs.Coerced.{Coerced, absent, fault, given, unnamed, Part
 use Rattle.gq_coerce.specs.Literals.{Setting, setting, or_default, default_within, literal_value, input_count}
 use Rattle.gq_coerce.specs.Variables.{input_value, given_value, variable_part}
 use Rattle.gq_alike.specs.GivenValues.{value_under}
-use Rattle.gq_alike.specs.Alike.{IsFresh, AreFresh, ValuesAlike, FoundAlike, RenamesOne, VariablesAlike}
+use Rattle.gq_alike.specs.Helping.Alike.{IsFresh, AreFresh, ValuesAlike, FoundAlike, RenamesOne, VariablesAlike}
 use Rattle.gq_alike.proofs.Ascending.{Ascending, put_ascends, put_own, put_other}
 use Rattle.gq_alike.proofs.PlacesUnseen.{SameType, same_type, same_null, literal_same, input_same}
 

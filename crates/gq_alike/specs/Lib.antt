@@ -1,4 +1,3 @@
 pub mod GivenValues
 pub mod Kept
-pub mod Alike
-pub mod Paired
+pub mod Helping

@@ -1,8 +1,8 @@
 -- That each request to a valid project has a response (section 6.1).
 use Rattle.std.specs.Prelude.{List, Option}
 use Rattle.gq_project.specs.declared.document.Doc.{Doc}
-use Rattle.gq_read.specs.declared.reader.Reading.{Reading}
-use Rattle.gq_read.specs.Readings.{AreReadings}
+use Rattle.gq_read.specs.declared.reader.Parsed.{Parsed}
+use Rattle.gq_read.specs.Parsed.{AreParsed}
 use Rattle.gq_rules.specs.Project.{executable_of}
 use Rattle.gq_rules.specs.Validity.{IsValid}
 use Rattle.gq_table.specs.Rows.{RowOf}
@@ -12,5 +12,5 @@ use Rattle.gq_answer.specs.Operations.{IsResponse}
 
 -- Over every table, and for all values of variables, each operation of a valid project has a response.
 abbrev pub RequestsHaveAResponse : Type 0
-RequestsHaveAResponse = (documents : List Doc) → ∥ IsValid documents ∥₁ → (readings : List Reading) → AreReadings documents readings →
+RequestsHaveAResponse = (documents : List Doc) → ∥ IsValid documents ∥₁ → (readings : List Parsed) → AreParsed documents readings →
     (rows : List RowOf) (name : Option Text) (raw : Values) → (response : ResponseOf) × IsResponse (executable_of readings) rows name raw response

@@ -1,4 +1,3 @@
-pub mod Floors
 pub mod Texts
 pub mod Sorting
 pub mod Rows

@@ -1,7 +1,8 @@
 -- The notifications that tell what is wrong with documents (LSP 3.17, "PublishDiagnostics Notification").
 use Rattle.std.specs.Prelude.{◌≡◌, ℕ, List, map, zip, Some}
 use Rattle.gq_project.specs.declared.document.Doc.{Doc}
-use Rattle.gq_found.specs.Codes.{text_of, words_of}
+use Rattle.gq_found.specs.Codes.{text_of}
+use Rattle.gq_words.specs.Words.{words_of}
 use Rattle.gq_found.specs.declared.found.Found.{Found}
 use Rattle.gq_diagnostics.specs.Diagnostics.{AreDiagnostics}
 use Rattle.gq_rpc.specs.declared.messages.Diagnostic.{Diagnostic}

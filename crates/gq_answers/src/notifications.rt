@@ -9,6 +9,7 @@ use gq_found::Found;
 use gq_project::{Doc, Project};
 use gq_rpc::{Diagnostic, Outgoing, PublishDiagnosticsParams};
 use gq_text::{Items, NoMemory, OwnedText, Span};
+use gq_words::words;
 use std::alloc::Global;
 
 /// The notifications that tell all that is wrong with each document (LSP 3.17, "PublishDiagnostics Notification"), in the
@@ -73,7 +74,7 @@ fn text_diagnostics(
     for one in found {
         diagnostics.push(Diagnostic {
             code: OwnedText::from_str(alloc, one.code.as_str())?,
-            message: OwnedText::from_str(alloc, one.words())?,
+            message: OwnedText::from_str(alloc, words(one.code))?,
             range: places.range(text, one.span),
         })?;
     }

@@ -12,7 +12,7 @@ use Rattle.gq_check.specs.declared.exec_fault.ExecFault.TheVariants.{BadTable, B
 use Rattle.gq_check.specs.declared.judging.Verdict.{Verdict}
 use Rattle.gq_check.specs.Checks.{SinkAfter, all_written, error_fails}
 use Rattle.gq_check.specs.Execution.{rows_in, variables_in, table_fault, variables_fault, exec_fault, IsExecFaultOr, refused, told, responded, Executes}
-use Rattle.gq_check.specs.ExecVerdicts.{IsExecVerdict, IsAnswered, TellsFault, in_full, in_part}
+use Rattle.gq_check.specs.Helping.ExecVerdicts.{IsExecVerdict, IsAnswered, TellsFault, in_full, in_part}
 use Rattle.gq_check.specs.Files.{files_fault, documents_of}
 use Rattle.gq_check.proofs.WriteLemmas.{wrote_nothing}
 

@@ -1,4 +1,3 @@
-pub mod Floors
 pub mod FileLemmas
 pub mod LineLemmas
 pub mod WriteLemmas

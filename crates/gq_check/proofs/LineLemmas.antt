@@ -14,7 +14,7 @@ use Rattle.gq_project.specs.Documents.{has_key}
 use Rattle.gq_project.specs.declared.document.Doc.{Doc}
 use Rattle.gq_found.specs.declared.found.Found.{Found}
 use Rattle.gq_check.specs.Lines.{text_in, text_at, line_at, line_of, lines_of}
-use Rattle.gq_check.specs.Starts.{StartsAt, AreStarts, first_key}
+use Rattle.gq_check.specs.Helping.Starts.{StartsAt, AreStarts, first_key}
 
 -- the parts of a line
 pub joined : (old key key' code code' words words' : List ℕ) (line line' column column' : ℕ) → key ≡ key' → line ≡ line' → column ≡ column' → code ≡ code' → words ≡ words'
@@ -78,7 +78,7 @@ starts-more key text last start found left rest item starts new is push one goin
     let whole : starts ++ start ∷ more ≡ new ++ more = sym (ap (λ (xs : List ℕ). xs ++ more) push ∙ append_assoc starts (start ∷ []) more) in
     subst (AreStarts key text 0 found) whole (going (start ∷ more) (subst (λ (fs : List Found). AreStarts key text last fs (start ∷ more)) (sym is) (one, h)))
 
--- the key of the first item
+-- the key of the first fault
 pub first_key-is : (found : List Found) (d : Found) → 0 < length found → (get_or found 0 d).key ≡ first_key found
 first_key-is [] d lt = absurd (omega arith)
 first_key-is (f ∷ fs) d lt = refl
@@ -103,7 +103,7 @@ lines-more documents found i item old new before position lt is so_far written a
     let line : new ≡ before ++ line_of documents item = written ∙ ap (λ (p : Position). before ++ line_at item p) at in
     line ∙ ap (λ (xs : List ℕ). xs ++ line_of documents item) so_far ∙ flat_map_more (line_of documents) old (take i found) item ∙ ap (λ (fs : List Found). old ++ lines_of documents fs) (sym more)
 
--- there are as many positions as starts, and no more than items
+-- there are as many positions as starts, and no more than faults
 pub positions-fit : (key text : List ℕ) (found : List Found) (starts : List ℕ) (positions : List Position) → AreStarts key text 0 found starts → positions ≡ map (pos text) starts
     → (length positions ≡ length starts) × (length positions ≤ length found)
 positions-fit key text found starts positions h are =
@@ -112,7 +112,7 @@ positions-fit key text found starts positions h are =
     let mapped = length-map starts (pos text) in
     (omega arith, omega arith)
 
--- the position that was found for an item is that of its start
+-- the position that was found for an fault is that of its start
 pub position-at : (documents : List Doc) (found : List Found) (text key : List ℕ) (starts : List ℕ) (positions : List Position) (i : ℕ) (item : Found) (d : Position) → AreStarts (first_key found) text 0 found starts
     → text ≡ text_at documents key → key ≡ first_key found → positions ≡ map (pos text) starts → i < length starts → item ≡ get_or found i item → get_or positions i d ≡ pos (text_at documents item.key) item.span.start
 position-at documents found text key starts positions i item d h of_text of_key are lt is =

@@ -16,7 +16,7 @@ use Rattle.gq_check.specs.Lines.{lines_of}
 use Rattle.gq_check.specs.declared.fault.CheckFault.TheVariants.{Device, NoMemory}
 use Rattle.gq_check.specs.declared.judging.Verdict.{Verdict}
 use Rattle.gq_check.specs.Checks.{refused, valid, told, SinkAfter, Wrote, WroteInPart, Tells, in_full, in_part, all_written, output_fails, error_fails, Checks}
-use Rattle.gq_check.specs.Verdicts.{IsVerdict, IsTold}
+use Rattle.gq_check.specs.Helping.Verdicts.{IsVerdict, IsTold}
 use Rattle.gq_check.proofs.WriteLemmas.{wrote_nothing}
 
 -- the report is told of documents that are no valid project

@@ -5,7 +5,8 @@ use Rattle.gq_text.specs.Place.{pos}
 use Rattle.gq_text.specs.declared.place.Position.{Position}
 use Rattle.gq_project.specs.Documents.{has_key}
 use Rattle.gq_project.specs.declared.document.Doc.{Doc}
-use Rattle.gq_found.specs.Codes.{text_of, words_of}
+use Rattle.gq_found.specs.Codes.{text_of}
+use Rattle.gq_words.specs.Words.{words_of}
 use Rattle.gq_found.specs.declared.found.Found.{Found}
 
 -- the text of the document of that key
@@ -16,16 +17,16 @@ text_in (Some document) = document.text
 abbrev pub text_at : List Doc → List ℕ → List ℕ
 text_at documents key = text_in (find (has_key key) documents)
 
--- the line of an item that starts there; lines and columns are counted from 1
+-- the line of an fault that starts there; lines and columns are counted from 1
 abbrev pub line_at : Found → Position → List ℕ
 line_at found position =
     found.key ++ codes ":" ++ decimal (position.line + 1) ++ codes ":" ++ decimal (position.character + 1) ++ codes ": "
     ++ text_of found.code ++ codes " " ++ words_of found.code ++ codes "\n"
 
--- the line of an item, at the position of its start (LSP 3.17, "Position")
+-- the line of an fault, at the position of its start (LSP 3.17, "Position")
 abbrev pub line_of : List Doc → Found → List ℕ
 line_of documents found = line_at found (pos (text_at documents found.key) found.span.start)
 
--- a line for each item, in order
+-- a line for each fault, in order
 abbrev pub lines_of : List Doc → List Found → List ℕ
 lines_of documents found = flat_map (line_of documents) found

@@ -4,7 +4,7 @@ ghost use Rattle.gq_check.specs.declared.files.File.{File};
 ghost use Rattle.gq_check.specs.Checks.{Checks, Tells};
 ghost use Rattle.gq_check.specs.Faults.{IsFaultOr, fault_line};
 ghost use Rattle.gq_check.specs.Files.{files_fault};
-ghost use Rattle.gq_check.specs.Verdicts.{IsVerdict};
+ghost use Rattle.gq_check.specs.Helping.Verdicts.{IsVerdict};
 
 use crate::fault::CheckFault;
 use crate::files::File;

@@ -6,7 +6,7 @@ ghost use Rattle.gq_table.specs.Views.{entries_view, rows_view};
 ghost use Rattle.gq_check.specs.declared.files.File.{File};
 ghost use Rattle.gq_check.specs.declared.fault.CheckFault.TheVariants as check_fault;
 ghost use Rattle.gq_check.specs.Execution.{Executes, IsExecFaultOr, exec_fault};
-ghost use Rattle.gq_check.specs.ExecVerdicts.{IsExecVerdict, IsAnswered, IsResponded, TellsFault};
+ghost use Rattle.gq_check.specs.Helping.ExecVerdicts.{IsExecVerdict, IsAnswered, IsResponded, TellsFault};
 ghost use Rattle.gq_project.specs.declared.document.Doc.{Doc};
 
 use crate::checking::tell;

@@ -6,7 +6,7 @@ ghost use Rattle.gq_rpc.specs.Decoding.{body_value};
 ghost use Rattle.gq_types.specs.Look.{text_of};
 ghost use Rattle.gq_table.specs.Views.{entries_view, rows_view};
 ghost use Rattle.gq_table.specs.Json.{rows_of_json, variables_of_json};
-ghost use Rattle.gq_check.specs.ExecVerdicts.{IsFaultOfTable, IsFaultOfVariables};
+ghost use Rattle.gq_check.specs.Helping.ExecVerdicts.{IsFaultOfTable, IsFaultOfVariables};
 ghost use Rattle.gq_check.specs.Execution.{rows_in, variables_in, table_fault, variables_fault, IsExecFaultOr};
 
 use crate::exec_fault::ExecFault;

@@ -7,7 +7,7 @@ ghost use Rattle.gq_check.specs.declared.files.File.{File};
 ghost use Rattle.gq_check.specs.Faults.{IsFaultOr};
 ghost use Rattle.gq_check.specs.Files.{files_fault, documents_of};
 ghost use Rattle.gq_project.specs.declared.document.Doc.{Doc};
-ghost use Rattle.gq_check.specs.Verdicts.{IsVerdict, IsTold};
+ghost use Rattle.gq_check.specs.Helping.Verdicts.{IsVerdict, IsTold};
 
 use crate::fault::CheckFault;
 use crate::files::{File, read_project};

@@ -16,3 +16,4 @@ pub use exec_fault::ExecFault;
 pub use executing::exec;
 pub use fault::CheckFault;
 pub use files::File;
+pub use gq_words::words;

@@ -2,14 +2,15 @@
 ghost use Rattle.std.specs.Prelude.{◌≡◌, ◌<◌, ◌≤◌, ◌^◌, ◌++◌, All, length, take, IfOk, OnOk, string_bytes};
 ghost use Rattle.gq_text.specs.Place.{pos};
 ghost use Rattle.gq_check.specs.Lines.{text_at, line_at, line_of, lines_of};
-ghost use Rattle.gq_check.specs.Starts.{AreStarts, first_key};
+ghost use Rattle.gq_check.specs.Helping.Starts.{AreStarts, first_key};
 
 use gq_found::Found;
 use gq_project::Project;
 use gq_text::{NoMemory, Position, positions_in};
+use gq_words::words;
 use std::alloc::Global;
 
-/// A line for each of the items, in order.
+/// A line for each of the faults, in order.
 pub(crate) fn write_lines(
     alloc: Global,
     project: &Project,
@@ -28,7 +29,7 @@ pub(crate) fn write_lines(
     Ok(lines)
 }
 
-/// Writes the lines of the items at the front that are of one document and stand there in order, and answers how many
+/// Writes the lines of the faults at the front that are of one document and stand there in order, and answers how many
 /// they are. Its text is gone over once.
 fn write_run(
     alloc: Global,
@@ -61,7 +62,7 @@ fn text_of<'a>(project: &'a Project, key: &str) -> &'a str
     }
 }
 
-/// Where the items at the front start that have the key of the first and never start before the one in front of them: a
+/// Where the faults at the front start that have the key of the first and never start before the one in front of them: a
 /// start inside a character stands for that of the character.
 fn front_starts(alloc: Global, text: &str, found: &[Found]) -> Result<Vec<usize>, NoMemory>
     requires { 0 < length found.now }
@@ -82,7 +83,7 @@ fn front_starts(alloc: Global, text: &str, found: &[Found]) -> Result<Vec<usize>
     Ok(starts)
 }
 
-/// Writes the line of an item that starts at that position.
+/// Writes the line of an fault that starts at that position.
 fn write_line(found: &Found, position: Position, lines: &mut String) -> Result<(), NoMemory>
     ensures { OnOk result (string_bytes lines.new ≡ string_bytes lines.old ++ line_at found.now position) }
 {
@@ -90,7 +91,7 @@ fn write_line(found: &Found, position: Position, lines: &mut String) -> Result<(
     let column = u64::from(position.character) + 1;
     let key = found.key.as_str();
     let code = found.code.as_str();
-    let words = found.words();
+    let words = words(found.code);
     write!(lines, "{key}:{line}:{column}: {code} {words}\n")?;
     Ok(())
 }

@@ -18,7 +18,7 @@ use Rattle.gq_schema.specs.SchemaOf.{IsTypeSystemOf, HasNoFault, IsFaulty}
 use Rattle.gq_document.proofs.OneReading.{OneTree}
 use Rattle.gq_completion.specs.declared.completion.Completion.{Completion}
 use Rattle.gq_completion.specs.declared.completion.CompletionKind.{CompletionKind}
-use Rattle.gq_completion.specs.Completed.{AreCompleted}
+use Rattle.gq_completion.specs.Helping.Completed.{AreCompleted}
 use Rattle.gq_completion.specs.Completions.{IsFieldIn, IsFieldBy, IsFieldName, IsName, Completes, CompletesAt, AreCompletions}
 use Rattle.gq_completion.specs.Tokens.{kind_at}
 

@@ -10,7 +10,7 @@ use Rattle.gq_document.proofs.OneReading.{OneTree}
 use Rattle.gq_types.specs.Entries.{Text}
 use Rattle.gq_types.proofs.Gathered.{nothing_in, first, later, only, from_flat, to_flat}
 use Rattle.gq_completion.specs.Completions.{DefinesFragment, defines, HasFragment, IsFragmentName}
-use Rattle.gq_completion.specs.Fragments.{fragment_name, AddsFragments}
+use Rattle.gq_completion.specs.Helping.Fragments.{fragment_name, AddsFragments}
 
 from_name : (d : Def Span) (label : Text) → Contains (fragment_name d) label → DefinesFragment label d
 from_name (operation kind name variables directives set braces place) label c = nothing_in label c

@@ -8,7 +8,7 @@ use Rattle.std.specs.declared.cmp.Ordering.TheVariants.{Less}
 use Rattle.gq_names.proofs.RepeatLemmas.{contains_none, contains_later, contains_first, contains_cases}
 use Rattle.gq_completion.specs.declared.completion.Completion.{Completion}
 use Rattle.gq_completion.specs.declared.completion.CompletionKind.{CompletionKind}
-use Rattle.gq_completion.specs.Labels.{labelled}
+use Rattle.gq_completion.specs.Helping.Labels.{labelled}
 
 all_labels : (kind : CompletionKind) (n : List ℕ) (ns : List (List ℕ)) → AllByRecursion (λ y. slice_cmp nat_cmp n y ≡ Less) ns →
     AllByRecursion (λ y. slice_cmp nat_cmp n y.label ≡ Less) (map (labelled kind) ns)

@@ -9,7 +9,7 @@ use Rattle.gq_lex.specs.declared.token.Kind.TheVariants.{Name, Dollar}
 use Rattle.gq_lex.specs.Tokens.{Lexeme}
 use Rattle.gq_names.proofs.RepeatLemmas.{contains_none, contains_first, contains_cases}
 use Rattle.gq_completion.specs.Tokens.{is_name, token_before, IsOtherVariable}
-use Rattle.gq_completion.specs.Variables.{is_dollar, is_other_dollar, names_behind}
+use Rattle.gq_completion.specs.Helping.Variables.{is_dollar, is_other_dollar, names_behind}
 
 record Pair (place : Option ℕ) (ts : List Lexeme) (label : List ℕ) : Type 0 where
   pub front : List Lexeme

@@ -1,10 +1,5 @@
 pub mod Tokens
 pub mod Sets
 pub mod Completions
-pub mod Variables
-pub mod Fragments
-pub mod SetPlaces
-pub mod FieldNames
-pub mod Labels
-pub mod Completed
 pub mod Laws
+pub mod Helping

@@ -1,16 +1,12 @@
 -- Where in the tokens of a text an offset stands, in bytes.
-use Rattle.std.specs.Prelude.{◌≡◌, ◌≢◌, ℕ, Bool, true, false, ◌&&◌, nat_lt, nat_le, List, [], ◌∷◌, ◌++◌, Option, Some, None, find, if◌then◌else◌}
-use Rattle.std.specs.Option.{option_map, option_map_or, option_or}
+use Rattle.std.specs.Prelude.{◌≡◌, ◌≢◌, ℕ, Bool, true, false, ◌&&◌, nat_lt, nat_le, List, ◌∷◌, ◌++◌, Option, Some, find}
+use Rattle.std.specs.Option.{option_map, option_map_or}
+use Rattle.gq_sets.specs.Last.{find_last}
 use Rattle.gq_lex.specs.declared.token.Kind.{Kind}
 use Rattle.gq_lex.specs.declared.token.Kind.TheVariants.{Name, Dollar, Spread}
 use Rattle.gq_lex.specs.Tokens.{Lexeme}
 use Rattle.gq_completion.specs.declared.completion.CompletionKind.{CompletionKind}
 use Rattle.gq_completion.specs.declared.completion.CompletionKind.TheVariants as completion
-
--- the last one that passes
-abbrev pub find_last : {A : Type 0} → (A → Bool) → List A → Option A
-find_last test [] = None
-find_last test (x ∷ xs) = option_or (find_last test xs) (if test x then Some x else None)
 
 abbrev pub is_name : Kind → Bool
 is_name Name = true

@@ -1,7 +1,7 @@
 //! What completes a document at an offset.
 ghost use Rattle.std.specs.Prelude.{◌≡◌, ◌↔◌, ◌≤◌, ◌^◌, ℕ, List, IfOk, Contains, length, map};
 ghost use Rattle.gq_lex.specs.Tokens.{Reads, lexeme_of};
-ghost use Rattle.gq_completion.specs.Completed.{AreCompleted};
+ghost use Rattle.gq_completion.specs.Helping.Completed.{AreCompleted};
 ghost use Rattle.gq_completion.specs.Completions.{IsName, AreCompletions};
 
 use crate::fields::fields_at;

@@ -4,7 +4,7 @@ ghost use Rattle.gq_tree.specs.Views.{field_definition_view, document_view};
 ghost use Rattle.gq_types.specs.Look.{types_view, text_of};
 ghost use Rattle.gq_document.specs.Selections.{FieldOf, selected_field};
 ghost use Rattle.gq_completion.specs.Completions.{IsFieldIn, IsFieldBy, IsFieldName};
-ghost use Rattle.gq_completion.specs.FieldNames.{own_name, own_names_at, own_names, typename_on, names_on};
+ghost use Rattle.gq_completion.specs.Helping.FieldNames.{own_name, own_names_at, own_names, typename_on, names_on};
 
 use crate::sets::{innermost, is_within_one};
 use gq_document::is_composite_named;

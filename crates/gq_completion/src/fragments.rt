@@ -2,7 +2,7 @@
 ghost use Rattle.std.specs.Prelude.{◌≡◌, ◌↔◌, ◌++◌, ℕ, List, IfOk, OnOk, Contains, flat_map};
 ghost use Rattle.gq_tree.specs.Views.{def_view, document_view};
 ghost use Rattle.gq_completion.specs.Completions.{IsFragmentName};
-ghost use Rattle.gq_completion.specs.Fragments.{fragment_name, AddsFragments};
+ghost use Rattle.gq_completion.specs.Helping.Fragments.{fragment_name, AddsFragments};
 
 use gq_parse::laws::one_tree;
 use gq_parse::{Fault, parse};

@@ -3,7 +3,7 @@ ghost use Rattle.std.specs.Prelude.{◌≡◌, ◌↔◌, ℕ, List, IfOk, Conta
 ghost use Rattle.std.specs.Cmp.Lexicographic.{slice_cmp};
 ghost use Rattle.std.specs.List.Sorted.{IsStrictlySortedBy};
 ghost use Rattle.std.specs.Ordering.{nat_cmp};
-ghost use Rattle.gq_completion.specs.Labels.{labelled};
+ghost use Rattle.gq_completion.specs.Helping.Labels.{labelled};
 
 use crate::completion::{Completion, CompletionKind};
 use gq_text::{NoMemory, OwnedText};

@@ -3,7 +3,7 @@ ghost use Rattle.std.specs.Prelude.{◌≡◌, ◌↔◌, ℕ, false, List, IfOk
 ghost use Rattle.std.specs.Option.{option_map};
 ghost use Rattle.gq_lex.specs.Tokens.{lexeme_of};
 ghost use Rattle.gq_completion.specs.Tokens.{is_name, token_before, IsOtherVariable};
-ghost use Rattle.gq_completion.specs.Variables.{is_other_dollar, names_behind};
+ghost use Rattle.gq_completion.specs.Helping.Variables.{is_other_dollar, names_behind};
 
 use crate::tokens::token_before;
 use gq_lex::{Kind, Token};

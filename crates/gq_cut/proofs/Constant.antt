@@ -6,16 +6,16 @@ use Rattle.gq_text.specs.declared.place.Span.{Span}
 use Rattle.gq_lex.specs.declared.token.Kind.{Kind}
 use Rattle.gq_tree.specs.Forest.{none, more, labels, labels_in}
 use Rattle.gq_tree.specs.Plain.{NameOf, Says, Part, Val, Vals, DirectiveOf, VariableOf, Def, variable, int, float, string, boolean, null, enum, list, object, under, unnamed, operation, fragment, type_system}
-use Rattle.gq_parse.specs.Grammar.{Tokens, Closed, closed, another, Enclosed, absent, enclosed, IsValue, a_variable, an_int, a_float, a_string, a_block_string, is_true, is_false, is_null, an_enum, a_list, an_object, IsValues, list_closed, an_item, IsObjectFields, object_closed, an_object_field, IsArgument, an_argument, IsDirectives, no_directive, a_directive, IsVariableDefinition, a_variable_definition, IsOperationDefinition, bare, typed, IsFragmentDefinition, fragment_on}
+use Rattle.gq_parse.specs.Grammar.{Tokens, ManyUntil, closed, another, OptionalMany, absent, enclosed, IsValue, a_variable, an_int, a_float, a_string, a_block_string, is_true, is_false, is_null, an_enum, a_list, an_object, IsValues, list_closed, an_item, IsObjectFields, object_closed, an_object_field, IsArgument, an_argument, IsDirectives, no_directive, a_directive, IsVariableDefinition, a_variable_definition, IsOperationDefinition, bare, typed, IsFragmentDefinition, fragment_on}
 use Rattle.gq_parse.specs.Documents.{IsDefinition, an_operation, a_fragment, a_type_system_definition, IsDocument, at_end, definition}
 use Rattle.gq_index.specs.VariableNames.{says_variable, part_variable, value_variables, argument_variables, directive_variables}
 
 -- what holds of each phrase of a kind
-closed_all : {A : Type 0} {X : A → Tokens → Tokens → Type 0} (P : A → Type 0) {k : Kind} {xs : List A} {tokens rest : Tokens} → ((x : A) (t r : Tokens) → X x t r → P x) → Closed X k xs tokens rest → AllByRecursion P xs
+closed_all : {A : Type 0} {X : A → Tokens → Tokens → Type 0} (P : A → Type 0) {k : Kind} {xs : List A} {tokens rest : Tokens} → ((x : A) (t r : Tokens) → X x t r → P x) → ManyUntil X k xs tokens rest → AllByRecursion P xs
 closed_all P each (closed m) = tt
 closed_all P {tokens = tokens} each (another {x = x} a one others) = (each x tokens a one, closed_all P each others)
 
-enclosed_all : {A : Type 0} {X : A → Tokens → Tokens → Type 0} (P : A → Type 0) {k j : Kind} {xs : List A} {tokens rest : Tokens} → ((x : A) (t r : Tokens) → X x t r → P x) → Enclosed X k j xs tokens rest → AllByRecursion P xs
+enclosed_all : {A : Type 0} {X : A → Tokens → Tokens → Type 0} (P : A → Type 0) {k j : Kind} {xs : List A} {tokens rest : Tokens} → ((x : A) (t r : Tokens) → X x t r → P x) → OptionalMany X k j xs tokens rest → AllByRecursion P xs
 enclosed_all P each (absent free) = tt
 enclosed_all P each (enclosed a m c) = closed_all P each c
 

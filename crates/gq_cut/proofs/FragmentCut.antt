@@ -15,10 +15,10 @@ use Rattle.gq_tree.specs.Views.{document_view}
 use Rattle.gq_project.specs.declared.document.Doc.{Doc}
 use Rattle.gq_parse.specs.Derives.{Derives}
 use Rattle.gq_parse.proofs.UniqueDocuments.{same_document}
-use Rattle.gq_read.specs.declared.reader.Reading.{Reading}
-use Rattle.gq_read.specs.declared.reader.Reading.TheVariants as reading
-use Rattle.gq_read.specs.Readings.{IsReading, AreReadings}
-use Rattle.gq_read.specs.Readings as readings
+use Rattle.gq_read.specs.declared.reader.Parsed.{Parsed}
+use Rattle.gq_read.specs.declared.reader.Parsed.TheVariants as reading
+use Rattle.gq_read.specs.Parsed.{IsParsed, AreParsed}
+use Rattle.gq_read.specs.Parsed as readings
 use Rattle.gq_document.specs.Definitions.{definitions_read, in_document, in_documents}
 use Rattle.gq_index.specs.declared.occurrence.Occurrence.{Occurrence}
 use Rattle.gq_index.specs.Occurrences.{DefinitionOf, AreExecutables, executable_in, executables, occurrences_of, fragment_occurrences}
@@ -26,13 +26,13 @@ use Rattle.gq_rewrite.specs.Renamings.{Renaming, fragment_called}
 use Rattle.gq_rewrite.specs.Changed.{changed_in_document}
 use Rattle.gq_rewrite.specs.Projects.{AreTrees, none, more, number_behind}
 use Rattle.gq_rewrite.proofs.Called.{document_called}
-use Rattle.gq_cut.specs.Runs.{occurrences_at, changed_occurrences}
+use Rattle.gq_cut.specs.Helping.Runs.{occurrences_at, changed_occurrences}
 
 pub one_tree : (text : List ℕ) (a b : List (Def Span)) → Derives text a → Derives text b → a ≡ b
 one_tree text a b p q = same_document p.derived (one_reading text p.tokens q.tokens p.reads q.reads) q.derived
 
 -- what a reading of a text with a tree defines
-pub tree_read : (text : List ℕ) (r : Reading) (tree : List (Def Span)) → IsReading text r → Derives text tree → definitions_read r ≡ tree
+pub tree_read : (text : List ℕ) (r : Parsed) (tree : List (Def Span)) → IsParsed text r → Derives text tree → definitions_read r ≡ tree
 tree_read text (reading.Tree d) tree p q = one_tree text (document_view d) tree p q
 tree_read text (reading.Syntax place) tree p q = absurd (p.0 tree q)
 tree_read text (reading.Limit place) tree p q = absurd (p.0 tree q)
@@ -76,10 +76,10 @@ tree_stands old file (d ∷ ds) =
     ∙ sym (map-append (λ (n : NameOf Span). let o : Occurrence = record { file = file; span = n.place } in o) (filter (named old) (names_in d)) (filter (named old) (fragment_names ds)))
     ∙ ap (occurrences_at file) (sym (filter-append (named old) (names_in d) (fragment_names ds)))
 
-abbrev pub executables_from : ℕ → List Reading → List DefinitionOf
+abbrev pub executables_from : ℕ → List Parsed → List DefinitionOf
 executables_from file rs = flat_map (λ r. in_document executable_in r.0 r.1) (enumerate_from file rs)
 
-project_stands : (old : List ℕ) (k file : ℕ) (documents : List Doc) (rs : List Reading) (trees : List (List (Def Span))) → AreReadings documents rs → AreTrees documents trees →
+project_stands : (old : List ℕ) (k file : ℕ) (documents : List Doc) (rs : List Parsed) (trees : List (List (Def Span))) → AreParsed documents rs → AreTrees documents trees →
     flat_map (stands old) (executables_from file rs) ≡ changed_occurrences (λ n. fragment_called old) k file trees
 project_stands old k file [] [] [] readings.none none = refl
 project_stands old k file [] [] (tree ∷ trees) p q = elim q [ ]

@@ -21,7 +21,7 @@ use Rattle.gq_rewrite.specs.Rewritten.{rename_replacements, Rewrites}
 use Rattle.gq_rewrite.specs.Projects.{AreTrees, none, more, edit_if_any, number_behind, rename_edits}
 use Rattle.gq_rewrite.proofs.Renaming.{renamed_texts_read}
 use Rattle.gq_rewrite.proofs.ProjectRenaming.{renamed_projects_read}
-use Rattle.gq_cut.specs.Runs.{stands_in, run, behind, replacements_at, edits_at, AreApart, occurrences_at, changed_occurrences}
+use Rattle.gq_cut.specs.Helping.Runs.{stands_in, run, behind, replacements_at, edits_at, AreApart, occurrences_at, changed_occurrences}
 
 -- places of another document
 none_stand : (file other : ℕ) → file < other → (rule : ℕ → Renaming) (k : ℕ) (trees : List (List (Def Span))) → prefix_len (stands_in file) (changed_occurrences rule k other trees) ≡ 0

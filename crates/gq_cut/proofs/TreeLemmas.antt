@@ -3,15 +3,15 @@ use Rattle.std.proofs.Common.{◌≡◌, Bool, true, false, ◌&&◌, List, [], 
 use Rattle.std.specs.List.{list_all}
 use Rattle.gq_tree.specs.Views.{document_view}
 use Rattle.gq_project.specs.declared.document.Doc.{Doc}
-use Rattle.gq_read.specs.declared.reader.Reading.{Reading}
-use Rattle.gq_read.specs.declared.reader.Reading.TheVariants as reading
-use Rattle.gq_read.specs.Readings.{AreReadings}
-use Rattle.gq_read.specs.Readings as readings
+use Rattle.gq_read.specs.declared.reader.Parsed.{Parsed}
+use Rattle.gq_read.specs.declared.reader.Parsed.TheVariants as reading
+use Rattle.gq_read.specs.Parsed.{AreParsed}
+use Rattle.gq_read.specs.Parsed as readings
 use Rattle.gq_rewrite.specs.Projects.{none, more}
 use Rattle.gq_cut.specs.Cut.{HaveTrees}
-use Rattle.gq_cut.specs.Runs.{is_tree}
+use Rattle.gq_cut.specs.Helping.Runs.{is_tree}
 
-pub have_trees : {documents : List Doc} {rs : List Reading} → AreReadings documents rs → list_all is_tree rs ≡ true → HaveTrees documents
+pub have_trees : {documents : List Doc} {rs : List Parsed} → AreParsed documents rs → list_all is_tree rs ≡ true → HaveTrees documents
 have_trees readings.none all = record { trees = []; are_trees = none }
 have_trees (readings.more {one = reading.Tree d} p ps) all =
     let w = have_trees ps all in

@@ -4,7 +4,7 @@ ghost use Rattle.std.specs.Option.{option_map_or};
 ghost use Rattle.gq_index.specs.declared.occurrence.Occurrence.{Occurrence};
 ghost use Rattle.gq_index.specs.Indexed.{IsIndexOf};
 ghost use Rattle.gq_index.specs.Occurrences.{DefinitionOf};
-ghost use Rattle.gq_cut.specs.Runs.{occurrences_in_file, variable_occurrences, group_occurrences};
+ghost use Rattle.gq_cut.specs.Helping.Runs.{occurrences_in_file, variable_occurrences, group_occurrences};
 
 use gq_index::{Index, Occurrence};
 use gq_text::{NoMemory, Span};

@@ -1,13 +1,13 @@
 ghost use Rattle.std.specs.Prelude.{◌≡◌, OnOk};
 ghost use Rattle.std.specs.List.{list_all};
 ghost use Rattle.gq_cut.specs.Cut.{HaveTrees};
-ghost use Rattle.gq_cut.specs.Runs.{is_tree};
+ghost use Rattle.gq_cut.specs.Helping.Runs.{is_tree};
 
 use crate::{fragment_edit, variable_edit};
 use gq_edit::Edit;
 use gq_index::Index;
 use gq_project::{Doc, Project};
-use gq_read::{Reading, read};
+use gq_read::{Parsed, read};
 use gq_rewrite::{is_fragment_name, is_name};
 use gq_text::OwnedText;
 use std::alloc::Global;
@@ -34,13 +34,13 @@ fn project_of(alloc: Global, lines: &str) -> Result<Project, Fail> {
     Ok(project)
 }
 
-fn is_tree(reading: &Reading) -> bool
+fn is_tree(reading: &Parsed) -> bool
     ensures { result ≡ is_tree reading.now }
 {
-    matches!(reading, Reading::Tree(_))
+    matches!(reading, Parsed::Tree(_))
 }
 
-fn are_trees(readings: &[Reading]) -> bool
+fn are_trees(readings: &[Parsed]) -> bool
     ensures { result ≡ list_all is_tree readings.now }
 {
     readings.iter().all(|reading| is_tree(reading))

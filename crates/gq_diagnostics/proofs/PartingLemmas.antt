@@ -14,7 +14,7 @@ use Rattle.gq_project.specs.Documents.{IsInOrder, has_key}
 use Rattle.gq_project.specs.Places.{IsPlaceOf}
 use Rattle.gq_found.specs.declared.found.Found.{Found}
 use Rattle.gq_diagnostics.specs.Diagnostics.{found_in}
-use Rattle.gq_diagnostics.specs.Parted.{IsAt, IsWhere}
+use Rattle.gq_diagnostics.specs.Helping.Parted.{IsAt, IsWhere}
 
 -- keys
 differ : (a b : List ℕ) → bytes_eq a b ≡ false → bytes_eq b a ≡ false

@@ -1,2 +1,2 @@
 pub mod Diagnostics
-pub mod Parted
+pub mod Helping

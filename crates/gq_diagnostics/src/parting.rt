@@ -1,7 +1,7 @@
 //! What is found, parted by the documents that it is found in.
 ghost use Rattle.std.specs.Prelude.{◌≡◌, ◌++◌, ◌∷◌, ◌<◌, [], IfOk, IfErr, OnOk, length, get_or, set, map};
 ghost use Rattle.gq_diagnostics.specs.Diagnostics.{found_in};
-ghost use Rattle.gq_diagnostics.specs.Parted.{IsAt, IsWhere};
+ghost use Rattle.gq_diagnostics.specs.Helping.Parted.{IsAt, IsWhere};
 ghost use Rattle.gq_project.specs.Documents.{IsInOrder};
 ghost use Rattle.gq_project.specs.Places.{IsPlaceOf, IsGapFor};
 

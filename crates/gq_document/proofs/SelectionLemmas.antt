@@ -8,13 +8,13 @@ use Rattle.gq_names.proofs.RepeatLemmas.{contains_none, contains_later, contains
 use Rattle.gq_types.specs.Entries.{Text, EntryOf}
 use Rattle.gq_types.specs.Roots.{root_of}
 use Rattle.gq_document.specs.Definitions.{OperationOf, FragmentOf}
-use Rattle.gq_document.specs.Selections.{SelectedOf, StandsAmong, here, within, after, parent_below, selected_among, operation_selections, fragment_selections, IsOfOperation, IsOfFragment}
+use Rattle.gq_document.specs.Selections.{SelectedOf, IsSelectionWithin, here, within, after, parent_below, selected_among, operation_selections, fragment_selections, IsOfOperation, IsOfFragment}
 
 pub from_among : (es : List EntryOf) (file : ℕ) (parent : Option Text) (ss : Sels Span) (s : SelectedOf) →
-    Contains (selected_among es file parent ss) s → (s.file ≡ file) × StandsAmong es parent ss s.parent s.selection
+    Contains (selected_among es file parent ss) s → (s.file ≡ file) × IsSelectionWithin es parent ss s.parent s.selection
 from_among es file parent none s c = absurd (contains_none s c)
 from_among es file parent (more head below rest) s c = elim (contains_cases _ _ s c) [
-  | inl e ↦ (ap (λ x. x.file) (sym e), subst (λ x. StandsAmong es parent (more head below rest) x.parent x.selection) e here)
+  | inl e ↦ (ap (λ x. x.file) (sym e), subst (λ x. IsSelectionWithin es parent (more head below rest) x.parent x.selection) e here)
   | inr d ↦ elim (Contains-append_cases (selected_among es file (parent_below es parent head) below) (selected_among es file parent rest) s d) [
     | inl a ↦ let q = from_among es file (parent_below es parent head) below s a in (q.0, within q.1)
     | inr b ↦ let q = from_among es file parent rest s b in (q.0, after q.1)
@@ -22,7 +22,7 @@ from_among es file parent (more head below rest) s c = elim (contains_cases _ _ 
 ]
 
 to_among : (es : List EntryOf) (file : ℕ) (parent inner : Option Text) (ss : Sels Span) (selection : Sel Span) →
-    StandsAmong es parent ss inner selection → Contains (selected_among es file parent ss) (record { file = file; parent = inner; selection = selection })
+    IsSelectionWithin es parent ss inner selection → Contains (selected_among es file parent ss) (record { file = file; parent = inner; selection = selection })
 to_among es file parent inner none selection s = elim s [ ]
 to_among es file parent inner (more head below rest) selection here = contains_first _ _ _ refl
 to_among es file parent inner (more head below rest) selection (within w) =
@@ -31,7 +31,7 @@ to_among es file parent inner (more head below rest) selection (after w) =
     contains_later _ _ _ (Contains-append_right _ _ _ (to_among es file parent inner rest selection w))
 
 pub holds : (es : List EntryOf) (file : ℕ) (parent : Option Text) (ss : Sels Span) (s : SelectedOf) →
-    Contains (selected_among es file parent ss) s ↔ ((s.file ≡ file) × StandsAmong es parent ss s.parent s.selection)
+    Contains (selected_among es file parent ss) s ↔ ((s.file ≡ file) × IsSelectionWithin es parent ss s.parent s.selection)
 holds es file parent ss s =
     (from_among es file parent ss s, λ q. subst (λ k. Contains (selected_among es k parent ss) s) q.0 (to_among es s.file parent s.parent ss s.selection q.1))
 

@@ -7,8 +7,8 @@ use Rattle.gq_tree.specs.declared.tree.OperationKind.{OperationKind}
 use Rattle.gq_tree.specs.Plain.{NameOf, VariableOf, DirectiveOf, Sels, Def, operation, fragment, type_system}
 use Rattle.gq_tree.specs.Views.{name_of, variable_view, directive_view, sels_view, def_view}
 use Rattle.gq_types.specs.Entries.{EntryOf}
-use Rattle.gq_read.specs.declared.reader.Reading.{Reading}
-use Rattle.gq_read.specs.declared.reader.Reading.TheVariants as reading
+use Rattle.gq_read.specs.declared.reader.Parsed.{Parsed}
+use Rattle.gq_read.specs.declared.reader.Parsed.TheVariants as reading
 use Rattle.gq_document.specs.declared.definitions.OperationEntry.{OperationEntry}
 use Rattle.gq_document.specs.declared.definitions.FragmentEntry.{FragmentEntry}
 
@@ -52,25 +52,25 @@ entry_in file (fragment name on directives set braces place) = []
 entry_in file (type_system definition) = record { file = file; definition = definition } ∷ []
 
 -- the definitions of a document as it is read; none where it has no tree
-abbrev pub definitions_read : Reading → List (Def Span)
+abbrev pub definitions_read : Parsed → List (Def Span)
 definitions_read (reading.Tree document) = map def_view document.definitions.items
 definitions_read (reading.Syntax place) = []
 definitions_read (reading.Limit place) = []
 
 -- what the definitions of the documents are, the first document having the number 0
-abbrev pub in_document : {A : Type 0} → (ℕ → Def Span → List A) → ℕ → Reading → List A
+abbrev pub in_document : {A : Type 0} → (ℕ → Def Span → List A) → ℕ → Parsed → List A
 in_document what file reading = flat_map (what file) (definitions_read reading)
 
-abbrev pub in_documents : {A : Type 0} → (ℕ → Def Span → List A) → List Reading → List A
+abbrev pub in_documents : {A : Type 0} → (ℕ → Def Span → List A) → List Parsed → List A
 in_documents what readings = flat_map (λ r. in_document what r.0 r.1) (enumerate_from 0 readings)
 
-abbrev pub operations_of : List Reading → List OperationOf
+abbrev pub operations_of : List Parsed → List OperationOf
 operations_of readings = in_documents operation_in readings
 
-abbrev pub fragments_of : List Reading → List FragmentOf
+abbrev pub fragments_of : List Parsed → List FragmentOf
 fragments_of readings = in_documents fragment_in readings
 
-abbrev pub entries_of : List Reading → List EntryOf
+abbrev pub entries_of : List Parsed → List EntryOf
 entries_of readings = in_documents entry_in readings
 
 -- what the code's operations and fragments stand for

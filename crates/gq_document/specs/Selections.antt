@@ -1,9 +1,10 @@
 -- The selections of operations and fragments, each with the type of its parent (section 5.3).
+use Rattle.gq_tree.specs.NamedTypes.{base_name}
 use Rattle.std.specs.Prelude.{◌≡◌, ℕ, Bool, false, List, [], ◌∷◌, ◌++◌, Option, Some, None, Contains, codes, bytes_eq, if◌then◌else◌, option_and_then}
 use Rattle.std.specs.Option.{option_map, option_map_or}
 use Rattle.gq_text.specs.declared.place.Span.{Span}
 use Rattle.gq_tree.specs.Forest.{none, more}
-use Rattle.gq_tree.specs.Plain.{TypeOf, named, list_of, non_null, InputOf, Head, field, spread, inline, Sel, Sels}
+use Rattle.gq_tree.specs.Plain.{TypeOf, named, non_null, InputOf, Head, field, spread, inline, Sel, Sels}
 use Rattle.gq_types.specs.Entries.{Text, EntryOf}
 use Rattle.gq_types.specs.Kinds.{is_composite}
 use Rattle.gq_types.specs.Joined.{kind_named}
@@ -40,12 +41,6 @@ field_on es type_name text =
 abbrev pub selected_field : List EntryOf → Option Text → Text → Option FieldOf
 selected_field es parent text = option_and_then (λ type_name. field_on es type_name text) parent
 
--- the name inside lists and types without null (section 3.4.1)
-abbrev pub base_name : {P : Type 0} → TypeOf P → Text
-base_name (named name) = name.text
-base_name (list_of item) = base_name item
-base_name (non_null inner) = base_name inner
-
 -- The type of the parent of the selections in a selection's braces: the type of the field, or the type condition. It is
 -- none where the field is not known.
 abbrev pub parent_below : List EntryOf → Option Text → Head Span → Option Text
@@ -61,21 +56,21 @@ pub record SelectedOf : Type 0 where
   pub selection : Sel Span
 
 -- a selection stands among these, at any depth, and its parent has that type
-pub data StandsAmong (es : List EntryOf) : Option Text → Sels Span → Option Text → Sel Span → Type 0 where
+pub data IsSelectionWithin (es : List EntryOf) : Option Text → Sels Span → Option Text → Sel Span → Type 0 where
   here : {parent : Option Text} {head : Head Span} {below rest : Sels Span} →
-      StandsAmong es parent (more head below rest) parent (record { label = head; below = below })
+      IsSelectionWithin es parent (more head below rest) parent (record { label = head; below = below })
   within : {parent inner : Option Text} {head : Head Span} {below rest : Sels Span} {selection : Sel Span} →
-      StandsAmong es (parent_below es parent head) below inner selection → StandsAmong es parent (more head below rest) inner selection
+      IsSelectionWithin es (parent_below es parent head) below inner selection → IsSelectionWithin es parent (more head below rest) inner selection
   after : {parent inner : Option Text} {head : Head Span} {below rest : Sels Span} {selection : Sel Span} →
-      StandsAmong es parent rest inner selection → StandsAmong es parent (more head below rest) inner selection
+      IsSelectionWithin es parent rest inner selection → IsSelectionWithin es parent (more head below rest) inner selection
 
 -- The parent of an operation's selections is the root operation type of its kind (section 3.3.1), that of a fragment's
 -- its type condition.
 abbrev pub IsOfOperation : List EntryOf → OperationOf → SelectedOf → Type 0
-IsOfOperation es o s = (s.file ≡ o.file) × StandsAmong es (root_of es o.kind) o.set s.parent s.selection
+IsOfOperation es o s = (s.file ≡ o.file) × IsSelectionWithin es (root_of es o.kind) o.set s.parent s.selection
 
 abbrev pub IsOfFragment : List EntryOf → FragmentOf → SelectedOf → Type 0
-IsOfFragment es f s = (s.file ≡ f.file) × StandsAmong es (Some f.on.text) f.set s.parent s.selection
+IsOfFragment es f s = (s.file ≡ f.file) × IsSelectionWithin es (Some f.on.text) f.set s.parent s.selection
 
 -- a selection of an operation or of a fragment
 pub data IsSelected (es : List EntryOf) (os : List OperationOf) (fs : List FragmentOf) (s : SelectedOf) : Type 0 where

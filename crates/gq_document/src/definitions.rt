@@ -4,7 +4,7 @@ ghost use Rattle.gq_tree.specs.Views.{def_view};
 ghost use Rattle.gq_types.specs.Entries.{entries_view};
 ghost use Rattle.gq_document.specs.Definitions.{operation_in, fragment_in, entry_in, in_document, operations_of, fragments_of, entries_of, operations_view, fragments_view};
 
-use gq_read::Reading;
+use gq_read::Parsed;
 use gq_text::NoMemory;
 use gq_tree::{Definition, Fragment, Operation};
 use gq_types::Entry;
@@ -37,7 +37,7 @@ pub struct Definitions {
 
 impl Definitions {
     /// The definitions of documents as they are read; one without a tree has none.
-    pub fn of(alloc: Global, readings: Vec<Reading>) -> Result<Definitions, NoMemory>
+    pub fn of(alloc: Global, readings: Vec<Parsed>) -> Result<Definitions, NoMemory>
         ensures entries { IfOk result (λ all. entries_view all.entries.items ≡ entries_of readings.items) }
         ensures operations { IfOk result (λ all. operations_view all.operations.items ≡ operations_of readings.items) }
         ensures fragments { IfOk result (λ all. fragments_view all.fragments.items ≡ fragments_of readings.items) }
@@ -53,15 +53,15 @@ impl Definitions {
         Ok(all)
     }
 
-    fn put_reading(&mut self, file: usize, reading: Reading) -> Result<(), NoMemory>
+    fn put_reading(&mut self, file: usize, reading: Parsed) -> Result<(), NoMemory>
         ensures entries { OnOk result (entries_view self.new.entries.items ≡ entries_view self.old.entries.items ++ in_document entry_in file reading) }
         ensures operations { OnOk result (operations_view self.new.operations.items ≡ operations_view self.old.operations.items ++ in_document operation_in file reading) }
         ensures fragments { OnOk result (fragments_view self.new.fragments.items ≡ fragments_view self.old.fragments.items ++ in_document fragment_in file reading) }
     {
         match reading {
-            Reading::Tree(document) => self.put_all(file, document.definitions),
-            Reading::Syntax { .. } => Ok(()),
-            Reading::Limit { .. } => Ok(()),
+            Parsed::Tree(document) => self.put_all(file, document.definitions),
+            Parsed::Syntax { .. } => Ok(()),
+            Parsed::Limit { .. } => Ok(()),
         }
     }
 

@@ -1,12 +1,13 @@
 //! The fields that selections name (GraphQL, October 2021, section 5.3).
 ghost use Rattle.std.specs.Prelude.{◌≡◌, map};
 ghost use Rattle.std.specs.Option.{option_map};
-ghost use Rattle.gq_tree.specs.Views.{type_view, input_view};
+ghost use Rattle.gq_tree.specs.Views.{input_view};
 ghost use Rattle.gq_types.specs.Look.{types_view, text_of};
-ghost use Rattle.gq_document.specs.Selections.{is_composite_named, field_on, selected_field, base_name};
+ghost use Rattle.gq_document.specs.Selections.{is_composite_named, field_on, selected_field};
+ghost use Rattle.gq_tree.specs.NamedTypes.{base_name};
 ghost use Rattle.gq_document.specs.Views.{field_view, selected_field_view};
 
-use gq_tree::TypeRef;
+use gq_tree::{TypeRef, base_name};
 use gq_types::{Arguments, DefinedField, Types};
 
 /// The field that a selection names: one of a type's definition, or `__typename`, which every composite type has.
@@ -35,18 +36,6 @@ impl<'a> SelectedField<'a> {
             SelectedField::Typename => "String",
             SelectedField::Defined(field) => base_name(&field.definition.type_ref),
         }
-    }
-}
-
-/// The name inside lists and types without null (section 3.4.1).
-#[tactic(auto, using(gq_tree::proofs::Trees::types))]
-pub fn base_name(type_ref: &TypeRef) -> &str
-    ensures { result.now ≡ base_name (type_view type_ref.now) }
-{
-    match type_ref {
-        TypeRef::Named(name) => name.text.as_str(),
-        TypeRef::List(item) => base_name(item),
-        TypeRef::NonNull(inner) => base_name(inner),
     }
 }
 

@@ -9,5 +9,5 @@ pub mod selections;
 
 pub use definitions::{Definitions, FragmentEntry, OperationEntry};
 pub use executable::Executable;
-pub use fields::{SelectedField, base_name, field_on, is_composite_named, selected_field};
+pub use fields::{SelectedField, field_on, is_composite_named, selected_field};
 pub use selections::{Selected, fragment_selections, operation_selections};

@@ -4,8 +4,9 @@ ghost use Rattle.std.specs.Option.{option_map};
 ghost use Rattle.gq_tree.specs.Views.{sel_view, sels_view};
 ghost use Rattle.gq_types.specs.Look.{types_view, text_of};
 ghost use Rattle.gq_document.specs.Definitions.{operation_view, fragment_view};
-ghost use Rattle.gq_document.specs.Selections.{selected_field, base_name, selected_among, operation_selections, fragment_selections};
-ghost use Rattle.gq_document.specs.Trees.{selected_in};
+ghost use Rattle.gq_document.specs.Selections.{selected_field, selected_among, operation_selections, fragment_selections};
+ghost use Rattle.gq_tree.specs.NamedTypes.{base_name};
+ghost use Rattle.gq_document.specs.Helping.Trees.{selected_in};
 ghost use Rattle.gq_document.specs.Views.{selections_view};
 
 use crate::definitions::{FragmentEntry, OperationEntry};

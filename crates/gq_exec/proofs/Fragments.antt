@@ -11,12 +11,12 @@ use Rattle.gq_tree.specs.Plain.{NameOf, Head, Sels}
 use Rattle.gq_tree.specs.Names.{spread_name, spread_names}
 use Rattle.gq_names.proofs.RepeatLemmas.{contains_none, contains_later, contains_first, contains_cases}
 use Rattle.gq_found.specs.declared.code.Code.TheVariants.{FragmentCycle, UnknownFragment}
-use Rattle.gq_found.specs.declared.item.Item.{Item}
+use Rattle.gq_found.specs.declared.fault.Fault.{Fault}
 use Rattle.gq_document.specs.Definitions.{OperationOf, FragmentOf}
 use Rattle.gq_document.specs.Executable.{ExecutableOf}
 use Rattle.gq_document.specs.Reaches as reaches
 use Rattle.gq_document.specs.Reaches.{Reaches, IsSpreadIn}
-use Rattle.gq_spreads.specs.Items.{item_at}
+use Rattle.gq_found.specs.FaultPlaces.{fault_at}
 use Rattle.gq_spreads.specs.FragmentSpreadTargetDefined.{IsSpreadName, of_operation, of_fragment, IsUnknownFragment}
 use Rattle.gq_spreads.specs.FragmentSpreadsMustNotFormCycles.{IsFragmentCycle}
 use Rattle.gq_meaning.specs.Values.{Text}
@@ -26,7 +26,7 @@ use Rattle.gq_meaning.specs.Expand.{Definition}
 use Rattle.gq_meaning.specs.Thin.{IsIn}
 use Rattle.gq_meaning.specs.Acyclic.{Rankable}
 use Rattle.gq_answer.specs.Fragments.{definition_of}
-use Rattle.gq_exec.proofs.Ranking.{Leads, at_once, on_way, spreads_of, AreDefined, LeadNowhereBack, can_be_ranked}
+use Rattle.gq_exec.proofs.Ranking.{Graph, at_once, on_way, spreads_of, AreDefined, LeadNowhereBack, can_be_ranked}
 
 -- a name in the spreads of a tree
 record IsSpread (ss : Sels Span) (g : Text) : Type 0 where
@@ -111,7 +111,7 @@ reached_stands : {fs : List FragmentOf} {set : Sels Span} {f : FragmentOf} → R
 reached_stands (reaches.at_once c s) = c
 reached_stands (reaches.through h c s) = c
 
-way : (fs : List FragmentOf) {f g : Text} → Leads (map definition_of fs) f g → (to : FragmentOf) → Contains fs to → g ≡ to.name.text →
+way : (fs : List FragmentOf) {f g : Text} → Graph (map definition_of fs) f g → (to : FragmentOf) → Contains fs to → g ≡ to.name.text →
     (from : FragmentOf) × Contains fs from × (f ≡ from.name.text) × Reaches fs from.set to
 way fs {g = g} (at_once d m e s) to c q =
     let r = in_definitions fs d m in
@@ -135,9 +135,9 @@ search_name (f ∷ fs) t = by_test (bytes_eq t f.name.text) refl (search_name fs
       | inr k ↦ r g k q
     ])
 
-module _ (x : ExecutableOf) (no_cycle : (item : Item) → IsFragmentCycle x item → ⊥) (no_unknown : (item : Item) → IsUnknownFragment x item → ⊥) where
+module _ (x : ExecutableOf) (no_cycle : (item : Fault) → IsFragmentCycle x item → ⊥) (no_unknown : (item : Fault) → IsUnknownFragment x item → ⊥) where
   back : (from to : FragmentOf) → Contains x.fragments from → to.name.text ≡ from.name.text → Reaches x.fragments from.set to → ⊥
-  back from to c e (reaches.at_once d s) = no_cycle (item_at from.file FragmentCycle s.name) (record {
+  back from to c e (reaches.at_once d s) = no_cycle (fault_at from.file FragmentCycle s.name) (record {
     fragment = from;
     stands = c;
     name = s.name;
@@ -148,7 +148,7 @@ module _ (x : ExecutableOf) (no_cycle : (item : Item) → IsFragmentCycle x item
     leads_back = reaches.at_once c (record { name = s.name; stands = s.stands; names = s.names ∙ e });
     is = refl;
   })
-  back from to c e (reaches.through {g = g} h d s) = no_cycle (item_at g.file FragmentCycle s.name) (record {
+  back from to c e (reaches.through {g = g} h d s) = no_cycle (fault_at g.file FragmentCycle s.name) (record {
     fragment = g;
     stands = reached_stands h;
     name = s.name;
@@ -169,7 +169,7 @@ module _ (x : ExecutableOf) (no_cycle : (item : Item) → IsFragmentCycle x item
   defined : (file : ℕ) (ss : Sels Span) → ((name : NameOf Span) → Contains (spread_names ss) name → IsSpreadName x file name) → AreDefined (map definition_of x.fragments) (set_of ss)
   defined file ss is_name g m = let n = named_in ss g m in elim (search_name x.fragments n.0.text) [
     | inl f ↦ record { definition = definition_of f.0; stands = among_definitions x.fragments f.0 f.1; is = n.2 ∙ f.2 }
-    | inr nowhere ↦ absurd (no_unknown (item_at file UnknownFragment n.0) (record { file = file; name = n.0; is_spread = is_name n.0 n.1; is_unknown = nowhere; is = refl }))
+    | inr nowhere ↦ absurd (no_unknown (fault_at file UnknownFragment n.0) (record { file = file; name = n.0; is_spread = is_name n.0 n.1; is_unknown = nowhere; is = refl }))
   ]
 
   defined_below : (d : Definition) → IsIn d (map definition_of x.fragments) → AreDefined (map definition_of x.fragments) d.set

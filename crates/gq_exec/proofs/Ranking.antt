@@ -29,9 +29,9 @@ leads_through ds f g [] = leads_at_once ds f g
 leads_through ds f g (e ∷ es) = leads_through ds f g es || (leads_through ds f e.name es && leads_through ds e.name g es)
 
 -- a way of spreads leads from the one name to the other
-pub data Leads (ds : List Definition) : (f g : Text) → Type 0 where
-  at_once : {f g : Text} (d : Definition) → IsIn d ds → f ≡ d.name → IsIn g (spreads_of d.set) → Leads ds f g
-  on_way : {f m g : Text} → Leads ds f m → Leads ds m g → Leads ds f g
+pub data Graph (ds : List Definition) : (f g : Text) → Type 0 where
+  at_once : {f g : Text} (d : Definition) → IsIn d ds → f ≡ d.name → IsIn g (spreads_of d.set) → Graph ds f g
+  on_way : {f m g : Text} → Graph ds f m → Graph ds m g → Graph ds f g
 
 or_parts : (x y : Bool) → (x || y) ≡ true → (x ≡ true) ⊎ (y ≡ true)
 or_parts true y e = inl refl
@@ -68,7 +68,7 @@ in_any g [] m = absurd m
 in_any g (t ∷ ts) (inl e) = or_first (bytes_eq g t) (list_any (bytes_eq g) ts) (text_same g t e)
 in_any g (t ∷ ts) (inr m) = or_second (bytes_eq g t) (list_any (bytes_eq g) ts) (in_any g ts m)
 
-once_sound : (all ds : List Definition) (f g : Text) → ((d : Definition) → IsIn d ds → IsIn d all) → leads_at_once ds f g ≡ true → Leads all f g
+once_sound : (all ds : List Definition) (f g : Text) → ((d : Definition) → IsIn d ds → IsIn d all) → leads_at_once ds f g ≡ true → Graph all f g
 once_sound all [] f g within e = let bad : true ≡ false = sym e in cc
 once_sound all (d ∷ ds) f g within e = elim (or_parts (bytes_eq f d.name && list_any (bytes_eq g) (spreads_of d.set)) (leads_at_once ds f g) e) [
   | inl h ↦ let p = and_parts (bytes_eq f d.name) (list_any (bytes_eq g) (spreads_of d.set)) h in at_once d (within d (inl refl)) (same_text f d.name p.0) (any_in g (spreads_of d.set) p.1)
@@ -87,7 +87,7 @@ further : (ds es : List Definition) (f g : Text) → leads_at_once ds f g ≡ tr
 further ds [] f g h = h
 further ds (e ∷ es) f g h = or_first (leads_through ds f g es) (leads_through ds f e.name es && leads_through ds e.name g es) (further ds es f g h)
 
-through_sound : (ds es : List Definition) (f g : Text) → leads_through ds f g es ≡ true → Leads ds f g
+through_sound : (ds es : List Definition) (f g : Text) → leads_through ds f g es ≡ true → Graph ds f g
 through_sound ds [] f g h = once_sound ds ds f g (λ d m. m) h
 through_sound ds (e ∷ es) f g h = elim (or_parts (leads_through ds f g es) (leads_through ds f e.name es && leads_through ds e.name g es) h) [
   | inl k ↦ through_sound ds es f g k
@@ -219,7 +219,7 @@ abbrev pub AreDefined : List Definition → Set → Type 0
 AreDefined ds s = (g : Text) → IsIn g (spreads_of s) → IsNamed ds g
 
 abbrev pub LeadNowhereBack : List Definition → Type 0
-LeadNowhereBack ds = (d : Definition) → IsIn d ds → Leads ds d.name d.name → ⊥
+LeadNowhereBack ds = (d : Definition) → IsIn d ds → Graph ds d.name d.name → ⊥
 
 not_back : (ds : List Definition) → LeadNowhereBack ds → (d : Definition) → IsIn d ds → leads_through ds d.name d.name ds ≡ false
 not_back ds free d m = by_test (leads_through ds d.name d.name ds) refl

@@ -1,8 +1,8 @@
 -- The response to an operation of a project, by its documents (section 6.1).
 use Rattle.std.specs.Prelude.{◌≡◌, List, [], Option, Some, None, option_and_then}
 use Rattle.gq_project.specs.declared.document.Doc.{Doc}
-use Rattle.gq_read.specs.declared.reader.Reading.{Reading}
-use Rattle.gq_read.specs.Readings.{AreReadings}
+use Rattle.gq_read.specs.declared.reader.Parsed.{Parsed}
+use Rattle.gq_read.specs.Parsed.{AreParsed}
 use Rattle.gq_document.specs.Definitions.{OperationOf, FragmentOf}
 use Rattle.gq_document.specs.Executable.{ExecutableOf}
 use Rattle.gq_rules.specs.Project.{executable_of}
@@ -17,8 +17,8 @@ use Rattle.gq_exec.specs.declared.refusal.CoercionRefusal.TheVariants.{RequestEr
 -- the response to the operation of that name, or to the only one, over a table of these rows, where raw are the values
 -- that are given for its variables
 pub record IsExecuted (documents : List Doc) (rows : List RowOf) (name : Option Text) (raw : Values) (response : ResponseOf) : Type 0 where
-  pub readings : List Reading
-  pub are_readings : AreReadings documents readings
+  pub readings : List Parsed
+  pub are_readings : AreParsed documents readings
   pub is_response : IsResponse (executable_of readings) rows name raw response
 
 -- a project has at most one response to each request
@@ -30,8 +30,8 @@ abbrev pub coerced_in : ExecutableOf → Option Text → Values → Option Value
 coerced_in x name raw = option_and_then (λ o. coerced_variables x.entries o.variables raw) (operation_of x.operations name)
 
 pub record AreCoercedTo (documents : List Doc) (name : Option Text) (raw : Values) (coerced : Option Values) : Type 0 where
-  pub readings : List Reading
-  pub are_readings : AreReadings documents readings
+  pub readings : List Parsed
+  pub are_readings : AreParsed documents readings
   pub is : coerced ≡ coerced_in (executable_of readings) name raw
 
 abbrev pub AreCoerced : List Doc → Option Text → Values → Values → Type 0

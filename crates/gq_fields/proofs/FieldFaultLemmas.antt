@@ -2,32 +2,32 @@
 use Rattle.std.proofs.Common.{◌≡◌, List, [], ◌++◌, inl, inr, ◌↔◌, Contains, Option, Some, None, refl, sym, ap, subst, ◌∙◌}
 use Rattle.std.proofs.lemmas.List.Elements.{Contains-append_left, Contains-append_right, Contains-append_cases}
 use Rattle.gq_text.specs.declared.place.Span.{Span}
-use Rattle.gq_found.specs.declared.item.Item.{Item}
-use Rattle.gq_found.specs.Puts.{Puts}
+use Rattle.gq_found.specs.declared.fault.Fault.{Fault}
+use Rattle.gq_found.specs.Adds.{AddsExactly}
 use Rattle.gq_tree.specs.Plain.{VariableOf, Val}
 use Rattle.gq_names.proofs.RepeatLemmas.{contains_none}
 use Rattle.gq_types.specs.Entries.{EntryOf}
 use Rattle.gq_values.specs.Literals.{default_at}
-use Rattle.gq_values.proofs.FoundLemmas.{from_flat, to_flat}
 use Rattle.gq_values.proofs.LiteralRules.{literal_faults_are}
 use Rattle.gq_values.proofs.DirectiveRules.{directive_faults_are}
 use Rattle.gq_document.specs.Definitions.{OperationOf, FragmentOf}
 use Rattle.gq_document.specs.Selections.{SelectedOf, operation_selections, fragment_selections, of_operation, of_fragment}
 use Rattle.gq_document.specs.Executable.{ExecutableOf, Selects}
 use Rattle.gq_document.proofs.SelectionLemmas.{operation_holds, fragment_holds}
-use Rattle.gq_fields.specs.FieldSelectionsPlaces.{unknown_field_at}
-use Rattle.gq_fields.specs.LeafFieldSelectionsPlaces.{wrong_selections_at}
-use Rattle.gq_fields.specs.ArgumentsPlaces.{wrong_arguments_at}
+use Rattle.gq_fields.specs.Helping.FieldSelectionsPlaces.{unknown_field_at}
+use Rattle.gq_fields.specs.Helping.LeafFieldSelectionsPlaces.{wrong_selections_at}
+use Rattle.gq_fields.specs.Helping.ArgumentsPlaces.{wrong_arguments_at}
 use Rattle.gq_fields.specs.Directives.{Site, IsSite, HasWrongDirective, operation_site, variable_site, fragment_site, selection_site}
 use Rattle.gq_fields.specs.Directives as site
-use Rattle.gq_fields.specs.DirectivesPlaces.{wrong_directives_at}
+use Rattle.gq_fields.specs.Helping.DirectivesPlaces.{wrong_directives_at}
 use Rattle.gq_fields.specs.Values.{HasWrongDefault}
-use Rattle.gq_fields.specs.ValuesPlaces.{wrong_value_of, wrong_default_of}
+use Rattle.gq_fields.specs.Helping.ValuesPlaces.{wrong_value_of, wrong_default_of}
 use Rattle.gq_fields.specs.FieldFaults.{IsFieldFault, unknown_field, wrong_selections, wrong_argument, wrong_directive, wrong_default}
-use Rattle.gq_fields.specs.FieldFaultsPlaces.{selection_faults, selections_faults, variable_faults, variables_faults, operation_faults, fragment_faults, operations_faults, fragments_faults, field_faults}
+use Rattle.gq_fields.specs.Helping.FieldFaultsPlaces.{selection_faults, selections_faults, variable_faults, variables_faults, operation_faults, fragment_faults, operations_faults, fragments_faults, field_faults}
 use Rattle.gq_fields.proofs.SelectionRules.{from_unknown_field, to_unknown_field, from_wrong_selections, to_wrong_selections, from_wrong_arguments, to_wrong_arguments}
+use Rattle.gq_types.proofs.Gathered.{from_flat, to_flat}
 
-module _ (x : ExecutableOf) (item : Item) where
+module _ (x : ExecutableOf) (item : Fault) where
   abbrev es : List EntryOf
   es = x.entries
 
@@ -162,5 +162,5 @@ module _ (x : ExecutableOf) (item : Item) where
   field_faults_are = (from_faults, to_faults)
 
 -- the list behind others is what is put there
-pub puts_faults : (x : ExecutableOf) (old new : List Item) → new ≡ old ++ field_faults x → Puts (IsFieldFault x) old new
+pub puts_faults : (x : ExecutableOf) (old new : List Fault) → new ≡ old ++ field_faults x → AddsExactly (IsFieldFault x) old new
 puts_faults x old new is = record { added = field_faults x; is = is; exactly = λ item. field_faults_are x item }

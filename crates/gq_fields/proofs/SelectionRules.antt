@@ -2,25 +2,26 @@
 use Rattle.std.proofs.Common.{◌≡◌, ◌≢◌, Bool, true, false, List, Contains, Option, Some, None, refl, sym, ap, subst, ◌∙◌, is_some}
 use Rattle.gq_text.specs.declared.place.Span.{Span}
 use Rattle.gq_found.specs.declared.code.Code.TheVariants.{UnknownField, WrongSelections}
-use Rattle.gq_found.specs.declared.item.Item.{Item}
+use Rattle.gq_found.specs.declared.fault.Fault.{Fault}
 use Rattle.gq_tree.specs.Plain.{Head, field, spread, inline}
 use Rattle.gq_names.proofs.RepeatLemmas.{contains_none}
 use Rattle.gq_types.specs.declared.entry.TypeKind.{TypeKind}
 use Rattle.gq_types.specs.Entries.{Text, EntryOf}
 use Rattle.gq_types.specs.Kinds.{is_composite}
 use Rattle.gq_types.specs.Joined.{kind_named}
-use Rattle.gq_values.specs.Items.{item_at}
-use Rattle.gq_values.proofs.FoundLemmas.{from_if, to_if}
+use Rattle.gq_found.specs.FaultPlaces.{fault_at}
 use Rattle.gq_values.proofs.ArgumentRules.{argument_faults_are}
-use Rattle.gq_document.specs.Selections.{FieldOf, SelectedOf, field_on, selected_field, base_name}
+use Rattle.gq_document.specs.Selections.{FieldOf, SelectedOf, field_on, selected_field}
+use Rattle.gq_tree.specs.NamedTypes.{base_name}
 use Rattle.gq_document.specs.Executable.{ExecutableOf, Selects}
 use Rattle.gq_fields.specs.SelectedFields.{SelectsField}
 use Rattle.gq_fields.specs.FieldSelections.{IsUnknownField}
-use Rattle.gq_fields.specs.FieldSelectionsPlaces.{is_unknown_where, is_unknown, unknown_field_on, unknown_field_in, unknown_field_at}
+use Rattle.gq_fields.specs.Helping.FieldSelectionsPlaces.{is_unknown_where, is_unknown, unknown_field_on, unknown_field_in, unknown_field_at}
 use Rattle.gq_fields.specs.LeafFieldSelections.{HasWrongSelections}
-use Rattle.gq_fields.specs.LeafFieldSelectionsPlaces.{differ, wrong_at_kind, wrong_of_field, wrong_selections_in, wrong_selections_at}
+use Rattle.gq_fields.specs.Helping.LeafFieldSelectionsPlaces.{differ, wrong_at_kind, wrong_of_field, wrong_selections_in, wrong_selections_at}
 use Rattle.gq_fields.specs.Arguments.{HasWrongArgument}
-use Rattle.gq_fields.specs.ArgumentsPlaces.{defined_arguments, wrong_arguments_in, wrong_arguments_at}
+use Rattle.gq_fields.specs.Helping.ArgumentsPlaces.{defined_arguments, wrong_arguments_in, wrong_arguments_at}
+use Rattle.gq_types.proofs.Gathered.{from_if, to_if}
 
 -- a type that is known, and a field that it does not have
 from_unknown : (k : Option TypeKind) (f : Option FieldOf) → is_unknown_where (is_some k) f ≡ true → (kind : TypeKind) × (k ≡ Some kind) × (f ≡ None)
@@ -41,7 +42,7 @@ to_differ true false different = refl
 to_differ false true different = refl
 to_differ false false different = absurd (different refl)
 
-module _ (x : ExecutableOf) (item : Item) where
+module _ (x : ExecutableOf) (item : Fault) where
   abbrev es : List EntryOf
   es = x.entries
 
@@ -49,7 +50,7 @@ module _ (x : ExecutableOf) (item : Item) where
   unknown_on : (one : SelectsField x) (parent : Option Text) → one.selected.parent ≡ parent → Contains (unknown_field_on es one.selected.file parent one.name) item → IsUnknownField x item
   unknown_on one None is_parent found = absurd (contains_none item found)
   unknown_on one (Some type_name) is_parent found =
-      let told = from_if (is_unknown es type_name one.name.text) (item_at one.selected.file UnknownField one.name) item found in
+      let told = from_if (is_unknown es type_name one.name.text) (fault_at one.selected.file UnknownField one.name) item found in
       let not_defined = from_unknown (kind_named es type_name) (field_on es type_name one.name.text) told.0 in
       record { one = one; type_name = type_name; is_parent = is_parent; kind = not_defined.0; is_known = not_defined.1; is_not_defined = not_defined.2; is = told.1 }
 
@@ -69,14 +70,14 @@ module _ (x : ExecutableOf) (item : Item) where
       ap (λ k. is_unknown_where (is_some k) (field_on es w.type_name w.one.name.text)) w.is_known ∙ ap (λ f. is_unknown_where true f) w.is_not_defined in
       subst (λ head. Contains (unknown_field_in es s.file s.parent head) item) (sym w.one.is_field)
       (subst (λ parent. Contains (unknown_field_on es s.file parent w.one.name) item) (sym w.is_parent)
-      (to_if (is_unknown es w.type_name w.one.name.text) (item_at s.file UnknownField w.one.name) item holds w.is))
+      (to_if (is_unknown es w.type_name w.one.name.text) (fault_at s.file UnknownField w.one.name) item holds w.is))
 
   -- section 5.3.3
   wrong_at : (one : SelectsField x) (definition : FieldOf) → selected_field es one.selected.parent one.name.text ≡ Some definition → (k : Option TypeKind) → kind_named es (base_name definition.type_ref) ≡ k →
       Contains (wrong_at_kind one.selected.file one.name (is_some one.braces) k) item → HasWrongSelections x item
   wrong_at one definition is_defined None is_known found = absurd (contains_none item found)
   wrong_at one definition is_defined (Some kind) is_known found =
-      let told = from_if (differ (is_some one.braces) (is_composite kind)) (item_at one.selected.file WrongSelections one.name) item found in
+      let told = from_if (differ (is_some one.braces) (is_composite kind)) (fault_at one.selected.file WrongSelections one.name) item found in
       record { one = one; definition = definition; is_defined = is_defined; kind = kind; is_known = is_known; is_wrong = from_differ (is_some one.braces) (is_composite kind) told.0; is = told.1 }
 
   wrong_of : (one : SelectsField x) (o : Option FieldOf) → selected_field es one.selected.parent one.name.text ≡ o → Contains (wrong_of_field es one.selected.file one.name (is_some one.braces) o) item → HasWrongSelections x item
@@ -100,7 +101,7 @@ module _ (x : ExecutableOf) (item : Item) where
       subst (λ head. Contains (wrong_selections_in es s head) item) (sym w.one.is_field)
       (subst (λ o. Contains (wrong_of_field es s.file w.one.name has_set o) item) (sym w.is_defined)
       (subst (λ k. Contains (wrong_at_kind s.file w.one.name has_set k) item) (sym w.is_known)
-      (to_if (differ has_set (is_composite w.kind)) (item_at s.file WrongSelections w.one.name) item (to_differ has_set (is_composite w.kind) w.is_wrong) w.is)))
+      (to_if (differ has_set (is_composite w.kind)) (fault_at s.file WrongSelections w.one.name) item (to_differ has_set (is_composite w.kind) w.is_wrong) w.is)))
 
   -- sections 5.4 and 5.6
   arguments_in : (s : SelectedOf) → Selects x s → (head : Head Span) → s.selection.label ≡ head → Contains (wrong_arguments_in es s head) item → HasWrongArgument x item

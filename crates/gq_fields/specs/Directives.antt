@@ -2,7 +2,7 @@
 -- repeatable (section 5.7); its arguments are those of its definition, and of their types (sections 5.4 and 5.6).
 use Rattle.std.specs.Prelude.{ℕ, List, [], Contains}
 use Rattle.gq_text.specs.declared.place.Span.{Span}
-use Rattle.gq_found.specs.declared.item.Item.{Item}
+use Rattle.gq_found.specs.declared.fault.Fault.{Fault}
 use Rattle.gq_tree.specs.declared.tree.OperationKind.{OperationKind}
 use Rattle.gq_tree.specs.declared.tree.OperationKind.TheVariants as operation
 use Rattle.gq_tree.specs.declared.type_system.DirectiveLocation.{DirectiveLocation}
@@ -55,7 +55,7 @@ pub data IsSite (x : ExecutableOf) : Site → Type 0 where
   of_selection : {s : SelectedOf} → Selects x s → IsSite x (selection_site s)
 
 -- what is wrong with the directives at one of them
-pub record HasWrongDirective (x : ExecutableOf) (item : Item) : Type 0 where
+pub record HasWrongDirective (x : ExecutableOf) (item : Fault) : Type 0 where
   pub site : Site
   pub stands : IsSite x site
   pub fault : IsDirectiveFault x.entries site.file site.location [] site.directives item

@@ -1,13 +1,8 @@
 pub mod SelectedFields
 pub mod FieldSelections
-pub mod FieldSelectionsPlaces
 pub mod LeafFieldSelections
-pub mod LeafFieldSelectionsPlaces
 pub mod Arguments
-pub mod ArgumentsPlaces
 pub mod Directives
-pub mod DirectivesPlaces
 pub mod Values
-pub mod ValuesPlaces
 pub mod FieldFaults
-pub mod FieldFaultsPlaces
+pub mod Helping

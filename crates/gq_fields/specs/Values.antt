@@ -1,7 +1,7 @@
 -- Values: the default value of a variable is of the variable's type, where that is known and an input type (section 5.6).
 use Rattle.std.specs.Prelude.{◌≡◌, Some, Contains}
 use Rattle.gq_text.specs.declared.place.Span.{Span}
-use Rattle.gq_found.specs.declared.item.Item.{Item}
+use Rattle.gq_found.specs.declared.fault.Fault.{Fault}
 use Rattle.gq_tree.specs.Plain.{VariableOf, Val}
 use Rattle.gq_document.specs.Definitions.{OperationOf}
 use Rattle.gq_document.specs.Executable.{ExecutableOf}
@@ -9,7 +9,7 @@ use Rattle.gq_values.specs.Literals.{default_at}
 use Rattle.gq_values.specs.LiteralFaults.{IsLiteralFault}
 
 -- what is wrong with a default value, or with a literal in it
-pub record HasWrongDefault (x : ExecutableOf) (item : Item) : Type 0 where
+pub record HasWrongDefault (x : ExecutableOf) (item : Fault) : Type 0 where
   pub operation : OperationOf
   pub stands : Contains x.operations operation
   pub variable : VariableOf Span

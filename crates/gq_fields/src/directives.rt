@@ -2,18 +2,18 @@
 ghost use Rattle.std.specs.Prelude.{◌≡◌, ◌++◌, [], OnOk, map};
 ghost use Rattle.gq_tree.specs.Views.{directive_view};
 ghost use Rattle.gq_types.specs.Look.{types_view};
-ghost use Rattle.gq_values.specs.DirectivePlaces.{directive_faults};
+ghost use Rattle.gq_values.specs.Helping.DirectivePlaces.{directive_faults};
 ghost use Rattle.gq_document.specs.Views.{selected_view};
 ghost use Rattle.gq_fields.specs.Directives.{operation_location, selection_site};
-ghost use Rattle.gq_fields.specs.DirectivesPlaces.{wrong_directives_at};
+ghost use Rattle.gq_fields.specs.Helping.DirectivesPlaces.{wrong_directives_at};
 
 use gq_document::Selected;
-use gq_found::Item;
+use gq_found::Fault;
 use gq_names::NameList;
 use gq_text::NoMemory;
 use gq_tree::{Directive, DirectiveLocation, OperationKind, Selection};
 use gq_types::Types;
-use gq_values::put_directive_faults;
+use gq_values::add_directive_faults;
 use std::alloc::Global;
 
 /// Where the directives on an operation of that kind stand.
@@ -27,47 +27,55 @@ pub(crate) fn operation_location(kind: OperationKind) -> DirectiveLocation
     }
 }
 
-/// Puts an item for each fault of the directives at one place. Most places have none.
-pub(crate) fn put_wrong_directives(
+/// Adds each fault of the directives at one place. Most places have none.
+pub(crate) fn add_wrong_directives(
     alloc: Global,
     types: &Types,
     file: usize,
     location: DirectiveLocation,
     directives: &[Directive],
-    items: &mut Vec<Item>,
+    faults: &mut Vec<Fault>,
 ) -> Result<(), NoMemory>
-    ensures { OnOk result (items.new.items ≡ items.old.items ++ directive_faults (types_view types.now) file location [] (map directive_view directives.now)) }
+    ensures { OnOk result (faults.new.items ≡ faults.old.items ++ directive_faults (types_view types.now) file location [] (map directive_view directives.now)) }
 {
     if directives.is_empty() {
         return Ok(());
     }
     let mut before = NameList::new(alloc);
-    put_directive_faults(alloc, types, file, location, &mut before, directives, items)
+    add_directive_faults(
+        alloc,
+        types,
+        file,
+        location,
+        &mut before,
+        directives,
+        faults,
+    )
 }
 
-/// Puts an item for each fault of the directives on a selection.
+/// Adds each fault of the directives on a selection.
 #[tactic(auto, using(gq_tree::proofs::Trees::gathers))]
-pub(crate) fn put_wrong_directives_of_selection(
+pub(crate) fn add_wrong_directives_of_selection(
     alloc: Global,
     types: &Types,
     selected: &Selected<'_>,
-    items: &mut Vec<Item>,
+    faults: &mut Vec<Fault>,
 ) -> Result<(), NoMemory>
-    ensures { OnOk result (items.new.items ≡ items.old.items ++ wrong_directives_at (types_view types.now) (selection_site (selected_view selected.now))) }
+    ensures { OnOk result (faults.new.items ≡ faults.old.items ++ wrong_directives_at (types_view types.now) (selection_site (selected_view selected.now))) }
 {
     let file = selected.file;
     match selected.selection {
         Selection::Field(field) => {
             let location = DirectiveLocation::Field;
-            put_wrong_directives(alloc, types, file, location, &field.directives, items)
+            add_wrong_directives(alloc, types, file, location, &field.directives, faults)
         }
         Selection::Spread(spread) => {
             let location = DirectiveLocation::FragmentSpread;
-            put_wrong_directives(alloc, types, file, location, &spread.directives, items)
+            add_wrong_directives(alloc, types, file, location, &spread.directives, faults)
         }
         Selection::Inline(inline) => {
             let location = DirectiveLocation::InlineFragment;
-            put_wrong_directives(alloc, types, file, location, &inline.directives, items)
+            add_wrong_directives(alloc, types, file, location, &inline.directives, faults)
         }
     }
 }

@@ -6,8 +6,7 @@ mod arguments;
 mod directives;
 pub mod field_faults;
 mod field_selections;
-mod items;
 mod leaf_field_selections;
 mod values;
 
-pub use field_faults::put_field_faults;
+pub use field_faults::add_field_faults;

@@ -1,24 +1,24 @@
--- The derived order of items is the one that is meant, and equal items are the same.
+-- The derived order of faults is the one that is meant, and equal faults are the same.
 use Rattle.std.proofs.Common.{◌≡◌, Bool, true, false, ◌&&◌, nat_eq, List, refl, subst, eqb-true}
 use Rattle.std.specs.List.Sorted.{IsStrictlySortedBy}
-use Rattle.gq_found.specs.contracts.item.ItemOrd.TheImpl as item_order
-use Rattle.gq_found.specs.contracts.item.ItemPartialEq.TheImpl as item_equality
+use Rattle.gq_found.specs.contracts.fault.FaultOrd.TheImpl as item_order
+use Rattle.gq_found.specs.contracts.fault.FaultPartialEq.TheImpl as item_equality
 use Rattle.gq_found.specs.contracts.code.CodePartialEq.TheImpl as code_equality
-use Rattle.gq_found.specs.declared.item.Item.{Item}
-use Rattle.gq_found.specs.Order.{item_cmp}
+use Rattle.gq_found.specs.declared.fault.Fault.{Fault}
+use Rattle.gq_found.specs.Order.{fault_cmp}
 use Rattle.gq_found.proofs.CodeLemmas.{same_code}
 
-cmp_is : (x y : Item) → item_order.ghosts.cmp x y ≡ item_cmp x y
+cmp_is : (x y : Fault) → item_order.ghosts.cmp x y ≡ fault_cmp x y
 cmp_is x y = refl
 
-pub by_item_cmp : (xs : List Item) → IsStrictlySortedBy (λ x y. item_order.ghosts.cmp x y) xs → IsStrictlySortedBy item_cmp xs
+pub by_item_cmp : (xs : List Fault) → IsStrictlySortedBy (λ x y. item_order.ghosts.cmp x y) xs → IsStrictlySortedBy fault_cmp xs
 by_item_cmp xs h = subst (λ r. IsStrictlySortedBy r xs) (λ i x y. cmp_is x y i) h
 
 both : (a b : Bool) → (a && b) ≡ true → (a ≡ true) × (b ≡ true)
 both true b h = (refl, h)
 both false b h = absurd (cc)
 
-pub same_item : (x y : Item) → item_equality.ghosts.eq x y ≡ true → x ≡ y
+pub same_item : (x y : Fault) → item_equality.ghosts.eq x y ≡ true → x ≡ y
 same_item x y h =
     let a = both (nat_eq x.file y.file) (nat_eq x.start y.start && (code_equality.ghosts.eq x.code y.code && nat_eq x.end y.end)) h in
     let b = both (nat_eq x.start y.start) (code_equality.ghosts.eq x.code y.code && nat_eq x.end y.end) a.1 in

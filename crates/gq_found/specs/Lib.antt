@@ -1,5 +1,6 @@
 pub mod Codes
 pub mod Laws
-pub mod Puts
+pub mod Adds
 pub mod Order
 pub mod Tells
+pub mod FaultPlaces

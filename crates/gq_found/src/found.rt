@@ -1,10 +1,9 @@
-//! What is told of an item: the key of its document, its place, and the rule.
+//! What is told of a fault: the key of its document, its place, and the rule.
 ghost use Rattle.std.specs.Prelude.{◌≡◌, ◌<◌, length, IfOk};
-ghost use Rattle.gq_found.specs.Codes.{words_of};
 ghost use Rattle.gq_found.specs.Tells.{found_of, told};
 
 use crate::code::Code;
-use crate::item::Item;
+use crate::fault::Fault;
 use gq_project::Doc;
 use gq_text::{Items, NoMemory, OwnedText, Span};
 use std::alloc::Global;
@@ -17,39 +16,30 @@ pub struct Found {
     pub code: Code,
 }
 
-impl Found {
-    /// What is wrong, in a few words.
-    pub fn words(&self) -> &'static str
-        ensures { result.now ≡ words_of self.now.code }
-    {
-        self.code.words()
-    }
-}
-
-/// The items, each with the key of its document in place of its number. An item of no document is passed over: without
+/// The faults, each with the key of its document in place of its number. A fault of no document is passed over: without
 /// documents there is no place to tell of.
-pub fn found_at(alloc: Global, items: &[Item], documents: &[Doc]) -> Result<Vec<Found>, NoMemory>
-    ensures { IfOk result (λ found. found.items ≡ told documents.now items.now) }
+pub fn found_at(alloc: Global, faults: &[Fault], documents: &[Doc]) -> Result<Vec<Found>, NoMemory>
+    ensures { IfOk result (λ found. found.items ≡ told documents.now faults.now) }
 {
     let mut all = Items::new(alloc);
-    for item in items {
-        if item.file < documents.len() {
-            all.push(found_one(alloc, item, documents)?)?;
+    for fault in faults {
+        if fault.file < documents.len() {
+            all.push(found_one(alloc, fault, documents)?)?;
         }
     }
     Ok(all.into_vec())
 }
 
-fn found_one(alloc: Global, item: &Item, documents: &[Doc]) -> Result<Found, NoMemory>
-    requires { item.now.file < length documents.now }
-    ensures { IfOk result (λ found. found ≡ found_of documents.now item.now) }
+fn found_one(alloc: Global, fault: &Fault, documents: &[Doc]) -> Result<Found, NoMemory>
+    requires { fault.now.file < length documents.now }
+    ensures { IfOk result (λ found. found ≡ found_of documents.now fault.now) }
 {
     Ok(Found {
-        key: documents[item.file].key.copied(alloc)?,
+        key: documents[fault.file].key.copied(alloc)?,
         span: Span {
-            start: item.start,
-            end: item.end,
+            start: fault.start,
+            end: fault.end,
         },
-        code: item.code,
+        code: fault.code,
     })
 }

@@ -2,12 +2,14 @@
 #![tactic(auto)]
 
 pub mod code;
+pub mod fault;
+pub mod fault_places;
 pub mod found;
-pub mod item;
 pub mod laws;
 pub mod order;
 
 pub use code::Code;
+pub use fault::Fault;
+pub use fault_places::{add_fault, add_fault_at, fault_at, fault_over, first_bytes};
 pub use found::{Found, found_at};
-pub use item::Item;
 pub use order::put_in_order;

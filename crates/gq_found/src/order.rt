@@ -1,15 +1,15 @@
-//! Items in order, each once.
+//! Faults in order, each once.
 ghost use Rattle.std.specs.Prelude.{◌↔◌, Contains};
 ghost use Rattle.std.specs.List.Sorted.{IsStrictlySortedBy};
-ghost use Rattle.gq_found.specs.Order.{item_cmp};
+ghost use Rattle.gq_found.specs.Order.{fault_cmp};
 
-use crate::item::Item;
+use crate::fault::Fault;
 
-/// Puts the items in order, each once. It takes no memory.
-pub fn put_in_order(items: &mut Vec<Item>)
-    ensures sorted { IsStrictlySortedBy item_cmp items.new.items }
-    ensures same { (item : _) → Contains items.new.items item ↔ Contains items.old.items item }
+/// Adds the faults in order, each once. It takes no memory.
+pub fn put_in_order(faults: &mut Vec<Fault>)
+    ensures sorted { IsStrictlySortedBy fault_cmp faults.new.items }
+    ensures same { (fault : _) → Contains faults.new.items fault ↔ Contains faults.old.items fault }
 {
-    items.sort_unstable();
-    items.dedup();
+    faults.sort_unstable();
+    faults.dedup();
 }

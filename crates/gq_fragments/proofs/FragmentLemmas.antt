@@ -7,17 +7,17 @@ use Rattle.gq_tree.specs.Plain.{NameOf, Head, field, spread, inline}
 use Rattle.gq_names.specs.Repeats.{repeated}
 use Rattle.gq_names.proofs.RepeatLemmas.{contains_none, contains_first, repeated_is}
 use Rattle.gq_found.specs.declared.code.Code.TheVariants.{FragmentNameNotUnique, UnknownTypeCondition, ConditionNotComposite, SpreadNotPossible}
-use Rattle.gq_found.specs.declared.item.Item.{Item}
+use Rattle.gq_found.specs.declared.fault.Fault.{Fault}
 use Rattle.gq_types.specs.declared.entry.TypeKind.{TypeKind}
 use Rattle.gq_types.specs.Entries.{Text, EntryOf}
 use Rattle.gq_types.specs.Kinds.{is_composite}
 use Rattle.gq_types.specs.Joined.{kind_named}
-use Rattle.gq_types.proofs.Gathered.{from_flat, to_flat, and_parts, and_both, not_true}
+use Rattle.gq_types.proofs.Gathered.{from_flat, to_flat, and_parts, and_both, not_true, only, from_if, to_if, from_map_as as from_map, to_map_as as to_map}
 use Rattle.gq_document.specs.Definitions.{FragmentOf}
 use Rattle.gq_document.specs.Selections.{SelectedOf}
 use Rattle.gq_document.specs.Executable.{ExecutableOf, Selects}
 use Rattle.gq_spreads.specs.Spreads.{places_from}
-use Rattle.gq_fragments.specs.Items.{item_over, item_at, first_bytes}
+use Rattle.gq_found.specs.FaultPlaces.{fault_over, fault_at, first_bytes}
 use Rattle.gq_fragments.specs.TypeConditions.{IsTypeCondition}
 use Rattle.gq_fragments.specs.TypeConditions as condition
 use Rattle.gq_fragments.specs.FragmentNameUniqueness.{IsRepeatedFragmentName}
@@ -27,8 +27,8 @@ use Rattle.gq_fragments.specs.FragmentSpreadIsPossible.{HaveNoObject, IsSpread, 
 use Rattle.gq_fragments.specs.FragmentSpreadIsPossible as spreads
 use Rattle.gq_fragments.specs.FragmentFaults.{IsFragmentFault}
 use Rattle.gq_fragments.specs.FragmentFaults as fault
-use Rattle.gq_fragments.specs.FragmentPlaces.{name_texts, repeated_names, condition_of_kind, condition_faults, conditions_in, condition_of_selected, conditions_of_selections, condition_of_fragment, conditions_of_fragments, share_object, is_impossible, impossible_under, impossible_in, impossible_numbered, impossible_by, impossible_at, impossible_spreads, selections, faults_of_selections, fragment_faults}
-use Rattle.gq_fragments.proofs.FoundLemmas.{only, from_if, to_if, from_map, to_map, found_some, number_of, contained}
+use Rattle.gq_fragments.specs.Helping.FragmentPlaces.{name_texts, repeated_names, condition_of_kind, condition_faults, conditions_in, condition_of_selected, conditions_of_selections, condition_of_fragment, conditions_of_fragments, share_object, is_impossible, impossible_under, impossible_in, impossible_numbered, impossible_by, impossible_at, impossible_spreads, selections, faults_of_selections, fragment_faults}
+use Rattle.gq_fragments.proofs.FoundLemmas.{found_some, number_of, contained}
 use Rattle.gq_fragments.proofs.SharedLemmas.{share_decides}
 use Rattle.gq_fragments.proofs.SpreadLemmas.{from_places, to_places, from_selections, to_selections}
 
@@ -57,29 +57,29 @@ to_impossible es parent condition w =
     by_shared true is = let s = (share_decides es parent condition).0 is in absurd (w.none_is_possible s.0 s.1 s.2)
     by_shared false is = refl
 
-module _ (x : ExecutableOf) (item : Item) where
+module _ (x : ExecutableOf) (item : Fault) where
   -- names of fragments
   repeated_is_fault : Contains (repeated_names [] x.fragments) item → IsFragmentFault x item
   repeated_is_fault found =
-      let one = from_map (λ f. item_at f.file FragmentNameNotUnique f.name) (repeated (λ f. f.name.text) x.fragments) item found in
+      let one = from_map (λ f. fault_at f.file FragmentNameNotUnique f.name) (repeated (λ f. f.name.text) x.fragments) item found in
       fault.repeated_fragment_name (record { later = one.0; is_repeated = (repeated_is (λ (f : FragmentOf). f.name.text) x.fragments one.0).0 one.1; is = one.2 })
 
   to_repeated : IsRepeatedFragmentName x item → Contains (repeated_names [] x.fragments) item
   to_repeated w =
-      to_map (λ f. item_at f.file FragmentNameNotUnique f.name) (repeated (λ f. f.name.text) x.fragments) w.later item
+      to_map (λ f. fault_at f.file FragmentNameNotUnique f.name) (repeated (λ f. f.name.text) x.fragments) w.later item
       ((repeated_is (λ (f : FragmentOf). f.name.text) x.fragments w.later).1 w.is_repeated) w.is
 
   -- type conditions
   condition_is_fault : (file : ℕ) (name : NameOf Span) → IsTypeCondition x file name → (o : Option TypeKind) → kind_named x.entries name.text ≡ o →
       Contains (condition_of_kind file name o) item → IsFragmentFault x item
   condition_is_fault file name is None unknown found =
-      fault.unknown_condition (record { file = file; name = name; is_condition = is; is_unknown = unknown; is = only (item_at file UnknownTypeCondition name) item found })
+      fault.unknown_condition (record { file = file; name = name; is_condition = is; is_unknown = unknown; is = only (fault_at file UnknownTypeCondition name) item found })
   condition_is_fault file name is (Some kind) known found = by_composite (is_composite kind) refl found
     where
-      by_composite : (b : Bool) → is_composite kind ≡ b → Contains (if b then [] else item_at file ConditionNotComposite name ∷ []) item → IsFragmentFault x item
+      by_composite : (b : Bool) → is_composite kind ≡ b → Contains (if b then [] else fault_at file ConditionNotComposite name ∷ []) item → IsFragmentFault x item
       by_composite true composite told = absurd (contains_none item told)
       by_composite false composite told = fault.condition_not_composite
-          (record { file = file; name = name; is_condition = is; kind = kind; is_known = known; is_not_composite = composite; is = only (item_at file ConditionNotComposite name) item told })
+          (record { file = file; name = name; is_condition = is; kind = kind; is_known = known; is_not_composite = composite; is = only (fault_at file ConditionNotComposite name) item told })
 
   fragment_condition_is_fault : Contains (conditions_of_fragments x.entries x.fragments) item → IsFragmentFault x item
   fragment_condition_is_fault found =
@@ -98,7 +98,7 @@ module _ (x : ExecutableOf) (item : Item) where
       let one = from_flat (condition_of_selected x.entries) (selections x) item found in
       selected_condition_is_fault one.0 (from_selections x one.0 one.1) one.0.selection.label refl one.2
 
-  -- where an item stands among all
+  -- where a fault stands among all
   in_conditions_of_fragments : Contains (conditions_of_fragments x.entries x.fragments) item → Contains (fragment_faults x) item
   in_conditions_of_fragments c =
       Contains-append_right (repeated_names [] x.fragments) (conditions_of_fragments x.entries x.fragments ++ faults_of_selections x (selections x)) item
@@ -123,19 +123,19 @@ module _ (x : ExecutableOf) (item : Item) where
 
   to_unknown : IsUnknownCondition x item → Contains (fragment_faults x) item
   to_unknown w = to_condition w.is_condition
-      (subst (λ o. Contains (condition_of_kind w.file w.name o) item) (sym w.is_unknown) (contains_first (item_at w.file UnknownTypeCondition w.name) [] item (sym w.is)))
+      (subst (λ o. Contains (condition_of_kind w.file w.name o) item) (sym w.is_unknown) (contains_first (fault_at w.file UnknownTypeCondition w.name) [] item (sym w.is)))
 
   to_not_composite : IsConditionNotComposite x item → Contains (fragment_faults x) item
   to_not_composite w = to_condition w.is_condition
       (subst (λ o. Contains (condition_of_kind w.file w.name o) item) (sym w.is_known)
-      (subst (λ b. Contains (if b then [] else item_at w.file ConditionNotComposite w.name ∷ []) item) (sym w.is_not_composite) (contains_first (item_at w.file ConditionNotComposite w.name) [] item (sym w.is))))
+      (subst (λ b. Contains (if b then [] else fault_at w.file ConditionNotComposite w.name ∷ []) item) (sym w.is_not_composite) (contains_first (fault_at w.file ConditionNotComposite w.name) [] item (sym w.is))))
 
   -- spreads
   impossible_is_fault : (s : SelectedOf) → Selects x s → (type_name : Text) (place : Span) → IsSpread x.fragments s.selection.label type_name place → (o : Option Text) → s.parent ≡ o →
       Contains (impossible_under x.entries s.file place o type_name) item → IsFragmentFault x item
   impossible_is_fault s selects type_name place is None below found = absurd (contains_none item found)
   impossible_is_fault s selects type_name place is (Some parent) below found =
-      let told = from_if (is_impossible x.entries parent type_name) (item_over s.file SpreadNotPossible place) item found in
+      let told = from_if (is_impossible x.entries parent type_name) (fault_over s.file SpreadNotPossible place) item found in
       fault.spread_not_possible (record {
         selected = s;
         is_selected = selects;
@@ -176,7 +176,7 @@ module _ (x : ExecutableOf) (item : Item) where
 
   to_spread : IsSpreadNotPossible x item → Contains (fragment_faults x) item
   to_spread w =
-      let told = to_if (is_impossible x.entries w.parent w.condition) (item_over w.selected.file SpreadNotPossible w.place) item (to_impossible x.entries w.parent w.condition w.have_no_object) w.is in
+      let told = to_if (is_impossible x.entries w.parent w.condition) (fault_over w.selected.file SpreadNotPossible w.place) item (to_impossible x.entries w.parent w.condition w.have_no_object) w.is in
       let below = subst (λ o. Contains (impossible_under x.entries w.selected.file w.place o w.condition) item) (sym w.is_below) told in
       in_impossible_spreads (to_flat (impossible_at x.entries x.fragments) (selections x) w.selected item (to_selections x w.selected w.is_selected) (to_by_head w.selected w.is_spread below))
 

@@ -14,13 +14,13 @@ use Rattle.gq_types.specs.Entries.{Text, EntryOf}
 use Rattle.gq_types.specs.Joined.{kind_named, type_number, is_type_named}
 use Rattle.gq_types.specs.LookUps.{has_kind}
 use Rattle.gq_types.specs.Possible.{IsPossible, itself, member, declaring}
-use Rattle.gq_types.specs.PossiblePlaces.{possible_texts}
+use Rattle.gq_types.specs.Helping.PossiblePlaces.{possible_texts}
 use Rattle.gq_types.specs.SubtypesTests.{is_possible}
 use Rattle.gq_types.proofs.Gathered.{and_parts, from_any, to_any}
 use Rattle.gq_types.proofs.KindLemmas.{has_kind_decides}
 use Rattle.gq_types.proofs.PossibleLemmas.{possible_texts_are}
 use Rattle.gq_types.proofs.SubtypeLemmas.{possible_decides}
-use Rattle.gq_fragments.specs.FragmentPlaces.{share_object}
+use Rattle.gq_fragments.specs.Helping.FragmentPlaces.{share_object}
 use Rattle.gq_fragments.specs.SharedObjectsPlaces.{same_pair, IsAnswer, AreAnswers}
 
 -- an object type is possible for both

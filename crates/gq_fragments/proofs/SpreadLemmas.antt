@@ -13,7 +13,7 @@ use Rattle.gq_document.specs.Selections.{SelectedOf, of_operation, of_fragment, 
 use Rattle.gq_document.specs.Executable.{ExecutableOf, Selects}
 use Rattle.gq_document.proofs.SelectionLemmas.{operation_holds, fragment_holds}
 use Rattle.gq_spreads.specs.Spreads.{places_from}
-use Rattle.gq_fragments.specs.FragmentPlaces.{name_texts, selections}
+use Rattle.gq_fragments.specs.Helping.FragmentPlaces.{name_texts, selections}
 
 -- a fragment of that name at a number
 pub record IsNumbered (fs : List FragmentOf) (text : Text) (number : ℕ) : Type 0 where

@@ -4,7 +4,7 @@ use Rattle.std.specs.Prelude.{◌≡◌, List, Some, Contains}
 use Rattle.gq_text.specs.declared.place.Span.{Span}
 use Rattle.gq_tree.specs.Plain.{NameOf, DirectiveOf, Head, spread, inline}
 use Rattle.gq_found.specs.declared.code.Code.TheVariants.{SpreadNotPossible}
-use Rattle.gq_found.specs.declared.item.Item.{Item}
+use Rattle.gq_found.specs.declared.fault.Fault.{Fault}
 use Rattle.gq_types.specs.declared.entry.TypeKind.{TypeKind}
 use Rattle.gq_types.specs.Entries.{Text, EntryOf}
 use Rattle.gq_types.specs.Joined.{kind_named}
@@ -12,7 +12,7 @@ use Rattle.gq_types.specs.Possible.{IsPossible}
 use Rattle.gq_document.specs.Definitions.{FragmentOf}
 use Rattle.gq_document.specs.Selections.{SelectedOf}
 use Rattle.gq_document.specs.Executable.{ExecutableOf, Selects}
-use Rattle.gq_fragments.specs.Items.{item_over, first_bytes}
+use Rattle.gq_found.specs.FaultPlaces.{fault_over, first_bytes}
 
 -- Both are names of types, and no object type is possible for both.
 pub record HaveNoObject (es : List EntryOf) (parent condition : Text) : Type 0 where
@@ -31,7 +31,7 @@ pub data IsSpread (fs : List FragmentOf) : Head Span → (condition : Text) → 
       IsSpread fs (inline (Some condition) directives braces place) condition.text (first_bytes 3 place)
 
 -- a spread where the type of the parent and the type condition have no object type in common
-pub record IsSpreadNotPossible (x : ExecutableOf) (item : Item) : Type 0 where
+pub record IsSpreadNotPossible (x : ExecutableOf) (fault : Fault) : Type 0 where
   pub selected : SelectedOf
   pub is_selected : Selects x selected
   pub parent : Text
@@ -40,4 +40,4 @@ pub record IsSpreadNotPossible (x : ExecutableOf) (item : Item) : Type 0 where
   pub place : Span
   pub is_spread : IsSpread x.fragments selected.selection.label condition place
   pub have_no_object : HaveNoObject x.entries parent condition
-  pub is : item ≡ item_over selected.file SpreadNotPossible place
+  pub is : fault ≡ fault_over selected.file SpreadNotPossible place

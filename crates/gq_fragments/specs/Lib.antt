@@ -1,16 +1,14 @@
-pub mod Items
 pub mod OperationPlace
 pub mod SubscriptionOperation
 pub mod RootOperationTypes
 pub mod OperationNameUniqueness
 pub mod LoneAnonymousOperation
 pub mod OperationFaults
-pub mod OperationPlaces
 pub mod TypeConditions
 pub mod FragmentNameUniqueness
 pub mod FragmentSpreadTypeExistence
 pub mod FragmentsOnCompositeTypes
 pub mod FragmentSpreadIsPossible
 pub mod FragmentFaults
-pub mod FragmentPlaces
 pub mod SharedObjectsPlaces
+pub mod Helping

@@ -4,10 +4,10 @@ use Rattle.gq_text.specs.declared.place.Span.{Span}
 use Rattle.gq_tree.specs.Plain.{NameOf}
 use Rattle.gq_names.specs.Repeats.{IsRepeated}
 use Rattle.gq_found.specs.declared.code.Code.TheVariants.{OperationNameNotUnique}
-use Rattle.gq_found.specs.declared.item.Item.{Item}
+use Rattle.gq_found.specs.declared.fault.Fault.{Fault}
 use Rattle.gq_document.specs.Definitions.{OperationOf}
 use Rattle.gq_document.specs.Executable.{ExecutableOf}
-use Rattle.gq_fragments.specs.Items.{item_at}
+use Rattle.gq_found.specs.FaultPlaces.{fault_at}
 
 -- the name of an operation, and the number of its document
 pub record OperationName : Type 0 where
@@ -23,7 +23,7 @@ abbrev pub operation_names : List OperationOf → List OperationName
 operation_names os = flat_map (λ o. names_in o.file o.name) os
 
 -- a name that an earlier operation has
-pub record IsRepeatedOperationName (x : ExecutableOf) (item : Item) : Type 0 where
+pub record IsRepeatedOperationName (x : ExecutableOf) (fault : Fault) : Type 0 where
   pub later : OperationName
   pub is_repeated : IsRepeated (λ n. n.name.text) (operation_names x.operations) later
-  pub is : item ≡ item_at later.file OperationNameNotUnique later.name
+  pub is : fault ≡ fault_at later.file OperationNameNotUnique later.name

@@ -3,7 +3,7 @@ use Rattle.std.specs.Prelude.{◌≡◌, ℕ, Bool, List, Some, ◌&&◌, nat_eq
 use Rattle.std.specs.HashMap.{HashMap, get}
 use Rattle.gq_types.specs.Entries.{Text, EntryOf}
 use Rattle.gq_types.specs.Joined.{type_number}
-use Rattle.gq_fragments.specs.FragmentPlaces.{share_object}
+use Rattle.gq_fragments.specs.Helping.FragmentPlaces.{share_object}
 
 -- two numbers are the same as two others
 abbrev pub same_pair : ℕ × ℕ → ℕ × ℕ → Bool

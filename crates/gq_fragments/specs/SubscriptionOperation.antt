@@ -2,15 +2,15 @@
 use Rattle.std.specs.Prelude.{◌≡◌, Contains}
 use Rattle.gq_tree.specs.declared.tree.OperationKind.TheVariants.{Subscription}
 use Rattle.gq_found.specs.declared.code.Code.TheVariants.{SubscriptionOperation}
-use Rattle.gq_found.specs.declared.item.Item.{Item}
+use Rattle.gq_found.specs.declared.fault.Fault.{Fault}
 use Rattle.gq_document.specs.Definitions.{OperationOf}
 use Rattle.gq_document.specs.Executable.{ExecutableOf}
-use Rattle.gq_fragments.specs.Items.{item_over}
+use Rattle.gq_found.specs.FaultPlaces.{fault_over}
 use Rattle.gq_fragments.specs.OperationPlace.{operation_place}
 
 -- a subscription
-pub record IsSubscription (x : ExecutableOf) (item : Item) : Type 0 where
+pub record IsSubscription (x : ExecutableOf) (fault : Fault) : Type 0 where
   pub operation : OperationOf
   pub stands : Contains x.operations operation
   pub is_subscription : operation.kind ≡ Subscription
-  pub is : item ≡ item_over operation.file SubscriptionOperation (operation_place operation)
+  pub is : fault ≡ fault_over operation.file SubscriptionOperation (operation_place operation)

@@ -1,30 +1,29 @@
 //! Fragments whose name an earlier fragment has (GraphQL, October 2021, section 5.5.1.1).
 ghost use Rattle.std.specs.Prelude.{◌≡◌, ◌++◌, [], OnOk};
 ghost use Rattle.gq_document.specs.Definitions.{fragments_view};
-ghost use Rattle.gq_fragments.specs.FragmentPlaces.{repeated_names};
+ghost use Rattle.gq_fragments.specs.Helping.FragmentPlaces.{repeated_names};
 
-use crate::items::{item_at, put};
 use gq_document::FragmentEntry;
-use gq_found::{Code, Item};
+use gq_found::{Code, Fault, add_fault, fault_at};
 use gq_names::NameList;
 use gq_text::NoMemory;
 use std::alloc::Global;
 
 /// Each name of a fragment that an earlier fragment has.
-pub(crate) fn put_repeated_names(
+pub(crate) fn add_repeated_names(
     alloc: Global,
     fragments: &[FragmentEntry],
-    items: &mut Vec<Item>,
+    faults: &mut Vec<Fault>,
 ) -> Result<(), NoMemory>
-    ensures { OnOk result (items.new.items ≡ items.old.items ++ repeated_names [] (fragments_view fragments.now)) }
+    ensures { OnOk result (faults.new.items ≡ faults.old.items ++ repeated_names [] (fragments_view fragments.now)) }
 {
     let mut before = NameList::new(alloc);
     for fragment in fragments {
         let name = &fragment.definition.name;
         if !before.push(name.text.as_str())? {
-            put(
-                item_at(fragment.file, Code::FragmentNameNotUnique, name),
-                items,
+            add_fault(
+                fault_at(fragment.file, Code::FragmentNameNotUnique, name),
+                faults,
             )?;
         }
     }

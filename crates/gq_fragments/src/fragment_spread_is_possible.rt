@@ -5,13 +5,12 @@ ghost use Rattle.gq_tree.specs.Views.{name_of};
 ghost use Rattle.gq_types.specs.Look.{types_view};
 ghost use Rattle.gq_document.specs.Definitions.{fragments_view};
 ghost use Rattle.gq_document.specs.Views.{selected_view, selections_view};
-ghost use Rattle.gq_fragments.specs.FragmentPlaces.{name_texts, is_impossible, impossible_in, impossible_numbered, impossible_among, impossible_spread, impossible_at, impossible_spreads};
+ghost use Rattle.gq_fragments.specs.Helping.FragmentPlaces.{name_texts, is_impossible, impossible_in, impossible_numbered, impossible_among, impossible_spread, impossible_at, impossible_spreads};
 ghost use Rattle.gq_fragments.specs.SharedObjectsPlaces.{AreAnswers};
 
-use crate::items::{first_bytes, item_over, put};
 use crate::shared_objects::SharedObjects;
 use gq_document::{Executable, Selected};
-use gq_found::{Code, Item};
+use gq_found::{Code, Fault, add_fault, fault_over, first_bytes};
 use gq_spreads::FragmentNames;
 use gq_text::{NoMemory, Span};
 use gq_tree::{Name, Selection};
@@ -37,26 +36,26 @@ fn is_impossible(
     Ok(!is_shared)
 }
 
-/// The item of a spread at that place, if its parent and its type condition have no object type in common.
-fn put_if_impossible(
+/// The fault of a spread at that place, if its parent and its type condition have no object type in common.
+fn add_if_impossible(
     alloc: Global,
     types: &Types,
     shared: &mut SharedObjects,
     selected: &Selected<'_>,
     place: Span,
     condition: &str,
-    items: &mut Vec<Item>,
+    faults: &mut Vec<Fault>,
 ) -> Result<(), NoMemory>
     requires { AreAnswers (types_view types.now) shared.old.answers }
     ensures answers { AreAnswers (types_view types.now) shared.new.answers }
-    ensures items { OnOk result (items.new.items ≡ items.old.items ++ impossible_in (types_view types.now) (selected_view selected.now) place condition.now) }
+    ensures faults { OnOk result (faults.new.items ≡ faults.old.items ++ impossible_in (types_view types.now) (selected_view selected.now) place condition.now) }
 {
     match selected.parent {
         Some(parent) => {
             if is_impossible(alloc, types, shared, parent, condition)? {
-                put(
-                    item_over(selected.file, Code::SpreadNotPossible, place),
-                    items,
+                add_fault(
+                    fault_over(selected.file, Code::SpreadNotPossible, place),
+                    faults,
                 )?;
             }
             Ok(())
@@ -65,116 +64,116 @@ fn put_if_impossible(
     }
 }
 
-/// The item of a spread of the fragment with that number.
-fn put_of_numbered(
+/// The fault of a spread of the fragment with that number.
+fn add_of_numbered(
     alloc: Global,
     executable: &Executable<'_>,
     shared: &mut SharedObjects,
     selected: &Selected<'_>,
     name: &Name,
     number: usize,
-    items: &mut Vec<Item>,
+    faults: &mut Vec<Fault>,
 ) -> Result<(), NoMemory>
     requires { AreAnswers (types_view executable.now.types.now) shared.old.answers }
     ensures answers { AreAnswers (types_view executable.now.types.now) shared.new.answers }
-    ensures items { OnOk result (items.new.items ≡ items.old.items ++ impossible_numbered (types_view executable.now.types.now) (fragments_view executable.now.fragments.now) (selected_view selected.now) (name_of name.now) number) }
+    ensures faults { OnOk result (faults.new.items ≡ faults.old.items ++ impossible_numbered (types_view executable.now.types.now) (fragments_view executable.now.fragments.now) (selected_view selected.now) (name_of name.now) number) }
 {
     match executable.fragments.get(number) {
         Some(fragment) => {
             let condition = fragment.definition.on.text.as_str();
-            put_if_impossible(
+            add_if_impossible(
                 alloc,
                 executable.types,
                 shared,
                 selected,
                 name.span,
                 condition,
-                items,
+                faults,
             )
         }
         None => Ok(()),
     }
 }
 
-/// The items of a spread of the fragments with these numbers.
-fn put_of_all_numbered(
+/// The faults of a spread of the fragments with these numbers.
+fn add_of_all_numbered(
     alloc: Global,
     executable: &Executable<'_>,
     shared: &mut SharedObjects,
     selected: &Selected<'_>,
     name: &Name,
     numbers: &[usize],
-    items: &mut Vec<Item>,
+    faults: &mut Vec<Fault>,
 ) -> Result<(), NoMemory>
     requires { AreAnswers (types_view executable.now.types.now) shared.old.answers }
     ensures answers { AreAnswers (types_view executable.now.types.now) shared.new.answers }
-    ensures items { OnOk result (items.new.items ≡ items.old.items ++ impossible_among (types_view executable.now.types.now) (fragments_view executable.now.fragments.now) (selected_view selected.now) (name_of name.now) numbers.now) }
+    ensures faults { OnOk result (faults.new.items ≡ faults.old.items ++ impossible_among (types_view executable.now.types.now) (fragments_view executable.now.fragments.now) (selected_view selected.now) (name_of name.now) numbers.now) }
 {
     for number in numbers {
-        put_of_numbered(alloc, executable, shared, selected, name, *number, items)?;
+        add_of_numbered(alloc, executable, shared, selected, name, *number, faults)?;
     }
     Ok(())
 }
 
-/// The items of a spread of the fragments of that name.
-fn put_of_spread(
+/// The faults of a spread of the fragments of that name.
+fn add_of_spread(
     alloc: Global,
     executable: &Executable<'_>,
     names: &FragmentNames,
     shared: &mut SharedObjects,
     selected: &Selected<'_>,
     name: &Name,
-    items: &mut Vec<Item>,
+    faults: &mut Vec<Fault>,
 ) -> Result<(), NoMemory>
     requires names { names.now.names.items ≡ name_texts (fragments_view executable.now.fragments.now) }
     requires answers { AreAnswers (types_view executable.now.types.now) shared.old.answers }
     ensures answers { AreAnswers (types_view executable.now.types.now) shared.new.answers }
-    ensures items { OnOk result (items.new.items ≡ items.old.items ++ impossible_spread (types_view executable.now.types.now) (fragments_view executable.now.fragments.now) (selected_view selected.now) (name_of name.now)) }
+    ensures faults { OnOk result (faults.new.items ≡ faults.old.items ++ impossible_spread (types_view executable.now.types.now) (fragments_view executable.now.fragments.now) (selected_view selected.now) (name_of name.now)) }
 {
     let mut numbers = Vec::new(alloc);
     names.put_numbers(name.text.as_str(), &mut numbers)?;
-    put_of_all_numbered(alloc, executable, shared, selected, name, &numbers, items)
+    add_of_all_numbered(alloc, executable, shared, selected, name, &numbers, faults)
 }
 
-/// The items of a selection, if it is a spread or an inline fragment.
+/// The faults of a selection, if it is a spread or an inline fragment.
 #[tactic(auto, using(gq_tree::proofs::Trees::gathers))]
-fn put_of_selected(
+fn add_of_selected(
     alloc: Global,
     executable: &Executable<'_>,
     names: &FragmentNames,
     shared: &mut SharedObjects,
     selected: &Selected<'_>,
-    items: &mut Vec<Item>,
+    faults: &mut Vec<Fault>,
 ) -> Result<(), NoMemory>
     requires names { names.now.names.items ≡ name_texts (fragments_view executable.now.fragments.now) }
     requires answers { AreAnswers (types_view executable.now.types.now) shared.old.answers }
     ensures answers { AreAnswers (types_view executable.now.types.now) shared.new.answers }
-    ensures items { OnOk result (items.new.items ≡ items.old.items ++ impossible_at (types_view executable.now.types.now) (fragments_view executable.now.fragments.now) (selected_view selected.now)) }
+    ensures faults { OnOk result (faults.new.items ≡ faults.old.items ++ impossible_at (types_view executable.now.types.now) (fragments_view executable.now.fragments.now) (selected_view selected.now)) }
 {
     match selected.selection {
         Selection::Field(_) => Ok(()),
         Selection::Spread(spread) => {
-            put_of_spread(
+            add_of_spread(
                 alloc,
                 executable,
                 names,
                 shared,
                 selected,
                 &spread.name,
-                items,
+                faults,
             )
         }
         Selection::Inline(inline) => match &inline.on {
             Some(on) => {
                 let (dots, condition) = (first_bytes(3, inline.span), on.text.as_str());
-                put_if_impossible(
+                add_if_impossible(
                     alloc,
                     executable.types,
                     shared,
                     selected,
                     dots,
                     condition,
-                    items,
+                    faults,
                 )
             }
             None => Ok(()),
@@ -184,19 +183,19 @@ fn put_of_selected(
 
 /// Each spread where the type of the parent and the type condition have no possible object type in common.
 #[tactic(auto, using(gq_tree::proofs::Trees::gathers))]
-pub(crate) fn put_impossible_spreads(
+pub(crate) fn add_impossible_spreads(
     alloc: Global,
     executable: &Executable<'_>,
     names: &FragmentNames,
     selections: &[Selected<'_>],
-    items: &mut Vec<Item>,
+    faults: &mut Vec<Fault>,
 ) -> Result<(), NoMemory>
     requires { names.now.names.items ≡ name_texts (fragments_view executable.now.fragments.now) }
-    ensures { OnOk result (items.new.items ≡ items.old.items ++ impossible_spreads (types_view executable.now.types.now) (fragments_view executable.now.fragments.now) (selections_view selections.now)) }
+    ensures { OnOk result (faults.new.items ≡ faults.old.items ++ impossible_spreads (types_view executable.now.types.now) (fragments_view executable.now.fragments.now) (selections_view selections.now)) }
 {
     let mut shared = SharedObjects::new(alloc);
     for selected in selections {
-        put_of_selected(alloc, executable, names, &mut shared, selected, items)?;
+        add_of_selected(alloc, executable, names, &mut shared, selected, faults)?;
     }
     Ok(())
 }

@@ -4,7 +4,6 @@
 pub mod fragment_faults;
 mod fragment_name_uniqueness;
 mod fragment_spread_is_possible;
-mod items;
 mod lone_anonymous_operation;
 pub mod operation_faults;
 mod operation_name_uniqueness;
@@ -15,5 +14,5 @@ mod shared_objects;
 mod subscription_operation;
 mod type_conditions;
 
-pub use fragment_faults::put_fragment_faults;
-pub use operation_faults::put_operation_faults;
+pub use fragment_faults::add_fragment_faults;
+pub use operation_faults::add_operation_faults;

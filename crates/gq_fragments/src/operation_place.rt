@@ -3,8 +3,8 @@ ghost use Rattle.std.specs.Prelude.{◌≡◌};
 ghost use Rattle.gq_document.specs.Definitions.{operation_view};
 ghost use Rattle.gq_fragments.specs.OperationPlace.{keyword_length, first_token, operation_place};
 
-use crate::items::first_bytes;
 use gq_document::OperationEntry;
+use gq_found::first_bytes;
 use gq_text::Span;
 use gq_tree::OperationKind;
 

@@ -2,49 +2,48 @@
 ghost use Rattle.std.specs.Prelude.{◌≡◌, ◌++◌, OnOk};
 ghost use Rattle.gq_types.specs.Look.{types_view};
 ghost use Rattle.gq_document.specs.Definitions.{operation_view, operations_view};
-ghost use Rattle.gq_fragments.specs.OperationPlaces.{mutation_at, mutations, without_root};
+ghost use Rattle.gq_fragments.specs.Helping.OperationPlaces.{mutation_at, mutations, without_root};
 
-use crate::items::{item_over, put};
 use crate::operation_place::operation_place;
 use gq_document::OperationEntry;
-use gq_found::{Code, Item};
+use gq_found::{Code, Fault, add_fault, fault_over};
 use gq_text::NoMemory;
 use gq_tree::OperationKind;
 use gq_types::Types;
 
-/// The item of the operation, if it is a mutation.
-fn put_mutation(operation: &OperationEntry, items: &mut Vec<Item>) -> Result<(), NoMemory>
-    ensures { OnOk result (items.new.items ≡ items.old.items ++ mutation_at (operation_view operation.now)) }
+/// The fault of the operation, if it is a mutation.
+fn add_mutation(operation: &OperationEntry, faults: &mut Vec<Fault>) -> Result<(), NoMemory>
+    ensures { OnOk result (faults.new.items ≡ faults.old.items ++ mutation_at (operation_view operation.now)) }
 {
     match operation.definition.kind {
         OperationKind::Mutation => {
             let place = operation_place(operation);
-            put(item_over(operation.file, Code::NoRootType, place), items)
+            add_fault(fault_over(operation.file, Code::NoRootType, place), faults)
         }
         OperationKind::Query | OperationKind::Subscription => Ok(()),
     }
 }
 
-/// The items of all mutations.
-fn put_mutations(operations: &[OperationEntry], items: &mut Vec<Item>) -> Result<(), NoMemory>
-    ensures { OnOk result (items.new.items ≡ items.old.items ++ mutations (operations_view operations.now)) }
+/// The faults of all mutations.
+fn add_mutations(operations: &[OperationEntry], faults: &mut Vec<Fault>) -> Result<(), NoMemory>
+    ensures { OnOk result (faults.new.items ≡ faults.old.items ++ mutations (operations_view operations.now)) }
 {
     for operation in operations {
-        put_mutation(operation, items)?;
+        add_mutation(operation, faults)?;
     }
     Ok(())
 }
 
 /// Each mutation, if the schema has no root type for mutations.
-pub(crate) fn put_without_root(
+pub(crate) fn add_without_root(
     types: &Types,
     operations: &[OperationEntry],
-    items: &mut Vec<Item>,
+    faults: &mut Vec<Fault>,
 ) -> Result<(), NoMemory>
-    ensures { OnOk result (items.new.items ≡ items.old.items ++ without_root (types_view types.now) (operations_view operations.now)) }
+    ensures { OnOk result (faults.new.items ≡ faults.old.items ++ without_root (types_view types.now) (operations_view operations.now)) }
 {
     match types.root(OperationKind::Mutation) {
         Some(_) => Ok(()),
-        None => put_mutations(operations, items),
+        None => add_mutations(operations, faults),
     }
 }

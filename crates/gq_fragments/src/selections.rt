@@ -5,7 +5,7 @@ ghost use Rattle.gq_document.specs.Definitions.{operations_view, fragments_view}
 ghost use Rattle.gq_document.specs.Selections.{operation_selections, fragment_selections};
 ghost use Rattle.gq_document.specs.Executable.{executable_view};
 ghost use Rattle.gq_document.specs.Views.{selections_view};
-ghost use Rattle.gq_fragments.specs.FragmentPlaces.{selections};
+ghost use Rattle.gq_fragments.specs.Helping.FragmentPlaces.{selections};
 
 use gq_document::{
     Executable, FragmentEntry, OperationEntry, Selected, fragment_selections, operation_selections,

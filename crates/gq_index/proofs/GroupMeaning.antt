@@ -12,10 +12,9 @@ use Rattle.gq_types.proofs.Gathered.{nothing_in, only, from_flat, to_flat, first
 use Rattle.gq_document.specs.Definitions.{OperationOf, FragmentOf, operation_in, fragment_in}
 use Rattle.gq_document.specs.Reaches.{IsSpreadIn, Reaches, at_once, through}
 use Rattle.gq_spreads.proofs.RowLemmas.{stands, number_of}
-use Rattle.gq_index.specs.Occurrences.{DefinitionOf, spreads_in}
-use Rattle.gq_index.specs.Occurrences.{is_operation}
+use Rattle.gq_index.specs.Occurrences.{DefinitionOf, spreads_in, is_operation}
 use Rattle.gq_index.specs.VariableGroups.{fragments_among, IsOperationAt, IsFragmentAt, SpreadsFragment, UsesVariable, ReachesUser, VariableGroup, itself as of_itself, with_operation as by_operation, with_fragment as by_fragment}
-use Rattle.gq_index.specs.GroupGraphs.{Sharing, NumberGroup, itself, with_operation, with_fragment}
+use Rattle.gq_index.specs.Helping.GroupGraphs.{Sharing, NumberGroup, itself, with_operation, with_fragment}
 use Rattle.gq_index.proofs.SpreadLemmas.{one_of, no_one}
 
 -- an operation's definition, and its spreads

@@ -20,12 +20,11 @@ use Rattle.gq_spreads.proofs.RowLemmas.{at_number}
 use Rattle.gq_index.specs.declared.index.Index.{Index}
 use Rattle.gq_index.specs.declared.index.Variables.{Variables}
 use Rattle.gq_index.specs.VariableNames.{used_variables}
-use Rattle.gq_index.specs.Occurrences.{DefinitionOf, called, places_called, uses_in}
-use Rattle.gq_index.specs.Occurrences.{is_operation}
+use Rattle.gq_index.specs.Occurrences.{DefinitionOf, called, places_called, uses_in, is_operation}
 use Rattle.gq_index.specs.VariableGroups.{UsesVariable, VariableGroup, itself, with_operation, with_fragment}
-use Rattle.gq_index.specs.GroupGraphs.{leads_of, IsSharing}
+use Rattle.gq_index.specs.Helping.GroupGraphs.{leads_of, IsSharing}
 use Rattle.gq_index.specs.Indexed.{IsIndexOf}
-use Rattle.gq_index.specs.Shared.{operation_at, uses_at, shared}
+use Rattle.gq_index.specs.Helping.Shared.{operation_at, uses_at, shared}
 use Rattle.gq_index.proofs.GroupLemmas.{InCount, group_is}
 use Rattle.gq_index.proofs.GroupMeaning.{Tells, fragment_is, same_group}
 

@@ -17,7 +17,7 @@ use Rattle.gq_types.proofs.Gathered.{nothing_in, first, only, from_flat, to_flat
 use Rattle.gq_document.specs.Definitions.{FragmentOf, fragment_in}
 use Rattle.gq_spreads.proofs.RowLemmas.{at_number}
 use Rattle.gq_index.specs.Occurrences.{DefinitionOf, fragment_name, spreads_in}
-use Rattle.gq_index.specs.SpreadNumbers.{numbers_under, fragment_numbers, spread_numbers, rows_under, spread_rows}
+use Rattle.gq_index.specs.Helping.SpreadNumbers.{numbers_under, fragment_numbers, spread_numbers, rows_under, spread_rows}
 use Rattle.gq_index.specs.VariableGroups.{SpreadsFragment}
 
 -- rows by equal numbers are equal

@@ -3,7 +3,7 @@ use Rattle.std.specs.Prelude.{◌≡◌, ◌↔◌, ℕ, List, Some, Contains, l
 use Rattle.gq_names.specs.UnderNames.{items_under}
 use Rattle.gq_project.specs.declared.document.Doc.{Doc}
 use Rattle.gq_reach.specs.Reach.{row}
-use Rattle.gq_reach.specs.Turned.{Turned}
+use Rattle.gq_reach.specs.Transposed.{Transposed}
 use Rattle.gq_types.specs.Entries.{Text}
 use Rattle.gq_index.specs.declared.index.Variables.{Variables}
 use Rattle.gq_index.specs.declared.index.Index.{Index}
@@ -29,7 +29,7 @@ pub record IsIndexOf (ds : List DefinitionOf) (index : Index) : Type 0 where
   pub variables : AreVariables ds index.variables.items
   pub count : length index.spread_in.items ≡ length ds
   pub spread_in : (n k : ℕ) → Contains (row index.spread_in.items n) k ↔ SpreadsFragment ds n k
-  pub spreading : Turned index.spread_in.items index.spreading.items
+  pub spreading : Transposed index.spread_in.items index.spreading.items
   pub operations : index.operations.items ≡ map (λ d. is_operation d.definition) ds
 
 -- what it holds of the definitions of these documents

@@ -6,14 +6,14 @@
 ghost use Rattle.std.specs.Prelude.{◌≡◌, ◌↔◌, ◌+◌, ◌^◌, ◌<◌, ◌≤◌, ℕ, [], List, All, Contains, IfOk, filter, length, map};
 ghost use Rattle.std.specs.Bool.{nat_lt};
 ghost use Rattle.std.specs.List.Sorted.{IsStrictlyIncreasing};
-ghost use Rattle.gq_index.specs.GroupGraphs.{leads_of_member, leads_of_reached, leads_of_leading, leads_of};
+ghost use Rattle.gq_index.specs.Helping.GroupGraphs.{leads_of_member, leads_of_reached, leads_of_leading, leads_of};
 ghost use Rattle.gq_index.specs.Indexed.{IsIndexOf};
 ghost use Rattle.gq_index.specs.Occurrences.{DefinitionOf};
-ghost use Rattle.gq_index.specs.Shared.{operation_at, uses_at, shared};
+ghost use Rattle.gq_index.specs.Helping.Shared.{operation_at, uses_at, shared};
 ghost use Rattle.gq_index.specs.VariableGroups.{VariableGroup};
 
 use crate::index::Index;
-use gq_reach::{Leads, reach};
+use gq_reach::{Graph, reach};
 use gq_text::NoMemory;
 use std::alloc::Global;
 
@@ -103,7 +103,7 @@ impl Shared<'_> {
     }
 }
 
-impl Leads for Shared<'_> {
+impl Graph for Shared<'_> {
     ghost count = { λ s. length s.index.now.spread_in.items + length s.index.now.spread_in.items + length s.index.now.spread_in.items };
 
     ghost leads = { λ s. leads_of (shared s.index.now s.name.now) };

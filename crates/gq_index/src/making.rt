@@ -11,7 +11,7 @@ use crate::places::{
 use crate::spreads::{are_operations, spread_rows};
 use crate::variables::{defined_variables, used_variables};
 use gq_project::Project;
-use gq_reach::turned::turned;
+use gq_reach::transposed::transposed;
 use gq_read::read;
 use gq_text::NoMemory;
 use std::alloc::Global;
@@ -45,7 +45,7 @@ fn index_of(alloc: Global, definitions: &[Executable<'_>]) -> Result<Index, NoMe
     ensures { IfOk result (λ index. IsIndexOf (definitions_view definitions.now) index) }
 {
     let spread_in = spread_rows(alloc, definitions)?;
-    let spreading = turned(alloc, &spread_in)?;
+    let spreading = transposed(alloc, &spread_in)?;
     Ok(Index {
         definitions: fragment_definitions(alloc, definitions)?,
         spreads: fragment_spreads(alloc, definitions)?,

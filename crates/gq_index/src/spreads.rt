@@ -6,7 +6,7 @@ ghost use Rattle.gq_tree.specs.Names.{names_at};
 ghost use Rattle.gq_tree.specs.Views.{def_view};
 ghost use Rattle.gq_types.specs.Entries.{Text};
 ghost use Rattle.gq_index.specs.Occurrences.{is_operation};
-ghost use Rattle.gq_index.specs.SpreadNumbers.{numbers_under, fragment_numbers, spread_numbers, rows_under};
+ghost use Rattle.gq_index.specs.Helping.SpreadNumbers.{numbers_under, fragment_numbers, spread_numbers, rows_under};
 ghost use Rattle.gq_index.specs.VariableGroups.{SpreadsFragment};
 ghost use Rattle.gq_index.specs.Views.{definitions_view};
 

@@ -5,7 +5,7 @@ use Rattle.gq_lex.specs.declared.token.BadKind.{BadKind}
 use Rattle.gq_lex.specs.declared.token.LexFault.{LexFault}
 use Rattle.gq_lex.specs.declared.token.LexFault.TheVariants.{Bad, Limit, NoMemory}
 use Rattle.gq_lex.specs.Faults.{IsFault}
-use Rattle.gq_lex.specs.Reading.{piece_at}
+use Rattle.gq_lex.specs.Helping.Reading.{piece_at}
 use Rattle.gq_lex.specs.Tokens.{IsBadAt, IsLimitAt, Lexeme, lexeme_at, ReadsTo, here, ignored, token, IsStuck, BeginsToken, fault_kind}
 use Rattle.gq_lex.proofs.Pieces.{ignored_is, token_is}
 use Rattle.gq_lex.proofs.Readings.{pair_inj, same_part, same_after}

@@ -4,7 +4,7 @@ use Rattle.std.proofs.lemmas.List.{take_at, drop_at, take-append-drop, drop-drop
 use Rattle.std.specs.Str.{IsCharBoundary}
 use Rattle.gq_lex.specs.declared.token.Kind.{Kind}
 use Rattle.gq_lex.specs.declared.token.BadKind.{BadKind}
-use Rattle.gq_lex.specs.Reading.{piece_at, Found, IsPiece}
+use Rattle.gq_lex.specs.Helping.Reading.{piece_at, Found, IsPiece}
 use Rattle.gq_lex.specs.Tokens.{IsBadAt, IsLimitAt, IsIgnored, IsToken, Lexeme, lexeme_at, ReadsTo, here, ignored, token, Reads, IsStuck}
 use Rattle.gq_lex.proofs.Edges.{token_edges}
 use Rattle.gq_lex.proofs.Pieces.{ignored_is, token_is}

@@ -5,7 +5,7 @@ use Rattle.std.proofs.lemmas.Bool.Decides.{eqb_tells, nat_tests}
 use Rattle.std.proofs.lemmas.List.{take_at, drop_at}
 use Rattle.gq_lex.specs.declared.token.Kind.{Kind}
 use Rattle.gq_lex.specs.Bytes.{Passes, Stops, look_up}
-use Rattle.gq_lex.specs.Reading.{IsPiece, Found}
+use Rattle.gq_lex.specs.Helping.Reading.{IsPiece, Found}
 
 -- what equations of numbers and of answers tell
 pub is_number : (b n : ℕ) → eqb b n ≡ true → b ≡ n

@@ -1,11 +1,9 @@
 pub mod Blocks
 pub mod Bytes
-pub mod Decoding
 pub mod Faults
 pub mod Numbers
 pub mod Places
-pub mod Reading
-pub mod Scanning
 pub mod Strings
 pub mod Tokens
 pub mod Values
+pub mod Helping

@@ -4,7 +4,7 @@ ghost use Rattle.std.specs.Prelude.{◌-◌, ◌≡◌, ℕ, ◌+◌, ◌^◌, �
 ghost use Rattle.std.specs.Str.{IsCharBoundary};
 ghost use Rattle.gq_lex.specs.declared.token.BadKind.{BadKind};
 ghost use Rattle.gq_lex.specs.Bytes.{punctuator};
-ghost use Rattle.gq_lex.specs.Reading.{class_of, sign_class, piece_at, whole_at, Found, IsFaulty};
+ghost use Rattle.gq_lex.specs.Helping.Reading.{class_of, sign_class, piece_at, whole_at, Found, IsFaulty};
 ghost use Rattle.gq_lex.specs.Tokens.{Reads, IsBadAt, IsLimitAt, lexeme_of};
 
 use crate::bytes::{comment_len, is_blank, is_name_start, is_number_start, name_len};
@@ -143,7 +143,7 @@ fn front(text: &str, at: usize) -> Result<(Option<Kind>, usize), BadKind>
 }
 
 // What stands at the front: its kind, if it is a token, and its length.
-#[tactic(auto, unfolding(crate::specs::Reading::piece_at))]
+#[tactic(auto, unfolding(crate::specs::Helping::Reading::piece_at))]
 fn piece(bytes: &[u8]) -> Result<(Option<Kind>, usize), BadKind>
     requires { 0 < length bytes.now }
     ensures { result ≡ piece_at bytes.now }

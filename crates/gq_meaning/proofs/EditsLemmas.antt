@@ -12,7 +12,8 @@ use Rattle.gq_meaning.specs.Expand.{Asked, Definition, Setting, expand_within, e
 use Rattle.gq_meaning.specs.Thin.{IsIn}
 use Rattle.gq_meaning.specs.Acyclic.{IsRanked}
 use Rattle.gq_meaning.specs.Response.{FieldType, Given, setting, Place, fits, is_unfit, fails, item_of, item_type, item_at, of_key, keys_after, place_of, place_in, below_result, below, child, steps_below, steps_of, steps, leaf_in, AreTold, error_at, call_at, root}
-use Rattle.gq_meaning.specs.Rewritten.{Static, Rewritten, same_end, AreKept, base_of, base_in, HasSubtypes, place_at, NamesAgree, RewritesKeep}
+use Rattle.gq_meaning.specs.Rewritten.{Static, Rewritten, same_end, AreKept, base_in, HasSubtypes, place_at, NamesAgree, RewritesKeep}
+use Rattle.gq_tree.specs.NamedTypes.{base_name}
 use Rattle.gq_meaning.proofs.Low.{AreLow, low_expand, low_of_key, low_sets}
 use Rattle.gq_meaning.proofs.Repeats.{expand_join}
 use Rattle.gq_meaning.proofs.Rewriting.{IsAlike, expansions_alike}
@@ -33,7 +34,7 @@ zip_append R (x ∷ xs) [] us vs h k = absurd h
 zip_append R (x ∷ xs) (y ∷ ys) us vs h k = (h.0, zip_append R xs ys us vs h.1 k)
 
 -- an object that fits a type is possible for the name at its end
-object_fits : (g : Given) (t : FieldType) (o : Text) (n : ℕ) → fits g t (result.object o n) ≡ true → g.applies (base_of t) o ≡ true
+object_fits : (g : Given) (t : FieldType) (o : Text) (n : ℕ) → fits g t (result.object o n) ≡ true → g.applies (base_name t) o ≡ true
 object_fits g (named name) o n e = by_kind (g.is_composite name.text) e
   where
     by_kind : (b : Bool) → (if b then g.applies name.text o else false) ≡ true → g.applies name.text o ≡ true
@@ -44,14 +45,14 @@ object_fits g (non_null inner) o n e = object_fits g inner o n e
 
 object_base : (g : Given) (t : Option FieldType) (o : Text) (n : ℕ) (items : Answers) → is_unfit g t (Some (record { label = result.object o n; below = items })) ≡ false → (b : Text) × (base_in t ≡ Some b) × (g.applies b o ≡ true)
 object_base g None o n items e = cc
-object_base g (Some t) o n items e = (base_of t, refl, object_fits g t o n (by_not (fits g t (result.object o n)) e))
+object_base g (Some t) o n items e = (base_name t, refl, object_fits g t o n (by_not (fits g t (result.object o n)) e))
   where
     by_not : (b : Bool) → not b ≡ false → b ≡ true
     by_not true e = refl
     by_not false e = cc
 
 -- an item's type ends as the list's
-item_base : (t : FieldType) (b : Text) → base_in (item_of t) ≡ Some b → base_of t ≡ b
+item_base : (t : FieldType) (b : Text) → base_in (item_of t) ≡ Some b → base_name t ≡ b
 item_base (named name) b e = cc
 item_base (list_of item) b e = cc
 item_base (non_null inner) b e = item_base inner b e
@@ -111,14 +112,14 @@ module _ (static : Static) (g : Given) (ds ds' : List Definition) (always : g.ta
       by_test false i = i
 
   -- the sets of a group, where its fields have one name
-  group_stands : (o n : Text) (type_ref : FieldType) (o' : Text) (xs ys : List Asked) → g.type_of o n ≡ Some type_ref → g.applies (base_of type_ref) o' ≡ true → ((x : Asked) → IsIn x xs → x.name ≡ n) → AllZip (Alike o) xs ys → AllZip (Stands o') xs ys
+  group_stands : (o n : Text) (type_ref : FieldType) (o' : Text) (xs ys : List Asked) → g.type_of o n ≡ Some type_ref → g.applies (base_name type_ref) o' ≡ true → ((x : Asked) → IsIn x xs → x.name ≡ n) → AllZip (Alike o) xs ys → AllZip (Stands o') xs ys
   group_stands o n type_ref o' [] [] e p a h = tt
   group_stands o n type_ref o' [] (y ∷ ys) e p a h = absurd h
   group_stands o n type_ref o' (x ∷ xs) [] e p a h = absurd h
   group_stands o n type_ref o' (x ∷ xs) (y ∷ ys) e p a h = (one h.0.sets, group_stands o n type_ref o' xs ys e p (λ z m. a z (inr m)) h.1)
     where
       one : ((x.set ≡ none) × (y.set ≡ none)) ⊎ ((p1 : Text) × (c : Text) × (g.applies p1 o ≡ true) × (static p1 x.name ≡ Some c) × Rewritten static ds ds' c x.set y.set) → Stands o' x y
-      one (inl q) = record { type_name = base_of type_ref; possible = p; rewritten = subst (λ z. Rewritten static ds ds' (base_of type_ref) z y.set) (sym q.0) (subst (λ z. Rewritten static ds ds' (base_of type_ref) none z) (sym q.1) same_end) }
+      one (inl q) = record { type_name = base_name type_ref; possible = p; rewritten = subst (λ z. Rewritten static ds ds' (base_name type_ref) z y.set) (sym q.0) (subst (λ z. Rewritten static ds ds' (base_name type_ref) none z) (sym q.1) same_end) }
       one (inr q) = record { type_name = q.1; possible = subtypes.each q.0 o n q.1 o' type_ref q.2 (subst (λ z. static q.0 z ≡ Some q.1) (a x (inl refl)) q.3) e p; rewritten = q.4 }
 
   agree_below : (p : Place) (s : Step) (p' : Place) → NamesAgree g ds p → child g ds p s ≡ Some p' → NamesAgree g ds p'
@@ -161,7 +162,7 @@ module _ (static : Static) (g : Given) (ds ds' : List Definition) (always : g.ta
     where
       type_stands : (t : Option FieldType) → g.type_of o x.name ≡ t → (b o' : Text) → base_in t ≡ Some b → g.applies b o' ≡ true → ((w : Asked) → IsIn w (x ∷ xs) → w.name ≡ x.name) → AllZip (Stands o') (x ∷ xs) (y ∷ ys)
       type_stands None e b o' t w a = cc
-      type_stands (Some type_ref) e b o' t w a = let same : base_of type_ref ≡ b = cc in group_stands o x.name type_ref o' (x ∷ xs) (y ∷ ys) e (subst (λ v. g.applies v o' ≡ true) (sym same) w) a z
+      type_stands (Some type_ref) e b o' t w a = let same : base_name type_ref ≡ b = cc in group_stands o x.name type_ref o' (x ∷ xs) (y ∷ ys) e (subst (λ v. g.applies v o' ≡ true) (sym same) w) a z
 
   items_both : (p q : Place) (i : ℕ) (items : Answers) → Corresponds p q → p.result ≡ Some (record { label = result.list; below = items }) → fails g p ≡ false → (r : Option Answer) → item_at items i ≡ r → Both (place_in p.type_ref p.fields r) (place_in p.type_ref q.fields r)
   items_both p q i items h e f None u = both_none

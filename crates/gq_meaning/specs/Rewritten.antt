@@ -1,4 +1,5 @@
 -- A document in which selections were moved into fragments or out of them, and what is kept of its execution (section 6.3).
+use Rattle.gq_tree.specs.NamedTypes.{base_name}
 use Rattle.std.specs.Prelude.{◌≡◌, ℕ, true, false, List, [], ◌∷◌, length, Option, Some, None}
 use Rattle.gq_tree.specs.Plain.{named, list_of, non_null}
 use Rattle.gq_meaning.specs.Thin.{IsIn}
@@ -37,18 +38,13 @@ module _ (static : Static) (ds ds' : List Definition) where
     pub each : (f : Text) (d d' : Definition) → find_definition ds f ≡ Some d → find_definition ds' f ≡ Some d' → d.on ≡ d'.on → Rewritten d.on d.set d'.set
 
 -- the name at the end of a type, inside lists and types without null
-abbrev pub base_of : FieldType → Text
-base_of (named name) = name.text
-base_of (list_of item) = base_of item
-base_of (non_null inner) = base_of inner
-
 abbrev pub base_in : Option FieldType → Option Text
 base_in None = None
-base_in (Some t) = Some (base_of t)
+base_in (Some t) = Some (base_name t)
 
 -- A field of an object has a subtype of what it has in each type for which the object's type is possible.
 pub record HasSubtypes (static : Static) (g : Given) : Type 0 where
-  pub each : (p t n c o : Text) (type_ref : FieldType) → g.applies p t ≡ true → static p n ≡ Some c → g.type_of t n ≡ Some type_ref → g.applies (base_of type_ref) o ≡ true → g.applies c o ≡ true
+  pub each : (p t n c o : Text) (type_ref : FieldType) → g.applies p t ≡ true → static p n ≡ Some c → g.type_of t n ≡ Some type_ref → g.applies (base_name type_ref) o ≡ true → g.applies c o ≡ true
 
 -- the place at a path below a place
 abbrev pub place_at : Given → List Definition → Option Place → Path → Option Place

@@ -5,7 +5,7 @@ use Rattle.gq_text.specs.declared.place.Span.{Span}
 use Rattle.gq_tree.specs.Forest.{none, more, row}
 use Rattle.gq_tree.specs.Plain.{NameOf, Part, Val, Vals}
 use Rattle.gq_merging.specs.SameArguments.{EachIsIn, none_is, next_is, EachHas, none_has, next_has, IsIn, is_first, is_later, HasOne, has_first, has_later, IsArgument, SameArguments}
-use Rattle.gq_merging.specs.Marks.{IsAmong}
+use Rattle.gq_merging.specs.Helping.Marks.{IsAmong}
 
 -- the first tree of a row, and the others
 abbrev first_of : Val Span → Vals Span → Val Span

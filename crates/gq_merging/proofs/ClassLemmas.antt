@@ -17,11 +17,11 @@ use Rattle.gq_reach.specs.Reach.{Reach, start, step, row}
 use Rattle.gq_reach.proofs.Ways.{way_starts, contains_one}
 use Rattle.gq_tree.specs.Plain.{TypeOf}
 use Rattle.gq_types.specs.Entries.{Text, EntryOf}
-use Rattle.gq_merging.specs.FieldSets.{FieldAt, key}
+use Rattle.gq_document.specs.FieldSets.{FieldAt, key}
 use Rattle.gq_merging.specs.Shapes.{shape_of}
-use Rattle.gq_merging.specs.Comparisons.{known_type, same_shapes}
-use Rattle.gq_merging.specs.SetTables.{MemberOf, RowOf, members_at, spreads_at, IsMember}
-use Rattle.gq_merging.specs.GroupTables.{IsOfGroup, IsThrough, known_shape, SayTheSame, IsUnder, AreBelow, ClassesOf, HasClass, AreClasses, HaveClasses, Takes, AreSettled}
+use Rattle.gq_merging.specs.Helping.Comparisons.{known_type, same_shapes}
+use Rattle.gq_merging.specs.Helping.SetTables.{MemberOf, RowOf, members_at, spreads_at, IsMember}
+use Rattle.gq_merging.specs.Helping.GroupTables.{IsOfGroup, IsThrough, known_shape, SayTheSame, IsUnder, AreBelow, ClassesOf, HasClass, AreClasses, HaveClasses, Takes, AreSettled}
 use Rattle.gq_merging.specs.Views.{field_at, member_view, members_view, row_view, rows_view}
 use Rattle.gq_merging.specs.GroupViews.{groups_view, classes_view}
 use Rattle.gq_merging.specs.declared.classes.Classes.{Classes}

@@ -6,24 +6,25 @@ use Rattle.std.proofs.lemmas.List.{take_more, map-append}
 use Rattle.std.proofs.lemmas.List.Elements.{Contains-push, Contains-push_cases, Contains-append_left}
 use Rattle.std.proofs.lemmas.Option.{slice_get_within, slice_get-map}
 use Rattle.gq_names.proofs.RepeatLemmas.{contains_none}
-use Rattle.gq_found.specs.declared.item.Item.{Item}
+use Rattle.gq_found.specs.declared.fault.Fault.{Fault}
 use Rattle.gq_types.specs.Entries.{Text, EntryOf}
-use Rattle.gq_merging.specs.FieldSets.{key}
+use Rattle.gq_document.specs.FieldSets.{key}
 use Rattle.gq_merging.specs.FieldsMerge.{leads_on, can_coincide}
-use Rattle.gq_merging.specs.SetTables.{MemberOf}
-use Rattle.gq_merging.specs.PairTables.{MetOf, LookOf, AreMet}
-use Rattle.gq_merging.specs.NameTables.{ByNameOf, list_at, AreByKey}
-use Rattle.gq_merging.specs.ParentTables.{AreByParent}
-use Rattle.gq_merging.specs.SearchTables.{AreOfOneKey, IsClique, AreMetInOne, Searched}
+use Rattle.gq_merging.specs.Helping.SetTables.{MemberOf}
+use Rattle.gq_merging.specs.Helping.PairTables.{MetOf, LookOf, AreMet}
+use Rattle.gq_merging.specs.Helping.NameTables.{ByNameOf, list_at, AreByKey}
+use Rattle.gq_merging.specs.Helping.ParentTables.{AreByParent}
+use Rattle.gq_merging.specs.Helping.SearchTables.{AreOfOneKey, IsClique, AreMetInOne, Searched}
 use Rattle.gq_merging.specs.SearchViews.{list_with, AreCliquesWith, AreMetWith}
 use Rattle.gq_merging.specs.Views.{member_view, members_view}
 use Rattle.gq_merging.specs.declared.purpose.Purpose.TheVariants.{Shapes, Names}
 use Rattle.gq_merging.specs.declared.rows.Member.{Member}
 use Rattle.gq_merging.proofs.ClassLemmas.{members_more}
 use Rattle.gq_merging.proofs.GrowLemmas.{searched_as, searched_both, searched_led, searched_nowhere}
-use Rattle.gq_merging.proofs.MemberLemmas.{contains_get, get_below, get_contains, from_map, to_map}
+use Rattle.gq_merging.proofs.MemberLemmas.{contains_get, get_below, get_contains}
 use Rattle.gq_merging.proofs.NameLemmas.{listed_at, listed_somewhere}
 use Rattle.gq_merging.proofs.ParentLemmas.{others_coincide, list_coincides, coincide_somewhere, others_of_these, list_of_these}
+use Rattle.gq_types.proofs.Gathered.{from_map_as as from_map, to_map}
 
 -- one list more
 in_lists_more : (ls : List (List MemberOf)) (l : List MemberOf) (p : MetOf) → (AreMetInOne ls p ⊎ AreMet l l p) ↔ AreMetInOne (ls ++ l ∷ []) p
@@ -37,18 +38,18 @@ in_lists_more ls l p = (
 )
 
 module _ {A : Type 0} (w : LookOf) (f : A → List MemberOf) where
-  pub lists_more : (xs : List A) (i : ℕ) (d : A) (items middle items' : List Item) (old between new : List (List ℕ)) → i < length xs → get_or xs i d ≡ d →
-      Searched w (AreMetInOne (map f (take i xs))) items middle old between → Searched w (AreMet (f d) (f d)) middle items' between new →
-      Searched w (AreMetInOne (map f (take (i + 1) xs))) items items' old new
-  lists_more xs i d items middle items' old between new l e a b =
+  pub lists_more : (xs : List A) (i : ℕ) (d : A) (faults middle faults' : List Fault) (old between new : List (List ℕ)) → i < length xs → get_or xs i d ≡ d →
+      Searched w (AreMetInOne (map f (take i xs))) faults middle old between → Searched w (AreMet (f d) (f d)) middle faults' between new →
+      Searched w (AreMetInOne (map f (take (i + 1) xs))) faults faults' old new
+  lists_more xs i d faults middle faults' old between new l e a b =
       let front = map f (take i xs) in
       let more : map f (take (i + 1) xs) ≡ front ++ f d ∷ [] = ap (map f) (take_more xs i d l) ∙ map-append f (take i xs) (get_or xs i d ∷ []) ∙ ap (λ y. front ++ f y ∷ []) e in
-      subst (λ ls. Searched w (AreMetInOne ls) items items' old new) (sym more)
-      (searched_as w (λ p. AreMetInOne front p ⊎ AreMet (f d) (f d) p) (AreMetInOne (front ++ f d ∷ [])) items items' old new (in_lists_more front (f d))
-      (searched_both w (AreMetInOne front) (AreMet (f d) (f d)) items middle items' old between new a b))
+      subst (λ ls. Searched w (AreMetInOne ls) faults faults' old new) (sym more)
+      (searched_as w (λ p. AreMetInOne front p ⊎ AreMet (f d) (f d) p) (AreMetInOne (front ++ f d ∷ [])) faults faults' old new (in_lists_more front (f d))
+      (searched_both w (AreMetInOne front) (AreMet (f d) (f d)) faults middle faults' old between new a b))
 
-  pub no_lists : (items : List Item) (old : List (List ℕ)) → Searched w (AreMetInOne []) items items old old
-  no_lists items old = searched_nowhere w (AreMetInOne []) items old (λ p h. contains_none h.list h.is_list)
+  pub no_lists : (faults : List Fault) (old : List (List ℕ)) → Searched w (AreMetInOne []) faults faults old old
+  no_lists faults old = searched_nowhere w (AreMetInOne []) faults old (λ p h. contains_none h.list h.is_list)
 
 -- the list at a place
 at_place : (ls : List (List MemberOf)) (i : ℕ) (l : List MemberOf) → slice_get ls i ≡ Some l → list_at ls i ≡ l
@@ -132,10 +133,10 @@ module _ (w : LookOf) (names : w.purpose ≡ Names) (t : ByNameOf) (others ms : 
       record { stands_left = there p.left h.met.stands_left; stands_right = there p.right h.met.stands_right; one_key = h.met.one_key }
 
   -- any two that lead on are among the others, or in one of the lists with the others
-  parents_tell : (items items' : List Item) (old new : List (List ℕ)) → Searched w (λ p. AreMet others others p ⊎ AreMetInOne (map (λ l. l ++ others) t.lists) p) items items' old new →
-      Searched w (AreMet ms ms) items items' old new
-  parents_tell items items' old new a =
-      searched_led w (λ p. AreMet others others p ⊎ AreMetInOne (map (λ l. l ++ others) t.lists) p) (AreMet ms ms) items items' old new
+  parents_tell : (faults faults' : List Fault) (old new : List (List ℕ)) → Searched w (λ p. AreMet others others p ⊎ AreMetInOne (map (λ l. l ++ others) t.lists) p) faults faults' old new →
+      Searched w (AreMet ms ms) faults faults' old new
+  parents_tell faults faults' old new a =
+      searched_led w (λ p. AreMet others others p ⊎ AreMetInOne (map (λ l. l ++ others) t.lists) p) (AreMet ms ms) faults faults' old new
       (λ p s. ⊎_elim
       (λ m. record { stands_left = others_of_these w.entries t others ms by_parent p.left m.stands_left; stands_right = others_of_these w.entries t others ms by_parent p.right m.stands_right; one_key = m.one_key })
       (in_list p) s)
@@ -155,10 +156,10 @@ module _ (w : LookOf) (names : w.purpose ≡ Names) (vs : List (Vec Member Globa
       subst (λ l. IsClique w (l ++ members_view others)) (at_place t.lists q.0 (members_view v.items) at)
       (list_clique w names t (members_view others) ms by_parent one_key q.0 (slice_get_within t.lists q.0 (members_view v.items) at))
 
-  pub met_with : (items items' : List Item) (old new : List (List ℕ)) → Searched w (AreMetWith vs others) items items' old new → Searched w (AreMet ms ms) items items' old new
-  met_with items items' old new a =
-      parents_tell w names t (members_view others) ms by_parent one_key items items' old new
-      (subst (λ ls. Searched w (λ p. AreMet (members_view others) (members_view others) p ⊎ AreMetInOne ls p) items items' old new)
+  pub met_with : (faults faults' : List Fault) (old new : List (List ℕ)) → Searched w (AreMetWith vs others) faults faults' old new → Searched w (AreMet ms ms) faults faults' old new
+  met_with faults faults' old new a =
+      parents_tell w names t (members_view others) ms by_parent one_key faults faults' old new
+      (subst (λ ls. Searched w (λ p. AreMet (members_view others) (members_view others) p ⊎ AreMetInOne ls p) faults faults' old new)
       (sym (ap (map (λ l. l ++ members_view others)) are ∙ lists_with vs others)) a)
 
 -- lists of the code by the keys of their fields

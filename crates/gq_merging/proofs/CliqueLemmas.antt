@@ -6,17 +6,17 @@ use Rattle.gq_names.proofs.RepeatLemmas.{contains_none, contains_cases}
 use Rattle.gq_tree.specs.Views.{argument_view}
 use Rattle.gq_tree.specs.declared.value.Argument.{Argument}
 use Rattle.gq_types.specs.Entries.{EntryOf}
-use Rattle.gq_found.specs.declared.item.Item.{Item}
-use Rattle.gq_found.specs.Puts.{Puts}
+use Rattle.gq_found.specs.declared.fault.Fault.{Fault}
+use Rattle.gq_found.specs.Adds.{AddsExactly}
 use Rattle.gq_found.proofs.PutLemmas.{puts_both, puts_as}
-use Rattle.gq_merging.specs.FieldSets.{FieldAt}
+use Rattle.gq_document.specs.FieldSets.{FieldAt}
 use Rattle.gq_merging.specs.FieldsMerge.{Differ, in_shape, in_call}
-use Rattle.gq_merging.specs.Comparisons.{may_differ}
+use Rattle.gq_merging.specs.Helping.Comparisons.{may_differ}
 use Rattle.gq_merging.specs.SameArguments.{SameArguments}
 use Rattle.gq_merging.specs.Shapes.{shape_of}
-use Rattle.gq_merging.specs.SetTables.{MemberOf}
-use Rattle.gq_merging.specs.PairTables.{MetOf, LookOf, AreMet, IsGiven, IsFaultOf}
-use Rattle.gq_merging.specs.SearchTables.{IsEarliest, IsWith, IsClique}
+use Rattle.gq_merging.specs.Helping.SetTables.{MemberOf}
+use Rattle.gq_merging.specs.Helping.PairTables.{MetOf, LookOf, AreMet, IsGiven, IsFaultOf}
+use Rattle.gq_merging.specs.Helping.SearchTables.{IsEarliest, IsWith, IsClique}
 use Rattle.gq_merging.specs.Views.{field_at, member_view, members_view}
 use Rattle.gq_merging.specs.declared.purpose.Purpose.{Purpose}
 use Rattle.gq_merging.specs.declared.rows.Member.{Member}
@@ -28,30 +28,30 @@ use Rattle.gq_merging.proofs.CompareLemmas.{type_of}
 use Rattle.gq_merging.proofs.SamenessLemmas.{same_when_erased}
 
 -- one field with one more
-pub with_more : (w : LookOf) (one : MemberOf) (xs : List Member) (i : ℕ) (d : Member) (items middle items' : List Item) → i < length xs → get_or xs i d ≡ d →
-    Puts (IsGiven (IsWith one (members_view (take i xs))) (IsFaultOf w)) items middle → Puts (IsFaultOf w (record { left = one; right = member_view d })) middle items' →
-    Puts (IsGiven (IsWith one (members_view (take (i + 1) xs))) (IsFaultOf w)) items items'
-with_more w one xs i d items middle items' l e a b =
+pub with_more : (w : LookOf) (one : MemberOf) (xs : List Member) (i : ℕ) (d : Member) (faults middle faults' : List Fault) → i < length xs → get_or xs i d ≡ d →
+    AddsExactly (IsGiven (IsWith one (members_view (take i xs))) (IsFaultOf w)) faults middle → AddsExactly (IsFaultOf w (record { left = one; right = member_view d })) middle faults' →
+    AddsExactly (IsGiven (IsWith one (members_view (take (i + 1) xs))) (IsFaultOf w)) faults faults'
+with_more w one xs i d faults middle faults' l e a b =
     let front = members_view (take i xs) in
     let here : MetOf = record { left = one; right = member_view d } in
-    subst (λ ms. Puts (IsGiven (IsWith one ms) (IsFaultOf w)) items items') (sym (members_more xs i d l e))
-    (puts_as (λ item. IsGiven (IsWith one front) (IsFaultOf w) item ⊎ IsFaultOf w here item) (IsGiven (IsWith one (front ++ member_view d ∷ [])) (IsFaultOf w)) items items'
-    (λ item. (
+    subst (λ ms. AddsExactly (IsGiven (IsWith one ms) (IsFaultOf w)) faults faults') (sym (members_more xs i d l e))
+    (puts_as (λ fault. IsGiven (IsWith one front) (IsFaultOf w) fault ⊎ IsFaultOf w here fault) (IsGiven (IsWith one (front ++ member_view d ∷ [])) (IsFaultOf w)) faults faults'
+    (λ fault. (
       (λ s. ⊎_elim
           (λ g. record { one = g.one; these = record { is = g.these.is; stands = Contains-append_left front (member_view d ∷ []) g.one.right g.these.stands }; gives = g.gives })
           (λ f. record { one = here; these = record { is = refl; stands = Contains-push front (member_view d) }; gives = f }) s),
       (λ g. ⊎_elim
           (λ c. inl (record { one = g.one; these = record { is = g.these.is; stands = c }; gives = g.gives }))
-          (λ q. inr (subst (λ p. IsFaultOf w p item) (is_here g.one g.these.is q) g.gives))
+          (λ q. inr (subst (λ p. IsFaultOf w p fault) (is_here g.one g.these.is q) g.gives))
           (Contains-push_cases front (member_view d) g.one.right g.these.stands)),
     ))
-    (puts_both (IsGiven (IsWith one front) (IsFaultOf w)) (IsFaultOf w here) items middle items' a b))
+    (puts_both (IsGiven (IsWith one front) (IsFaultOf w)) (IsFaultOf w here) faults middle faults' a b))
   where
     is_here : (p : MetOf) → p.left ≡ one → member_view d ≡ p.right → p ≡ record { left = one; right = member_view d }
     is_here p l r = λ i. record { left = l i; right = sym r i }
 
-pub with_none : (w : LookOf) (one : MemberOf) (items : List Item) → Puts (IsGiven (IsWith one []) (IsFaultOf w)) items items
-with_none w one items = puts_nothing (IsGiven (IsWith one []) (IsFaultOf w)) items (λ i g. contains_none g.one.right g.these.stands)
+pub with_none : (w : LookOf) (one : MemberOf) (faults : List Fault) → AddsExactly (IsGiven (IsWith one []) (IsFaultOf w)) faults faults
+with_none w one faults = puts_nothing (IsGiven (IsWith one []) (IsFaultOf w)) faults (λ i g. contains_none g.one.right g.these.stands)
 
 -- no field of the code differs from itself
 not_itself : (es : List EntryOf) (p : Purpose) (f : FieldAt) (given : List Argument) → f.arguments ≡ map argument_view given → Differ es p f f → ⊥
@@ -60,17 +60,17 @@ not_itself es p f given e (in_call leads apart) =
     apart (record { one_name = refl; same_arguments = subst (λ l. SameArguments l l) (sym e) (same_when_erased given given refl) })
 
 -- one field alone
-pub alone_none : (w : LookOf) (xs : List Member) (items : List Item) → length xs ≡ 1 → Puts (IsGiven (AreMet (members_view xs) (members_view xs)) (IsFaultOf w)) items items
-alone_none w [] items e = absurd (omega (arith, e))
-alone_none w (x ∷ []) items e =
-    puts_nothing (IsGiven (AreMet (member_view x ∷ []) (member_view x ∷ [])) (IsFaultOf w)) items
+pub alone_none : (w : LookOf) (xs : List Member) (faults : List Fault) → length xs ≡ 1 → AddsExactly (IsGiven (AreMet (members_view xs) (members_view xs)) (IsFaultOf w)) faults faults
+alone_none w [] faults e = absurd (omega (arith, e))
+alone_none w (x ∷ []) faults e =
+    puts_nothing (IsGiven (AreMet (member_view x ∷ []) (member_view x ∷ [])) (IsFaultOf w)) faults
     (λ i g. not_itself w.entries w.purpose (field_at x.it) x.it.arguments.now refl
     (subst (λ (m : MemberOf). Differ w.entries w.purpose m.field_at (field_at x.it)) (the_one g.one.left g.these.stands_left)
     (subst (λ (m : MemberOf). Differ w.entries w.purpose g.one.left.field_at m.field_at) (the_one g.one.right g.these.stands_right) g.gives.differ)))
   where
     the_one : (d : MemberOf) → Contains (member_view x ∷ []) d → d ≡ member_view x
     the_one d h = ⊎_elim (λ q. sym q) (λ f. absurd (contains_none d f)) (contains_cases (member_view x) [] d h)
-alone_none w (x ∷ y ∷ rest) items e = absurd (omega (arith, e))
+alone_none w (x ∷ y ∷ rest) faults e = absurd (omega (arith, e))
 
 module _ (w : LookOf) (ms : List MemberOf) (clique : IsClique w ms) where
   abbrev MayDiffer : MemberOf → Type 0
@@ -79,13 +79,13 @@ module _ (w : LookOf) (ms : List MemberOf) (clique : IsClique w ms) where
   abbrev DiffersFrom : MemberOf → MemberOf → Type 0
   DiffersFrom first m = Differ w.entries w.purpose first.field_at m.field_at
 
-  abbrev AreFaults : Item → Type 0
+  abbrev AreFaults : Fault → Type 0
   AreFaults = IsGiven (AreMet ms ms) (IsFaultOf w)
 
   -- where none can differ there is no fault
-  pub no_first : (items : List Item) → IsEarliest MayDiffer ms None → Puts AreFaults items items
-  no_first items h =
-      puts_nothing AreFaults items (λ i g. h.none g.one.left g.these.stands_left (differ_may w.entries w.purpose g.one.left.field_at g.one.right.field_at g.gives.differ).0)
+  pub no_first : (faults : List Fault) → IsEarliest MayDiffer ms None → AddsExactly AreFaults faults faults
+  no_first faults h =
+      puts_nothing AreFaults faults (λ i g. h.none g.one.left g.these.stands_left (differ_may w.entries w.purpose g.one.left.field_at g.one.right.field_at g.gives.differ).0)
 
   module _ (first : MemberOf) (is_first : IsEarliest MayDiffer ms (Some first)) where
     -- from what differs from another one that the first does not, the first differs
@@ -95,22 +95,22 @@ module _ (w : LookOf) (ms : List MemberOf) (clique : IsClique w ms) where
         (clique.lead first a is_first.is_one.0 ca) (clique.lead first b is_first.is_one.0 cb) d n
 
     -- where none differs from the first there is no fault
-    pub no_second : (items : List Item) → IsEarliest (DiffersFrom first) ms None → Puts AreFaults items items
-    no_second items h =
-        puts_nothing AreFaults items
+    pub no_second : (faults : List Fault) → IsEarliest (DiffersFrom first) ms None → AddsExactly AreFaults faults faults
+    no_second faults h =
+        puts_nothing AreFaults faults
         (λ i g. h.none g.one.left g.these.stands_left (from_first g.one.left g.one.right g.these.stands_left g.these.stands_right g.gives.differ (h.none g.one.right g.these.stands_right)))
 
     module _ (second : MemberOf) (is_second : IsEarliest (DiffersFrom first) ms (Some second)) where
-      abbrev Either : Item → Type 0
-      Either item = IsGiven (IsWith first ms) (IsFaultOf w) item ⊎ IsGiven (IsWith second ms) (IsFaultOf w) item
+      abbrev Either : Fault → Type 0
+      Either fault = IsGiven (IsWith first ms) (IsFaultOf w) fault ⊎ IsGiven (IsWith second ms) (IsFaultOf w) fault
 
-      with_any : (one : MemberOf) → Contains ms one → (item : Item) → IsGiven (IsWith one ms) (IsFaultOf w) item → AreFaults item
-      with_any one c item g =
+      with_any : (one : MemberOf) → Contains ms one → (fault : Fault) → IsGiven (IsWith one ms) (IsFaultOf w) fault → AreFaults fault
+      with_any one c fault g =
           let there : Contains ms g.one.left = subst (Contains ms) (sym g.these.is) c in
           record { one = g.one; these = record { stands_left = there; stands_right = g.these.stands; one_key = clique.one_key.each g.one.left g.one.right there g.these.stands }; gives = g.gives }
 
-      by_first : (p : MetOf) (item : Item) → AreMet ms ms p → IsFaultOf w p item → DiffersFrom first p.right → Either item
-      by_first p item met f d = inl (record {
+      by_first : (p : MetOf) (fault : Fault) → AreMet ms ms p → IsFaultOf w p fault → DiffersFrom first p.right → Either fault
+      by_first p fault met f d = inl (record {
         one = record { left = first; right = p.right };
         these = record { is = refl; stands = met.stands_right };
         gives = record {
@@ -120,8 +120,8 @@ module _ (w : LookOf) (ms : List MemberOf) (clique : IsClique w ms) where
         };
       })
 
-      by_second : (p : MetOf) (item : Item) → AreMet ms ms p → IsFaultOf w p item → (DiffersFrom first p.right → ⊥) → Either item
-      by_second p item met f n =
+      by_second : (p : MetOf) (fault : Fault) → AreMet ms ms p → IsFaultOf w p fault → (DiffersFrom first p.right → ⊥) → Either fault
+      by_second p fault met f n =
           let d = from_first p.left p.right met.stands_left met.stands_right f.differ n in
           inr (record {
             one = record { left = second; right = p.right };
@@ -135,13 +135,13 @@ module _ (w : LookOf) (ms : List MemberOf) (clique : IsClique w ms) where
             };
           })
 
-      both_tell : (item : Item) → Either item ↔ AreFaults item
-      both_tell item = (
-        (λ s. ⊎_elim (with_any first is_first.is_one.0 item) (with_any second is_second.is_one.0 item) s),
-        (λ g. ⊎_elim (by_first g.one item g.these g.gives) (by_second g.one item g.these g.gives) (is_second.decided g.one.right g.these.stands_right)),
+      both_tell : (fault : Fault) → Either fault ↔ AreFaults fault
+      both_tell fault = (
+        (λ s. ⊎_elim (with_any first is_first.is_one.0 fault) (with_any second is_second.is_one.0 fault) s),
+        (λ g. ⊎_elim (by_first g.one fault g.these g.gives) (by_second g.one fault g.these g.gives) (is_second.decided g.one.right g.these.stands_right)),
       )
 
-      pub two_tell_all : (items middle items' : List Item) → Puts (IsGiven (IsWith first ms) (IsFaultOf w)) items middle → Puts (IsGiven (IsWith second ms) (IsFaultOf w)) middle items' →
-          Puts AreFaults items items'
-      two_tell_all items middle items' a b =
-          puts_as Either AreFaults items items' both_tell (puts_both (IsGiven (IsWith first ms) (IsFaultOf w)) (IsGiven (IsWith second ms) (IsFaultOf w)) items middle items' a b)
+      pub two_tell_all : (faults middle faults' : List Fault) → AddsExactly (IsGiven (IsWith first ms) (IsFaultOf w)) faults middle → AddsExactly (IsGiven (IsWith second ms) (IsFaultOf w)) middle faults' →
+          AddsExactly AreFaults faults faults'
+      two_tell_all faults middle faults' a b =
+          puts_as Either AreFaults faults faults' both_tell (puts_both (IsGiven (IsWith first ms) (IsFaultOf w)) (IsGiven (IsWith second ms) (IsFaultOf w)) faults middle faults' a b)

@@ -8,12 +8,13 @@ use Rattle.gq_text.specs.declared.place.Span.{Span}
 use Rattle.gq_tree.specs.Plain.{TypeOf, named, list_of, non_null}
 use Rattle.gq_types.specs.Entries.{Text, EntryOf}
 use Rattle.gq_types.specs.Joined.{kind_named}
-use Rattle.gq_document.specs.Selections.{FieldOf, selected_field, base_name, is_composite_named}
-use Rattle.gq_merging.specs.FieldSets.{FieldAt}
+use Rattle.gq_document.specs.Selections.{FieldOf, selected_field, is_composite_named}
+use Rattle.gq_tree.specs.NamedTypes.{base_name}
+use Rattle.gq_document.specs.FieldSets.{FieldAt}
 use Rattle.gq_merging.specs.Shapes.{Shape, composite, leaf, many, never_null, shape_of}
 use Rattle.gq_merging.specs.SameArguments.{SameArguments}
 use Rattle.gq_merging.specs.FieldsMerge.{can_coincide, HasType, IsSameCall, Differ, in_shape, in_call}
-use Rattle.gq_merging.specs.Comparisons.{known_type, if_known, same_shapes, types_differ, shapes_differ}
+use Rattle.gq_merging.specs.Helping.Comparisons.{known_type, if_known, same_shapes, types_differ, shapes_differ}
 use Rattle.gq_merging.specs.declared.purpose.Purpose.TheVariants.{Shapes, Names}
 
 abbrev leaf_name : Shape → Text → Text
@@ -22,11 +23,11 @@ leaf_name (leaf n) d = n
 leaf_name (many s) d = d
 leaf_name (never_null s) d = d
 
-abbrev item_in : Shape → Shape
-item_in composite = composite
-item_in (leaf n) = leaf n
-item_in (many s) = s
-item_in (never_null s) = s
+abbrev fault_in : Shape → Shape
+fault_in composite = composite
+fault_in (leaf n) = leaf n
+fault_in (many s) = s
+fault_in (never_null s) = s
 
 ends_are : (p q : Bool) (n m : Text) → ((if p then q else not q && bytes_eq n m) ≡ true) ↔ ((if p then composite else leaf n) ≡ (if q then composite else leaf m))
 ends_are true true n m = (λ e. refl, λ e. refl)
@@ -51,7 +52,7 @@ shapes_are es (list_of t) (named m) = (λ e. absurd (cc), λ e. absurd (no_many 
     no_many : (p : Bool) (n : Text) (s : Shape) → (if p then composite else leaf n) ≡ many s → ⊥
     no_many true n s e = absurd (cc)
     no_many false n s e = absurd (cc)
-shapes_are es (list_of t) (list_of u) = let q = shapes_are es t u in (λ e. ap many (q.0 e), λ e. q.1 (ap item_in e))
+shapes_are es (list_of t) (list_of u) = let q = shapes_are es t u in (λ e. ap many (q.0 e), λ e. q.1 (ap fault_in e))
 shapes_are es (list_of t) (non_null u) = (λ e. absurd (cc), λ e. absurd (cc))
 shapes_are es (non_null t) (named m) = (λ e. absurd (cc), λ e. absurd (no_null (is_composite_named es m.text) m.text (shape_of es t) (sym e)))
   where
@@ -59,7 +60,7 @@ shapes_are es (non_null t) (named m) = (λ e. absurd (cc), λ e. absurd (no_null
     no_null true n s e = absurd (cc)
     no_null false n s e = absurd (cc)
 shapes_are es (non_null t) (list_of u) = (λ e. absurd (cc), λ e. absurd (cc))
-shapes_are es (non_null t) (non_null u) = let q = shapes_are es t u in (λ e. ap never_null (q.0 e), λ e. q.1 (ap item_in e))
+shapes_are es (non_null t) (non_null u) = let q = shapes_are es t u in (λ e. ap never_null (q.0 e), λ e. q.1 (ap fault_in e))
 
 pub has_type : (es : List EntryOf) (f : FieldAt) (t : TypeOf Span) → known_type es f ≡ Some t → HasType es f t
 has_type es f t e = by_field (selected_field es f.parent f.name.text) refl e

@@ -4,9 +4,9 @@ use Rattle.std.specs.Prelude.{is_some}
 use Rattle.gq_text.specs.declared.place.Span.{Span}
 use Rattle.gq_tree.specs.Plain.{TypeOf}
 use Rattle.gq_types.specs.Entries.{EntryOf}
-use Rattle.gq_merging.specs.FieldSets.{FieldAt}
+use Rattle.gq_document.specs.FieldSets.{FieldAt}
 use Rattle.gq_merging.specs.FieldsMerge.{leads_on, HasType, IsSameCall, Differ, in_shape, in_call}
-use Rattle.gq_merging.specs.Comparisons.{known_type, may_differ}
+use Rattle.gq_merging.specs.Helping.Comparisons.{known_type, may_differ}
 use Rattle.gq_merging.specs.declared.purpose.Purpose.{Purpose}
 use Rattle.gq_merging.specs.declared.purpose.Purpose.TheVariants.{Shapes}
 use Rattle.gq_merging.proofs.CompareLemmas.{has_type, type_of}

@@ -5,11 +5,11 @@ use Rattle.std.specs.Prelude.{if◌then◌else◌, nat_lt, nat_le, nat_eq, ◌||
 use Rattle.std.proofs.lemmas.Bool.Decides.{nat_tests}
 use Rattle.std.proofs.lemmas.List.Elements.{Contains-push, Contains-push_cases, Contains-append_left}
 use Rattle.gq_names.proofs.RepeatLemmas.{contains_none}
-use Rattle.gq_merging.specs.FieldSets.{FieldAt}
+use Rattle.gq_document.specs.FieldSets.{FieldAt}
 use Rattle.gq_merging.specs.FieldsMerge.{IsNoLater}
-use Rattle.gq_merging.specs.Comparisons.{is_no_later}
-use Rattle.gq_merging.specs.SetTables.{MemberOf}
-use Rattle.gq_merging.specs.SearchTables.{IsEarliest, earlier_of}
+use Rattle.gq_merging.specs.Helping.Comparisons.{is_no_later}
+use Rattle.gq_merging.specs.Helping.SetTables.{MemberOf}
+use Rattle.gq_merging.specs.Helping.SearchTables.{IsEarliest, earlier_of}
 use Rattle.gq_merging.specs.Views.{member_view, members_view}
 use Rattle.gq_merging.specs.declared.rows.Member.{Member}
 use Rattle.gq_merging.proofs.ClassLemmas.{members_more}

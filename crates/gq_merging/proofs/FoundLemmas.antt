@@ -2,8 +2,8 @@
 use Rattle.std.proofs.Common.{◌≡◌, ◌↔◌, ⊎_elim, ℕ, ◌+◌, ◌*◌, ◌/◌, ◌%◌, ◌<◌, Bool, List, [], ◌∷◌, Contains, refl, sym, subst}
 use Rattle.gq_names.proofs.RepeatLemmas.{contains_none, contains_first, contains_cases}
 use Rattle.gq_reach.specs.Reach.{Reach, start as at_once, step as by_step}
-use Rattle.gq_merging.specs.SetTables.{members_at, spreads_at}
-use Rattle.gq_merging.specs.PairTables.{MetOf, LookOf, IsNumber, IsMetAt, IsMetIn, IsGiven, IsAfter, below, by_left, by_right, IsFound, begins, leads, IsReached, start, step, IsMetReached}
+use Rattle.gq_merging.specs.Helping.SetTables.{members_at, spreads_at}
+use Rattle.gq_merging.specs.Helping.PairTables.{MetOf, LookOf, IsNumber, IsMetAt, IsMetIn, IsGiven, IsAfter, below, by_left, by_right, IsFound, begins, leads, IsReached, start, step, IsMetReached}
 use Rattle.gq_merging.proofs.PairNumbers.{pair_below, left_below, right_below, left_of, right_of, both_of}
 
 pub reached_within : (w : LookOf) (passed : List Bool) (n : ℕ) → IsReached w passed n → n < w.size

@@ -13,21 +13,22 @@ use Rattle.gq_tree.specs.Views.{argument_view}
 use Rattle.gq_tree.specs.declared.value.Argument.{Argument}
 use Rattle.gq_types.specs.Entries.{EntryOf}
 use Rattle.gq_document.specs.Executable.{ExecutableOf}
-use Rattle.gq_merging.specs.FieldSets.{SetOf, FieldAt, key, InSet, field_set}
+use Rattle.gq_document.specs.FieldSets.{SetOf, FieldAt, key, InSet, field_set}
 use Rattle.gq_merging.specs.FieldsMerge.{Differ, in_shape, in_call}
 use Rattle.gq_merging.specs.SameArguments.{SameArguments}
 use Rattle.gq_merging.specs.Shapes.{shape_of}
 use Rattle.gq_merging.specs.Groups.{MeetFrom, together, deeper, IsMerged, AreMerged}
-use Rattle.gq_merging.specs.GroupTables.{IsOfGroup, IsThrough, SayTheSame, IsUnder, AreBelow, GoTogether, AreSettled, IsSettled, IsReached, IsTest, ArePassed, IsTested, AreTested, AreMarked, IsKnown, as_empty, as_before, as_marked}
-use Rattle.gq_merging.specs.SetTables.{MemberOf, RowOf, AreRows, AreAlike, IsMember, members_at, spreads_at}
+use Rattle.gq_merging.specs.Helping.GroupTables.{IsOfGroup, IsThrough, SayTheSame, IsUnder, AreBelow, GoTogether, AreSettled, IsSettled, IsReached, IsTest, ArePassed, IsTested, AreTested, AreMarked, IsKnown, as_empty, as_before, as_marked}
+use Rattle.gq_merging.specs.Helping.SetTables.{MemberOf, RowOf, AreRows, AreAlike, IsMember, members_at, spreads_at}
 use Rattle.gq_merging.specs.Views.{member_view, row_view, rows_view}
 use Rattle.gq_merging.specs.declared.purpose.Purpose.{Purpose}
 use Rattle.gq_merging.specs.declared.rows.Row.{Row}
 use Rattle.gq_merging.proofs.ClassLemmas.{through_member}
 use Rattle.gq_merging.proofs.CompareLemmas.{type_of}
-use Rattle.gq_merging.proofs.MemberLemmas.{alike_in, alike_back, get_contains, get_below, map_get, from_map, to_found, found_member, member_in, row_of_member, members_there}
-use Rattle.gq_merging.proofs.MemberSteps.{reach_alike, alike, count_alike, to_flat}
+use Rattle.gq_merging.proofs.MemberLemmas.{alike_in, alike_back, get_contains, get_below, map_get, to_found, found_member, member_in, row_of_member, members_there}
+use Rattle.gq_merging.proofs.MemberSteps.{reach_alike, alike, count_alike}
 use Rattle.gq_merging.proofs.SamenessLemmas.{same_when_erased}
+use Rattle.gq_types.proofs.Gathered.{from_map_as as from_map, to_flat}
 
 -- fields that say the same do not differ
 same_do_not_differ : (es : List EntryOf) (purpose : Purpose) (a b : FieldAt) (left right : List Argument) → a.arguments ≡ map argument_view left → b.arguments ≡ map argument_view right →

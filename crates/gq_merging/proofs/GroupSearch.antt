@@ -6,13 +6,13 @@ use Rattle.std.proofs.lemmas.List.{length-append, length-map, take-append-le, ta
 use Rattle.std.proofs.lemmas.List.Elements.{All-append, All-cons, All-contains, All-nil, Contains-append_left, Contains-append_right, Contains-push, Contains-push_cases}
 use Rattle.std.proofs.lemmas.Option.{same_Some, none-some, slice_get_within}
 use Rattle.gq_names.proofs.RepeatLemmas.{contains_none, contains_first, contains_later, contains_cases}
-use Rattle.gq_found.specs.declared.item.Item.{Item}
+use Rattle.gq_found.specs.declared.fault.Fault.{Fault}
 use Rattle.gq_document.specs.Executable.{ExecutableOf}
-use Rattle.gq_merging.specs.FieldSets.{key}
-use Rattle.gq_merging.specs.SetTables.{MemberOf, RowOf, AreRows, IsRow, HasNumber, IsMember, names_of}
-use Rattle.gq_merging.specs.GroupTables.{IsOfGroup, IsUnder, AreBelow}
-use Rattle.gq_merging.specs.PairTables.{MetOf, LookOf, IsGiven, IsMetAt, IsReached, start, step, IsMetReached, IsFaultOf}
-use Rattle.gq_merging.specs.SearchTables.{AreInGroup, AreInOne, AreUnder, Searched, IsFirst, HasFields, AreFirst, HaveSets, Search, WasThere}
+use Rattle.gq_document.specs.FieldSets.{key}
+use Rattle.gq_merging.specs.Helping.SetTables.{MemberOf, RowOf, AreRows, IsRow, HasNumber, IsMember, names_of}
+use Rattle.gq_merging.specs.Helping.GroupTables.{IsOfGroup, IsUnder, AreBelow}
+use Rattle.gq_merging.specs.Helping.PairTables.{MetOf, LookOf, IsGiven, IsMetAt, IsReached, start, step, IsMetReached, IsFaultOf}
+use Rattle.gq_merging.specs.Helping.SearchTables.{AreInGroup, AreInOne, AreUnder, Searched, IsFirst, HasFields, AreFirst, HaveSets, Search, WasThere}
 use Rattle.gq_merging.proofs.LookLemmas.{before_next}
 use Rattle.gq_merging.proofs.MemberLemmas.{get_contains, get_below, members_there, row_of_member}
 use Rattle.gq_merging.proofs.PairNumbers.{pair_below, left_of, right_of}
@@ -90,17 +90,17 @@ module _ (w : LookOf) (passed : List Bool) (sets : HaveSets w.rows) (counted : w
     }
 
   -- a group that was there already
-  pub search_known : (first : List (List ℕ)) (items : List Item) (groups : List (List ℕ)) (done : ℕ) → done < length groups → WasThere groups done →
-      Search w passed first items groups done → Search w passed first items groups (done + 1)
-  search_known first items groups done l was s =
+  pub search_known : (first : List (List ℕ)) (faults : List Fault) (groups : List (List ℕ)) (done : ℕ) → done < length groups → WasThere groups done →
+      Search w passed first faults groups done → Search w passed first faults groups (done + 1)
+  search_known first faults groups done l was s =
       let g = get_below groups done l in
       let front : take (done + 1) groups ≡ take done groups ++ g.0 ∷ [] = front_more groups done g.0 g.1 in
       let before : Contains (take done groups) g.0 = contains_take groups done was.earlier g.0 was.before (was.same ∙ g.1) in
       record {
         most = omega (arith, l);
         sound = s.sound;
-        searched = subst (λ gs. Searched w (AreInOne w.rows gs) [] items first groups) (sym front)
-            (searched_as w (AreInOne w.rows (take done groups)) (AreInOne w.rows (take done groups ++ g.0 ∷ [])) [] items first groups
+        searched = subst (λ gs. Searched w (AreInOne w.rows gs) [] faults first groups) (sym front)
+            (searched_as w (AreInOne w.rows (take done groups)) (AreInOne w.rows (take done groups ++ g.0 ∷ [])) [] faults first groups
             (λ p. (
               still_in_one w.rows (take done groups) (take done groups ++ g.0 ∷ []) (g.0 ∷ []) refl p,
               (λ h. ⊎_elim (λ a. a)
@@ -112,23 +112,23 @@ module _ (w : LookOf) (passed : List Bool) (sets : HaveSets w.rows) (counted : w
       the_one : (g h : List ℕ) → Contains (g ∷ []) h → h ≡ g
       the_one g h c = ⊎_elim (λ e. sym e) (λ f. absurd (contains_none h f)) (contains_cases g [] h c)
 
-  -- the same items, in another order or repeated
-  pub search_same : (first : List (List ℕ)) (items items' : List Item) (groups : List (List ℕ)) (done : ℕ) → ((item : Item) → Contains items' item ↔ Contains items item) →
-      Search w passed first items groups done → Search w passed first items' groups done
-  search_same first items items' groups done same s =
+  -- the same faults, in another order or repeated
+  pub search_same : (first : List (List ℕ)) (faults faults' : List Fault) (groups : List (List ℕ)) (done : ℕ) → ((fault : Fault) → Contains faults' fault ↔ Contains faults fault) →
+      Search w passed first faults groups done → Search w passed first faults' groups done
+  search_same first faults faults' groups done same s =
       record {
         most = s.most;
         sound = s.sound;
         searched = record {
-          tells = λ item. let t = s.searched.tells item in ((λ c. t.0 ((same item).0 c)), (λ e. (same item).1 (t.1 e)));
+          tells = λ fault. let t = s.searched.tells fault in ((λ c. t.0 ((same fault).0 c)), (λ e. (same fault).1 (t.1 e)));
           grows = s.searched.grows;
         };
       }
 
   -- a group that is looked at
-  pub search_next : (first : List (List ℕ)) (items items' : List Item) (old new : List (List ℕ)) (done : ℕ) (group : List ℕ) → done < length old → slice_get old done ≡ Some group →
-      Searched w (AreInGroup w.rows group) items items' old new → Search w passed first items old done → Search w passed first items' new (done + 1)
-  search_next first items items' old new done group l at h s =
+  pub search_next : (first : List (List ℕ)) (faults faults' : List Fault) (old new : List (List ℕ)) (done : ℕ) (group : List ℕ) → done < length old → slice_get old done ≡ Some group →
+      Searched w (AreInGroup w.rows group) faults faults' old new → Search w passed first faults old done → Search w passed first faults' new (done + 1)
+  search_next first faults faults' old new done group l at h s =
       let g = h.grows in
       let count : length new ≡ length old + length g.added = ap length g.is ∙ length-append old g.added in
       let front : take (done + 1) new ≡ take done old ++ group ∷ [] = ap (take (done + 1)) g.is ∙ take-append-le (done + 1) old g.added (omega (arith, l)) ∙ front_more old done group at in
@@ -136,15 +136,15 @@ module _ (w : LookOf) (passed : List Bool) (sets : HaveSets w.rows) (counted : w
       record {
         most = omega (arith, count, l);
         sound = λ q i. ⊎_elim (s.sound q) (sound_more here) (in_either w.rows old g.added q (subst (λ gs. AreInOne w.rows gs q) g.is i));
-        searched = subst (λ gs. Searched w (AreInOne w.rows gs) [] items' first new) (sym front)
-            (searched_as w (λ p. AreInOne w.rows (take done old) p ⊎ AreInGroup w.rows group p) (AreInOne w.rows (take done old ++ group ∷ [])) [] items' first new
+        searched = subst (λ gs. Searched w (AreInOne w.rows gs) [] faults' first new) (sym front)
+            (searched_as w (λ p. AreInOne w.rows (take done old) p ⊎ AreInGroup w.rows group p) (AreInOne w.rows (take done old ++ group ∷ [])) [] faults' first new
             (λ p. (
               (λ e. ⊎_elim
                   (still_in_one w.rows (take done old) (take done old ++ group ∷ []) (group ∷ []) refl p)
                   (λ i. record { group = group; is_group = Contains-append_right (take done old) (group ∷ []) group (contains_first group [] group refl); inside = i }) e),
               (λ i. ⊎_elim inl (λ b. inr (subst (λ k. AreInGroup w.rows k p) (the_one group b.group b.is_group) b.inside)) (in_either w.rows (take done old) (group ∷ []) p i)),
             ))
-            (searched_both w (AreInOne w.rows (take done old)) (AreInGroup w.rows group) [] items items' first old new s.searched h));
+            (searched_both w (AreInOne w.rows (take done old)) (AreInGroup w.rows group) [] faults faults' first old new s.searched h));
       }
     where
       the_one : (g h : List ℕ) → Contains (g ∷ []) h → h ≡ g
@@ -157,8 +157,8 @@ module _ (w : LookOf) (passed : List Bool) (sets : HaveSets w.rows) (counted : w
           (of_group_there group t.one.left t.these.left) (of_group_there group t.one.right t.these.right) t.gives
 
   module _ (first : List (List ℕ)) (are_first : AreFirst w.rows passed (length passed) first) (as_many : length passed ≡ w.count)
-      (items : List Item) (groups : List (List ℕ)) (sound : (q : MetOf) → AreInOne w.rows groups q → IsMetReached w passed q)
-      (searched : Searched w (AreInOne w.rows groups) [] items first groups) where
+      (faults : List Fault) (groups : List (List ℕ)) (sound : (q : MetOf) → AreInOne w.rows groups q → IsMetReached w passed q)
+      (searched : Searched w (AreInOne w.rows groups) [] faults first groups) where
     at_pair : (i j n : ℕ) (q : MetOf) → j < w.count → n ≡ i * w.count + j → IsMetAt w n q → IsMember w.rows i q.left × IsMember w.rows j q.right
     at_pair i j n q l e h = (
       subst (λ k. IsMember w.rows k q.left) (left_of w.count i j n l e) h.left,
@@ -183,17 +183,17 @@ module _ (w : LookOf) (passed : List Bool) (sets : HaveSets w.rows) (counted : w
         let both = at_pair g.one.left.below g.one.right.below n q l g.gives.number.is h in
         searched.grows.holds q (record { one = g.one; these = i; gives = record { leads = g.gives.leads; left = both.0; right = both.1; one_key = h.one_key } })
 
-    all_found : (item : Item) → Contains items item ↔ IsGiven (IsMetReached w passed) (IsFaultOf w) item
-    all_found item =
-        let t = searched.tells item in (
-          (λ c. ⊎_elim (λ d. absurd (contains_none item d)) (λ g. record { one = g.one; these = sound g.one g.these; gives = g.gives }) (t.0 c)),
+    all_found : (fault : Fault) → Contains faults fault ↔ IsGiven (IsMetReached w passed) (IsFaultOf w) fault
+    all_found fault =
+        let t = searched.tells fault in (
+          (λ c. ⊎_elim (λ d. absurd (contains_none fault d)) (λ g. record { one = g.one; these = sound g.one g.these; gives = g.gives }) (t.0 c)),
           (λ g. t.1 (inr (record { one = g.one; these = complete g.these.number g.these.reached g.one g.these.met; gives = g.gives }))),
         )
 
-  pub search_ends : (first : List (List ℕ)) → AreFirst w.rows passed (length passed) first → length passed ≡ w.count → (items : List Item) (groups : List (List ℕ)) (done : ℕ) →
-      Search w passed first items groups done → length groups ≤ done → (item : Item) → Contains items item ↔ IsGiven (IsMetReached w passed) (IsFaultOf w) item
-  search_ends first are_first as_many items groups done s past =
-      all_found first are_first as_many items groups s.sound (subst (λ gs. Searched w (AreInOne w.rows gs) [] items first groups) (take_all done groups past) s.searched)
+  pub search_ends : (first : List (List ℕ)) → AreFirst w.rows passed (length passed) first → length passed ≡ w.count → (faults : List Fault) (groups : List (List ℕ)) (done : ℕ) →
+      Search w passed first faults groups done → length groups ≤ done → (fault : Fault) → Contains faults fault ↔ IsGiven (IsMetReached w passed) (IsFaultOf w) fault
+  search_ends first are_first as_many faults groups done s past =
+      all_found first are_first as_many faults groups s.sound (subst (λ gs. Searched w (AreInOne w.rows gs) [] faults first groups) (take_all done groups past) s.searched)
 
 -- the groups of the sets that are not passed over, one set more
 module _ (rows : List RowOf) (passed : List Bool) where

@@ -4,13 +4,13 @@ use Rattle.std.proofs.lemmas.List.Elements.{All-nil, All-cons, All-append, Conta
 use Rattle.gq_names.proofs.RepeatLemmas.{contains_none, contains_cases}
 use Rattle.gq_reach.specs.Reach.{Reach, start, step}
 use Rattle.gq_reach.proofs.Ways.{way_on, way_starts, FirstStep, first_step}
-use Rattle.gq_found.specs.declared.item.Item.{Item}
-use Rattle.gq_found.specs.Puts.{Puts}
+use Rattle.gq_found.specs.declared.fault.Fault.{Fault}
+use Rattle.gq_found.specs.Adds.{AddsExactly}
 use Rattle.gq_merging.specs.FieldsMerge.{leads_on}
-use Rattle.gq_merging.specs.SetTables.{MemberOf, RowOf, spreads_at, IsMember}
-use Rattle.gq_merging.specs.GroupTables.{IsOfGroup}
-use Rattle.gq_merging.specs.PairTables.{MetOf, LookOf, AreMet, IsGiven, IsFaultOf}
-use Rattle.gq_merging.specs.SearchTables.{AreInGroup, AreInOne, IsBelowOne, AreBelowThese, AreUnder, IsClique, Grows, Searched}
+use Rattle.gq_merging.specs.Helping.SetTables.{MemberOf, RowOf, spreads_at, IsMember}
+use Rattle.gq_merging.specs.Helping.GroupTables.{IsOfGroup}
+use Rattle.gq_merging.specs.Helping.PairTables.{MetOf, LookOf, AreMet, IsGiven, IsFaultOf}
+use Rattle.gq_merging.specs.Helping.SearchTables.{AreInGroup, AreInOne, IsBelowOne, AreBelowThese, AreUnder, IsClique, Grows, Searched}
 use Rattle.gq_merging.proofs.DifferLemmas.{differ_leads}
 
 -- a set's fields are those of the group of that set
@@ -117,12 +117,12 @@ grows_both rows A B old middle new a b = record {
   holds = λ q s. ⊎_elim (λ l. still_in_one rows middle new b.added b.is q (a.holds q l)) (λ r. b.holds q r) s;
 }
 
--- items that are put behind others
-told_by : (Is : Item → Type 0) (items items' : List Item) → Puts Is items items' → (item : Item) → Contains items' item ↔ (Contains items item ⊎ Is item)
-told_by Is items items' p item = (
-  (λ c. ⊎_elim inl (λ d. inr ((p.exactly item).0 d)) (Contains-append_cases items p.added item (subst (λ is. Contains is item) p.is c))),
-  (λ s. subst (λ is. Contains is item) (sym p.is)
-      (⊎_elim (Contains-append_left items p.added item) (λ i. Contains-append_right items p.added item ((p.exactly item).1 i)) s)),
+-- faults that are put behind others
+told_by : (Is : Fault → Type 0) (faults faults' : List Fault) → AddsExactly Is faults faults' → (fault : Fault) → Contains faults' fault ↔ (Contains faults fault ⊎ Is fault)
+told_by Is faults faults' p fault = (
+  (λ c. ⊎_elim inl (λ d. inr ((p.exactly fault).0 d)) (Contains-append_cases faults p.added fault (subst (λ is. Contains is fault) p.is c))),
+  (λ s. subst (λ is. Contains is fault) (sym p.is)
+      (⊎_elim (Contains-append_left faults p.added fault) (λ i. Contains-append_right faults p.added fault ((p.exactly fault).1 i)) s)),
 )
 
 -- the fields in the braces of a clique
@@ -146,9 +146,9 @@ module _ (w : LookOf) (ms : List MemberOf) (clique : IsClique w ms) where
     }),
   )
 
-  pub searched_clique : (items items' : List Item) (old new : List (List ℕ)) → Puts (IsGiven (AreMet ms ms) (IsFaultOf w)) items items' → Grows w.rows (AreBelowThese w.rows ms) old new →
-      Searched w (AreMet ms ms) items items' old new
-  searched_clique items items' old new p g = record { tells = told_by (IsGiven (AreMet ms ms) (IsFaultOf w)) items items' p; grows = grows_as w.rows (AreBelowThese w.rows ms) (IsGiven (AreMet ms ms) (AreUnder w)) old new under_clique g }
+  pub searched_clique : (faults faults' : List Fault) (old new : List (List ℕ)) → AddsExactly (IsGiven (AreMet ms ms) (IsFaultOf w)) faults faults' → Grows w.rows (AreBelowThese w.rows ms) old new →
+      Searched w (AreMet ms ms) faults faults' old new
+  searched_clique faults faults' old new p g = record { tells = told_by (IsGiven (AreMet ms ms) (IsFaultOf w)) faults faults' p; grows = grows_as w.rows (AreBelowThese w.rows ms) (IsGiven (AreMet ms ms) (AreUnder w)) old new under_clique g }
 
 -- where a group stands for the fields below
 pub in_group_below : (rows : List RowOf) (group : List ℕ) (ms : List MemberOf) → ((m : MemberOf) → IsOfGroup rows group m ↔ IsBelowOne rows ms m) → (q : MetOf) → AreInGroup rows group q ↔ AreBelowThese rows ms q
@@ -165,9 +165,9 @@ module _ (w : LookOf) where
   Gives These = IsGiven These (AreUnder w)
 
   -- those of which what stands in their braces meets tell all
-  pub searched_led : (A B : MetOf → Type 0) (items items' : List Item) (old new : List (List ℕ)) → ((p : MetOf) → A p → B p) →
-      ((p : MetOf) → B p → leads_on w.entries w.purpose p.left.field_at p.right.field_at ≡ true → A p) → Searched w A items items' old new → Searched w B items items' old new
-  searched_led A B items items' old new to from s = record {
+  pub searched_led : (A B : MetOf → Type 0) (faults faults' : List Fault) (old new : List (List ℕ)) → ((p : MetOf) → A p → B p) →
+      ((p : MetOf) → B p → leads_on w.entries w.purpose p.left.field_at p.right.field_at ≡ true → A p) → Searched w A faults faults' old new → Searched w B faults faults' old new
+  searched_led A B faults faults' old new to from s = record {
     tells = λ i.
         let t = s.tells i in (
           (λ c. ⊎_elim inl (λ g. inr (record { one = g.one; these = to g.one g.these; gives = g.gives })) (t.0 c)),
@@ -181,12 +181,12 @@ module _ (w : LookOf) where
         )) s.grows;
   }
 
-  pub searched_as : (A B : MetOf → Type 0) (items items' : List Item) (old new : List (List ℕ)) → ((p : MetOf) → A p ↔ B p) → Searched w A items items' old new → Searched w B items items' old new
-  searched_as A B items items' old new h s = searched_led A B items items' old new (λ p a. (h p).0 a) (λ p b l. (h p).1 b) s
+  pub searched_as : (A B : MetOf → Type 0) (faults faults' : List Fault) (old new : List (List ℕ)) → ((p : MetOf) → A p ↔ B p) → Searched w A faults faults' old new → Searched w B faults faults' old new
+  searched_as A B faults faults' old new h s = searched_led A B faults faults' old new (λ p a. (h p).0 a) (λ p b l. (h p).1 b) s
 
-  pub searched_both : (A B : MetOf → Type 0) (items middle items' : List Item) (old between new : List (List ℕ)) → Searched w A items middle old between → Searched w B middle items' between new →
-      Searched w (λ p. A p ⊎ B p) items items' old new
-  searched_both A B items middle items' old between new a b = record {
+  pub searched_both : (A B : MetOf → Type 0) (faults middle faults' : List Fault) (old between new : List (List ℕ)) → Searched w A faults middle old between → Searched w B middle faults' between new →
+      Searched w (λ p. A p ⊎ B p) faults faults' old new
+  searched_both A B faults middle faults' old between new a b = record {
     tells = λ i.
         let t = a.tells i in
         let u = b.tells i in (
@@ -207,8 +207,8 @@ module _ (w : LookOf) where
         (grows_both w.rows (Gives A) (Gives B) old between new a.grows b.grows);
   }
 
-  pub searched_nowhere : (A : MetOf → Type 0) (items : List Item) (old : List (List ℕ)) → ((p : MetOf) → A p → ⊥) → Searched w A items items old old
-  searched_nowhere A items old none = record {
+  pub searched_nowhere : (A : MetOf → Type 0) (faults : List Fault) (old : List (List ℕ)) → ((p : MetOf) → A p → ⊥) → Searched w A faults faults old old
+  searched_nowhere A faults old none = record {
     tells = λ i. (inl, (λ s. ⊎_elim (λ c. c) (λ g. absurd (none g.one g.these)) s));
     grows = grows_not w.rows (Gives A) old (λ q g. none g.one g.these);
   }

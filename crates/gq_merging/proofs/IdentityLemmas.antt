@@ -21,7 +21,7 @@ use Rattle.gq_tree.specs.declared.value.Value.TheViews.{out-Value, roll-Value, r
 use Rattle.gq_tree.proofs.Trees.{view_variable, view_int, view_float, view_string, view_boolean, view_null, view_enum, view_list, view_object}
 use Rattle.gq_types.specs.Entries.{Text}
 use Rattle.gq_merging.specs.SameArguments.{AreSameStrings, variables, ints, floats, strings, booleans, nulls, enums, AreIdentical, same, lists, objects, AreInOrder, no_more, one_more, SameArguments}
-use Rattle.gq_merging.specs.Marks.{AreAlike}
+use Rattle.gq_merging.specs.Helping.Marks.{AreAlike}
 use Rattle.gq_merging.proofs.ArgumentLemmas.{sets_are}
 
 -- where two values are seen

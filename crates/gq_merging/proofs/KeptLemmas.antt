@@ -8,15 +8,15 @@ use Rattle.std.proofs.lemmas.Option.{none-some, same_Some, slice_get-map, slice_
 use Rattle.gq_names.proofs.RepeatLemmas.{contains_none, contains_first, contains_later}
 use Rattle.gq_reach.specs.Reach.{Reach, InRange, start, step, row}
 use Rattle.gq_reach.proofs.Ways.{way_on, way_starts, contains_one, FirstStep, first_step}
-use Rattle.gq_found.specs.declared.item.Item.{Item}
+use Rattle.gq_found.specs.declared.fault.Fault.{Fault}
 use Rattle.gq_types.specs.Entries.{Text}
-use Rattle.gq_merging.specs.FieldSets.{key}
-use Rattle.gq_merging.specs.SetTables.{MemberOf, RowOf, members_at, spreads_at}
-use Rattle.gq_merging.specs.GroupTables.{IsOfGroup}
-use Rattle.gq_merging.specs.PairTables.{MetOf, LookOf, AreMet}
-use Rattle.gq_merging.specs.NameTables.{ByNameOf, by_name_view, fields_with, AreByKey}
-use Rattle.gq_merging.specs.SearchTables.{AreInGroup, AreOfOneKey, AreMetInOne, Searched}
-use Rattle.gq_merging.specs.KeptTables.{KeptOf, AreByTheirKeys, IsTableOf, IsKept, AreKept, IsTableAt, ArePut, AreMetBeside, AreMetBesideOne, table_view, tables_view}
+use Rattle.gq_document.specs.FieldSets.{key}
+use Rattle.gq_merging.specs.Helping.SetTables.{MemberOf, RowOf, members_at, spreads_at}
+use Rattle.gq_merging.specs.Helping.GroupTables.{IsOfGroup}
+use Rattle.gq_merging.specs.Helping.PairTables.{MetOf, LookOf, AreMet}
+use Rattle.gq_merging.specs.Helping.NameTables.{ByNameOf, by_name_view, fields_with, AreByKey}
+use Rattle.gq_merging.specs.Helping.SearchTables.{AreInGroup, AreOfOneKey, AreMetInOne, Searched}
+use Rattle.gq_merging.specs.Helping.KeptTables.{KeptOf, AreByTheirKeys, IsTableOf, IsKept, AreKept, IsTableAt, ArePut, AreMetBeside, AreMetBesideOne, table_view, tables_view}
 use Rattle.gq_merging.specs.Views.{member_view, members_view, rows_view}
 use Rattle.gq_merging.specs.declared.rows.Member.{Member}
 use Rattle.gq_merging.specs.declared.rows.Row.{Row}
@@ -24,8 +24,9 @@ use Rattle.gq_merging.specs.declared.kept.Table.{Table}
 use Rattle.gq_merging.proofs.ClassSearch.{seen, seen_tell, list_of_member}
 use Rattle.gq_merging.proofs.MemberLemmas.{get_contains}
 use Rattle.gq_merging.proofs.Worklist.{get_seam}
-use Rattle.gq_merging.proofs.MemberSteps.{alike, reach_alike, from_flat, to_flat}
+use Rattle.gq_merging.proofs.MemberSteps.{alike, reach_alike}
 use Rattle.gq_merging.proofs.GrowLemmas.{searched_as, searched_both, searched_nowhere, still_in_one}
+use Rattle.gq_types.proofs.Gathered.{from_flat, to_flat}
 
 -- a way of no step, or one that goes on from what the first number leads to
 lone_way : (next : ℕ → List ℕ) (b n : ℕ) → Reach (b ∷ []) next n → (n ≡ b) ⊎ Reach (next b) next n
@@ -98,10 +99,10 @@ module _ (rows : List Row) (table : List (Vec ℕ Global)) (same : map (λ v. v.
   }
 
   -- what is found in the lists by key is found in the group
-  pub group_searched : (w : LookOf) (vs : List (Vec Member Global)) (t : ByNameOf) → t.lists ≡ map seen vs → AreByKey t ms → (items items' : List Item) (old new : List (List ℕ)) →
-      Searched w (AreMetInOne (map seen vs)) items items' old new → Searched w (AreInGroup (rows_view rows) group) items items' old new
-  group_searched w vs t are by_key items items' old new s =
-      searched_as w (AreMetInOne (map seen vs)) (AreInGroup (rows_view rows) group) items items' old new
+  pub group_searched : (w : LookOf) (vs : List (Vec Member Global)) (t : ByNameOf) → t.lists ≡ map seen vs → AreByKey t ms → (faults faults' : List Fault) (old new : List (List ℕ)) →
+      Searched w (AreMetInOne (map seen vs)) faults faults' old new → Searched w (AreInGroup (rows_view rows) group) faults faults' old new
+  group_searched w vs t are by_key faults faults' old new s =
+      searched_as w (AreMetInOne (map seen vs)) (AreInGroup (rows_view rows) group) faults faults' old new
       (λ p.
       let tell = seen_tell vs t are ms by_key p in (
         (λ h. let m = tell.0 h in record { left = (members_of_group p.left).0 m.stands_left; right = (members_of_group p.right).0 m.stands_right; one_key = m.one_key }),
@@ -145,15 +146,15 @@ module _ (list : List MemberOf) (one_key : AreOfOneKey list) (t : ByNameOf) (key
         }),
   )
 
-  pub beside_searched : (w : LookOf) (items items' : List Item) (old new : List (List ℕ)) → Searched w (AreMet (list ++ others) (list ++ others)) items items' old new →
-      Searched w (AreMetBeside list t) items items' old new
-  beside_searched w items items' old new s = searched_as w (AreMet (list ++ others) (list ++ others)) (AreMetBeside list t) items items' old new beside_told s
+  pub beside_searched : (w : LookOf) (faults faults' : List Fault) (old new : List (List ℕ)) → Searched w (AreMet (list ++ others) (list ++ others)) faults faults' old new →
+      Searched w (AreMetBeside list t) faults faults' old new
+  beside_searched w faults faults' old new s = searched_as w (AreMet (list ++ others) (list ++ others)) (AreMetBeside list t) faults faults' old new beside_told s
 
 -- the table has none for it
 pub alone_searched : (list : List MemberOf) → AreOfOneKey list → (t : ByNameOf) → AreByTheirKeys t → (first : MemberOf) → Contains list first → fields_with t (key first.field_at) ≡ [] →
-    (w : LookOf) (items items' : List Item) (old new : List (List ℕ)) → Searched w (AreMet list list) items items' old new → Searched w (AreMetBeside list t) items items' old new
-alone_searched list one_key t keys first stands none w items items' old new s =
-    beside_searched list one_key t keys first stands [] (sym none) w items items' old new (subst (λ ms. Searched w (AreMet ms ms) items items' old new) (sym (append-nil list)) s)
+    (w : LookOf) (faults faults' : List Fault) (old new : List (List ℕ)) → Searched w (AreMet list list) faults faults' old new → Searched w (AreMetBeside list t) faults faults' old new
+alone_searched list one_key t keys first stands none w faults faults' old new s =
+    beside_searched list one_key t keys first stands [] (sym none) w faults faults' old new (subst (λ ms. Searched w (AreMet ms ms) faults faults' old new) (sym (append-nil list)) s)
 
 -- the first of a list
 pub first_none : (ms : List Member) → slice_get ms 0 ≡ None → members_view ms ≡ []
@@ -164,8 +165,8 @@ pub first_there : (ms : List Member) (m : Member) → slice_get ms 0 ≡ Some m 
 first_there ms m e = get_contains (members_view ms) 0 (member_view m) (slice_get-map member_view ms 0 ∙ ap (option_map member_view) e)
 
 -- no field stands in it
-pub none_beside : (list : List MemberOf) (t : ByNameOf) → list ≡ [] → (w : LookOf) (items : List Item) (old : List (List ℕ)) → Searched w (AreMetBeside list t) items items old old
-none_beside list t none w items old = searched_nowhere w (AreMetBeside list t) items old (λ p m. contains_none m.one (subst (λ ms. Contains ms m.one) none m.stands))
+pub none_beside : (list : List MemberOf) (t : ByNameOf) → list ≡ [] → (w : LookOf) (faults : List Fault) (old : List (List ℕ)) → Searched w (AreMetBeside list t) faults faults old old
+none_beside list t none w faults old = searched_nowhere w (AreMetBeside list t) faults old (λ p m. contains_none m.one (subst (λ ms. Contains ms m.one) none m.stands))
 
 -- one list more
 besides_more : (ls : List (List MemberOf)) (l : List MemberOf) (t : ByNameOf) (p : MetOf) → (AreMetBesideOne ls t p ⊎ AreMetBeside l t p) ↔ AreMetBesideOne (ls ++ l ∷ []) t p
@@ -179,18 +180,18 @@ besides_more ls l t p = (
 )
 
 module _ (w : LookOf) (t : ByNameOf) where
-  pub lists_more_beside : (vs : List (Vec Member Global)) (i : ℕ) (d : Vec Member Global) (items middle items' : List Item) (old between new : List (List ℕ)) → i < length vs → get_or vs i d ≡ d →
-      Searched w (AreMetBesideOne (map seen (take i vs)) t) items middle old between → Searched w (AreMetBeside (seen d) t) middle items' between new →
-      Searched w (AreMetBesideOne (map seen (take (i + 1) vs)) t) items items' old new
-  lists_more_beside vs i d items middle items' old between new l e a b =
+  pub lists_more_beside : (vs : List (Vec Member Global)) (i : ℕ) (d : Vec Member Global) (faults middle faults' : List Fault) (old between new : List (List ℕ)) → i < length vs → get_or vs i d ≡ d →
+      Searched w (AreMetBesideOne (map seen (take i vs)) t) faults middle old between → Searched w (AreMetBeside (seen d) t) middle faults' between new →
+      Searched w (AreMetBesideOne (map seen (take (i + 1) vs)) t) faults faults' old new
+  lists_more_beside vs i d faults middle faults' old between new l e a b =
       let front = map seen (take i vs) in
       let more : map seen (take (i + 1) vs) ≡ front ++ seen d ∷ [] = ap (map seen) (take_more vs i d l) ∙ map-append seen (take i vs) (get_or vs i d ∷ []) ∙ ap (λ y. front ++ seen y ∷ []) e in
-      subst (λ ls. Searched w (AreMetBesideOne ls t) items items' old new) (sym more)
-      (searched_as w (λ p. AreMetBesideOne front t p ⊎ AreMetBeside (seen d) t p) (AreMetBesideOne (front ++ seen d ∷ []) t) items items' old new (besides_more front (seen d) t)
-      (searched_both w (AreMetBesideOne front t) (AreMetBeside (seen d) t) items middle items' old between new a b))
+      subst (λ ls. Searched w (AreMetBesideOne ls t) faults faults' old new) (sym more)
+      (searched_as w (λ p. AreMetBesideOne front t p ⊎ AreMetBeside (seen d) t p) (AreMetBesideOne (front ++ seen d ∷ []) t) faults faults' old new (besides_more front (seen d) t)
+      (searched_both w (AreMetBesideOne front t) (AreMetBeside (seen d) t) faults middle faults' old between new a b))
 
-  pub no_lists_beside : (items : List Item) (old : List (List ℕ)) → Searched w (AreMetBesideOne [] t) items items old old
-  no_lists_beside items old = searched_nowhere w (AreMetBesideOne [] t) items old (λ p h. contains_none h.list h.is_list)
+  pub no_lists_beside : (faults : List Fault) (old : List (List ℕ)) → Searched w (AreMetBesideOne [] t) faults faults old old
+  no_lists_beside faults old = searched_nowhere w (AreMetBesideOne [] t) faults old (λ p h. contains_none h.list h.is_list)
 
 -- Of two fields of one key in a group both are among those that the fragments reach, or one of them stands in a set of the group itself.
 module _ (rows : List RowOf) (group : List ℕ) (vs : List (Vec Member Global)) (o : ByNameOf) (are : o.lists ≡ map seen vs)
@@ -244,13 +245,13 @@ module _ (rows : List RowOf) (group : List ℕ) (vs : List (Vec Member Global)) 
         ((own_or_reached rows group p.left).0 h.left)),
   )
 
-  pub group_told : (w : LookOf) (items middle items' : List Item) (old between new : List (List ℕ)) →
-      Searched w (AreInGroup rows (flat_map (spreads_at rows) group)) items middle old between → Searched w (AreMetBesideOne (map seen vs) t) middle items' between new →
-      Searched w (AreInGroup rows group) items items' old new
-  group_told w items middle items' old between new a b =
-      searched_as w (λ p. AreInGroup rows (flat_map (spreads_at rows) group) p ⊎ AreMetBesideOne o.lists t p) (AreInGroup rows group) items items' old new own_or_kept
-      (searched_both w (AreInGroup rows (flat_map (spreads_at rows) group)) (AreMetBesideOne o.lists t) items middle items' old between new a
-      (subst (λ ls. Searched w (AreMetBesideOne ls t) middle items' between new) (sym are) b))
+  pub group_told : (w : LookOf) (faults middle faults' : List Fault) (old between new : List (List ℕ)) →
+      Searched w (AreInGroup rows (flat_map (spreads_at rows) group)) faults middle old between → Searched w (AreMetBesideOne (map seen vs) t) middle faults' between new →
+      Searched w (AreInGroup rows group) faults faults' old new
+  group_told w faults middle faults' old between new a b =
+      searched_as w (λ p. AreInGroup rows (flat_map (spreads_at rows) group) p ⊎ AreMetBesideOne o.lists t p) (AreInGroup rows group) faults faults' old new own_or_kept
+      (searched_both w (AreInGroup rows (flat_map (spreads_at rows) group)) (AreMetBesideOne o.lists t) faults middle faults' old between new a
+      (subst (λ ls. Searched w (AreMetBesideOne ls t) middle faults' between new) (sym are) b))
 
 -- the code's tables
 pub table_at : (ts : List Table) (place : ℕ) (t : Table) (fragments : List ℕ) → slice_get ts place ≡ Some t → t.fragments.items ≡ fragments → IsTableAt (tables_view ts) place fragments
@@ -268,10 +269,10 @@ table_put old middle new place t keeps e last =
 -- tables that are kept
 module _ (w : LookOf) where
   -- what was looked at is looked at where there is more
-  pub searched_still : (A : MetOf → Type 0) (items items' : List Item) (groups groups' added : List (List ℕ)) → ((item : Item) → Contains items item → Contains items' item) → groups' ≡ groups ++ added →
-      Searched w A items items groups groups → Searched w A items' items' groups' groups'
-  searched_still A items items' groups groups' added keeps e s = record {
-    tells = λ item. (inl, (λ c. ⊎_elim (λ d. d) (λ g. keeps item ((s.tells item).1 (inr g))) c));
+  pub searched_still : (A : MetOf → Type 0) (faults faults' : List Fault) (groups groups' added : List (List ℕ)) → ((fault : Fault) → Contains faults fault → Contains faults' fault) → groups' ≡ groups ++ added →
+      Searched w A faults faults groups groups → Searched w A faults' faults' groups' groups'
+  searched_still A faults faults' groups groups' added keeps e s = record {
+    tells = λ fault. (inl, (λ c. ⊎_elim (λ d. d) (λ g. keeps fault ((s.tells fault).1 (inr g))) c));
     grows = record {
       added = [];
       is = sym (append-nil groups');
@@ -280,16 +281,16 @@ module _ (w : LookOf) where
     };
   }
 
-  pub kept_still : (items items' : List Item) (groups groups' added : List (List ℕ)) (ks : List KeptOf) → ((item : Item) → Contains items item → Contains items' item) → groups' ≡ groups ++ added →
-      AreKept w items groups ks → AreKept w items' groups' ks
-  kept_still items items' groups groups' added ks keeps e are k c =
+  pub kept_still : (faults faults' : List Fault) (groups groups' added : List (List ℕ)) (ks : List KeptOf) → ((fault : Fault) → Contains faults fault → Contains faults' fault) → groups' ≡ groups ++ added →
+      AreKept w faults groups ks → AreKept w faults' groups' ks
+  kept_still faults faults' groups groups' added ks keeps e are k c =
       let i = are k c in
-      record { table = i.table; searched = searched_still (AreInGroup w.rows k.fragments) items items' groups groups' added keeps e i.searched }
+      record { table = i.table; searched = searched_still (AreInGroup w.rows k.fragments) faults faults' groups groups' added keeps e i.searched }
 
   -- what was looked at just now
-  pub searched_now : (A : MetOf → Type 0) (items items' : List Item) (groups groups' : List (List ℕ)) → Searched w A items items' groups groups' → Searched w A items' items' groups' groups'
-  searched_now A items items' groups groups' s = record {
-    tells = λ item. (inl, (λ c. ⊎_elim (λ d. d) (λ g. (s.tells item).1 (inr g)) c));
+  pub searched_now : (A : MetOf → Type 0) (faults faults' : List Fault) (groups groups' : List (List ℕ)) → Searched w A faults faults' groups groups' → Searched w A faults' faults' groups' groups'
+  searched_now A faults faults' groups groups' s = record {
+    tells = λ fault. (inl, (λ c. ⊎_elim (λ d. d) (λ g. (s.tells fault).1 (inr g)) c));
     grows = record {
       added = [];
       is = sym (append-nil groups');
@@ -298,40 +299,40 @@ module _ (w : LookOf) where
     };
   }
 
-  pub kept_on : (A : MetOf → Type 0) (items items' : List Item) (groups groups' : List (List ℕ)) (ks : List KeptOf) → Searched w A items items' groups groups' →
-      AreKept w items groups ks → AreKept w items' groups' ks
-  kept_on A items items' groups groups' ks s are =
-      kept_still items items' groups groups' s.grows.added ks (λ item c. (s.tells item).1 (inl c)) s.grows.is are
+  pub kept_on : (A : MetOf → Type 0) (faults faults' : List Fault) (groups groups' : List (List ℕ)) (ks : List KeptOf) → Searched w A faults faults' groups groups' →
+      AreKept w faults groups ks → AreKept w faults' groups' ks
+  kept_on A faults faults' groups groups' ks s are =
+      kept_still faults faults' groups groups' s.grows.added ks (λ fault c. (s.tells fault).1 (inl c)) s.grows.is are
 
   -- one table more
-  pub kept_put : (old new : List KeptOf) (place : ℕ) (k : KeptOf) (items items' : List Item) (groups groups' : List (List ℕ)) → ArePut old new place k →
-      IsTableOf w.rows k.fragments k.fields → Searched w (AreInGroup w.rows k.fragments) items items' groups groups' → AreKept w items groups old → AreKept w items' groups' new
-  kept_put old new place k items items' groups groups' put is s are j c = ⊎_elim
-      (λ d. kept_on (AreInGroup w.rows k.fragments) items items' groups groups' old s are j d)
-      (λ e. subst (IsKept w items' groups') (sym e) (record { table = is; searched = searched_now (AreInGroup w.rows k.fragments) items items' groups groups' s }))
+  pub kept_put : (old new : List KeptOf) (place : ℕ) (k : KeptOf) (faults faults' : List Fault) (groups groups' : List (List ℕ)) → ArePut old new place k →
+      IsTableOf w.rows k.fragments k.fields → Searched w (AreInGroup w.rows k.fragments) faults faults' groups groups' → AreKept w faults groups old → AreKept w faults' groups' new
+  kept_put old new place k faults faults' groups groups' put is s are j c = ⊎_elim
+      (λ d. kept_on (AreInGroup w.rows k.fragments) faults faults' groups groups' old s are j d)
+      (λ e. subst (IsKept w faults' groups') (sym e) (record { table = is; searched = searched_now (AreInGroup w.rows k.fragments) faults faults' groups groups' s }))
       (put.others j c)
 
-  pub none_kept : (items : List Item) (groups : List (List ℕ)) (ks : List KeptOf) → ks ≡ [] → AreKept w items groups ks
-  none_kept items groups ks e k c = absurd (contains_none k (subst (λ js. Contains js k) e c))
+  pub none_kept : (faults : List Fault) (groups : List (List ℕ)) (ks : List KeptOf) → ks ≡ [] → AreKept w faults groups ks
+  none_kept faults groups ks e k c = absurd (contains_none k (subst (λ js. Contains js k) e c))
 
   -- the table at a place
-  pub table_there : (items : List Item) (groups : List (List ℕ)) (ks : List KeptOf) (place : ℕ) (fragments : List ℕ) → IsTableAt ks place fragments → AreKept w items groups ks →
-      (k : KeptOf) × (slice_get ks place ≡ Some k) × IsTableOf w.rows fragments k.fields × Searched w (AreInGroup w.rows fragments) items items groups groups
-  table_there items groups ks place fragments h are =
+  pub table_there : (faults : List Fault) (groups : List (List ℕ)) (ks : List KeptOf) (place : ℕ) (fragments : List ℕ) → IsTableAt ks place fragments → AreKept w faults groups ks →
+      (k : KeptOf) × (slice_get ks place ≡ Some k) × IsTableOf w.rows fragments k.fields × Searched w (AreInGroup w.rows fragments) faults faults groups groups
+  table_there faults groups ks place fragments h are =
       let i = are h.table (get_contains ks place h.table h.at) in (
         h.table,
         h.at,
         subst (λ ns. IsTableOf w.rows ns h.table.fields) h.is i.table,
-        subst (λ ns. Searched w (AreInGroup w.rows ns) items items groups groups) h.is i.searched,
+        subst (λ ns. Searched w (AreInGroup w.rows ns) faults faults groups groups) h.is i.searched,
       )
 
   pub table_within : (ts : List Table) (place : ℕ) (fragments : List ℕ) → IsTableAt (tables_view ts) place fragments → place < length ts
   table_within ts place fragments h = subst (λ k. place < k) (length-map ts table_view) (slice_get_within (tables_view ts) place h.table h.at)
 
-  pub table_here : (items : List Item) (groups : List (List ℕ)) (ts : List Table) (place : ℕ) (t : Table) (fragments : List ℕ) → t ≡ get_or ts place t → IsTableAt (tables_view ts) place fragments →
-      AreKept w items groups (tables_view ts) → IsTableOf w.rows fragments (by_name_view t.fields)
-  table_here items groups ts place t fragments is h are =
-      let k = table_there items groups (tables_view ts) place fragments h are in
+  pub table_here : (faults : List Fault) (groups : List (List ℕ)) (ts : List Table) (place : ℕ) (t : Table) (fragments : List ℕ) → t ≡ get_or ts place t → IsTableAt (tables_view ts) place fragments →
+      AreKept w faults groups (tables_view ts) → IsTableOf w.rows fragments (by_name_view t.fields)
+  table_here faults groups ts place t fragments is h are =
+      let k = table_there faults groups (tables_view ts) place fragments h are in
       let read : slice_get ts place ≡ Some t = slice_get_read ts (length ts) place t refl (table_within ts place fragments h) is in
       let same : k.0 ≡ table_view t = same_Some k.0 (table_view t) (sym k.1 ∙ slice_get-map table_view ts place ∙ ap (option_map table_view) read) in
       subst (λ (j : KeptOf). IsTableOf w.rows fragments j.fields) same k.2

@@ -7,20 +7,20 @@ use Rattle.std.proofs.lemmas.List.Elements.{Contains-append_left, Contains-appen
 use Rattle.indexmap.specs.IndexSet.{insert_key}
 use Rattle.indexmap.proofs.CallerLemmas.{Contains-list_any}
 use Rattle.gq_names.proofs.RepeatLemmas.{contains_none, contains_first, contains_cases}
-use Rattle.gq_found.specs.declared.item.Item.{Item}
-use Rattle.gq_found.specs.Puts.{Puts}
+use Rattle.gq_found.specs.declared.fault.Fault.{Fault}
+use Rattle.gq_found.specs.Adds.{AddsExactly}
 use Rattle.gq_found.proofs.PutLemmas.{puts_both, puts_as}
-use Rattle.gq_merging.specs.FieldSets.{key}
+use Rattle.gq_document.specs.FieldSets.{key}
 use Rattle.gq_merging.specs.FieldsMerge.{leads_on}
-use Rattle.gq_merging.specs.SetTables.{MemberOf, spreads_at}
-use Rattle.gq_merging.specs.NameTables.{ByNameOf, fields_with, AreByKey, AreMetByKey}
-use Rattle.gq_merging.specs.PairTables.{MetOf, LookOf, AreMet, IsMetIn, IsNumber, IsStart, IsBelow, IsGiven, IsFaultOf, IsAfter, below, by_left, by_right, Gains, Looked}
+use Rattle.gq_merging.specs.Helping.SetTables.{MemberOf, spreads_at}
+use Rattle.gq_merging.specs.Helping.NameTables.{ByNameOf, fields_with, AreByKey, AreMetByKey}
+use Rattle.gq_merging.specs.Helping.PairTables.{MetOf, LookOf, AreMet, IsMetIn, IsNumber, IsStart, IsBelow, IsGiven, IsFaultOf, IsAfter, below, by_left, by_right, Gains, Looked}
 use Rattle.gq_merging.specs.Views.{member_view, members_view}
 use Rattle.gq_merging.specs.declared.rows.Member.{Member}
 
 -- nothing is put
-pub puts_nothing : (Is : Item → Type 0) (old : List Item) → ((item : Item) → Is item → ⊥) → Puts Is old old
-puts_nothing Is old h = record { added = []; is = sym (append-nil old); exactly = λ item. ((λ c. absurd (contains_none item c)), (λ s. absurd (h item s))) }
+pub puts_nothing : (Is : Fault → Type 0) (old : List Fault) → ((fault : Fault) → Is fault → ⊥) → AddsExactly Is old old
+puts_nothing Is old h = record { added = []; is = sym (append-nil old); exactly = λ fault. ((λ c. absurd (contains_none fault c)), (λ s. absurd (h fault s))) }
 
 -- nothing is found
 pub gains_nothing : (Is : ℕ → Type 0) (old : List ℕ) → ((n : ℕ) → Is n → ⊥) → Gains Is old old
@@ -134,40 +134,40 @@ module _ {B : Type 0} (Gives : MetOf → B → Type 0) where
     (λ g. subst (λ q. Gives q b) (alone g.one g.these) g.gives),
   )
 
-pub puts_given : (w : LookOf) (A B : MetOf → Type 0) (items items' : List Item) → ((p : MetOf) → A p ↔ B p) → Puts (IsGiven A (IsFaultOf w)) items items' → Puts (IsGiven B (IsFaultOf w)) items items'
-puts_given w A B items items' h p = puts_as (IsGiven A (IsFaultOf w)) (IsGiven B (IsFaultOf w)) items items' (given_as (IsFaultOf w) A B h) p
+pub puts_given : (w : LookOf) (A B : MetOf → Type 0) (faults faults' : List Fault) → ((p : MetOf) → A p ↔ B p) → AddsExactly (IsGiven A (IsFaultOf w)) faults faults' → AddsExactly (IsGiven B (IsFaultOf w)) faults faults'
+puts_given w A B faults faults' h p = puts_as (IsGiven A (IsFaultOf w)) (IsGiven B (IsFaultOf w)) faults faults' (given_as (IsFaultOf w) A B h) p
 
-pub looked_as : (w : LookOf) (A B : MetOf → Type 0) (items items' : List Item) (old new : List ℕ) → ((p : MetOf) → A p ↔ B p) → Looked w A items items' old new → Looked w B items items' old new
-looked_as w A B items items' old new h l = record {
-  puts = puts_given w A B items items' h l.puts;
+pub looked_as : (w : LookOf) (A B : MetOf → Type 0) (faults faults' : List Fault) (old new : List ℕ) → ((p : MetOf) → A p ↔ B p) → Looked w A faults faults' old new → Looked w B faults faults' old new
+looked_as w A B faults faults' old new h l = record {
+  puts = puts_given w A B faults faults' h l.puts;
   gains = gains_as (IsGiven A (IsBelow w)) (IsGiven B (IsBelow w)) old new (given_as (IsBelow w) A B h) l.gains;
 }
 
-pub looked_both : (w : LookOf) (A B : MetOf → Type 0) (items middle items' : List Item) (old between new : List ℕ) →
-    Looked w A items middle old between → Looked w B middle items' between new → Looked w (λ p. A p ⊎ B p) items items' old new
-looked_both w A B items middle items' old between new a b = record {
-  puts = puts_as (λ i. IsGiven A (IsFaultOf w) i ⊎ IsGiven B (IsFaultOf w) i) (IsGiven (λ p. A p ⊎ B p) (IsFaultOf w)) items items' (given_either (IsFaultOf w) A B)
-      (puts_both (IsGiven A (IsFaultOf w)) (IsGiven B (IsFaultOf w)) items middle items' a.puts b.puts);
+pub looked_both : (w : LookOf) (A B : MetOf → Type 0) (faults middle faults' : List Fault) (old between new : List ℕ) →
+    Looked w A faults middle old between → Looked w B middle faults' between new → Looked w (λ p. A p ⊎ B p) faults faults' old new
+looked_both w A B faults middle faults' old between new a b = record {
+  puts = puts_as (λ i. IsGiven A (IsFaultOf w) i ⊎ IsGiven B (IsFaultOf w) i) (IsGiven (λ p. A p ⊎ B p) (IsFaultOf w)) faults faults' (given_either (IsFaultOf w) A B)
+      (puts_both (IsGiven A (IsFaultOf w)) (IsGiven B (IsFaultOf w)) faults middle faults' a.puts b.puts);
   gains = gains_as (λ n. IsGiven A (IsBelow w) n ⊎ IsGiven B (IsBelow w) n) (IsGiven (λ p. A p ⊎ B p) (IsBelow w)) old new (given_either (IsBelow w) A B)
       (gains_both (IsGiven A (IsBelow w)) (IsGiven B (IsBelow w)) old between new a.gains b.gains);
 }
 
-pub looked_nowhere : (w : LookOf) (A : MetOf → Type 0) (items : List Item) (old : List ℕ) → ((p : MetOf) → A p → ⊥) → Looked w A items items old old
-looked_nowhere w A items old h = record {
-  puts = puts_nothing (IsGiven A (IsFaultOf w)) items (λ i g. h g.one g.these);
+pub looked_nowhere : (w : LookOf) (A : MetOf → Type 0) (faults : List Fault) (old : List ℕ) → ((p : MetOf) → A p → ⊥) → Looked w A faults faults old old
+looked_nowhere w A faults old h = record {
+  puts = puts_nothing (IsGiven A (IsFaultOf w)) faults (λ i g. h g.one g.these);
   gains = gains_nothing (IsGiven A (IsBelow w)) old (λ n g. h g.one g.these);
 }
 
 -- two fields
-pub look_one : (w : LookOf) (a b : MemberOf) (items items' : List Item) (old new : List ℕ) → key a.field_at ≡ key b.field_at →
-    Puts (IsFaultOf w (record { left = a; right = b })) items items' → Gains (IsBelow w (record { left = a; right = b })) old new →
-    Looked w (AreMet (a ∷ []) (b ∷ [])) items items' old new
-look_one w a b items items' old new e p g =
+pub look_one : (w : LookOf) (a b : MemberOf) (faults faults' : List Fault) (old new : List ℕ) → key a.field_at ≡ key b.field_at →
+    AddsExactly (IsFaultOf w (record { left = a; right = b })) faults faults' → Gains (IsBelow w (record { left = a; right = b })) old new →
+    Looked w (AreMet (a ∷ []) (b ∷ [])) faults faults' old new
+look_one w a b faults faults' old new e p g =
     let m : MetOf = record { left = a; right = b } in
     let here : AreMet (a ∷ []) (b ∷ []) (record { left = a; right = b }) =
     record { stands_left = contains_first a [] a refl; stands_right = contains_first b [] b refl; one_key = e } in
     record {
-      puts = puts_as (IsFaultOf w m) (IsGiven (AreMet (a ∷ []) (b ∷ [])) (IsFaultOf w)) items items' (given_one (IsFaultOf w) m (AreMet (a ∷ []) (b ∷ [])) here alone) p;
+      puts = puts_as (IsFaultOf w m) (IsGiven (AreMet (a ∷ []) (b ∷ [])) (IsFaultOf w)) faults faults' (given_one (IsFaultOf w) m (AreMet (a ∷ []) (b ∷ [])) here alone) p;
       gains = gains_as (IsBelow w m) (IsGiven (AreMet (a ∷ []) (b ∷ [])) (IsBelow w)) old new (given_one (IsBelow w) m (AreMet (a ∷ []) (b ∷ [])) here alone) g;
     }
   where
@@ -177,9 +177,9 @@ look_one w a b items items' old new e p g =
     alone : (q : MetOf) → AreMet (a ∷ []) (b ∷ []) q → q ≡ record { left = a; right = b }
     alone q h = let l = the_one a q.left h.stands_left in let r = the_one b q.right h.stands_right in (λ i. record { left = l i; right = r i })
 
-pub look_apart : (w : LookOf) (a b : MemberOf) (items : List Item) (old : List ℕ) → (key a.field_at ≡ key b.field_at → ⊥) → Looked w (AreMet (a ∷ []) (b ∷ [])) items items old old
-look_apart w a b items old apart =
-    looked_nowhere w (AreMet (a ∷ []) (b ∷ [])) items old
+pub look_apart : (w : LookOf) (a b : MemberOf) (faults : List Fault) (old : List ℕ) → (key a.field_at ≡ key b.field_at → ⊥) → Looked w (AreMet (a ∷ []) (b ∷ [])) faults faults old old
+look_apart w a b faults old apart =
+    looked_nowhere w (AreMet (a ∷ []) (b ∷ [])) faults old
     (λ p h. apart (ap (λ m. key m.field_at) (sym (the_one a p.left h.stands_left)) ∙ h.one_key ∙ ap (λ m. key m.field_at) (the_one b p.right h.stands_right)))
   where
     the_one : (c d : MemberOf) → Contains (c ∷ []) d → d ≡ c
@@ -190,13 +190,13 @@ view_more : (xs : List Member) (i : ℕ) (d : Member) → i < length xs → get_
 view_more xs i d l e =
     ap members_view (take_more xs i d l) ∙ map-append member_view (take i xs) (get_or xs i d ∷ []) ∙ ap (λ x. members_view (take i xs) ++ member_view x ∷ []) e
 
-pub look_right_more : (w : LookOf) (left : List MemberOf) (xs : List Member) (i : ℕ) (d : Member) (items middle items' : List Item) (old between new : List ℕ) → i < length xs → get_or xs i d ≡ d →
-    Looked w (AreMet left (members_view (take i xs))) items middle old between → Looked w (AreMet left (member_view d ∷ [])) middle items' between new →
-    Looked w (AreMet left (members_view (take (i + 1) xs))) items items' old new
-look_right_more w left xs i d items middle items' old between new l e a b =
+pub look_right_more : (w : LookOf) (left : List MemberOf) (xs : List Member) (i : ℕ) (d : Member) (faults middle faults' : List Fault) (old between new : List ℕ) → i < length xs → get_or xs i d ≡ d →
+    Looked w (AreMet left (members_view (take i xs))) faults middle old between → Looked w (AreMet left (member_view d ∷ [])) middle faults' between new →
+    Looked w (AreMet left (members_view (take (i + 1) xs))) faults faults' old new
+look_right_more w left xs i d faults middle faults' old between new l e a b =
     let front = members_view (take i xs) in
-    subst (λ ms. Looked w (AreMet left ms) items items' old new) (sym (view_more xs i d l e))
-    (looked_as w (λ p. AreMet left front p ⊎ AreMet left (member_view d ∷ []) p) (AreMet left (front ++ member_view d ∷ [])) items items' old new
+    subst (λ ms. Looked w (AreMet left ms) faults faults' old new) (sym (view_more xs i d l e))
+    (looked_as w (λ p. AreMet left front p ⊎ AreMet left (member_view d ∷ []) p) (AreMet left (front ++ member_view d ∷ [])) faults faults' old new
     (λ p. (
       (λ s. ⊎_elim
           (λ h. record { stands_left = h.stands_left; stands_right = Contains-append_left front (member_view d ∷ []) p.right h.stands_right; one_key = h.one_key })
@@ -206,15 +206,15 @@ look_right_more w left xs i d items middle items' old between new l e a b =
           (λ c. inr (record { stands_left = h.stands_left; stands_right = c; one_key = h.one_key }))
           (Contains-append_cases front (member_view d ∷ []) p.right h.stands_right)),
     ))
-    (looked_both w (AreMet left front) (AreMet left (member_view d ∷ [])) items middle items' old between new a b))
+    (looked_both w (AreMet left front) (AreMet left (member_view d ∷ [])) faults middle faults' old between new a b))
 
-pub look_left_more : (w : LookOf) (right : List MemberOf) (xs : List Member) (i : ℕ) (d : Member) (items middle items' : List Item) (old between new : List ℕ) → i < length xs → get_or xs i d ≡ d →
-    Looked w (AreMet (members_view (take i xs)) right) items middle old between → Looked w (AreMet (member_view d ∷ []) right) middle items' between new →
-    Looked w (AreMet (members_view (take (i + 1) xs)) right) items items' old new
-look_left_more w right xs i d items middle items' old between new l e a b =
+pub look_left_more : (w : LookOf) (right : List MemberOf) (xs : List Member) (i : ℕ) (d : Member) (faults middle faults' : List Fault) (old between new : List ℕ) → i < length xs → get_or xs i d ≡ d →
+    Looked w (AreMet (members_view (take i xs)) right) faults middle old between → Looked w (AreMet (member_view d ∷ []) right) middle faults' between new →
+    Looked w (AreMet (members_view (take (i + 1) xs)) right) faults faults' old new
+look_left_more w right xs i d faults middle faults' old between new l e a b =
     let front = members_view (take i xs) in
-    subst (λ ms. Looked w (AreMet ms right) items items' old new) (sym (view_more xs i d l e))
-    (looked_as w (λ p. AreMet front right p ⊎ AreMet (member_view d ∷ []) right p) (AreMet (front ++ member_view d ∷ []) right) items items' old new
+    subst (λ ms. Looked w (AreMet ms right) faults faults' old new) (sym (view_more xs i d l e))
+    (looked_as w (λ p. AreMet front right p ⊎ AreMet (member_view d ∷ []) right p) (AreMet (front ++ member_view d ∷ []) right) faults faults' old new
     (λ p. (
       (λ s. ⊎_elim
           (λ h. record { stands_left = Contains-append_left front (member_view d ∷ []) p.left h.stands_left; stands_right = h.stands_right; one_key = h.one_key })
@@ -224,13 +224,13 @@ look_left_more w right xs i d items middle items' old between new l e a b =
           (λ c. inr (record { stands_left = c; stands_right = h.stands_right; one_key = h.one_key }))
           (Contains-append_cases front (member_view d ∷ []) p.left h.stands_left)),
     ))
-    (looked_both w (AreMet front right) (AreMet (member_view d ∷ []) right) items middle items' old between new a b))
+    (looked_both w (AreMet front right) (AreMet (member_view d ∷ []) right) faults middle faults' old between new a b))
 
 -- a field with those of its key
-pub look_keyed : (w : LookOf) (a : MemberOf) (t : ByNameOf) (those : List MemberOf) (items items' : List Item) (old new : List ℕ) → those ≡ fields_with t (key a.field_at) →
-    Looked w (AreMet (a ∷ []) those) items items' old new → Looked w (AreMetByKey (a ∷ []) t) items items' old new
-look_keyed w a t those items items' old new is l =
-    looked_as w (AreMet (a ∷ []) those) (AreMetByKey (a ∷ []) t) items items' old new
+pub look_keyed : (w : LookOf) (a : MemberOf) (t : ByNameOf) (those : List MemberOf) (faults faults' : List Fault) (old new : List ℕ) → those ≡ fields_with t (key a.field_at) →
+    Looked w (AreMet (a ∷ []) those) faults faults' old new → Looked w (AreMetByKey (a ∷ []) t) faults faults' old new
+look_keyed w a t those faults faults' old new is l =
+    looked_as w (AreMet (a ∷ []) those) (AreMetByKey (a ∷ []) t) faults faults' old new
     (λ p. (
       (λ h. record {
         stands_left = h.stands_left;
@@ -248,21 +248,21 @@ look_keyed w a t those items items' old new is l =
     the_one d h = ⊎_elim (λ e. e) (λ f. absurd (contains_none d f)) (contains_cases a [] d h)
 
 -- a field whose key no other has
-pub look_unkeyed : (w : LookOf) (a : MemberOf) (t : ByNameOf) (items : List Item) (old : List ℕ) → [] ≡ fields_with t (key a.field_at) → Looked w (AreMetByKey (a ∷ []) t) items items old old
-look_unkeyed w a t items old none =
-    looked_nowhere w (AreMetByKey (a ∷ []) t) items old
+pub look_unkeyed : (w : LookOf) (a : MemberOf) (t : ByNameOf) (faults : List Fault) (old : List ℕ) → [] ≡ fields_with t (key a.field_at) → Looked w (AreMetByKey (a ∷ []) t) faults faults old old
+look_unkeyed w a t faults old none =
+    looked_nowhere w (AreMetByKey (a ∷ []) t) faults old
     (λ p h. contains_none p.right (subst (λ ms. Contains ms p.right) (sym none) (subst (λ (b : MemberOf). Contains (fields_with t (key b.field_at)) p.right) (sym (the_one p.left h.stands_left)) h.stands_right)))
   where
     the_one : (d : MemberOf) → Contains (a ∷ []) d → a ≡ d
     the_one d h = ⊎_elim (λ e. e) (λ f. absurd (contains_none d f)) (contains_cases a [] d h)
 
-pub look_keyed_more : (w : LookOf) (right : ByNameOf) (xs : List Member) (i : ℕ) (d : Member) (items middle items' : List Item) (old between new : List ℕ) → i < length xs → get_or xs i d ≡ d →
-    Looked w (AreMetByKey (members_view (take i xs)) right) items middle old between → Looked w (AreMetByKey (member_view d ∷ []) right) middle items' between new →
-    Looked w (AreMetByKey (members_view (take (i + 1) xs)) right) items items' old new
-look_keyed_more w right xs i d items middle items' old between new l e a b =
+pub look_keyed_more : (w : LookOf) (right : ByNameOf) (xs : List Member) (i : ℕ) (d : Member) (faults middle faults' : List Fault) (old between new : List ℕ) → i < length xs → get_or xs i d ≡ d →
+    Looked w (AreMetByKey (members_view (take i xs)) right) faults middle old between → Looked w (AreMetByKey (member_view d ∷ []) right) middle faults' between new →
+    Looked w (AreMetByKey (members_view (take (i + 1) xs)) right) faults faults' old new
+look_keyed_more w right xs i d faults middle faults' old between new l e a b =
     let front = members_view (take i xs) in
-    subst (λ ms. Looked w (AreMetByKey ms right) items items' old new) (sym (view_more xs i d l e))
-    (looked_as w (λ p. AreMetByKey front right p ⊎ AreMetByKey (member_view d ∷ []) right p) (AreMetByKey (front ++ member_view d ∷ []) right) items items' old new
+    subst (λ ms. Looked w (AreMetByKey ms right) faults faults' old new) (sym (view_more xs i d l e))
+    (looked_as w (λ p. AreMetByKey front right p ⊎ AreMetByKey (member_view d ∷ []) right p) (AreMetByKey (front ++ member_view d ∷ []) right) faults faults' old new
     (λ p. (
       (λ s. ⊎_elim
           (λ h. record { stands_left = Contains-append_left front (member_view d ∷ []) p.left h.stands_left; stands_right = h.stands_right; one_key = h.one_key })
@@ -272,22 +272,22 @@ look_keyed_more w right xs i d items middle items' old between new l e a b =
           (λ c. inr (record { stands_left = c; stands_right = h.stands_right; one_key = h.one_key }))
           (Contains-append_cases front (member_view d ∷ []) p.left h.stands_left)),
     ))
-    (looked_both w (AreMetByKey front right) (AreMetByKey (member_view d ∷ []) right) items middle items' old between new a b))
+    (looked_both w (AreMetByKey front right) (AreMetByKey (member_view d ∷ []) right) faults middle faults' old between new a b))
 
 -- the fields of the two sets of a pair
-pub look_all_keyed : (w : LookOf) (left right : List MemberOf) (t : ByNameOf) (items items' : List Item) (old new : List ℕ) → AreByKey t right →
-    Looked w (AreMetByKey left t) items items' old new → Looked w (AreMet left right) items items' old new
-look_all_keyed w left right t items items' old new by_key l =
-    looked_as w (AreMetByKey left t) (AreMet left right) items items' old new
+pub look_all_keyed : (w : LookOf) (left right : List MemberOf) (t : ByNameOf) (faults faults' : List Fault) (old new : List ℕ) → AreByKey t right →
+    Looked w (AreMetByKey left t) faults faults' old new → Looked w (AreMet left right) faults faults' old new
+look_all_keyed w left right t faults faults' old new by_key l =
+    looked_as w (AreMetByKey left t) (AreMet left right) faults faults' old new
     (λ p. (
       (λ h. record { stands_left = h.stands_left; stands_right = ((by_key.each (key p.left.field_at) p.right).0 h.stands_right).0; one_key = h.one_key }),
       (λ h. record { stands_left = h.stands_left; stands_right = (by_key.each (key p.left.field_at) p.right).1 (h.stands_right, sym h.one_key); one_key = h.one_key }),
     )) l
 
-pub looked_alike : (w : LookOf) (left left' right right' : List MemberOf) (items items' : List Item) (old new : List ℕ) → left ≡ left' → right ≡ right' →
-    Looked w (AreMet left right) items items' old new → Looked w (AreMet left' right') items items' old new
-looked_alike w left left' right right' items items' old new e f l =
-    subst (λ ms. Looked w (AreMet left' ms) items items' old new) f (subst (λ ms. Looked w (AreMet ms right) items items' old new) e l)
+pub looked_alike : (w : LookOf) (left left' right right' : List MemberOf) (faults faults' : List Fault) (old new : List ℕ) → left ≡ left' → right ≡ right' →
+    Looked w (AreMet left right) faults faults' old new → Looked w (AreMet left' right') faults faults' old new
+looked_alike w left left' right right' faults faults' old new e f l =
+    subst (λ ms. Looked w (AreMet left' ms) faults faults' old new) f (subst (λ ms. Looked w (AreMet ms right) faults faults' old new) e l)
 
 -- one of some numbers gives it, or one more
 pub one_more : {B : Type 0} (Gives : ℕ → B → Type 0) (xs : List ℕ) (d : ℕ) (b : B) → (IsGiven (Contains xs) Gives b ⊎ Gives d b) ↔ IsGiven (Contains (xs ++ d ∷ [])) Gives b
@@ -317,12 +317,12 @@ pub gains_all : (Gives : ℕ → ℕ → Type 0) (xs : List ℕ) (i : ℕ) (old 
 gains_all Gives xs i old new past g = subst (λ ys. Gains (IsGiven (Contains ys) Gives) old new) (take_all i xs past) g
 
 -- what is found after a pair
-pub gains_after : (w : LookOf) (m : ℕ) (items items' : List Item) (old second third new : List ℕ) →
-    Looked w (IsMetIn w m) items items' old second →
+pub gains_after : (w : LookOf) (m : ℕ) (faults faults' : List Fault) (old second third new : List ℕ) →
+    Looked w (IsMetIn w m) faults faults' old second →
     Gains (IsGiven (Contains (spreads_at w.rows (m / w.count))) (λ left. IsNumber w.count w.size left (m % w.count))) second third →
     Gains (IsGiven (Contains (spreads_at w.rows (m % w.count))) (λ right. IsNumber w.count w.size (m / w.count) right)) third new →
     Gains (IsAfter w m) old new
-gains_after w m items items' old second third new a b c =
+gains_after w m faults faults' old second third new a b c =
     let Below = IsGiven (IsMetIn w m) (IsBelow w) in
     let Lefts = IsGiven (Contains (spreads_at w.rows (m / w.count))) (λ left. IsNumber w.count w.size left (m % w.count)) in
     let Rights = IsGiven (Contains (spreads_at w.rows (m % w.count))) (λ right. IsNumber w.count w.size (m / w.count) right) in

@@ -9,7 +9,7 @@ use Rattle.gq_names.specs.Repeats.{StandsAt}
 use Rattle.gq_text.specs.declared.place.Span.{Span}
 use Rattle.gq_tree.specs.Plain.{Val}
 use Rattle.gq_merging.specs.SameArguments.{IsArgument, SameArguments}
-use Rattle.gq_merging.specs.Marks.{IsAmong, IsSameAt, IsAmongFirst, is_marked, MarksSame, MarksEach, AllFound}
+use Rattle.gq_merging.specs.Helping.Marks.{IsAmong, IsSameAt, IsAmongFirst, is_marked, MarksSame, MarksEach, AllFound}
 
 one_stands : {A : Type 0} (xs : List A) (i : ℕ) (x y : A) → StandsAt xs i x → StandsAt xs i y → x ≡ y
 one_stands xs i x y h k = sym h.1 ∙ get_or_default xs i x y h.0 ∙ k.1
@@ -115,12 +115,12 @@ sets_marked xs bs marks all h is = (
 )
   where
     by : SameArguments xs bs → (j : ℕ) → j < length bs → (a : Val Span) × Contains xs a × IsSameAt a bs j
-    by s j k = by_item s j k (item bs j k)
+    by s j k = by_item s j k (fault bs j k)
       where
-        item : (ys : List (Val Span)) (i : ℕ) → i < length ys → (b : Val Span) × StandsAt ys i b
-        item [] i l = absurd (omega (arith, l))
-        item (y ∷ ys) zero l = (y, (omega arith, refl))
-        item (y ∷ ys) (suc i) l = let q = item ys i (omega (arith, l)) in (q.0, (omega (arith, q.1.0), q.1.1))
+        fault : (ys : List (Val Span)) (i : ℕ) → i < length ys → (b : Val Span) × StandsAt ys i b
+        fault [] i l = absurd (omega (arith, l))
+        fault (y ∷ ys) zero l = (y, (omega arith, refl))
+        fault (y ∷ ys) (suc i) l = let q = fault ys i (omega (arith, l)) in (q.0, (omega (arith, q.1.0), q.1.1))
 
         by_item : SameArguments xs bs → (j : ℕ) → j < length bs → (b : Val Span) × StandsAt bs j b → (a : Val Span) × Contains xs a × IsSameAt a bs j
         by_item s j k b = let q = s.others b.0 (j, b.1.0, b.1.1) in (q.0, q.1, (b.0, b.1, q.2))

@@ -15,9 +15,10 @@ use Rattle.gq_reach.specs.Reach.{Reach, start, step}
 use Rattle.gq_spreads.specs.Spreads.{places_from}
 use Rattle.gq_document.specs.Definitions.{FragmentOf}
 use Rattle.gq_document.specs.Executable.{ExecutableOf}
-use Rattle.gq_merging.specs.FieldSets.{SetOf, FieldAt, narrowed, operation_set, fragment_set, field_set, InSet, here, within, through, after, Stands, of_operation, of_fragment, of_field}
-use Rattle.gq_merging.specs.SetTables.{MemberOf, RowOf, IsRow, AreRows, AreAlike, HasNumber, own_fields, own_spreads, first_sets, names_of, members_at, spreads_at, IsMember}
+use Rattle.gq_document.specs.FieldSets.{SetOf, FieldAt, narrowed, operation_set, fragment_set, field_set, InSet, here, within, through, after, Stands, of_operation, of_fragment, of_field}
+use Rattle.gq_merging.specs.Helping.SetTables.{MemberOf, RowOf, IsRow, AreRows, AreAlike, HasNumber, own_fields, own_spreads, first_sets, names_of, members_at, spreads_at, IsMember}
 use Rattle.gq_merging.proofs.Worklist.{own_in, get_longer}
+use Rattle.gq_types.proofs.Gathered.{from_map_as as from_map, to_map}
 
 nothing : (x : ExecutableOf) (file : ℕ) (parent : Option Text) (ss : Sels Span) → ss ≡ none → (f : FieldAt) → InSet x (record { file = file; parent = parent; selections = ss }) f → ⊥
 nothing x file parent none e f i = elim i [ ]
@@ -58,20 +59,6 @@ pub map_get : {A B : Type 0} (f : A → B) (xs : List A) (k : ℕ) (z : B) → s
 map_get f [] k z e = absurd (none-some z e)
 map_get f (x ∷ xs) zero z e = (x, refl, same_Some (f x) z e)
 map_get f (x ∷ xs) (suc k) z e = map_get f xs k z e
-
-pub from_map : {X A : Type 0} (f : X → A) (xs : List X) (y : A) → Contains (map f xs) y → (x : X) × Contains xs x × (y ≡ f x)
-from_map f [] y c = absurd (contains_none y c)
-from_map f (x ∷ xs) y c = elim (contains_cases (f x) (map f xs) y c) [
-  | inl e ↦ (x, contains_first x xs x refl, sym e)
-  | inr b ↦ let r = from_map f xs y b in (r.0, contains_later x xs r.0 r.1, r.2)
-]
-
-pub to_map : {X A : Type 0} (f : X → A) (xs : List X) (x : X) → Contains xs x → Contains (map f xs) (f x)
-to_map f [] x c = absurd (contains_none x c)
-to_map f (w ∷ xs) x c = elim (contains_cases w xs x c) [
-  | inl is ↦ contains_first (f w) (map f xs) (f x) (ap f is)
-  | inr b ↦ contains_later (f w) (map f xs) (f x) (to_map f xs x b)
-]
 
 -- the places of a name
 from_places : (j : ℕ) (text : Text) (names : List Text) (k : ℕ) → Contains (places_from j text names) k → (i : ℕ) × (k ≡ j + i) × (slice_get names i ≡ Some text)

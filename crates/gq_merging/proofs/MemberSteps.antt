@@ -5,17 +5,18 @@ use Rattle.std.specs.Option.{option_map, option_map_or}
 use Rattle.std.specs.Prelude.{unwrap_or}
 use Rattle.std.proofs.lemmas.List.{length-map, length-append}
 use Rattle.std.proofs.lemmas.Option.{slice_get-map}
-use Rattle.std.proofs.lemmas.List.Elements.{Contains-append_left, Contains-append_right, Contains-append_cases, All-contains, All-weaker, All-contains_itself}
-use Rattle.gq_names.proofs.RepeatLemmas.{contains_none, contains_later, contains_first, contains_cases}
+use Rattle.std.proofs.lemmas.List.Elements.{All-contains, All-weaker, All-contains_itself}
+use Rattle.gq_names.proofs.RepeatLemmas.{contains_none, contains_later, contains_first}
 use Rattle.gq_reach.specs.Reach.{Reach, start, step, row, InRange}
 use Rattle.gq_document.specs.Executable.{ExecutableOf}
-use Rattle.gq_merging.specs.FieldSets.{fragment_set, operation_set}
-use Rattle.gq_merging.specs.SetTables.{RowOf, IsRow, AreRows, first_sets, names_of, members_at, spreads_at}
-use Rattle.gq_merging.specs.StartTables.{Passes}
+use Rattle.gq_document.specs.FieldSets.{fragment_set, operation_set}
+use Rattle.gq_merging.specs.Helping.SetTables.{RowOf, IsRow, AreRows, first_sets, names_of, members_at, spreads_at}
+use Rattle.gq_merging.specs.Helping.StartTables.{Passes}
 use Rattle.gq_merging.specs.Views.{members_view, row_view, rows_view}
 use Rattle.gq_merging.specs.declared.rows.Row.{Row}
 use Rattle.gq_merging.specs.declared.rows.Member.{Member}
-use Rattle.gq_merging.proofs.MemberLemmas.{from_map, to_map, spreads_within}
+use Rattle.gq_merging.proofs.MemberLemmas.{spreads_within}
+use Rattle.gq_types.proofs.Gathered.{from_map_as as from_map, to_map}
 
 pub members_of_row : (rows : List Row) (n : ℕ) (r : Row) → slice_get rows n ≡ Some r → members_at (rows_view rows) n ≡ members_view r.members.items
 members_of_row rows n r e = ap (λ (o : Option RowOf). option_map_or (λ (r : RowOf). r.members) o []) (slice_get-map row_view rows n ∙ ap (option_map row_view) e)
@@ -48,20 +49,6 @@ spreads_are (r ∷ rows) (suc n) = spreads_are rows n
 pub reach_alike : (f g : ℕ → List ℕ) (starts : List ℕ) → ((n : ℕ) → f n ≡ g n) → (k : ℕ) → Reach starts f k → Reach starts g k
 reach_alike f g starts same k (start c) = start c
 reach_alike f g starts same k (step {m = m} h c) = step (reach_alike f g starts same m h) (subst (λ ns. Contains ns k) (same m) c)
-
-pub from_flat : {X A : Type 0} (f : X → List A) (xs : List X) (y : A) → Contains (flat_map f xs) y → (x : X) × Contains xs x × Contains (f x) y
-from_flat f [] y c = absurd (contains_none y c)
-from_flat f (x ∷ xs) y c = elim (Contains-append_cases (f x) (flat_map f xs) y c) [
-  | inl a ↦ (x, contains_first x xs x refl, a)
-  | inr b ↦ let r = from_flat f xs y b in (r.0, contains_later x xs r.0 r.1, r.2)
-]
-
-pub to_flat : {X A : Type 0} (f : X → List A) (xs : List X) (x : X) (y : A) → Contains xs x → Contains (f x) y → Contains (flat_map f xs) y
-to_flat f [] x y c d = absurd (contains_none x c)
-to_flat f (w ∷ xs) x y c d = elim (contains_cases w xs x c) [
-  | inl e ↦ Contains-append_left (f w) (flat_map f xs) y (subst (λ v. Contains (f v) y) (sym e) d)
-  | inr b ↦ Contains-append_right (f w) (flat_map f xs) y (to_flat f xs x y b d)
-]
 
 row_there : (table : List (Vec ℕ Global)) (m k : ℕ) → Contains (row table m) k → (v : Vec ℕ Global) × Contains table v × Contains v.items k
 row_there [] m k c = absurd (contains_none k c)

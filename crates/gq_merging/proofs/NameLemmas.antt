@@ -12,8 +12,8 @@ use Rattle.std.proofs.lemmas.Option.{slice_get-get_or, slice_get-map, slice_get_
 use Rattle.gq_names.proofs.PlaceLemmas.{is_some_position, position_push_found, position_push_other, position_push_here}
 use Rattle.gq_names.proofs.RepeatLemmas.{contains_none}
 use Rattle.gq_types.specs.Entries.{Text}
-use Rattle.gq_merging.specs.NameTables.{ByNameOf, list_at, fields_with, AreListed}
-use Rattle.gq_merging.specs.SetTables.{MemberOf}
+use Rattle.gq_merging.specs.Helping.NameTables.{ByNameOf, list_at, fields_with, AreListed}
+use Rattle.gq_merging.specs.Helping.SetTables.{MemberOf}
 use Rattle.gq_merging.specs.Views.{member_view, members_view}
 use Rattle.gq_merging.specs.declared.rows.Member.{Member}
 use Rattle.gq_merging.proofs.ClassLemmas.{get_set_same, get_set_other}

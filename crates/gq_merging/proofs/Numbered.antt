@@ -6,8 +6,8 @@ use Rattle.std.proofs.lemmas.List.Elements.{All-nil, All-push, All-weaker, Conta
 use Rattle.gq_names.proofs.RepeatLemmas.{contains_first}
 use Rattle.gq_tree.specs.Forest.{none}
 use Rattle.gq_types.specs.Entries.{EntryOf}
-use Rattle.gq_merging.specs.FieldSets.{SetOf, FieldAt, field_set}
-use Rattle.gq_merging.specs.SetTables.{MemberOf, HasNumber, IsEmptyAt, IsOfOne, IsPut, own, shared, AreNumbered, weights}
+use Rattle.gq_document.specs.FieldSets.{SetOf, FieldAt, field_set}
+use Rattle.gq_merging.specs.Helping.SetTables.{MemberOf, HasNumber, IsEmptyAt, IsOfOne, IsPut, own, shared, AreNumbered, weights}
 use Rattle.gq_merging.proofs.Worklist.{get_longer, get_seam, longer_number, weights_append, field_weights_append}
 
 pub none_numbered : (es : List EntryOf) (sets : List SetOf) → AreNumbered es [] sets sets []

@@ -5,14 +5,14 @@ use Rattle.std.specs.List.{slice_get}
 use Rattle.std.proofs.lemmas.Option.{slice_get_within}
 use Rattle.std.proofs.lemmas.List.{length-map}
 use Rattle.std.proofs.lemmas.List.Elements.{All-contains}
-use Rattle.gq_found.specs.declared.item.Item.{Item}
+use Rattle.gq_found.specs.declared.fault.Fault.{Fault}
 use Rattle.gq_document.specs.Executable.{ExecutableOf}
-use Rattle.gq_merging.specs.FieldSets.{SetOf, FieldAt, key, InSet, Stands, field_set}
-use Rattle.gq_merging.specs.FieldsMerge.{HaveOneKey, leads_on, Differ, IsNoLater, item_of, Meet, together, deeper, IsFaultFor}
+use Rattle.gq_document.specs.FieldSets.{SetOf, FieldAt, key, InSet, Stands, field_set}
+use Rattle.gq_merging.specs.FieldsMerge.{HaveOneKey, leads_on, Differ, IsNoLater, fault_of, Meet, together, deeper, IsFaultFor}
 use Rattle.gq_merging.specs.Groups.{MeetFrom, AreMerged, together as together_there, deeper as deeper_there}
-use Rattle.gq_merging.specs.SetTables.{MemberOf, RowOf, AreRows, AreAlike, HasNumber, IsMember, spreads_at}
-use Rattle.gq_merging.specs.StartTables.{LeadsTo, Passes}
-use Rattle.gq_merging.specs.PairTables.{MetOf, LookOf, IsMetAt, IsGiven, IsReached, start, step, IsMetReached, IsFaultOf}
+use Rattle.gq_merging.specs.Helping.SetTables.{MemberOf, RowOf, AreRows, AreAlike, HasNumber, IsMember, spreads_at}
+use Rattle.gq_merging.specs.Helping.StartTables.{LeadsTo, Passes}
+use Rattle.gq_merging.specs.Helping.PairTables.{MetOf, LookOf, IsMetAt, IsGiven, IsReached, start, step, IsMetReached, IsFaultOf}
 use Rattle.gq_merging.specs.declared.purpose.Purpose.{Purpose}
 use Rattle.gq_merging.proofs.MemberLemmas.{alike_in, alike_back, get_contains, get_below, set_numbered, field_member, member_field, reached_field}
 use Rattle.gq_merging.proofs.PairNumbers.{pair_below, left_below, right_below, left_of, right_of}
@@ -145,8 +145,8 @@ module _ (x : ExecutableOf) (purpose : Purpose) (rows : List RowOf) (are : AreRo
       }))
 
   -- the faults of the pairs that are reached are those of the rule
-  pub from_reached : (item : Item) → IsGiven (IsMetReached look passed) (IsFaultOf look) item → IsFaultFor x purpose item
-  from_reached item g = record {
+  pub from_reached : (fault : Fault) → IsGiven (IsMetReached look passed) (IsFaultOf look) fault → IsFaultFor x purpose fault
+  from_reached fault g = record {
     first = g.one.left.field_at;
     later = g.one.right.field_at;
     meet = reached_meet g.these.number g.these.reached g.one g.these.met;
@@ -155,19 +155,19 @@ module _ (x : ExecutableOf) (purpose : Purpose) (rows : List RowOf) (are : AreRo
     is = g.gives.is;
   }
 
-  met_fault : (item : Item) (h : IsFaultFor x purpose item) → ReachedMet h.first h.later → IsGiven (IsMetReached look passed) (IsFaultOf look) item
-  met_fault item h r = record {
+  met_fault : (fault : Fault) (h : IsFaultFor x purpose fault) → ReachedMet h.first h.later → IsGiven (IsMetReached look passed) (IsFaultOf look) fault
+  met_fault fault h r = record {
     one = r.pair;
     these = r.met;
     gives = record {
       differ = subst (λ f. Differ x.entries purpose r.pair.left.field_at f) (sym r.is_right) (subst (λ f. Differ x.entries purpose f h.later) (sym r.is_left) h.differ);
       is_no_later = subst (λ f. IsNoLater r.pair.left.field_at f) (sym r.is_right) (subst (λ f. IsNoLater f h.later) (sym r.is_left) h.is_no_later);
-      is = h.is ∙ sym (ap item_of r.is_right);
+      is = h.is ∙ sym (ap fault_of r.is_right);
     };
   }
 
-  pub to_reached : (item : Item) → IsFaultFor x purpose item → IsGiven (IsMetReached look passed) (IsFaultOf look) item
-  to_reached item h =
+  pub to_reached : (fault : Fault) → IsFaultFor x purpose fault → IsGiven (IsMetReached look passed) (IsFaultOf look) fault
+  to_reached fault h =
       let t = meet_somewhere x purpose h.first h.later h.meet in
       let n = set_numbered x rows are t.set t.stands in
       let q : MeetSomewhere x purpose h.first h.later = record {
@@ -178,14 +178,14 @@ module _ (x : ExecutableOf) (purpose : Purpose) (rows : List RowOf) (are : AreRo
       by_mark q n.0 n.2 (slice_index_or passed n.0 false) refl
     where
       by_reason : (t : MeetSomewhere x purpose h.first h.later) (n : ℕ) → slice_get sets n ≡ Some t.set → (slice_index_or marks n false ≡ true) ⊎ LeadsTo (spreads_at rows) passed n →
-          IsGiven (IsMetReached look passed) (IsFaultOf look) item
+          IsGiven (IsMetReached look passed) (IsFaultOf look) fault
       by_reason t n at (inl e) = absurd ((merged.merged n t.set at e).none purpose h.first h.later t.meet h.differ)
       by_reason t n at (inr l) =
           let s = set_there l.from (subst (λ k. l.from < k) (passes.count ∙ merged.count ∙ sym counted) l.within) in
-          met_fault item h
+          met_fault fault h
           (meet_reached l.from s.0 s.1 l.stays h.first h.later
           (meet_wider x purpose t.set s.0 (reached_field x rows are l.from n s.0 t.set s.1 l.reach at) h.first h.later t.meet))
 
-      by_mark : (t : MeetSomewhere x purpose h.first h.later) (n : ℕ) → slice_get sets n ≡ Some t.set → (b : Bool) → slice_index_or passed n false ≡ b → IsGiven (IsMetReached look passed) (IsFaultOf look) item
+      by_mark : (t : MeetSomewhere x purpose h.first h.later) (n : ℕ) → slice_get sets n ≡ Some t.set → (b : Bool) → slice_index_or passed n false ≡ b → IsGiven (IsMetReached look passed) (IsFaultOf look) fault
       by_mark t n at true e = by_reason t n at (passes.why n e)
-      by_mark t n at false e = met_fault item h (meet_reached n t.set at e h.first h.later t.meet)
+      by_mark t n at false e = met_fault fault h (meet_reached n t.set at e h.first h.later t.meet)

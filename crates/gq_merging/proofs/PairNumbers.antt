@@ -2,7 +2,7 @@
 use Rattle.std.proofs.Common.{◌≡◌, ℕ, zero, suc, ◌+◌, ◌*◌, ◌/◌, ◌%◌, ◌<◌, arith, subst, sym, ap, ◌∙◌}
 use Rattle.std.proofs.lemmas.Nat.{div-mul-add, mod-mul-add}
 use Rattle.std.proofs.Math.Nat.{div-lt_iff_lt-mul}
-use Rattle.gq_merging.specs.PairTables.{IsNumber}
+use Rattle.gq_merging.specs.Helping.PairTables.{IsNumber}
 
 pub pair_below : (count left right : ℕ) → left < count → right < count → left * count + right < count * count
 pair_below count left right l r = (div-lt_iff_lt-mul (omega (arith, l))).0 (subst (λ k. k < count) (sym (div-mul-add left count right r)) l)

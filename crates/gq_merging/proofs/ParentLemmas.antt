@@ -11,9 +11,9 @@ use Rattle.gq_types.specs.LookUps.{has_kind}
 use Rattle.gq_types.specs.declared.entry.TypeKind.TheVariants as kind
 use Rattle.gq_types.proofs.Gathered.{tested}
 use Rattle.gq_merging.specs.FieldsMerge.{can_coincide}
-use Rattle.gq_merging.specs.NameTables.{ByNameOf, list_at, AreListed}
-use Rattle.gq_merging.specs.ParentTables.{parent_text, is_of_object, is_of_other, AreByParent}
-use Rattle.gq_merging.specs.SetTables.{MemberOf}
+use Rattle.gq_merging.specs.Helping.NameTables.{ByNameOf, list_at, AreListed}
+use Rattle.gq_merging.specs.Helping.ParentTables.{parent_text, is_of_object, is_of_other, AreByParent}
+use Rattle.gq_merging.specs.Helping.SetTables.{MemberOf}
 use Rattle.gq_merging.proofs.NameLemmas.{listed_at, listed_somewhere}
 
 -- the fields that pass a test, one more looked at

@@ -5,7 +5,7 @@ use Rattle.std.proofs.lemmas.List.{take_more, get_or-set_same, get_or-set_other,
 use Rattle.std.proofs.lemmas.List.Elements.{All-contains, Contains-append_left, Contains-append_right, Contains-append_cases}
 use Rattle.gq_names.proofs.RepeatLemmas.{contains_none, contains_first, contains_cases}
 use Rattle.gq_reach.specs.Reach.{Reach, start, step}
-use Rattle.gq_merging.specs.StartTables.{LeadsTo, Passes, SetsMarks}
+use Rattle.gq_merging.specs.Helping.StartTables.{LeadsTo, Passes, SetsMarks}
 
 -- one mark more
 pub sets_more : (numbers : List ℕ) (i number : ℕ) (mark : Bool) (old middle new : List Bool) → i < length numbers → number ≡ get_or numbers i 0 → number < length middle →

@@ -2,8 +2,8 @@
 use Rattle.std.proofs.Common.{◌≡◌, ◌∙◌, ◌⊎◌, ⊎_elim, ℕ, zero, suc, Bool, true, false, List, length, get_or, replicate, [], refl, sym, ap, subst, Vec, Global}
 use Rattle.std.proofs.lemmas.List.{length-map, length-replicate}
 use Rattle.gq_types.specs.Entries.{EntryOf}
-use Rattle.gq_merging.specs.GroupTables.{ArePassed, AreTested}
-use Rattle.gq_merging.specs.SetTables.{RowOf}
+use Rattle.gq_merging.specs.Helping.GroupTables.{ArePassed, AreTested}
+use Rattle.gq_merging.specs.Helping.SetTables.{RowOf}
 use Rattle.gq_merging.specs.GroupViews.{groups_view}
 use Rattle.gq_merging.specs.Views.{row_view, rows_view}
 use Rattle.gq_merging.specs.declared.rows.Row.{Row}

@@ -8,8 +8,8 @@ use Rattle.gq_tree.specs.Forest.{none, more}
 use Rattle.gq_tree.specs.Plain.{Sels, field, spread, inline}
 use Rattle.gq_types.specs.Entries.{Text, EntryOf}
 use Rattle.gq_document.specs.Executable.{ExecutableOf}
-use Rattle.gq_merging.specs.FieldSets.{SetOf, FieldAt, narrowed, operation_set, fragment_set, InSet, here, within, after, Stands, of_operation, of_fragment, of_field}
-use Rattle.gq_merging.specs.SetTables.{MemberOf, RowOf, IsRow, AreRows, HasNumber, IsOfOne, AreNumbered, own_fields, own_spreads, first_sets, names_of, weight, weights, field_weights}
+use Rattle.gq_document.specs.FieldSets.{SetOf, FieldAt, narrowed, operation_set, fragment_set, InSet, here, within, after, Stands, of_operation, of_fragment, of_field}
+use Rattle.gq_merging.specs.Helping.SetTables.{MemberOf, RowOf, IsRow, AreRows, HasNumber, IsOfOne, AreNumbered, own_fields, own_spreads, first_sets, names_of, weight, weights, field_weights}
 
 pub weights_append : (ss ts : List SetOf) → weights (ss ++ ts) ≡ weights ss + weights ts
 weights_append [] ts = omega arith

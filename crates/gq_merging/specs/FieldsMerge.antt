@@ -4,15 +4,16 @@ use Rattle.std.specs.Prelude.{◌≡◌, ◌≢◌, ◌<◌, ◌≤◌, ◌⊎�
 use Rattle.gq_text.specs.declared.place.Span.{Span}
 use Rattle.gq_tree.specs.Plain.{TypeOf}
 use Rattle.gq_found.specs.declared.code.Code.TheVariants.{FieldsDoNotMerge}
-use Rattle.gq_found.specs.declared.item.Item.{Item}
+use Rattle.gq_found.specs.declared.fault.Fault.{Fault}
 use Rattle.gq_types.specs.Entries.{Text, EntryOf}
 use Rattle.gq_types.specs.Joined.{kind_named}
 use Rattle.gq_types.specs.LookUps.{has_kind}
 use Rattle.gq_types.specs.declared.entry.TypeKind.TheVariants as kind
 use Rattle.std.specs.Str.{bytes_eq}
-use Rattle.gq_document.specs.Selections.{FieldOf, selected_field, base_name}
+use Rattle.gq_document.specs.Selections.{FieldOf, selected_field}
+use Rattle.gq_tree.specs.NamedTypes.{base_name}
 use Rattle.gq_document.specs.Executable.{ExecutableOf}
-use Rattle.gq_merging.specs.FieldSets.{SetOf, FieldAt, key, InSet, Stands, field_set}
+use Rattle.gq_document.specs.FieldSets.{SetOf, FieldAt, key, InSet, Stands, field_set}
 use Rattle.gq_merging.specs.Shapes.{shape_of}
 use Rattle.gq_merging.specs.SameArguments.{SameArguments}
 use Rattle.gq_merging.specs.declared.purpose.Purpose.{Purpose}
@@ -63,19 +64,19 @@ pub data Differ (es : List EntryOf) : Purpose → FieldAt → FieldAt → Type 0
 abbrev pub IsNoLater : FieldAt → FieldAt → Type 0
 IsNoLater a b = (a.file < b.file) ⊎ ((a.file ≡ b.file) × (a.place.start ≤ b.place.start))
 
--- the item of a field is at its name
-abbrev pub item_of : FieldAt → Item
-item_of f = record { file = f.file; start = f.name.place.start; code = FieldsDoNotMerge; end = f.name.place.end }
+-- the fault of a field is at its name
+abbrev pub fault_of : FieldAt → Fault
+fault_of f = record { file = f.file; start = f.name.place.start; code = FieldsDoNotMerge; end = f.name.place.end }
 
 -- the later one of two fields that meet and differ
-pub record IsFaultFor (x : ExecutableOf) (purpose : Purpose) (item : Item) : Type 0 where
+pub record IsFaultFor (x : ExecutableOf) (purpose : Purpose) (fault : Fault) : Type 0 where
   pub first : FieldAt
   pub later : FieldAt
   pub meet : Meet x purpose first later
   pub differ : Differ x.entries purpose first later
   pub is_no_later : IsNoLater first later
-  pub is : item ≡ item_of later
+  pub is : fault ≡ fault_of later
 
-pub data IsMergingFault (x : ExecutableOf) (item : Item) : Type 0 where
-  of_shapes : IsFaultFor x Shapes item → IsMergingFault x item
-  of_names : IsFaultFor x Names item → IsMergingFault x item
+pub data IsMergingFault (x : ExecutableOf) (fault : Fault) : Type 0 where
+  of_shapes : IsFaultFor x Shapes fault → IsMergingFault x fault
+  of_names : IsFaultFor x Names fault → IsMergingFault x fault

@@ -2,8 +2,8 @@
 use Rattle.std.specs.Prelude.{◌≡◌, ℕ, List, map, IfSome}
 use Rattle.std.specs.declared.vec.Vec.{Vec}
 use Rattle.std.specs.declared.alloc.Global.{Global}
-use Rattle.gq_merging.specs.FieldSets.{key}
-use Rattle.gq_merging.specs.GroupTables.{ClassesOf}
+use Rattle.gq_document.specs.FieldSets.{key}
+use Rattle.gq_merging.specs.Helping.GroupTables.{ClassesOf}
 use Rattle.gq_merging.specs.Views.{members_view}
 use Rattle.gq_merging.specs.declared.classes.Classes.{Classes}
 

@@ -1,9 +1,9 @@
 -- Selection sets under which all fields merge, for which pairs of fields need not be looked at.
 use Rattle.std.specs.Prelude.{◌≡◌, ℕ, Bool, false, true, List, Some, length, map, slice_get, slice_index_or}
 use Rattle.gq_document.specs.Executable.{ExecutableOf}
-use Rattle.gq_merging.specs.FieldSets.{SetOf, FieldAt, field_set}
+use Rattle.gq_document.specs.FieldSets.{SetOf, FieldAt, field_set}
 use Rattle.gq_merging.specs.FieldsMerge.{HaveOneKey, leads_on, Differ}
-use Rattle.gq_merging.specs.SetTables.{RowOf}
+use Rattle.gq_merging.specs.Helping.SetTables.{RowOf}
 use Rattle.gq_merging.specs.declared.purpose.Purpose.{Purpose}
 
 -- Two fields meet from a set: those of one key in it, and those of one key in the braces of two that meet.

@@ -2,9 +2,9 @@
 use Rattle.std.specs.Prelude.{◌⊎◌, List, ◌++◌, Contains, map}
 use Rattle.std.specs.declared.vec.Vec.{Vec}
 use Rattle.std.specs.declared.alloc.Global.{Global}
-use Rattle.gq_merging.specs.SetTables.{MemberOf}
-use Rattle.gq_merging.specs.PairTables.{MetOf, LookOf, AreMet}
-use Rattle.gq_merging.specs.SearchTables.{IsClique, AreMetInOne}
+use Rattle.gq_merging.specs.Helping.SetTables.{MemberOf}
+use Rattle.gq_merging.specs.Helping.PairTables.{MetOf, LookOf, AreMet}
+use Rattle.gq_merging.specs.Helping.SearchTables.{IsClique, AreMetInOne}
 use Rattle.gq_merging.specs.Views.{members_view}
 use Rattle.gq_merging.specs.declared.rows.Member.{Member}
 

@@ -9,7 +9,7 @@ use Rattle.gq_document.specs.Selections.{is_composite_named}
 pub data Shape : Type 0 where
   composite : Shape
   leaf : (name : Text) → Shape
-  many : (item : Shape) → Shape
+  many : (fault : Shape) → Shape
   never_null : (inner : Shape) → Shape
 
 abbrev pub end_of : List EntryOf → Text → Shape

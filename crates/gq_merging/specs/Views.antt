@@ -3,13 +3,13 @@ use Rattle.std.specs.Prelude.{List, length, map}
 use Rattle.std.specs.Option.{option_map}
 use Rattle.gq_tree.specs.Views.{name_of, argument_view, sels_view}
 use Rattle.gq_types.specs.Look.{types_view, text_of}
-use Rattle.gq_merging.specs.FieldSets.{SetOf, FieldAt}
-use Rattle.gq_merging.specs.SetTables.{MemberOf, RowOf}
+use Rattle.gq_document.specs.FieldSets.{SetOf, FieldAt}
+use Rattle.gq_merging.specs.Helping.SetTables.{MemberOf, RowOf}
 use Rattle.gq_merging.specs.declared.sets.StandingField.{StandingField}
 use Rattle.gq_merging.specs.declared.sets.StandingSet.{StandingSet}
 use Rattle.gq_merging.specs.declared.rows.Member.{Member}
 use Rattle.gq_merging.specs.declared.rows.Row.{Row}
-use Rattle.gq_merging.specs.PairTables.{MetOf, LookOf}
+use Rattle.gq_merging.specs.Helping.PairTables.{MetOf, LookOf}
 use Rattle.gq_merging.specs.declared.pairs.Met.{Met}
 use Rattle.gq_merging.specs.declared.pairs.Look.{Look}
 

@@ -2,9 +2,9 @@
 //! known in one more: fields of which the parents can be one type stand together in the two.
 ghost use Rattle.std.specs.Prelude.{◌≡◌, ◌++◌, ◌∷◌, [], List, IfOk, OnOk, length};
 ghost use Rattle.gq_types.specs.Look.{types_view};
-ghost use Rattle.gq_merging.specs.NameTables.{by_name_view};
-ghost use Rattle.gq_merging.specs.ParentTables.{AreByParent};
-ghost use Rattle.gq_merging.specs.SetTables.{MemberOf};
+ghost use Rattle.gq_merging.specs.Helping.NameTables.{by_name_view};
+ghost use Rattle.gq_merging.specs.Helping.ParentTables.{AreByParent};
+ghost use Rattle.gq_merging.specs.Helping.SetTables.{MemberOf};
 ghost use Rattle.gq_merging.specs.Views.{member_view, members_view};
 
 use crate::by_name::FieldsByName;

@@ -4,9 +4,9 @@ ghost use Rattle.std.specs.Str.{bytes_eq};
 ghost use Rattle.gq_tree.specs.Views.{type_view};
 ghost use Rattle.gq_types.specs.Look.{types_view, text_of};
 ghost use Rattle.gq_document.specs.Selections.{typename_field};
-ghost use Rattle.gq_merging.specs.SetTables.{MemberOf, IsMember};
-ghost use Rattle.gq_merging.specs.FieldSets.{key};
-ghost use Rattle.gq_merging.specs.GroupTables.{known_shape, SayTheSame, IsUnder, IsThrough, IsThroughMarked, AreBelow, AreClasses, Takes, AreSettled};
+ghost use Rattle.gq_merging.specs.Helping.SetTables.{MemberOf, IsMember};
+ghost use Rattle.gq_document.specs.FieldSets.{key};
+ghost use Rattle.gq_merging.specs.Helping.GroupTables.{known_shape, SayTheSame, IsUnder, IsThrough, IsThroughMarked, AreBelow, AreClasses, Takes, AreSettled};
 ghost use Rattle.gq_merging.specs.Views.{field_at, member_view, members_view, rows_view};
 ghost use Rattle.gq_merging.specs.GroupViews.{groups_view, classes_view, AreKeyed};
 

@@ -7,16 +7,16 @@
 ghost use Rattle.std.specs.Prelude.{◌≡◌, ◌↔◌, ◌<◌, ◌++◌, ◌∷◌, [], ℕ, List, All, Contains, IsTrue, IfOk, OnOk, length, map, true};
 ghost use Rattle.std.specs.declared.vec.Vec.{Vec};
 ghost use Rattle.std.specs.declared.alloc.Global.{Global};
-ghost use Rattle.gq_found.specs.Puts.{Puts};
+ghost use Rattle.gq_found.specs.Adds.{AddsExactly};
 ghost use Rattle.gq_tree.specs.Views.{type_view};
 ghost use Rattle.gq_types.specs.Look.{types_view};
 ghost use Rattle.gq_document.specs.Selections.{typename_field};
 ghost use Rattle.gq_merging.specs.FieldsMerge.{can_coincide};
 ghost use Rattle.gq_merging.specs.declared.purpose.Purpose.TheVariants.{Names};
-ghost use Rattle.gq_merging.specs.PairTables.{AreMet, IsGiven, IsFaultOf};
-ghost use Rattle.gq_merging.specs.SearchTables.{AreOfOneKey, IsClique, IsWith, IsBelowOne, AreBelowThese, AreMetInOne, Grows, Searched};
-ghost use Rattle.gq_merging.specs.GroupTables.{IsOfGroup};
-ghost use Rattle.gq_merging.specs.SetTables.{MemberOf};
+ghost use Rattle.gq_merging.specs.Helping.PairTables.{AreMet, IsGiven, IsFaultOf};
+ghost use Rattle.gq_merging.specs.Helping.SearchTables.{AreOfOneKey, IsClique, IsWith, IsBelowOne, AreBelowThese, AreMetInOne, Grows, Searched};
+ghost use Rattle.gq_merging.specs.Helping.GroupTables.{IsOfGroup};
+ghost use Rattle.gq_merging.specs.Helping.SetTables.{MemberOf};
 ghost use Rattle.gq_merging.specs.GroupViews.{groups_view};
 ghost use Rattle.gq_merging.specs.SearchViews.{list_with, AreCliquesWith, AreMetWith};
 ghost use Rattle.gq_merging.specs.Views.{member_view, members_view, rows_view, look_view};
@@ -26,17 +26,19 @@ use crate::by_parent::FieldsByParent;
 use crate::classes::{has_selections, have_one_parent};
 use crate::comparing::can_coincide;
 use crate::earliest::{earliest_of, earliest_other};
-use crate::faults::put_fault_of;
+use crate::faults::add_fault_of;
 use crate::pairs::{Look, Met};
 use crate::purpose::Purpose;
 use crate::rows::{Member, Row};
-use gq_found::Item;
+use gq_found::Fault;
 use gq_text::NoMemory;
 use gq_types::Types;
 use std::alloc::Global;
 
 /// Takes as many steps as there are fields, and one more, from those that are left. It is false where there are not so many.
-pub(crate) fn take_steps(steps: &mut usize, fields: usize) -> bool {
+pub(crate) fn take_steps(steps: &mut usize, fields: usize) -> bool
+    ensures { IsTrue result → steps.new < steps.old }
+{
     if *steps <= fields {
         return false;
     }
@@ -45,35 +47,35 @@ pub(crate) fn take_steps(steps: &mut usize, fields: usize) -> bool {
     true
 }
 
-/// The items of the fields that differ from this one, where that stands no later.
-fn put_faults_with(
+/// The faults of the fields that differ from this one, where that stands no later.
+fn add_faults_with(
     look: Look<'_>,
     one: &Member<'_>,
     members: &[Member<'_>],
-    items: &mut Vec<Item>,
+    faults: &mut Vec<Fault>,
 ) -> Result<(), NoMemory>
     requires { type_view look.typename_type.now ≡ typename_field.type_ref }
-    ensures { OnOk result (Puts (IsGiven (IsWith (member_view one.now) (members_view members.now)) (IsFaultOf (look_view look.entry))) items.old.items items.new.items) }
+    ensures { OnOk result (AddsExactly (IsGiven (IsWith (member_view one.now) (members_view members.now)) (IsFaultOf (look_view look.entry))) faults.old.items faults.new.items) }
 {
     for member in members {
         let met = Met {
             left: *one,
             right: *member,
         };
-        put_fault_of(look, &met, items)?;
+        add_fault_of(look, &met, faults)?;
     }
     Ok(())
 }
 
-/// The items of all fields that do not merge with one of the others that stands no later.
-fn put_faults_among(
+/// The faults of all fields that do not merge with one of the others that stands no later.
+fn add_faults_among(
     look: Look<'_>,
     members: &[Member<'_>],
-    items: &mut Vec<Item>,
+    faults: &mut Vec<Fault>,
 ) -> Result<(), NoMemory>
     requires typename { type_view look.typename_type.now ≡ typename_field.type_ref }
     requires clique { IsClique (look_view look) (members_view members.now) }
-    ensures { OnOk result (Puts (IsGiven (AreMet (members_view members.now) (members_view members.now)) (IsFaultOf (look_view look.entry))) items.old.items items.new.items) }
+    ensures { OnOk result (AddsExactly (IsGiven (AreMet (members_view members.now) (members_view members.now)) (IsFaultOf (look_view look.entry))) faults.old.items faults.new.items) }
 {
     if members.len() == 1 {
         return Ok(());
@@ -84,8 +86,8 @@ fn put_faults_among(
     let Some(second) = earliest_other(look, &first, members)? else {
         return Ok(());
     };
-    put_faults_with(look, &first, members, items)?;
-    put_faults_with(look, &second, members, items)
+    add_faults_with(look, &first, members, faults)?;
+    add_faults_with(look, &second, members, faults)
 }
 
 /// Puts the number of the set in the field's braces into a group, if something stands there.
@@ -133,18 +135,18 @@ fn put_group(
 fn look_at_clique(
     look: Look<'_>,
     members: &[Member<'_>],
-    items: &mut Vec<Item>,
+    faults: &mut Vec<Fault>,
     groups: &mut Vec<Vec<usize>>,
     steps: &mut usize,
 ) -> Result<bool, NoMemory>
     requires typename { type_view look.typename_type.now ≡ typename_field.type_ref }
     requires clique { IsClique (look_view look) (members_view members.now) }
-    ensures { IfOk result (λ done. IsTrue done → Searched (look_view look.entry) (AreMet (members_view members.now) (members_view members.now)) items.old.items items.new.items (groups_view groups.old.items) (groups_view groups.new.items)) }
+    ensures { IfOk result (λ done. IsTrue done → Searched (look_view look.entry) (AreMet (members_view members.now) (members_view members.now)) faults.old.items faults.new.items (groups_view groups.old.items) (groups_view groups.new.items)) }
 {
     if !take_steps(steps, members.len()) {
         return Ok(false);
     }
-    put_faults_among(look, members, items)?;
+    add_faults_among(look, members, faults)?;
     put_group(look.alloc, look.rows, members, groups)?;
     Ok(true)
 }
@@ -172,17 +174,17 @@ fn look_at_list<'a>(
     look: Look<'_>,
     list: &[Member<'a>],
     others: &[Member<'a>],
-    items: &mut Vec<Item>,
+    faults: &mut Vec<Fault>,
     groups: &mut Vec<Vec<usize>>,
     steps: &mut usize,
 ) -> Result<bool, NoMemory>
     requires typename { type_view look.typename_type.now ≡ typename_field.type_ref }
     requires clique { IsClique (look_view look) (members_view list.now ++ members_view others.now) }
-    ensures { IfOk result (λ done. IsTrue done → Searched (look_view look.entry) (AreMet (members_view list.now ++ members_view others.now) (members_view list.now ++ members_view others.now)) items.old.items items.new.items (groups_view groups.old.items) (groups_view groups.new.items)) }
+    ensures { IfOk result (λ done. IsTrue done → Searched (look_view look.entry) (AreMet (members_view list.now ++ members_view others.now) (members_view list.now ++ members_view others.now)) faults.old.items faults.new.items (groups_view groups.old.items) (groups_view groups.new.items)) }
 {
     let mut members = Vec::from_slice(look.alloc, list)?;
     members.extend_from_slice(others)?;
-    let done = look_at_clique(look, &members, items, groups, steps)?;
+    let done = look_at_clique(look, &members, faults, groups, steps)?;
     Ok(done)
 }
 
@@ -191,16 +193,16 @@ fn look_at_lists<'a>(
     look: Look<'_>,
     lists: &[Vec<Member<'a>>],
     others: &[Member<'a>],
-    items: &mut Vec<Item>,
+    faults: &mut Vec<Fault>,
     groups: &mut Vec<Vec<usize>>,
     steps: &mut usize,
 ) -> Result<bool, NoMemory>
     requires typename { type_view look.typename_type.now ≡ typename_field.type_ref }
     requires cliques { AreCliquesWith (look_view look) lists.now others.now }
-    ensures { IfOk result (λ done. IsTrue done → Searched (look_view look.entry) (AreMetInOne (map (list_with others.now) lists.now)) items.old.items items.new.items (groups_view groups.old.items) (groups_view groups.new.items)) }
+    ensures { IfOk result (λ done. IsTrue done → Searched (look_view look.entry) (AreMetInOne (map (list_with others.now) lists.now)) faults.old.items faults.new.items (groups_view groups.old.items) (groups_view groups.new.items)) }
 {
     for list in lists {
-        if !look_at_list(look, list, others, items, groups, steps)? {
+        if !look_at_list(look, list, others, faults, groups, steps)? {
             return Ok(false);
         }
     }
@@ -212,19 +214,19 @@ fn look_at_others<'a>(
     look: Look<'_>,
     lists: &[Vec<Member<'a>>],
     others: &[Member<'a>],
-    items: &mut Vec<Item>,
+    faults: &mut Vec<Fault>,
     groups: &mut Vec<Vec<usize>>,
     steps: &mut usize,
 ) -> Result<bool, NoMemory>
     requires typename { type_view look.typename_type.now ≡ typename_field.type_ref }
     requires clique { IsClique (look_view look) (members_view others.now) }
     requires cliques { AreCliquesWith (look_view look) lists.now others.now }
-    ensures { IfOk result (λ done. IsTrue done → Searched (look_view look.entry) (AreMetWith lists.now others.now) items.old.items items.new.items (groups_view groups.old.items) (groups_view groups.new.items)) }
+    ensures { IfOk result (λ done. IsTrue done → Searched (look_view look.entry) (AreMetWith lists.now others.now) faults.old.items faults.new.items (groups_view groups.old.items) (groups_view groups.new.items)) }
 {
-    if !look_at_clique(look, others, items, groups, steps)? {
+    if !look_at_clique(look, others, faults, groups, steps)? {
         return Ok(false);
     }
-    let done = look_at_lists(look, lists, others, items, groups, steps)?;
+    let done = look_at_lists(look, lists, others, faults, groups, steps)?;
     Ok(done)
 }
 
@@ -232,21 +234,21 @@ fn look_at_others<'a>(
 fn look_by_parents(
     look: Look<'_>,
     members: &[Member<'_>],
-    items: &mut Vec<Item>,
+    faults: &mut Vec<Fault>,
     groups: &mut Vec<Vec<usize>>,
     steps: &mut usize,
 ) -> Result<bool, NoMemory>
     requires typename { type_view look.typename_type.now ≡ typename_field.type_ref }
     requires purpose { look.purpose ≡ Names }
     requires one_key { AreOfOneKey (members_view members.now) }
-    ensures { IfOk result (λ done. IsTrue done → Searched (look_view look.entry) (AreMet (members_view members.now) (members_view members.now)) items.old.items items.new.items (groups_view groups.old.items) (groups_view groups.new.items)) }
+    ensures { IfOk result (λ done. IsTrue done → Searched (look_view look.entry) (AreMet (members_view members.now) (members_view members.now)) faults.old.items faults.new.items (groups_view groups.old.items) (groups_view groups.new.items)) }
 {
     let by_parent = FieldsByParent::of(look.alloc, look.types, members)?;
     let done = look_at_others(
         look,
         &by_parent.of_objects.lists,
         &by_parent.of_others,
-        items,
+        faults,
         groups,
         steps,
     )?;
@@ -257,21 +259,21 @@ fn look_by_parents(
 pub(crate) fn look_at_class(
     look: Look<'_>,
     members: &[Member<'_>],
-    items: &mut Vec<Item>,
+    faults: &mut Vec<Fault>,
     groups: &mut Vec<Vec<usize>>,
     steps: &mut usize,
 ) -> Result<bool, NoMemory>
     requires typename { type_view look.typename_type.now ≡ typename_field.type_ref }
     requires one_key { AreOfOneKey (members_view members.now) }
-    ensures { IfOk result (λ done. IsTrue done → Searched (look_view look.entry) (AreMet (members_view members.now) (members_view members.now)) items.old.items items.new.items (groups_view groups.old.items) (groups_view groups.new.items)) }
+    ensures { IfOk result (λ done. IsTrue done → Searched (look_view look.entry) (AreMet (members_view members.now) (members_view members.now)) faults.old.items faults.new.items (groups_view groups.old.items) (groups_view groups.new.items)) }
 {
     match look.purpose {
-        Purpose::Shapes => look_at_clique(look, members, items, groups, steps),
+        Purpose::Shapes => look_at_clique(look, members, faults, groups, steps),
         Purpose::Names => {
             if have_one_known_parent(look.types, members) {
-                return look_at_clique(look, members, items, groups, steps);
+                return look_at_clique(look, members, faults, groups, steps);
             }
-            look_by_parents(look, members, items, groups, steps)
+            look_by_parents(look, members, faults, groups, steps)
         }
     }
 }
@@ -280,16 +282,16 @@ pub(crate) fn look_at_class(
 pub(crate) fn look_at_classes(
     look: Look<'_>,
     lists: &[Vec<Member<'_>>],
-    items: &mut Vec<Item>,
+    faults: &mut Vec<Fault>,
     groups: &mut Vec<Vec<usize>>,
     steps: &mut usize,
 ) -> Result<bool, NoMemory>
     requires typename { type_view look.typename_type.now ≡ typename_field.type_ref }
     requires one_key { (list : Vec Member Global) → Contains lists.now list → AreOfOneKey (members_view list.items) }
-    ensures { IfOk result (λ done. IsTrue done → Searched (look_view look.entry) (AreMetInOne (map (λ list. members_view list.items) lists.now)) items.old.items items.new.items (groups_view groups.old.items) (groups_view groups.new.items)) }
+    ensures { IfOk result (λ done. IsTrue done → Searched (look_view look.entry) (AreMetInOne (map (λ list. members_view list.items) lists.now)) faults.old.items faults.new.items (groups_view groups.old.items) (groups_view groups.new.items)) }
 {
     for list in lists {
-        if !look_at_class(look, list, items, groups, steps)? {
+        if !look_at_class(look, list, faults, groups, steps)? {
             return Ok(false);
         }
     }

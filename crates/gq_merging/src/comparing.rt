@@ -6,18 +6,18 @@ ghost use Rattle.gq_types.specs.Look.{types_view, text_of};
 ghost use Rattle.gq_types.specs.LookUps.{has_kind};
 ghost use Rattle.gq_types.specs.declared.entry.TypeKind.TheVariants as kind;
 ghost use Rattle.gq_document.specs.Selections.{typename_field, no_span};
-ghost use Rattle.gq_merging.specs.FieldSets.{key};
+ghost use Rattle.gq_document.specs.FieldSets.{key};
 ghost use Rattle.gq_merging.specs.FieldsMerge.{can_coincide, leads_on, Differ};
-ghost use Rattle.gq_merging.specs.Comparisons.{known_type, same_ends, same_shapes, shapes_differ, is_no_later};
+ghost use Rattle.gq_merging.specs.Helping.Comparisons.{known_type, same_ends, same_shapes, shapes_differ, is_no_later};
 ghost use Rattle.gq_merging.specs.Views.{field_at};
 ghost use Rattle.gq_merging.specs.declared.purpose.Purpose.TheVariants.{Names};
 
 use crate::purpose::Purpose;
 use crate::same_arguments::have_same_arguments;
 use crate::sets::StandingField;
-use gq_document::{SelectedField, base_name, is_composite_named, selected_field};
+use gq_document::{SelectedField, is_composite_named, selected_field};
 use gq_text::{NoMemory, SmallText, Span};
-use gq_tree::{Name, TypeRef};
+use gq_tree::{Name, TypeRef, base_name};
 use gq_types::{TypeKind, Types};
 use std::alloc::Global;
 

@@ -3,9 +3,9 @@ ghost use Rattle.std.specs.Prelude.{◌≡◌, IfOk, option_map, true};
 ghost use Rattle.gq_tree.specs.Views.{type_view};
 ghost use Rattle.gq_types.specs.Look.{types_view};
 ghost use Rattle.gq_document.specs.Selections.{typename_field};
-ghost use Rattle.gq_merging.specs.Comparisons.{may_differ};
+ghost use Rattle.gq_merging.specs.Helping.Comparisons.{may_differ};
 ghost use Rattle.gq_merging.specs.FieldsMerge.{Differ};
-ghost use Rattle.gq_merging.specs.SearchTables.{IsEarliest, earlier_of};
+ghost use Rattle.gq_merging.specs.Helping.SearchTables.{IsEarliest, earlier_of};
 ghost use Rattle.gq_merging.specs.Views.{field_at, member_view, members_view};
 
 use crate::comparing::{differ, is_no_later, known_type};

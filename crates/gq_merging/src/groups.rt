@@ -17,13 +17,14 @@ ghost use Rattle.gq_types.specs.Entries.{EntryOf};
 ghost use Rattle.gq_types.specs.Look.{types_view};
 ghost use Rattle.gq_document.specs.Selections.{typename_field};
 ghost use Rattle.gq_document.specs.Executable.{executable_view};
-ghost use Rattle.gq_merging.specs.SetTables.{RowOf, AreRows, members_at};
+ghost use Rattle.gq_merging.specs.Helping.SetTables.{RowOf, AreRows, members_at};
 ghost use Rattle.gq_merging.specs.Groups.{AreMerged};
-ghost use Rattle.gq_merging.specs.GroupTables.{AreReached, IsTest, IsTested, ArePassed, AreTested, AreMarked, IsKnown, IsMarkedOne};
+ghost use Rattle.gq_merging.specs.Helping.GroupTables.{AreReached, IsTest, IsTested, ArePassed, AreTested, AreMarked, IsKnown, IsMarkedOne};
 ghost use Rattle.gq_merging.specs.Views.{members_view, rows_view};
 ghost use Rattle.gq_merging.specs.GroupViews.{groups_view};
 
 use crate::classes::{Tables, groups_below, has_selections, is_through};
+use crate::cliques::take_steps;
 use crate::members::{gathered, own_members, reached_sets};
 use crate::passed::named_rows;
 use crate::rows::{Member, Row};
@@ -71,14 +72,11 @@ fn make_room(groups: &mut Vec<Vec<usize>>, notes: &mut Notes)
 fn spend(left: &mut usize, rows: usize, fields: usize) -> bool
     ensures { IsTrue result → left.new < left.old }
 {
-    let steps = rows.saturating_add(fields);
-    if *left <= steps {
-        *left = 0;
-        return false;
+    if take_steps(left, rows.saturating_add(fields)) {
+        return true;
     }
-    *left -= steps;
-    *left -= 1;
-    true
+    *left = 0;
+    false
 }
 
 /// Whether the group is one set that is marked.

@@ -10,9 +10,9 @@ ghost use Rattle.std.specs.declared.alloc.Global.{Global};
 ghost use Rattle.gq_reach.specs.Reach.{InRange};
 ghost use Rattle.gq_tree.specs.Views.{type_view};
 ghost use Rattle.gq_document.specs.Selections.{typename_field};
-ghost use Rattle.gq_merging.specs.NameTables.{by_name_view};
-ghost use Rattle.gq_merging.specs.SearchTables.{AreInGroup, AreOfOneKey, Searched};
-ghost use Rattle.gq_merging.specs.KeptTables.{KeptOf, AreByTheirKeys, AreKept, AreMetBeside, AreMetBesideOne, ArePut, IsTableAt, IsTableOf, table_view, tables_view};
+ghost use Rattle.gq_merging.specs.Helping.NameTables.{by_name_view};
+ghost use Rattle.gq_merging.specs.Helping.SearchTables.{AreInGroup, AreOfOneKey, Searched};
+ghost use Rattle.gq_merging.specs.Helping.KeptTables.{KeptOf, AreByTheirKeys, AreKept, AreMetBeside, AreMetBesideOne, ArePut, IsTableAt, IsTableOf, table_view, tables_view};
 ghost use Rattle.gq_merging.specs.GroupViews.{groups_view};
 ghost use Rattle.gq_merging.specs.Views.{members_view, rows_view, look_view};
 
@@ -22,7 +22,7 @@ use crate::comparing::key;
 use crate::members::{gathered, reached_sets};
 use crate::pairs::Look;
 use crate::rows::{Member, Row};
-use gq_found::Item;
+use gq_found::Fault;
 use gq_text::NoMemory;
 use std::alloc::Global;
 
@@ -120,7 +120,7 @@ fn put_table<'a>(kept: &mut Kept<'a>, table: Table<'a>, fields: usize) -> Result
 fn look_at_reached<'a>(
     look: Look<'a>,
     fragments: &[usize],
-    items: &mut Vec<Item>,
+    faults: &mut Vec<Fault>,
     groups: &mut Vec<Vec<usize>>,
     steps: &mut usize,
 ) -> Result<Option<FieldsByName<'a>>, NoMemory>
@@ -129,7 +129,7 @@ fn look_at_reached<'a>(
     requires spreads { map (λ v. v.items) look.spreads.now ≡ map (λ r. r.spreads.items) look.rows.now }
     requires fragments { All (λ n. n < length look.spreads.now) fragments.now }
     ensures table { IfOk result (λ found. IfSome found (λ table. IsTableOf (rows_view look.entry.rows.now) fragments.now (by_name_view table))) }
-    ensures searched { IfOk result (λ found. IfSome found (λ table. Searched (look_view look.entry) (AreInGroup (rows_view look.entry.rows.now) fragments.now) items.old.items items.new.items (groups_view groups.old.items) (groups_view groups.new.items))) }
+    ensures searched { IfOk result (λ found. IfSome found (λ table. Searched (look_view look.entry) (AreInGroup (rows_view look.entry.rows.now) fragments.now) faults.old.items faults.new.items (groups_view groups.old.items) (groups_view groups.new.items))) }
 {
     let found = reached_sets(look.alloc, look.spreads, fragments)?;
     let members = gathered(look.alloc, look.rows, &found)?;
@@ -137,7 +137,7 @@ fn look_at_reached<'a>(
         return Ok(None);
     }
     let table = FieldsByName::by_key(look.alloc, &members)?;
-    if !look_at_classes(look, &table.lists, items, groups, steps)? {
+    if !look_at_classes(look, &table.lists, faults, groups, steps)? {
         return Ok(None);
     }
     Ok(Some(table))
@@ -148,7 +148,7 @@ fn look_at_reached<'a>(
 pub(crate) fn table_of<'a>(
     look: Look<'a>,
     fragments: Vec<usize>,
-    items: &mut Vec<Item>,
+    faults: &mut Vec<Fault>,
     groups: &mut Vec<Vec<usize>>,
     kept: &mut Kept<'a>,
     steps: &mut usize,
@@ -157,15 +157,15 @@ pub(crate) fn table_of<'a>(
     requires reach { InRange look.spreads.now }
     requires spreads { map (λ v. v.items) look.spreads.now ≡ map (λ r. r.spreads.items) look.rows.now }
     requires fragments { All (λ n. n < length look.spreads.now) fragments.items }
-    requires kept { AreKept (look_view look) items.old.items (groups_view groups.old.items) (tables_view kept.old.tables.items) }
-    ensures kept { IfOk result (λ found. IfSome found (λ place. AreKept (look_view look.entry) items.new.items (groups_view groups.new.items) (tables_view kept.new.tables.items))) }
+    requires kept { AreKept (look_view look) faults.old.items (groups_view groups.old.items) (tables_view kept.old.tables.items) }
+    ensures kept { IfOk result (λ found. IfSome found (λ place. AreKept (look_view look.entry) faults.new.items (groups_view groups.new.items) (tables_view kept.new.tables.items))) }
     ensures table { IfOk result (λ found. IfSome found (λ place. IsTableAt (tables_view kept.new.tables.items) place fragments.items)) }
-    ensures searched { IfOk result (λ found. IfSome found (λ place. Searched (look_view look.entry) (AreInGroup (rows_view look.entry.rows.now) fragments.items) items.old.items items.new.items (groups_view groups.old.items) (groups_view groups.new.items))) }
+    ensures searched { IfOk result (λ found. IfSome found (λ place. Searched (look_view look.entry) (AreInGroup (rows_view look.entry.rows.now) fragments.items) faults.old.items faults.new.items (groups_view groups.old.items) (groups_view groups.new.items))) }
 {
     if let Some(place) = place_of(kept, &fragments) {
         return Ok(Some(place));
     }
-    let Some(fields) = look_at_reached(look, &fragments, items, groups, steps)? else {
+    let Some(fields) = look_at_reached(look, &fragments, faults, groups, steps)? else {
         return Ok(None);
     };
     let size = size_of(&fields.lists);
@@ -187,24 +187,24 @@ fn look_at_beside<'a>(
     look: Look<'_>,
     list: &[Member<'a>],
     table: &FieldsByName<'a>,
-    items: &mut Vec<Item>,
+    faults: &mut Vec<Fault>,
     groups: &mut Vec<Vec<usize>>,
     steps: &mut usize,
 ) -> Result<bool, NoMemory>
     requires typename { type_view look.typename_type.now ≡ typename_field.type_ref }
     requires one_key { AreOfOneKey (members_view list.now) }
     requires table { AreByTheirKeys (by_name_view table.now) }
-    ensures { IfOk result (λ done. IsTrue done → Searched (look_view look.entry) (AreMetBeside (members_view list.now) (by_name_view table.now)) items.old.items items.new.items (groups_view groups.old.items) (groups_view groups.new.items)) }
+    ensures { IfOk result (λ done. IsTrue done → Searched (look_view look.entry) (AreMetBeside (members_view list.now) (by_name_view table.now)) faults.old.items faults.new.items (groups_view groups.old.items) (groups_view groups.new.items)) }
 {
     let Some(first) = list.first() else {
         return Ok(true);
     };
     let Some(others) = table.with_name(key(&first.it)) else {
-        return look_at_class(look, list, items, groups, steps);
+        return look_at_class(look, list, faults, groups, steps);
     };
     let mut members = Vec::from_slice(look.alloc, list)?;
     members.extend_from_slice(others)?;
-    let done = look_at_class(look, &members, items, groups, steps)?;
+    let done = look_at_class(look, &members, faults, groups, steps)?;
     Ok(done)
 }
 
@@ -213,17 +213,17 @@ pub(crate) fn look_at_besides<'a>(
     look: Look<'_>,
     lists: &[Vec<Member<'a>>],
     table: &FieldsByName<'a>,
-    items: &mut Vec<Item>,
+    faults: &mut Vec<Fault>,
     groups: &mut Vec<Vec<usize>>,
     steps: &mut usize,
 ) -> Result<bool, NoMemory>
     requires typename { type_view look.typename_type.now ≡ typename_field.type_ref }
     requires one_key { (list : Vec Member Global) → Contains lists.now list → AreOfOneKey (members_view list.items) }
     requires table { AreByTheirKeys (by_name_view table.now) }
-    ensures { IfOk result (λ done. IsTrue done → Searched (look_view look.entry) (AreMetBesideOne (map (λ list. members_view list.items) lists.now) (by_name_view table.now)) items.old.items items.new.items (groups_view groups.old.items) (groups_view groups.new.items)) }
+    ensures { IfOk result (λ done. IsTrue done → Searched (look_view look.entry) (AreMetBesideOne (map (λ list. members_view list.items) lists.now) (by_name_view table.now)) faults.old.items faults.new.items (groups_view groups.old.items) (groups_view groups.new.items)) }
 {
     for list in lists {
-        if !look_at_beside(look, list, table, items, groups, steps)? {
+        if !look_at_beside(look, list, table, faults, groups, steps)? {
             return Ok(false);
         }
     }

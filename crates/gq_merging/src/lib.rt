@@ -22,5 +22,5 @@ mod same_values;
 mod search;
 mod sets;
 
-pub use faults::{put_merging_faults, put_merging_faults_by_threads};
+pub use faults::{add_merging_faults, add_merging_faults_by_threads};
 pub use purpose::Purpose;

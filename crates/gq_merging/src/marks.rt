@@ -1,7 +1,7 @@
 //! Marks of the entries of a set for which an identical one was found.
 ghost use Rattle.std.specs.Prelude.{◌≡◌, ℕ, false, IfOk, length};
 ghost use Rattle.std.specs.List.{list_all};
-ghost use Rattle.gq_merging.specs.Marks.{is_marked};
+ghost use Rattle.gq_merging.specs.Helping.Marks.{is_marked};
 
 use gq_text::NoMemory;
 use std::alloc::Global;

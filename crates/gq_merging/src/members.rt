@@ -2,7 +2,7 @@
 ghost use Rattle.std.specs.Prelude.{◌≡◌, ℕ, ◌++◌, ◌<◌, All, IfOk, OnOk, length, map, Contains};
 ghost use Rattle.std.specs.List.{flat_map};
 ghost use Rattle.gq_reach.specs.Reach.{Reach, InRange, row};
-ghost use Rattle.gq_merging.specs.SetTables.{members_at, spreads_at};
+ghost use Rattle.gq_merging.specs.Helping.SetTables.{members_at, spreads_at};
 ghost use Rattle.gq_merging.specs.Views.{members_view, rows_view};
 
 use crate::rows::{Member, Row};

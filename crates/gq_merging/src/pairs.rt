@@ -1,7 +1,7 @@
 //! Pairs of selection sets whose fields meet. Of `count` sets, the pair of the sets `i` and `j` has the number
 //! `i * count + j`, which 128 bits hold.
 ghost use Rattle.std.specs.Prelude.{[], Contains, IfOk, OnOk, length};
-ghost use Rattle.gq_merging.specs.PairTables.{IsNumber, IsStart, IsBelow, IsGiven, Gains};
+ghost use Rattle.gq_merging.specs.Helping.PairTables.{IsNumber, IsStart, IsBelow, IsGiven, Gains};
 ghost use Rattle.gq_merging.specs.Views.{met_view, look_view};
 
 use crate::comparing::leads_on;

@@ -2,7 +2,7 @@
 //! in a set that it starts at, since their fields are among that set's.
 ghost use Rattle.std.specs.Prelude.{◌≡◌, ◌<◌, All, IfOk, OnOk, length};
 ghost use Rattle.gq_reach.specs.Reach.{InRange, row};
-ghost use Rattle.gq_merging.specs.StartTables.{Passes, SetsMarks};
+ghost use Rattle.gq_merging.specs.Helping.StartTables.{Passes, SetsMarks};
 
 use gq_reach::reach_rows;
 use gq_text::NoMemory;

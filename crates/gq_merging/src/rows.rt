@@ -3,7 +3,7 @@ ghost use Rattle.std.specs.Prelude.{◌≡◌, IfOk, OnOk};
 ghost use Rattle.gq_tree.specs.Views.{sels_view};
 ghost use Rattle.gq_types.specs.Look.{types_view, text_of};
 ghost use Rattle.gq_document.specs.Executable.{executable_view};
-ghost use Rattle.gq_merging.specs.SetTables.{AreRows, AreNumbered, IsEmptyAt, IsPut, first_sets, own_fields, own_spreads, names_of};
+ghost use Rattle.gq_merging.specs.Helping.SetTables.{AreRows, AreNumbered, IsEmptyAt, IsPut, first_sets, own_fields, own_spreads, names_of};
 ghost use Rattle.gq_merging.specs.Views.{field_at, fields_at, set_at, sets_at, members_view, rows_view};
 
 use crate::sets::{

@@ -2,7 +2,7 @@
 ghost use Rattle.std.specs.Prelude.{◌≡◌, ◌↔◌, IsTrue, IfOk, OnOk, length, map};
 ghost use Rattle.gq_tree.specs.Views.{argument_view};
 ghost use Rattle.gq_merging.specs.SameArguments.{IsArgument, SameArguments};
-ghost use Rattle.gq_merging.specs.Marks.{IsAmong, MarksEach};
+ghost use Rattle.gq_merging.specs.Helping.Marks.{IsAmong, MarksEach};
 
 use crate::marks::{are_all_marked, unmarked};
 use crate::same_values::{are_identical, have_same_text};

@@ -3,7 +3,7 @@ ghost use Rattle.std.specs.Prelude.{◌≡◌, ◌↔◌, ◌<◌, IsTrue, IfOk,
 ghost use Rattle.std.specs.Str.{bytes_eq};
 ghost use Rattle.gq_tree.specs.Views.{value_view, values_view, entry_view};
 ghost use Rattle.gq_merging.specs.SameArguments.{AreInOrder, IsArgument, SameArguments};
-ghost use Rattle.gq_merging.specs.Marks.{AreAlike, IsAmong, MarksEach};
+ghost use Rattle.gq_merging.specs.Helping.Marks.{AreAlike, IsAmong, MarksEach};
 
 use crate::marks::{are_all_marked, unmarked};
 use crate::same_strings::are_same_strings;

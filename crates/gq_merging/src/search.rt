@@ -6,13 +6,13 @@
 //! all faults. A group that was there already is passed over. The number of groups can double at each level of
 //! fragments, and in a cycle they can grow without end: after a number of steps the search gives up.
 ghost use Rattle.std.specs.Prelude.{◌≡◌, ◌↔◌, ◌<◌, ◌+◌, ◌*◌, ℕ, Bool, List, [], All, Some, Contains, IsTrue, IfSome, IfOk, OnOk, length, map, slice_get};
-ghost use Rattle.gq_found.specs.declared.item.Item.{Item};
+ghost use Rattle.gq_found.specs.declared.fault.Fault.{Fault};
 ghost use Rattle.gq_reach.specs.Reach.{InRange};
 ghost use Rattle.gq_tree.specs.Views.{type_view};
 ghost use Rattle.gq_document.specs.Selections.{typename_field};
-ghost use Rattle.gq_merging.specs.PairTables.{IsGiven, IsMetReached, IsFaultOf};
-ghost use Rattle.gq_merging.specs.SearchTables.{AreFirst, AreInGroup, HaveSets, Search, Searched, WasThere};
-ghost use Rattle.gq_merging.specs.KeptTables.{AreKept, tables_view};
+ghost use Rattle.gq_merging.specs.Helping.PairTables.{IsGiven, IsMetReached, IsFaultOf};
+ghost use Rattle.gq_merging.specs.Helping.SearchTables.{AreFirst, AreInGroup, HaveSets, Search, Searched, WasThere};
+ghost use Rattle.gq_merging.specs.Helping.KeptTables.{AreKept, tables_view};
 ghost use Rattle.gq_merging.specs.GroupViews.{groups_view};
 ghost use Rattle.gq_merging.specs.Views.{rows_view, look_view};
 
@@ -24,18 +24,18 @@ use crate::kept::{Kept, look_at_besides, no_tables, slot_of, table_of};
 use crate::members::{gathered, spreads_of};
 use crate::pairs::Look;
 use crate::rows::Row;
-use gq_found::{Item, put_in_order};
+use gq_found::{Fault, put_in_order};
 use gq_text::NoMemory;
 use std::alloc::Global;
 
 /// What keeps the search short: the place of the last group that has each number, tables of what fragments reach, how many steps are
-/// left, and how many items may stand there before they are put in order, each once.
+/// left, and how many faults may stand there before they are put in order, each once.
 #[derive(Drop)]
 struct Notes<'a> {
     places: Vec<usize>,
     kept: Kept<'a>,
     steps: usize,
-    most_items: usize,
+    most_faults: usize,
 }
 
 /// A project with no more room than this has some millions of pairs of sets at most. There the search takes no more steps than in
@@ -45,7 +45,7 @@ const SMALL_ROOM: usize = 33_000;
 /// How many times more steps it may take where the pairs could be more.
 const MORE_STEPS: usize = 128;
 
-/// How many items may be put before repeated ones among them are dropped, beyond as many again as stand there.
+/// How many faults may be put before repeated ones among them are dropped, beyond as many again as stand there.
 const MORE_ITEMS: usize = 1000;
 
 /// How many steps the search may take.
@@ -65,7 +65,7 @@ fn no_notes<'a>(look: Look<'a>) -> Result<Notes<'a>, NoMemory>
         places: vec![in look.alloc; 0; look.rows.len().saturating_mul(2)]?,
         kept: no_tables(look.alloc, look.rows)?,
         steps: all_steps(look.rows),
-        most_items: MORE_ITEMS,
+        most_faults: MORE_ITEMS,
     })
 }
 
@@ -116,7 +116,7 @@ fn first_groups(
 fn look_at_group<'a>(
     look: Look<'a>,
     place: usize,
-    items: &mut Vec<Item>,
+    faults: &mut Vec<Fault>,
     groups: &mut Vec<Vec<usize>>,
     kept: &mut Kept<'a>,
     steps: &mut usize,
@@ -125,9 +125,9 @@ fn look_at_group<'a>(
     requires reach { InRange look.spreads.now }
     requires spreads { map (λ v. v.items) look.spreads.now ≡ map (λ r. r.spreads.items) look.rows.now }
     requires place { place < length groups.old.items }
-    requires kept { AreKept (look_view look) items.old.items (groups_view groups.old.items) (tables_view kept.old.tables.items) }
-    ensures kept { IfOk result (λ done. IsTrue done → AreKept (look_view look.entry) items.new.items (groups_view groups.new.items) (tables_view kept.new.tables.items)) }
-    ensures searched { (group : List ℕ) → slice_get (groups_view groups.old.items) place ≡ Some group → IfOk result (λ done. IsTrue done → Searched (look_view look.entry) (AreInGroup (rows_view look.entry.rows.now) group) items.old.items items.new.items (groups_view groups.old.items) (groups_view groups.new.items)) }
+    requires kept { AreKept (look_view look) faults.old.items (groups_view groups.old.items) (tables_view kept.old.tables.items) }
+    ensures kept { IfOk result (λ done. IsTrue done → AreKept (look_view look.entry) faults.new.items (groups_view groups.new.items) (tables_view kept.new.tables.items)) }
+    ensures searched { (group : List ℕ) → slice_get (groups_view groups.old.items) place ≡ Some group → IfOk result (λ done. IsTrue done → Searched (look_view look.entry) (AreInGroup (rows_view look.entry.rows.now) group) faults.old.items faults.new.items (groups_view groups.old.items) (groups_view groups.new.items)) }
 {
     let own = gathered(look.alloc, look.rows, &groups[place])?;
     let fragments = spreads_of(look.alloc, look.rows, &groups[place])?;
@@ -135,21 +135,21 @@ fn look_at_group<'a>(
         return Ok(false);
     }
     let by_key = FieldsByName::by_key(look.alloc, &own)?;
-    let Some(place) = table_of(look, fragments, items, groups, kept, steps)? else {
+    let Some(place) = table_of(look, fragments, faults, groups, kept, steps)? else {
         return Ok(false);
     };
     let table = &kept.tables[place];
-    let done = look_at_besides(look, &by_key.lists, &table.fields, items, groups, steps)?;
+    let done = look_at_besides(look, &by_key.lists, &table.fields, faults, groups, steps)?;
     Ok(done)
 }
 
-/// Drops items that are repeated, once so many were put. A field that many groups hold is a fault in each.
-fn drop_repeated(items: &mut Vec<Item>, most: &mut usize)
-    ensures { (item : Item) → Contains items.new.items item ↔ Contains items.old.items item }
+/// Drops faults that are repeated, once so many were put. A field that many groups hold is a fault in each.
+fn drop_repeated(faults: &mut Vec<Fault>, most: &mut usize)
+    ensures { (fault : Fault) → Contains faults.new.items fault ↔ Contains faults.old.items fault }
 {
-    if items.len() > *most {
-        put_in_order(items);
-        *most = items.len().saturating_mul(2).saturating_add(MORE_ITEMS);
+    if faults.len() > *most {
+        put_in_order(faults);
+        *most = faults.len().saturating_mul(2).saturating_add(MORE_ITEMS);
     }
 }
 
@@ -157,7 +157,7 @@ fn drop_repeated(items: &mut Vec<Item>, most: &mut usize)
 fn search_on<'a>(
     look: Look<'a>,
     place: usize,
-    items: &mut Vec<Item>,
+    faults: &mut Vec<Fault>,
     groups: &mut Vec<Vec<usize>>,
     notes: &mut Notes<'a>,
 ) -> Result<bool, NoMemory>
@@ -167,9 +167,9 @@ fn search_on<'a>(
     requires sets { HaveSets (rows_view look.rows.now) }
     requires size { look.size ≡ length look.rows.now * length look.rows.now }
     requires place { place < length groups.old.items }
-    requires kept { AreKept (look_view look) items.old.items (groups_view groups.old.items) (tables_view notes.old.kept.tables.items) }
-    ensures kept { IfOk result (λ done. IsTrue done → AreKept (look_view look.entry) items.new.items (groups_view groups.new.items) (tables_view notes.new.kept.tables.items)) }
-    ensures search { IfOk result (λ done. IsTrue done → (passed : List Bool) (first : List (List ℕ)) → Search (look_view look.entry) passed first items.old.items (groups_view groups.old.items) place → Search (look_view look.entry) passed first items.new.items (groups_view groups.new.items) (place + 1)) }
+    requires kept { AreKept (look_view look) faults.old.items (groups_view groups.old.items) (tables_view notes.old.kept.tables.items) }
+    ensures kept { IfOk result (λ done. IsTrue done → AreKept (look_view look.entry) faults.new.items (groups_view groups.new.items) (tables_view notes.new.kept.tables.items)) }
+    ensures search { IfOk result (λ done. IsTrue done → (passed : List Bool) (first : List (List ℕ)) → Search (look_view look.entry) passed first faults.old.items (groups_view groups.old.items) place → Search (look_view look.entry) passed first faults.new.items (groups_view groups.new.items) (place + 1)) }
 {
     if was_there(groups, place, &mut notes.places) {
         return Ok(true);
@@ -177,40 +177,40 @@ fn search_on<'a>(
     let done = look_at_group(
         look,
         place,
-        items,
+        faults,
         groups,
         &mut notes.kept,
         &mut notes.steps,
     )?;
-    drop_repeated(items, &mut notes.most_items);
+    drop_repeated(faults, &mut notes.most_faults);
     Ok(done)
 }
 
-/// The items of all fields that meet in a set that is not passed over, or under it, and differ from one that stands no later; none
+/// The faults of all fields that meet in a set that is not passed over, or under it, and differ from one that stands no later; none
 /// where the search takes too many steps.
-pub(crate) fn search_groups(look: Look<'_>, passed: &[bool]) -> Result<Option<Vec<Item>>, NoMemory>
+pub(crate) fn search_groups(look: Look<'_>, passed: &[bool]) -> Result<Option<Vec<Fault>>, NoMemory>
     requires typename { type_view look.typename_type.now ≡ typename_field.type_ref }
     requires reach { InRange look.spreads.now }
     requires spreads { map (λ v. v.items) look.spreads.now ≡ map (λ r. r.spreads.items) look.rows.now }
     requires sets { HaveSets (rows_view look.rows.now) }
     requires size { look.size ≡ length look.rows.now * length look.rows.now }
     requires passed { length passed.now ≡ length look.rows.now }
-    ensures { IfOk result (λ found. IfSome found (λ items. (item : Item) → Contains items.items item ↔ IsGiven (IsMetReached (look_view look.entry) passed.now) (IsFaultOf (look_view look.entry)) item)) }
+    ensures { IfOk result (λ found. IfSome found (λ faults. (fault : Fault) → Contains faults.items fault ↔ IsGiven (IsMetReached (look_view look.entry) passed.now) (IsFaultOf (look_view look.entry)) fault)) }
 {
     let mut groups = first_groups(look.alloc, look.rows, passed)?;
     let mut notes = no_notes(look)?;
-    let mut items = Vec::new(look.alloc);
+    let mut faults = Vec::new(look.alloc);
     let mut turns = notes.steps;
     let mut done = 0;
     while done < groups.len() {
         if turns == 0 {
             return Ok(None);
         }
-        if !search_on(look, done, &mut items, &mut groups, &mut notes)? {
+        if !search_on(look, done, &mut faults, &mut groups, &mut notes)? {
             return Ok(None);
         }
         turns -= 1;
         done += 1;
     }
-    Ok(Some(items))
+    Ok(Some(faults))
 }

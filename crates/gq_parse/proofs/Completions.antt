@@ -1,5 +1,5 @@
 -- Each symbol can be completed, and its completion begins neither a directive nor what goes on with a series.
-use Rattle.std.proofs.Common.{◌≡◌, ◌≢◌, List, [], ◌∷◌, Bool, true, false, refl, sym, inl, inr}
+use Rattle.std.proofs.Common.{◌≡◌, ◌≢◌, List, [], ◌∷◌, Bool, true, false, refl, sym, inl, inr, ◌∙◌}
 use Rattle.std.specs.Prelude.{codes, ℕ}
 use Rattle.gq_text.specs.declared.place.Span.{Span}
 use Rattle.gq_lex.specs.declared.token.Kind.{Kind}
@@ -13,10 +13,9 @@ use Rattle.gq_parse.specs.declared.expected.Series.{Series}
 use Rattle.gq_parse.specs.declared.expected.Series.TheVariants.{Interfaces, Members, Locations}
 use Rattle.gq_parse.specs.declared.expected.Symbol.{Symbol}
 use Rattle.gq_parse.specs.declared.expected.Symbol.TheVariants.{AnyName, FragmentName, EnumValueName, OnWord, Colon, AtSign, CloseBracket, Value, MoreValues, MoreObjectFields, Directives, SomeDirectives, OptionalRow, WholeRow, FirstOf, MoreOf, PartsWith, LedSeries, SeriesPart, MoreParts, OptionalDefault, AnyType, OptionalBang, OptionalName, OptionalAlias, Set, OptionalSet, FirstSelection, MoreSelections, AfterDots, Definition, Described, Extension, ExtendedScalar, TypeParts, UnionParts, OptionalImplements, OptionalMembers, OptionalRepeatable}
-use Rattle.gq_parse.specs.Expected.{in_parens, opening, closing}
+use Rattle.gq_parse.specs.Helping.Expected.{in_parens, opening, closing}
 use Rattle.gq_parse.proofs.Means.{PartOf, IsPart, IsRestOfRow, PieceOf, IsPieceOf, separator, Means, here, spelled_here, name_here, keyword_here}
-use Rattle.std.proofs.Common.{◌∙◌}
-use Rattle.gq_parse.specs.TypeSystem.{last, Led, plain, no_description, a_root, a_schema, IsInputValue, an_input_value, a_field_definition, an_enum_value, interfaces, no_interfaces, members, a_scalar, a_location, once}
+use Rattle.gq_parse.specs.TypeSystem.{last, Delimited, plain, no_description, a_root, a_schema, IsInputValue, an_input_value, a_field_definition, an_enum_value, interfaces, no_interfaces, members, a_scalar, a_location, once}
 use Rattle.gq_parse.specs.Documents.{an_operation}
 use Rattle.gq_tree.specs.declared.type_system.DirectiveLocation.TheVariants as location
 
@@ -224,7 +223,7 @@ complete TypeParts x c u =
     with TypeParts kind.BraceOpen f.tokens x ([], [], f.means.0 ∷ f.means.1, y, y, no_interfaces (λ p q. cc), no_directive (λ q. cc), enclosed f.tokens (here refl) f.means.2, inr (inr (λ q. cc))) (λ q. cc, λ q. cc, λ q. cc)
 complete UnionParts x c u =
     let p = piece_done Members x in
-    let l : Led IsName kind.Pipe (p.1 ∷ []) (p.0 ∷ x) x = plain (λ q. no_name_separates Members (sym p.3 ∙ q)) (last p.2 (no_separator Members x c)) in
+    let l : Delimited IsName kind.Pipe (p.1 ∷ []) (p.0 ∷ x) x = plain (λ q. no_name_separates Members (sym p.3 ∙ q)) (last p.2 (no_separator Members x c)) in
     with UnionParts kind.Equals (p.0 ∷ x) x ([], p.1 ∷ [], tok kind.Equals ∷ p.0 ∷ x, no_directive (λ q. cc), members (p.0 ∷ x) (here refl) l, inr (λ q. cc)) (λ q. cc, λ q. cc, λ q. cc)
 complete OptionalImplements x c u =
     let l = led_done Interfaces x c in

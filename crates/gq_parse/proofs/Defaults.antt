@@ -7,7 +7,7 @@ use Rattle.gq_parse.specs.declared.expected.Word.TheVariants as word
 use Rattle.gq_parse.specs.declared.expected.Row.TheVariants.{Fields}
 use Rattle.gq_parse.specs.declared.expected.Symbol.TheVariants.{MoreValues, MoreSelections, OptionalRow}
 use Rattle.gq_parse.specs.declared.expected.Move.TheVariants.{Stops}
-use Rattle.gq_parse.specs.Expected.{behind, value_move, values_move, selection_move, selections_move, row_move, parts_move, type_parts_move, described_move, definition_word_move}
+use Rattle.gq_parse.specs.Helping.Expected.{behind, value_move, values_move, selection_move, selections_move, row_move, parts_move, type_parts_move, described_move, definition_word_move}
 
 pub values_else : (constant : Bool) (k : Kind) → k ≢ kind.BracketClose → behind (value_move constant k) (MoreValues constant) ≡ values_move constant k
 values_else constant kind.BracketClose n = absurd (n refl)

@@ -2,7 +2,7 @@
 use Rattle.std.proofs.Common.{Bool, true, false, Option, Some, None, ◌≡◌, List, [], ◌∷◌, ◌++◌, map, length, refl, ap, sym, subst, ◌∙◌, arith, ◌<◌}
 use Rattle.std.specs.Prelude.{is_some, not, IfSome, IfNone}
 use Rattle.gq_lex.specs.declared.token.Kind.{Kind}
-use Rattle.gq_parse.specs.Grammar.{Tokens, IsPunctuator, NotNext, Closed, closed, another, Enclosed, absent, enclosed}
+use Rattle.gq_parse.specs.Grammar.{Tokens, IsPunctuator, NotNext, ManyUntil, closed, another, OptionalMany, absent, enclosed}
 use Rattle.gq_parse.specs.Phrases.{Lacks}
 use Rattle.gq_parse.proofs.Unique.{not_next, moved, punctuator_begins, same_punctuator, Unique, NeverBegins, same_closed}
 
@@ -23,27 +23,27 @@ pub front_put : {A : Type 0} {X : A → Tokens → Tokens → Type 0} (xs ys : L
 front_put {X} xs ys x {tokens} {rest = rest} e front one = subst (λ zs. Front X zs tokens rest) (sym e) (front_push front one)
 
 -- a front and what closes it
-pub front_closed : {A : Type 0} {X : A → Tokens → Tokens → Type 0} {k : Kind} {xs : List A} {tokens a rest : Tokens} → Front X xs tokens a → IsPunctuator k a rest → Closed X k xs tokens rest
+pub front_closed : {A : Type 0} {X : A → Tokens → Tokens → Type 0} {k : Kind} {xs : List A} {tokens a rest : Tokens} → Front X xs tokens a → IsPunctuator k a rest → ManyUntil X k xs tokens rest
 front_closed no_more m = closed m
 front_closed (one_more b first others) m = another b first (front_closed others m)
 
 -- behind a front stands neither what closes it nor one more
-pub behind_front : {A : Type 0} {X : A → Tokens → Tokens → Type 0} {k : Kind} {xs ys : List A} {tokens other a rest : Tokens} → Unique X → NeverBegins k X → Front X xs tokens a → NotNext k a → Lacks X a → tokens ≡ other → Closed X k ys other rest → ⊥
+pub behind_front : {A : Type 0} {X : A → Tokens → Tokens → Type 0} {k : Kind} {xs ys : List A} {tokens other a rest : Tokens} → Unique X → NeverBegins k X → Front X xs tokens a → NotNext k a → Lacks X a → tokens ≡ other → ManyUntil X k ys other rest → ⊥
 behind_front unique apart no_more free lacks same (closed m) = not_next _ _ free (moved _ (sym same) (punctuator_begins m))
 behind_front {X} unique apart no_more free lacks same (another {x = x} b one others) = lacks x b (subst (λ (t : Tokens). X x t b) (sym same) one)
 behind_front unique apart (one_more {x = x} b first others) free lacks same (closed m) = apart x _ b first (moved _ (sym same) (punctuator_begins m))
 behind_front unique apart (one_more {x = x} b first others) free lacks same (another {x = y} b2 one others2) = behind_front unique apart others free lacks (unique x y _ _ b b2 first same one).1 others2
 
-pub not_closed : {A : Type 0} {X : A → Tokens → Tokens → Type 0} {k : Kind} {xs : List A} {tokens a : Tokens} → Unique X → NeverBegins k X → Front X xs tokens a → NotNext k a → Lacks X a → Lacks (Closed X k) tokens
+pub not_closed : {A : Type 0} {X : A → Tokens → Tokens → Type 0} {k : Kind} {xs : List A} {tokens a : Tokens} → Unique X → NeverBegins k X → Front X xs tokens a → NotNext k a → Lacks X a → Lacks (ManyUntil X k) tokens
 not_closed unique apart front free lacks ys rest c = behind_front unique apart front free lacks refl c
 
 -- brackets with something in them
-pub enclosed_some : {A : Type 0} {X : A → Tokens → Tokens → Type 0} {k j : Kind} (xs : List A) {tokens a rest : Tokens} → IsPunctuator k tokens a → Closed X j xs a rest → 0 < length xs → Enclosed X k j xs tokens rest
+pub enclosed_some : {A : Type 0} {X : A → Tokens → Tokens → Type 0} {k j : Kind} (xs : List A) {tokens a rest : Tokens} → IsPunctuator k tokens a → ManyUntil X j xs a rest → 0 < length xs → OptionalMany X k j xs tokens rest
 enclosed_some [] m c some = absurd (omega (arith, some))
 enclosed_some (x ∷ xs) {a = a} m c some = enclosed a m c
 
 -- nothing is in them
-pub enclosed_empty : {A : Type 0} {X : A → Tokens → Tokens → Type 0} {k j : Kind} (xs : List A) {tokens a b : Tokens} → Unique X → NeverBegins j X → IsPunctuator k tokens a → Closed X j xs a b → xs ≡ [] → Lacks (Enclosed X k j) tokens
+pub enclosed_empty : {A : Type 0} {X : A → Tokens → Tokens → Type 0} {k j : Kind} (xs : List A) {tokens a b : Tokens} → Unique X → NeverBegins j X → IsPunctuator k tokens a → ManyUntil X j xs a b → xs ≡ [] → Lacks (OptionalMany X k j) tokens
 enclosed_empty xs unique apart m c empty ys rest (absent free) = not_next _ _ free (punctuator_begins m)
 enclosed_empty xs unique apart m c empty ys rest (enclosed a2 m2 c2) = let e = sym empty ∙ (same_closed unique apart c (same_punctuator m refl m2) c2).0 in cc
 
@@ -57,8 +57,8 @@ some_items f [] h = absurd (omega (arith, h))
 some_items f (x ∷ xs) h = omega arith
 
 -- nothing opens
-pub enclosed_none : {A : Type 0} {X : A → Tokens → Tokens → Type 0} {k j : Kind} (xs : List A) {tokens : Tokens} → xs ≡ [] → NotNext k tokens → Enclosed X k j xs tokens tokens
-enclosed_none {X} {k} {j} xs {tokens} e free = subst (λ ys. Enclosed X k j ys tokens tokens) (sym e) (absent free)
+pub enclosed_none : {A : Type 0} {X : A → Tokens → Tokens → Type 0} {k j : Kind} (xs : List A) {tokens : Tokens} → xs ≡ [] → NotNext k tokens → OptionalMany X k j xs tokens tokens
+enclosed_none {X} {k} {j} xs {tokens} e free = subst (λ ys. OptionalMany X k j ys tokens tokens) (sym e) (absent free)
 
 -- an option that was tested
 pub some_at : {X : Type 0} {P : X → Type 0} (o : Option X) (b : Bool) → b ≡ is_some o → b ≡ true → IfSome o P → (x : X) × P x

@@ -11,14 +11,14 @@ use Rattle.gq_tree.specs.Plain.{Def}
 use Rattle.gq_parse.specs.Grammar.{Tokens}
 use Rattle.gq_parse.specs.Documents.{IsDocument, at_end, definition}
 use Rattle.gq_parse.specs.Prefix.{Begins, IsSyntaxAt}
-use Rattle.gq_parse.specs.Words.{word_of}
+use Rattle.gq_parse.specs.Helping.Words.{word_of}
 use Rattle.gq_parse.specs.declared.expected.Word.{Word}
 use Rattle.gq_parse.specs.declared.expected.Word.TheVariants as word
 use Rattle.gq_parse.specs.declared.expected.Symbol.{Symbol}
 use Rattle.gq_parse.specs.declared.expected.Symbol.TheVariants.{Definition}
 use Rattle.gq_parse.specs.declared.expected.Move.{Move}
-use Rattle.gq_parse.specs.declared.expected.Move.TheVariants.{Takes0, Takes1, Takes2, Takes3, Takes4, Takes5, Takes6, Skips, Stops}
-use Rattle.gq_parse.specs.Expected.{move, definition_word_move, definition_move, resolve, advance}
+use Rattle.gq_parse.specs.declared.expected.Move.TheVariants.{Takes, TakesThen, TakesThenTwo, TakesThenThree, TakesThenFour, TakesThenFive, TakesThenSix, Skips, Stops}
+use Rattle.gq_parse.specs.Helping.Expected.{move, definition_word_move, definition_move, resolve, advance}
 use Rattle.gq_parse.proofs.Means.{Means, After}
 use Rattle.gq_parse.proofs.Completions.{Clear, complete, complete_any}
 use Rattle.gq_parse.proofs.Tails.{safe, safe_tail, is_safe, tail_is_safe}
@@ -68,21 +68,21 @@ is_sound [] u = tt
 is_sound (s ∷ ss) u = u.1
 
 resolve_sound : (m : Move) (ss : List Symbol) (skipped : Option (List Symbol)) (after : List Symbol) → safe_tail m ≡ true → AllSafe ss → (skipped ≡ Some after → IsSound after) → resolve m ss skipped ≡ Some after → IsSound after
-resolve_sound Takes0 ss skipped after e u go h = subst IsSound (some_inj h) (is_sound ss u)
-resolve_sound (Takes1 a) ss skipped after e u go h = subst IsSound (some_inj h) u
-resolve_sound (Takes2 a b) ss skipped after e u go h = subst IsSound (some_inj h) (e, u)
-resolve_sound (Takes3 a b c) ss skipped after e u go h =
+resolve_sound Takes ss skipped after e u go h = subst IsSound (some_inj h) (is_sound ss u)
+resolve_sound (TakesThen a) ss skipped after e u go h = subst IsSound (some_inj h) u
+resolve_sound (TakesThenTwo a b) ss skipped after e u go h = subst IsSound (some_inj h) (e, u)
+resolve_sound (TakesThenThree a b c) ss skipped after e u go h =
     let p = both (safe b) (safe c) e in subst IsSound (some_inj h) (p.0, (p.1, u))
-resolve_sound (Takes4 a b c d) ss skipped after e u go h =
+resolve_sound (TakesThenFour a b c d) ss skipped after e u go h =
     let p = both (safe b) (safe c && safe d) e in
     let q = both (safe c) (safe d) p.1 in
     subst IsSound (some_inj h) (p.0, (q.0, (q.1, u)))
-resolve_sound (Takes5 a b c d f) ss skipped after e u go h =
+resolve_sound (TakesThenFive a b c d f) ss skipped after e u go h =
     let p = both (safe b) (safe c && (safe d && safe f)) e in
     let q = both (safe c) (safe d && safe f) p.1 in
     let r = both (safe d) (safe f) q.1 in
     subst IsSound (some_inj h) (p.0, (q.0, (r.0, (r.1, u))))
-resolve_sound (Takes6 a b c d f g) ss skipped after e u go h =
+resolve_sound (TakesThenSix a b c d f g) ss skipped after e u go h =
     let p = both (safe b) (safe c && (safe d && (safe f && safe g))) e in
     let q = both (safe c) (safe d && (safe f && safe g)) p.1 in
     let r = both (safe d) (safe f && safe g) q.1 in
@@ -101,15 +101,15 @@ abbrev Behind : Option (List Symbol) → Tokens → Type 0
 Behind next ts = (after : List Symbol) × (next ≡ Some after) × Rest after ts
 
 resolve_forward : (m : Move) (ss : List Symbol) (skipped : Option (List Symbol)) (t : Lexeme) (ts mid : Tokens) → After m t ts mid → Rest ss mid → (m ≡ Skips → Rest ss (t ∷ ts) → Behind skipped ts) → Behind (resolve m ss skipped) ts
-resolve_forward Takes0 ss skipped t ts mid h r go = (ss, refl, subst (Rest ss) (sym h) r)
-resolve_forward (Takes1 a) ss skipped t ts mid h r go = (a ∷ ss, refl, (mid, h, r))
-resolve_forward (Takes2 a b) ss skipped t ts mid (m, x, y) r go = (a ∷ b ∷ ss, refl, (m, x, (mid, y, r)))
-resolve_forward (Takes3 a b c) ss skipped t ts mid (m, n, x, y, z) r go = (a ∷ b ∷ c ∷ ss, refl, (m, x, (n, y, (mid, z, r))))
-resolve_forward (Takes4 a b c d) ss skipped t ts mid (m, n, o, x, y, z, u) r go =
+resolve_forward Takes ss skipped t ts mid h r go = (ss, refl, subst (Rest ss) (sym h) r)
+resolve_forward (TakesThen a) ss skipped t ts mid h r go = (a ∷ ss, refl, (mid, h, r))
+resolve_forward (TakesThenTwo a b) ss skipped t ts mid (m, x, y) r go = (a ∷ b ∷ ss, refl, (m, x, (mid, y, r)))
+resolve_forward (TakesThenThree a b c) ss skipped t ts mid (m, n, x, y, z) r go = (a ∷ b ∷ c ∷ ss, refl, (m, x, (n, y, (mid, z, r))))
+resolve_forward (TakesThenFour a b c d) ss skipped t ts mid (m, n, o, x, y, z, u) r go =
     (a ∷ b ∷ c ∷ d ∷ ss, refl, (m, x, (n, y, (o, z, (mid, u, r)))))
-resolve_forward (Takes5 a b c d e) ss skipped t ts mid (m, n, o, p, x, y, z, u, v) r go =
+resolve_forward (TakesThenFive a b c d e) ss skipped t ts mid (m, n, o, p, x, y, z, u, v) r go =
     (a ∷ b ∷ c ∷ d ∷ e ∷ ss, refl, (m, x, (n, y, (o, z, (p, u, (mid, v, r))))))
-resolve_forward (Takes6 a b c d e f) ss skipped t ts mid (m, n, o, p, q, x, y, z, u, v, w) r go =
+resolve_forward (TakesThenSix a b c d e f) ss skipped t ts mid (m, n, o, p, q, x, y, z, u, v, w) r go =
     (a ∷ b ∷ c ∷ d ∷ e ∷ f ∷ ss, refl, (m, x, (n, y, (o, z, (p, u, (q, v, (mid, w, r)))))))
 resolve_forward Skips ss skipped t ts mid h r go = go refl (subst (Rest ss) (sym h) r)
 resolve_forward Stops ss skipped t ts mid h r go = absurd h
@@ -129,25 +129,25 @@ forward (s ∷ ss) t ts (mid, h, r) =
     resolve_forward (move s t.kind (word_of t.text)) ss (advance ss t.kind (word_of t.text)) t ts mid (goes_on s t ts mid h) r (λ e. forward ss t ts)
 
 resolve_backward : (m : Move) (ss : List Symbol) (skipped : Option (List Symbol)) (t : Lexeme) (ts : Tokens) (after : List Symbol) → (skipped ≡ Some after → Rest ss (t ∷ ts)) → resolve m ss skipped ≡ Some after → Rest after ts → (mid : Tokens) × After m t ts mid × Rest ss mid
-resolve_backward Takes0 ss skipped t ts after go e r = (ts, refl, subst (λ (x : List Symbol). Rest x ts) (sym (some_inj e)) r)
-resolve_backward (Takes1 a) ss skipped t ts after go e r =
+resolve_backward Takes ss skipped t ts after go e r = (ts, refl, subst (λ (x : List Symbol). Rest x ts) (sym (some_inj e)) r)
+resolve_backward (TakesThen a) ss skipped t ts after go e r =
     let h : Rest (a ∷ ss) ts = subst (λ (x : List Symbol). Rest x ts) (sym (some_inj e)) r in (h.0, h.1, h.2)
-resolve_backward (Takes2 a b) ss skipped t ts after go e r =
+resolve_backward (TakesThenTwo a b) ss skipped t ts after go e r =
     let h : Rest (a ∷ b ∷ ss) ts = subst (λ (x : List Symbol). Rest x ts) (sym (some_inj e)) r in
     (h.2.0, (h.0, h.1, h.2.1), h.2.2)
-resolve_backward (Takes3 a b c) ss skipped t ts after go e r =
+resolve_backward (TakesThenThree a b c) ss skipped t ts after go e r =
     let h : Rest (a ∷ b ∷ c ∷ ss) ts = subst (λ (x : List Symbol). Rest x ts) (sym (some_inj e)) r in
     let i = h.2 in let j = i.2 in
     (j.0, (h.0, i.0, h.1, i.1, j.1), j.2)
-resolve_backward (Takes4 a b c d) ss skipped t ts after go e r =
+resolve_backward (TakesThenFour a b c d) ss skipped t ts after go e r =
     let h : Rest (a ∷ b ∷ c ∷ d ∷ ss) ts = subst (λ (x : List Symbol). Rest x ts) (sym (some_inj e)) r in
     let i = h.2 in let j = i.2 in let k = j.2 in
     (k.0, (h.0, i.0, j.0, h.1, i.1, j.1, k.1), k.2)
-resolve_backward (Takes5 a b c d f) ss skipped t ts after go e r =
+resolve_backward (TakesThenFive a b c d f) ss skipped t ts after go e r =
     let h : Rest (a ∷ b ∷ c ∷ d ∷ f ∷ ss) ts = subst (λ (x : List Symbol). Rest x ts) (sym (some_inj e)) r in
     let i = h.2 in let j = i.2 in let k = j.2 in let l = k.2 in
     (l.0, (h.0, i.0, j.0, k.0, h.1, i.1, j.1, k.1, l.1), l.2)
-resolve_backward (Takes6 a b c d f g) ss skipped t ts after go e r =
+resolve_backward (TakesThenSix a b c d f g) ss skipped t ts after go e r =
     let h : Rest (a ∷ b ∷ c ∷ d ∷ f ∷ g ∷ ss) ts = subst (λ (x : List Symbol). Rest x ts) (sym (some_inj e)) r in
     let i = h.2 in let j = i.2 in let k = j.2 in let l = k.2 in let m = l.2 in
     (m.0, (h.0, i.0, j.0, k.0, l.0, h.1, i.1, j.1, k.1, l.1, m.1), m.2)

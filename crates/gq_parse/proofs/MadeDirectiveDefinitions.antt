@@ -6,7 +6,7 @@ use Rattle.gq_lex.specs.Tokens.{Lexeme}
 use Rattle.gq_tree.specs.declared.type_system.DirectiveLocation.{DirectiveLocation}
 use Rattle.gq_tree.specs.Plain.{NameOf, InputOf, TypeSystemOf, directive_definition}
 use Rattle.gq_parse.specs.Grammar.{Tokens, IsPunctuator, IsName, IsKeyword, NotNext, covered}
-use Rattle.gq_parse.specs.TypeSystem.{Led, IsArgumentsDefinition, location_word, IsLocation, a_location, IsRepeatable, once, repeatable}
+use Rattle.gq_parse.specs.TypeSystem.{Delimited, IsArgumentsDefinition, location_word, IsLocation, a_location, IsRepeatable, once, repeatable}
 use Rattle.gq_parse.specs.Phrases.{Lacks}
 use Rattle.gq_parse.specs.Locations.{location_named}
 use Rattle.gq_parse.specs.Parts.{IsDirectiveDescribed, directive_described}
@@ -35,7 +35,7 @@ no_repeatable no_on no_word x rest (once {place = p} k) = no_on p rest k
 no_repeatable no_on no_word x rest (repeatable {p = p} b k m) = no_word p b k
 
 -- a definition
-pub directive_made : {first : Tokens} {o : Option (NameOf Span)} {n : NameOf Span} {xs : List (InputOf Span)} {again : Bool} {ls : List DirectiveLocation} {p place : Span} {tokens b c d e f rest : Tokens} → IsKeyword (codes "directive") p tokens b → IsPunctuator kind.At b c → IsName n c d → IsArgumentsDefinition xs d e → IsRepeatable again e f → Led IsLocation kind.Pipe ls f rest → place ≡ covered first rest →
+pub directive_made : {first : Tokens} {o : Option (NameOf Span)} {n : NameOf Span} {xs : List (InputOf Span)} {again : Bool} {ls : List DirectiveLocation} {p place : Span} {tokens b c d e f rest : Tokens} → IsKeyword (codes "directive") p tokens b → IsPunctuator kind.At b c → IsName n c d → IsArgumentsDefinition xs d e → IsRepeatable again e f → Delimited IsLocation kind.Pipe ls f rest → place ≡ covered first rest →
     IsDirectiveDescribed first o (directive_definition o n xs again ls place) tokens rest
 directive_made {first} {o} {n} {xs} {again} {ls} {tokens = tokens} {b = b} {c = c} {d = d} {e = e} {f = f} {rest = rest} k m name args r l is =
     let D : Span → TypeSystemOf Span = λ q. directive_definition o n xs again ls q in
@@ -62,6 +62,6 @@ pub no_directive_on : {first : Tokens} {o : Option (NameOf Span)} {p : Span} {n 
 no_directive_on h i n zs lacks x rest (directive_described {again = again} b c d e f k m n2 xs r l) =
     lacks again f (subst (λ (t : Tokens). IsRepeatable again t f) (sym (same_inputs paren_never zs (directive_named h i n k m n2) xs).1) r)
 
-pub no_directive_locations : {first : Tokens} {o : Option (NameOf Span)} {p : Span} {n : NameOf Span} {zs : List (InputOf Span)} {y : Bool} {tokens a b c d e : Tokens} → IsKeyword (codes "directive") p tokens a → IsPunctuator kind.At a b → IsName n b c → IsArgumentsDefinition zs c d → IsRepeatable y d e → Lacks (Led IsLocation kind.Pipe) e → Lacks (IsDirectiveDescribed first o) tokens
+pub no_directive_locations : {first : Tokens} {o : Option (NameOf Span)} {p : Span} {n : NameOf Span} {zs : List (InputOf Span)} {y : Bool} {tokens a b c d e : Tokens} → IsKeyword (codes "directive") p tokens a → IsPunctuator kind.At a b → IsName n b c → IsArgumentsDefinition zs c d → IsRepeatable y d e → Lacks (Delimited IsLocation kind.Pipe) e → Lacks (IsDirectiveDescribed first o) tokens
 no_directive_locations h i n zs y lacks x rest (directive_described {locations = ls} b c d e f k m n2 xs r l) =
-    lacks ls rest (subst (λ (t : Tokens). Led IsLocation kind.Pipe ls t rest) (sym (same_repeatable y (same_inputs paren_never zs (directive_named h i n k m n2) xs).1 r).1) l)
+    lacks ls rest (subst (λ (t : Tokens). Delimited IsLocation kind.Pipe ls t rest) (sym (same_repeatable y (same_inputs paren_never zs (directive_named h i n k m n2) xs).1 r).1) l)

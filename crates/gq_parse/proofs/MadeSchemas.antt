@@ -4,7 +4,7 @@ use Rattle.gq_text.specs.declared.place.Span.{Span}
 use Rattle.gq_lex.specs.declared.token.Kind.TheVariants as kind
 use Rattle.gq_tree.specs.declared.tree.OperationKind.{OperationKind}
 use Rattle.gq_tree.specs.Plain.{NameOf, DirectiveOf, RootOf}
-use Rattle.gq_parse.specs.Grammar.{Tokens, IsPunctuator, IsName, IsKeyword, NotNext, Enclosed, IsDirectives, IsOperationType, a_query, a_mutation, a_subscription}
+use Rattle.gq_parse.specs.Grammar.{Tokens, IsPunctuator, IsName, IsKeyword, NotNext, OptionalMany, IsDirectives, IsOperationType, a_query, a_mutation, a_subscription}
 use Rattle.gq_parse.specs.TypeSystem.{IsRoot, a_root, IsSchema, a_schema}
 use Rattle.gq_parse.specs.Phrases.{Lacks}
 use Rattle.gq_parse.specs.Parts.{LacksSchema}
@@ -24,7 +24,7 @@ no_root_colon t free x rest (a_root a b o m n) = not_next _ _ free (moved _ (sym
 pub no_root_name : {t : OperationKind} {tokens a b : Tokens} → IsOperationType t tokens a → IsPunctuator kind.Colon a b → NotNext kind.Name b → Lacks IsRoot tokens
 no_root_name t k free x rest (a_root a b o m n) = not_next _ _ free (moved _ (sym (same_punctuator k (same_operation_type t refl o).1 m)) (spelled_begins n))
 
-pub schema_of : {place : Span} {ds : List (DirectiveOf Span)} {rs : List (RootOf Span)} {tokens a b rest : Tokens} → IsKeyword (codes "schema") place tokens a → IsDirectives true ds a b → Enclosed IsRoot kind.BraceOpen kind.BraceClose rs b rest → IsSchema ds rs tokens rest
+pub schema_of : {place : Span} {ds : List (DirectiveOf Span)} {rs : List (RootOf Span)} {tokens a b rest : Tokens} → IsKeyword (codes "schema") place tokens a → IsDirectives true ds a b → OptionalMany IsRoot kind.BraceOpen kind.BraceClose rs b rest → IsSchema ds rs tokens rest
 schema_of {a = a} {b = b} k ds rs = a_schema a b k ds rs
 
 pub no_schema_word : {tokens : Tokens} → Lacks (IsKeyword (codes "schema")) tokens → LacksSchema tokens
@@ -33,9 +33,9 @@ no_schema_word lacks ds rs rest (a_schema {place = p} a b k d r) = lacks p a k
 pub no_schema_directives : {place : Span} {tokens a : Tokens} → IsKeyword (codes "schema") place tokens a → Lacks (IsDirectives true) a → LacksSchema tokens
 no_schema_directives k lacks ds rs rest (a_schema a2 b2 k2 d2 r2) = lacks ds b2 (subst (λ (t : Tokens). IsDirectives true ds t b2) (sym (same_spelled k refl k2).2) d2)
 
-pub no_schema_roots : {place : Span} {xs : List (DirectiveOf Span)} {tokens a b : Tokens} → IsKeyword (codes "schema") place tokens a → IsDirectives true xs a b → Lacks (Enclosed IsRoot kind.BraceOpen kind.BraceClose) b → LacksSchema tokens
+pub no_schema_roots : {place : Span} {xs : List (DirectiveOf Span)} {tokens a b : Tokens} → IsKeyword (codes "schema") place tokens a → IsDirectives true xs a b → Lacks (OptionalMany IsRoot kind.BraceOpen kind.BraceClose) b → LacksSchema tokens
 no_schema_roots k d lacks ds rs rest (a_schema a2 b2 k2 d2 r2) =
-    lacks rs rest (subst (λ (t : Tokens). Enclosed IsRoot kind.BraceOpen kind.BraceClose rs t rest) (sym (same_directives d (same_spelled k refl k2).2 d2).1) r2)
+    lacks rs rest (subst (λ (t : Tokens). OptionalMany IsRoot kind.BraceOpen kind.BraceClose rs t rest) (sym (same_directives d (same_spelled k refl k2).2 d2).1) r2)
 
 -- the type of an operation
 pub no_operation_type : {tokens : Tokens} → Lacks (IsKeyword (codes "query")) tokens → Lacks (IsKeyword (codes "mutation")) tokens → Lacks (IsKeyword (codes "subscription")) tokens → Lacks IsOperationType tokens

@@ -14,7 +14,7 @@ use Rattle.gq_tree.specs.declared.tree.Selection.TheViews.{roll-Field, roll-Inli
 use Rattle.gq_tree.specs.declared.value.Argument.{Argument}
 use Rattle.gq_tree.specs.declared.value.Directive.{Directive}
 use Rattle.gq_tree.proofs.Trees.{view_spread, view_made, view_inline}
-use Rattle.gq_parse.specs.Grammar.{Tokens, covered, IsPunctuator, IsName, IsKeyword, NotNext, Closed, closed, another, IsFragmentName, IsOptionalCondition, no_condition, a_condition, IsFieldName, no_alias, alias, IsArguments, IsDirectives, IsSelection, a_field, a_spread, an_inline, IsOptionalSet, no_set, a_set, IsSelectionSet, braces, IsSelections, set_closed, selection}
+use Rattle.gq_parse.specs.Grammar.{Tokens, covered, IsPunctuator, IsName, IsKeyword, NotNext, ManyUntil, closed, another, IsFragmentName, IsOptionalCondition, no_condition, a_condition, IsFieldName, no_alias, alias, IsArguments, IsDirectives, IsSelection, a_field, a_spread, an_inline, IsOptionalSet, no_set, a_set, IsSelectionSet, braces, IsSelections, set_closed, selection}
 use Rattle.gq_parse.specs.Phrases.{Lacks, IsSel}
 use Rattle.gq_parse.proofs.Unique.{not_next, moved, punctuator_begins, spelled_begins, same_punctuator, same_name, same_fragment_name, same_optional_condition, same_field_name, Unique, NeverBegins}
 use Rattle.gq_parse.proofs.UniqueValues.{same_arguments, same_directives}
@@ -58,13 +58,13 @@ inline_of on directives set place {tokens} {a} {b} {c} {rest} m h d s f e =
     seen_as (view_inline (roll-InlineFragment (record { on = on; directives = directives; set = set; span = place })) ∙ ap (F set.span) e ∙ ap (λ (q : Span). F q (covered tokens rest)) f) (an_inline a b c m h d s)
 
 -- the selections in braces
-selections_closed : {xs : List (Sel Span)} {tokens rest : Tokens} → Closed IsSel kind.BraceClose xs tokens rest → IsSelections (row xs) tokens rest
+selections_closed : {xs : List (Sel Span)} {tokens rest : Tokens} → ManyUntil IsSel kind.BraceClose xs tokens rest → IsSelections (row xs) tokens rest
 selections_closed (closed m) = set_closed m
 selections_closed (another a s others) = selection a s (selections_closed others)
 
 record AsSelections (tokens rest : Tokens) : Type 0 where
   items : List (Sel Span)
-  are : Closed IsSel kind.BraceClose items tokens rest
+  are : ManyUntil IsSel kind.BraceClose items tokens rest
 
 closed_selections : {ss : Sels Span} {tokens rest : Tokens} → IsSelections ss tokens rest → AsSelections tokens rest
 closed_selections (set_closed m) = record { items = []; are = closed m }
@@ -72,22 +72,22 @@ closed_selections (selection {h = h} {below = below} a s ss) =
     let l = closed_selections ss in
     record { items = record { label = h; below = below } ∷ l.items; are = another a s l.are }
 
-pub set_of : (xs : List (Sel Span)) {tokens a rest : Tokens} → IsPunctuator kind.BraceOpen tokens a → Closed IsSel kind.BraceClose xs a rest → 0 < length xs → IsSelectionSet (row xs) tokens rest
+pub set_of : (xs : List (Sel Span)) {tokens a rest : Tokens} → IsPunctuator kind.BraceOpen tokens a → ManyUntil IsSel kind.BraceClose xs a rest → 0 < length xs → IsSelectionSet (row xs) tokens rest
 set_of [] m c some = absurd (omega (arith, some))
 set_of (x ∷ xs) {a = a} m c some = braces a m (selections_closed c)
 
-pub set_missing : {tokens a : Tokens} → IsPunctuator kind.BraceOpen tokens a → Lacks (Closed IsSel kind.BraceClose) a → Lacks IsSelectionSet tokens
+pub set_missing : {tokens a : Tokens} → IsPunctuator kind.BraceOpen tokens a → Lacks (ManyUntil IsSel kind.BraceClose) a → Lacks IsSelectionSet tokens
 set_missing m lacks _ rest (braces a2 m2 ss) =
     let l = closed_selections ss in
-    lacks l.items rest (subst (λ (t : Tokens). Closed IsSel kind.BraceClose l.items t rest) (sym (same_punctuator m refl m2)) l.are)
+    lacks l.items rest (subst (λ (t : Tokens). ManyUntil IsSel kind.BraceClose l.items t rest) (sym (same_punctuator m refl m2)) l.are)
 
 -- some selections stand in a set
-some_selections : {ss : Sels Span} {xs : List (Sel Span)} {tokens other a b : Tokens} → Closed IsSel kind.BraceClose xs tokens a → tokens ≡ other → xs ≡ [] → IsSelections ss other b → ss ≡ none
+some_selections : {ss : Sels Span} {xs : List (Sel Span)} {tokens other a b : Tokens} → ManyUntil IsSel kind.BraceClose xs tokens a → tokens ≡ other → xs ≡ [] → IsSelections ss other b → ss ≡ none
 some_selections c same empty (set_closed m) = refl
 some_selections (closed m) same empty (selection a2 s2 ss2) = absurd (selection_or_close s2 (moved _ same (punctuator_begins m)))
 some_selections (another a x others) same empty (selection a2 s2 ss2) = absurd (cc)
 
-pub set_empty : (xs : List (Sel Span)) {tokens a b : Tokens} → IsPunctuator kind.BraceOpen tokens a → Closed IsSel kind.BraceClose xs a b → xs ≡ [] → Lacks IsSelectionSet tokens
+pub set_empty : (xs : List (Sel Span)) {tokens a b : Tokens} → IsPunctuator kind.BraceOpen tokens a → ManyUntil IsSel kind.BraceClose xs a b → xs ≡ [] → Lacks IsSelectionSet tokens
 set_empty xs m c empty _ rest (braces a2 m2 ss) = let e = some_selections c (same_punctuator m refl m2) empty ss in cc
 
 -- SelectionSet?

@@ -6,7 +6,7 @@ use Rattle.gq_lex.specs.Tokens.{Lexeme}
 use Rattle.gq_tree.specs.Plain.{NameOf, DirectiveOf, InputOf, FieldDefinitionOf, EnumValueOf, BodyOf, scalar_type, object_type, interface_type, union_type, enum_type, input_type}
 use Rattle.gq_parse.specs.declared.type_definitions.TypeKind.{TypeKind}
 use Rattle.gq_parse.specs.declared.type_definitions.TypeKind.TheVariants as of
-use Rattle.gq_parse.specs.Grammar.{Tokens, IsPunctuator, IsName, IsKeyword, NotNext, Enclosed, IsDirectives}
+use Rattle.gq_parse.specs.Grammar.{Tokens, IsPunctuator, IsName, IsKeyword, NotNext, OptionalMany, IsDirectives}
 use Rattle.gq_parse.specs.TypeSystem.{IsImplements, IsFieldsDefinition, IsMembers, IsEnumValueDefinition, IsInputValue, IsTypeBody, a_scalar, an_object_type, an_interface, a_union, an_enum_type, an_input_type}
 use Rattle.gq_parse.specs.Phrases.{Lacks}
 use Rattle.gq_parse.specs.Parts.{kind_word, kind_named, IsNamed, IsFielded, IsBodyBehind, LacksNamed, LacksFielded, LacksBehind, LacksBody}
@@ -56,10 +56,10 @@ made_interface {name} {directives} {tokens} {a} {rest} word f e = subst (λ (b :
 made_union : {place : Span} {name : NameOf Span} {names : List (NameOf Span)} {directives : List (DirectiveOf Span)} {body : BodyOf Span} {tokens a b rest : Tokens} → IsKeyword (codes "union") place tokens a → IsNamed name directives a b → IsMembers names b rest → body ≡ union_type names → IsTypeBody name directives body tokens rest
 made_union {name} {directives} {tokens} {a} {b} {rest} word n m e = subst (λ (x : BodyOf Span). IsTypeBody name directives x tokens rest) (sym e) (a_union a n.behind b word n.names n.directs m)
 
-made_enum : {place : Span} {name : NameOf Span} {values : List (EnumValueOf Span)} {directives : List (DirectiveOf Span)} {body : BodyOf Span} {tokens a b rest : Tokens} → IsKeyword (codes "enum") place tokens a → IsNamed name directives a b → Enclosed IsEnumValueDefinition kind.BraceOpen kind.BraceClose values b rest → body ≡ enum_type values → IsTypeBody name directives body tokens rest
+made_enum : {place : Span} {name : NameOf Span} {values : List (EnumValueOf Span)} {directives : List (DirectiveOf Span)} {body : BodyOf Span} {tokens a b rest : Tokens} → IsKeyword (codes "enum") place tokens a → IsNamed name directives a b → OptionalMany IsEnumValueDefinition kind.BraceOpen kind.BraceClose values b rest → body ≡ enum_type values → IsTypeBody name directives body tokens rest
 made_enum {name} {directives} {tokens} {a} {b} {rest} word n m e = subst (λ (x : BodyOf Span). IsTypeBody name directives x tokens rest) (sym e) (an_enum_type a n.behind b word n.names n.directs m)
 
-made_input : {place : Span} {name : NameOf Span} {fields : List (InputOf Span)} {directives : List (DirectiveOf Span)} {body : BodyOf Span} {tokens a b rest : Tokens} → IsKeyword (codes "input") place tokens a → IsNamed name directives a b → Enclosed IsInputValue kind.BraceOpen kind.BraceClose fields b rest → body ≡ input_type fields → IsTypeBody name directives body tokens rest
+made_input : {place : Span} {name : NameOf Span} {fields : List (InputOf Span)} {directives : List (DirectiveOf Span)} {body : BodyOf Span} {tokens a b rest : Tokens} → IsKeyword (codes "input") place tokens a → IsNamed name directives a b → OptionalMany IsInputValue kind.BraceOpen kind.BraceClose fields b rest → body ≡ input_type fields → IsTypeBody name directives body tokens rest
 made_input {name} {directives} {tokens} {a} {b} {rest} word n m e = subst (λ (x : BodyOf Span). IsTypeBody name directives x tokens rest) (sym e) (an_input_type a n.behind b word n.names n.directs m)
 
 pub body_of : (k : TypeKind) {place : Span} {name : NameOf Span} {directives : List (DirectiveOf Span)} {body : BodyOf Span} {tokens a rest : Tokens} → IsKeyword (kind_word k) place tokens a → IsBodyBehind k name directives body a rest → IsTypeBody name directives body tokens rest
@@ -133,11 +133,11 @@ no_union_members n lacks name directives body rest h = lacks h.0 rest (subst (λ
 pub no_enum : {tokens : Tokens} → LacksNamed tokens → LacksBehind of.Enum tokens
 no_enum lacks name directives body rest h = lacks name directives h.1 h.2
 
-pub no_enum_values : {n : NameOf Span} {ds : List (DirectiveOf Span)} {tokens a : Tokens} → IsNamed n ds tokens a → Lacks (Enclosed IsEnumValueDefinition kind.BraceOpen kind.BraceClose) a → LacksBehind of.Enum tokens
-no_enum_values n lacks name directives body rest h = lacks h.0 rest (subst (λ (t : Tokens). Enclosed IsEnumValueDefinition kind.BraceOpen kind.BraceClose h.0 t rest) (sym (same_named n h.2)) h.3)
+pub no_enum_values : {n : NameOf Span} {ds : List (DirectiveOf Span)} {tokens a : Tokens} → IsNamed n ds tokens a → Lacks (OptionalMany IsEnumValueDefinition kind.BraceOpen kind.BraceClose) a → LacksBehind of.Enum tokens
+no_enum_values n lacks name directives body rest h = lacks h.0 rest (subst (λ (t : Tokens). OptionalMany IsEnumValueDefinition kind.BraceOpen kind.BraceClose h.0 t rest) (sym (same_named n h.2)) h.3)
 
 pub no_input : {tokens : Tokens} → LacksNamed tokens → LacksBehind of.InputObject tokens
 no_input lacks name directives body rest h = lacks name directives h.1 h.2
 
-pub no_input_fields : {n : NameOf Span} {ds : List (DirectiveOf Span)} {tokens a : Tokens} → IsNamed n ds tokens a → Lacks (Enclosed IsInputValue kind.BraceOpen kind.BraceClose) a → LacksBehind of.InputObject tokens
-no_input_fields n lacks name directives body rest h = lacks h.0 rest (subst (λ (t : Tokens). Enclosed IsInputValue kind.BraceOpen kind.BraceClose h.0 t rest) (sym (same_named n h.2)) h.3)
+pub no_input_fields : {n : NameOf Span} {ds : List (DirectiveOf Span)} {tokens a : Tokens} → IsNamed n ds tokens a → Lacks (OptionalMany IsInputValue kind.BraceOpen kind.BraceClose) a → LacksBehind of.InputObject tokens
+no_input_fields n lacks name directives body rest h = lacks h.0 rest (subst (λ (t : Tokens). OptionalMany IsInputValue kind.BraceOpen kind.BraceClose h.0 t rest) (sym (same_named n h.2)) h.3)

@@ -12,7 +12,7 @@ use Rattle.gq_tree.specs.declared.value.ObjectField.{ObjectField}
 use Rattle.gq_tree.specs.declared.value.Value.{Value}
 use Rattle.gq_tree.specs.declared.value.Value.TheVariants as variant
 use Rattle.gq_tree.proofs.Trees.{view_variable, view_int, view_float, view_string, view_boolean, view_null, view_enum, view_list, view_object}
-use Rattle.gq_parse.specs.Grammar.{Tokens, covered, IsPunctuator, IsSpelled, IsName, IsKeyword, NotNext, Closed, closed, another, IsValueWord, IsValue, a_variable, an_int, a_float, a_string, a_block_string, is_true, is_false, is_null, an_enum, a_list, an_object, IsValues, list_closed, an_item, IsObjectFields, object_closed, an_object_field, IsArgument, an_argument}
+use Rattle.gq_parse.specs.Grammar.{Tokens, covered, IsPunctuator, IsSpelled, IsName, IsKeyword, NotNext, ManyUntil, closed, another, IsValueWord, IsValue, a_variable, an_int, a_float, a_string, a_block_string, is_true, is_false, is_null, an_enum, a_list, an_object, IsValues, list_closed, an_item, IsObjectFields, object_closed, an_object_field, IsArgument, an_argument}
 use Rattle.gq_parse.specs.Phrases.{Begins, Lacks, IsVariable, IsLoneValue, lone}
 use Rattle.gq_parse.proofs.Unique.{not_next, moved, one_kind, punctuator_begins, spelled_begins, same_punctuator, same_name, Unique, NeverBegins}
 use Rattle.gq_parse.proofs.UniqueValues.{value_by, same_value, value_or_close}
@@ -56,13 +56,13 @@ lone_enum constant n {tokens} {rest} no_true no_false no_null h = seen_as (view_
     other (inr (inr e)) = no_null n.span rest (worded e)
 
 -- the values of a list in brackets
-values_closed : {constant : Bool} {xs : List (Val Span)} {tokens rest : Tokens} → Closed (IsLoneValue constant) kind.BracketClose xs tokens rest → IsValues constant (row xs) tokens rest
+values_closed : {constant : Bool} {xs : List (Val Span)} {tokens rest : Tokens} → ManyUntil (IsLoneValue constant) kind.BracketClose xs tokens rest → IsValues constant (row xs) tokens rest
 values_closed (closed m) = list_closed m
 values_closed (another a (lone v) others) = an_item a v (values_closed others)
 
 record AsValues (constant : Bool) (tokens rest : Tokens) : Type 0 where
   items : List (Val Span)
-  are : Closed (IsLoneValue constant) kind.BracketClose items tokens rest
+  are : ManyUntil (IsLoneValue constant) kind.BracketClose items tokens rest
 
 closed_values : {constant : Bool} {vs : Vals Span} {tokens rest : Tokens} → IsValues constant vs tokens rest → AsValues constant tokens rest
 closed_values (list_closed m) = record { items = []; are = closed m }
@@ -70,23 +70,23 @@ closed_values (an_item {says = says} {below = below} a v vs) =
     let l = closed_values vs in
     record { items = unnamed says below ∷ l.items; are = another a (lone v) l.are }
 
-pub lone_list : {constant : Bool} (vs : Vec Value Global) (place : Span) {tokens a rest : Tokens} → IsPunctuator kind.BracketOpen tokens a → Closed (IsLoneValue constant) kind.BracketClose (map value_view vs.items) a rest → place ≡ covered tokens rest → IsLoneValue constant (value_view (variant.List vs place)) tokens rest
+pub lone_list : {constant : Bool} (vs : Vec Value Global) (place : Span) {tokens a rest : Tokens} → IsPunctuator kind.BracketOpen tokens a → ManyUntil (IsLoneValue constant) kind.BracketClose (map value_view vs.items) a rest → place ≡ covered tokens rest → IsLoneValue constant (value_view (variant.List vs place)) tokens rest
 lone_list vs place {a = a} m c e = seen_as (view_list vs place ∙ ap (λ (p : Span). unnamed (list p) (values_view vs.items)) e) (lone (a_list a m (values_closed c)))
 
-pub list_missing : {constant : Bool} {tokens a : Tokens} → IsPunctuator kind.BracketOpen tokens a → Lacks (Closed (IsLoneValue constant) kind.BracketClose) a → Lacks (IsLoneValue constant) tokens
+pub list_missing : {constant : Bool} {tokens a : Tokens} → IsPunctuator kind.BracketOpen tokens a → Lacks (ManyUntil (IsLoneValue constant) kind.BracketClose) a → Lacks (IsLoneValue constant) tokens
 list_missing {constant} m lacks x rest (lone v) =
     let w = value_by kind.BracketOpen (punctuator_begins m) v in
     let l = closed_values w.2 in
-    lacks l.items rest (subst (λ (t : Tokens). Closed (IsLoneValue constant) kind.BracketClose l.items t rest) (sym (same_punctuator m refl w.1)) l.are)
+    lacks l.items rest (subst (λ (t : Tokens). ManyUntil (IsLoneValue constant) kind.BracketClose l.items t rest) (sym (same_punctuator m refl w.1)) l.are)
 
 -- the fields of an object in braces
-fields_closed : {constant : Bool} {xs : List (Val Span)} {tokens rest : Tokens} → Closed (IsArgument constant) kind.BraceClose xs tokens rest → IsObjectFields constant (row xs) tokens rest
+fields_closed : {constant : Bool} {xs : List (Val Span)} {tokens rest : Tokens} → ManyUntil (IsArgument constant) kind.BraceClose xs tokens rest → IsObjectFields constant (row xs) tokens rest
 fields_closed (closed m) = object_closed m
 fields_closed (another a (an_argument b c n m v) others) = an_object_field b c a n m v (fields_closed others)
 
 record AsFields (constant : Bool) (tokens rest : Tokens) : Type 0 where
   items : List (Val Span)
-  are : Closed (IsArgument constant) kind.BraceClose items tokens rest
+  are : ManyUntil (IsArgument constant) kind.BraceClose items tokens rest
 
 closed_fields : {constant : Bool} {vs : Vals Span} {tokens rest : Tokens} → IsObjectFields constant vs tokens rest → AsFields constant tokens rest
 closed_fields (object_closed m) = record { items = []; are = closed m }
@@ -94,14 +94,14 @@ closed_fields (an_object_field {name = name} {says = says} {below = below} a b c
     let l = closed_fields vs in
     record { items = under name (unnamed says below) ∷ l.items; are = another c (an_argument a b n m v) l.are }
 
-pub lone_object : {constant : Bool} (es : Vec ObjectField Global) (place : Span) {tokens a rest : Tokens} → IsPunctuator kind.BraceOpen tokens a → Closed (IsArgument constant) kind.BraceClose (map entry_view es.items) a rest → place ≡ covered tokens rest → IsLoneValue constant (value_view (variant.Object es place)) tokens rest
+pub lone_object : {constant : Bool} (es : Vec ObjectField Global) (place : Span) {tokens a rest : Tokens} → IsPunctuator kind.BraceOpen tokens a → ManyUntil (IsArgument constant) kind.BraceClose (map entry_view es.items) a rest → place ≡ covered tokens rest → IsLoneValue constant (value_view (variant.Object es place)) tokens rest
 lone_object es place {a = a} m c e = seen_as (view_object es place ∙ ap (λ (p : Span). unnamed (object p) (entries_view es.items)) e) (lone (an_object a m (fields_closed c)))
 
-pub object_missing : {constant : Bool} {tokens a : Tokens} → IsPunctuator kind.BraceOpen tokens a → Lacks (Closed (IsArgument constant) kind.BraceClose) a → Lacks (IsLoneValue constant) tokens
+pub object_missing : {constant : Bool} {tokens a : Tokens} → IsPunctuator kind.BraceOpen tokens a → Lacks (ManyUntil (IsArgument constant) kind.BraceClose) a → Lacks (IsLoneValue constant) tokens
 object_missing {constant} m lacks x rest (lone v) =
     let w = value_by kind.BraceOpen (punctuator_begins m) v in
     let l = closed_fields w.2 in
-    lacks l.items rest (subst (λ (t : Tokens). Closed (IsArgument constant) kind.BraceClose l.items t rest) (sym (same_punctuator m refl w.1)) l.are)
+    lacks l.items rest (subst (λ (t : Tokens). ManyUntil (IsArgument constant) kind.BraceClose l.items t rest) (sym (same_punctuator m refl w.1)) l.are)
 
 -- a `$` begins no constant value, and none where no variable stands
 pub variable_in_constant : {constant : Bool} {tokens : Tokens} → constant ≡ true → Begins kind.Dollar tokens → Lacks (IsLoneValue constant) tokens

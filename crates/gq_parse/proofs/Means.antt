@@ -9,10 +9,10 @@ use Rattle.gq_lex.specs.Tokens.{Lexeme}
 use Rattle.gq_tree.specs.declared.type_system.DirectiveLocation.{DirectiveLocation}
 use Rattle.gq_tree.specs.Forest.{more}
 use Rattle.gq_tree.specs.Plain.{NameOf, Says, Val, Vals, DirectiveOf, TypeOf, VariableOf, Head, Sels, Def, InputOf, FieldDefinitionOf, EnumValueOf, RootOf, BodyOf}
-use Rattle.gq_parse.specs.Grammar.{Tokens, IsPunctuator, IsSpelled, IsName, IsKeyword, NotNext, Closed, Enclosed, IsFragmentName, IsOptionalName, IsValueWord, IsValue, IsValues, IsObjectFields, IsArgument, IsDirectives, IsType, IsDefaultValue, IsVariableDefinition, IsOptionalSet, IsSelectionSet, IsSelections, IsSelection}
-use Rattle.gq_parse.specs.TypeSystem.{Separated, Led, IsRoot, IsSchema, IsInputValue, IsFieldDefinition, IsEnumValueDefinition, IsImplements, IsMembers, IsTypeBody, IsLocation, IsRepeatable, HasParts, IsArgumentsDefinition, IsFieldsDefinition}
+use Rattle.gq_parse.specs.Grammar.{Tokens, IsPunctuator, IsSpelled, IsName, IsKeyword, NotNext, ManyUntil, OptionalMany, IsFragmentName, IsOptionalName, IsValueWord, IsValue, IsValues, IsObjectFields, IsArgument, IsDirectives, IsType, IsDefaultValue, IsVariableDefinition, IsOptionalSet, IsSelectionSet, IsSelections, IsSelection}
+use Rattle.gq_parse.specs.TypeSystem.{Separated, Delimited, IsRoot, IsSchema, IsInputValue, IsFieldDefinition, IsEnumValueDefinition, IsImplements, IsMembers, IsTypeBody, IsLocation, IsRepeatable, HasParts, IsArgumentsDefinition, IsFieldsDefinition}
 use Rattle.gq_parse.specs.Documents.{IsDefinition}
-use Rattle.gq_parse.specs.Words.{word_of}
+use Rattle.gq_parse.specs.Helping.Words.{word_of}
 use Rattle.gq_parse.specs.declared.expected.Word.{Word}
 use Rattle.gq_parse.specs.declared.expected.Row.{Row}
 use Rattle.gq_parse.specs.declared.expected.Row.TheVariants.{Arguments, Variables, ArgumentDefinitions, InputFields, Fields, EnumValues, Roots}
@@ -21,8 +21,8 @@ use Rattle.gq_parse.specs.declared.expected.Series.TheVariants.{Interfaces, Memb
 use Rattle.gq_parse.specs.declared.expected.Symbol.{Symbol}
 use Rattle.gq_parse.specs.declared.expected.Symbol.TheVariants.{AnyName, FragmentName, EnumValueName, OnWord, Colon, AtSign, CloseBracket, Value, MoreValues, MoreObjectFields, Directives, SomeDirectives, OptionalRow, WholeRow, FirstOf, MoreOf, PartsWith, LedSeries, SeriesPart, MoreParts, OptionalDefault, AnyType, OptionalBang, OptionalName, OptionalAlias, Set, OptionalSet, FirstSelection, MoreSelections, AfterDots, Definition, Described, Extension, ExtendedScalar, TypeParts, UnionParts, OptionalImplements, OptionalMembers, OptionalRepeatable}
 use Rattle.gq_parse.specs.declared.expected.Move.{Move}
-use Rattle.gq_parse.specs.declared.expected.Move.TheVariants.{Takes0, Takes1, Takes2, Takes3, Takes4, Takes5, Takes6, Skips, Stops}
-use Rattle.gq_parse.specs.Expected.{in_parens, opening, closing, behind, move}
+use Rattle.gq_parse.specs.declared.expected.Move.TheVariants.{Takes, TakesThen, TakesThenTwo, TakesThenThree, TakesThenFour, TakesThenFive, TakesThenSix, Skips, Stops}
+use Rattle.gq_parse.specs.Helping.Expected.{in_parens, opening, closing, behind, move}
 
 -- the parts of a row
 abbrev pub PartOf : Row → Type 0
@@ -44,10 +44,10 @@ IsPart EnumValues = IsEnumValueDefinition
 IsPart Roots = IsRoot
 
 abbrev pub IsRow : (r : Row) → List (PartOf r) → Tokens → Tokens → Type 0
-IsRow r = Enclosed (IsPart r) (opening (in_parens r)) (closing (in_parens r))
+IsRow r = OptionalMany (IsPart r) (opening (in_parens r)) (closing (in_parens r))
 
 abbrev pub IsRestOfRow : (r : Row) → List (PartOf r) → Tokens → Tokens → Type 0
-IsRestOfRow r = Closed (IsPart r) (closing (in_parens r))
+IsRestOfRow r = ManyUntil (IsPart r) (closing (in_parens r))
 
 -- the parts of a series
 abbrev pub PieceOf : Series → Type 0
@@ -82,7 +82,7 @@ pub record IsDirectiveDefinition (name : NameOf Span) (arguments : List (InputOf
   pub is_name : IsName name c d
   pub is_arguments : IsArgumentsDefinition arguments d e
   pub is_again : IsRepeatable again e f
-  pub is_locations : Led IsLocation kind.Pipe locations f rest
+  pub is_locations : Delimited IsLocation kind.Pipe locations f rest
 
 -- what a symbol stands for
 abbrev pub Means : Symbol → Tokens → Tokens → Type 0
@@ -103,7 +103,7 @@ Means (WholeRow r) x y = (p : PartOf r) × (ps : List (PartOf r)) × IsRow r (p 
 Means (FirstOf r) x y = (p : PartOf r) × (ps : List (PartOf r)) × IsRestOfRow r (p ∷ ps) x y
 Means (MoreOf r) x y = (ps : List (PartOf r)) × IsRestOfRow r ps x y
 Means (PartsWith r) x y = IsParts r x y
-Means (LedSeries s) x y = (ps : List (PieceOf s)) × Led (IsPieceOf s) (separator s) ps x y
+Means (LedSeries s) x y = (ps : List (PieceOf s)) × Delimited (IsPieceOf s) (separator s) ps x y
 Means (SeriesPart s) x y = (ps : List (PieceOf s)) × Separated (IsPieceOf s) (separator s) ps x y
 Means (MoreParts s) x y = (NotNext (separator s) x × (x ≡ y)) ⊎ ((ps : List (PieceOf s)) × (b : Tokens) × IsPunctuator (separator s) x b × Separated (IsPieceOf s) (separator s) ps b y)
 Means OptionalDefault x y = (d : Option (Val Span)) × IsDefaultValue d x y
@@ -133,13 +133,13 @@ Means OptionalRepeatable x y = (again : Bool) × IsRepeatable again x y
 
 -- what is behind a token that makes a move
 abbrev pub After : Move → Lexeme → Tokens → Tokens → Type 0
-After Takes0 t ts y = ts ≡ y
-After (Takes1 a) t ts y = Means a ts y
-After (Takes2 a b) t ts y = (m : Tokens) × Means a ts m × Means b m y
-After (Takes3 a b c) t ts y = (m : Tokens) × (n : Tokens) × Means a ts m × Means b m n × Means c n y
-After (Takes4 a b c d) t ts y = (m : Tokens) × (n : Tokens) × (o : Tokens) × Means a ts m × Means b m n × Means c n o × Means d o y
-After (Takes5 a b c d e) t ts y = (m : Tokens) × (n : Tokens) × (o : Tokens) × (p : Tokens) × Means a ts m × Means b m n × Means c n o × Means d o p × Means e p y
-After (Takes6 a b c d e f) t ts y = (m : Tokens) × (n : Tokens) × (o : Tokens) × (p : Tokens) × (q : Tokens) × Means a ts m × Means b m n × Means c n o × Means d o p × Means e p q × Means f q y
+After Takes t ts y = ts ≡ y
+After (TakesThen a) t ts y = Means a ts y
+After (TakesThenTwo a b) t ts y = (m : Tokens) × Means a ts m × Means b m y
+After (TakesThenThree a b c) t ts y = (m : Tokens) × (n : Tokens) × Means a ts m × Means b m n × Means c n y
+After (TakesThenFour a b c d) t ts y = (m : Tokens) × (n : Tokens) × (o : Tokens) × Means a ts m × Means b m n × Means c n o × Means d o y
+After (TakesThenFive a b c d e) t ts y = (m : Tokens) × (n : Tokens) × (o : Tokens) × (p : Tokens) × Means a ts m × Means b m n × Means c n o × Means d o p × Means e p y
+After (TakesThenSix a b c d e f) t ts y = (m : Tokens) × (n : Tokens) × (o : Tokens) × (p : Tokens) × (q : Tokens) × Means a ts m × Means b m n × Means c n o × Means d o p × Means e p q × Means f q y
 After Skips t ts y = t ∷ ts ≡ y
 After Stops t ts y = ⊥
 
@@ -177,27 +177,27 @@ by_move t ts y m n e h = subst (λ (x : Move). After x t ts y) (sym e) h
 -- a symbol can be put behind it
 abbrev pub CanGoOn : Move → Type 0
 CanGoOn Skips = ⊥
-CanGoOn (Takes6 a b c d e f) = ⊥
+CanGoOn (TakesThenSix a b c d e f) = ⊥
 CanGoOn _ = Unit {0}
 
 pub put_behind : (t : Lexeme) (ts a y : Tokens) (m : Move) (s : Symbol) → CanGoOn m → After m t ts a → Means s a y → After (behind m s) t ts y
-put_behind t ts a y Takes0 s u h r = subst (λ (x : Tokens). Means s x y) (sym h) r
-put_behind t ts a y (Takes1 b) s u h r = (a, h, r)
-put_behind t ts a y (Takes2 b c) s u h r = (h.0, a, h.1, h.2, r)
-put_behind t ts a y (Takes3 b c d) s u h r = (h.0, h.1, a, h.2, h.3, h.4, r)
-put_behind t ts a y (Takes4 b c d e) s u h r = (h.0, h.1, h.2, a, h.3, h.4, h.5, h.6, r)
-put_behind t ts a y (Takes5 b c d e f) s u h r = (h.0, h.1, h.2, h.3, a, h.4, h.5, h.6, h.7, h.8, r)
-put_behind t ts a y (Takes6 b c d e f g) s u h r = absurd u
+put_behind t ts a y Takes s u h r = subst (λ (x : Tokens). Means s x y) (sym h) r
+put_behind t ts a y (TakesThen b) s u h r = (a, h, r)
+put_behind t ts a y (TakesThenTwo b c) s u h r = (h.0, a, h.1, h.2, r)
+put_behind t ts a y (TakesThenThree b c d) s u h r = (h.0, h.1, a, h.2, h.3, h.4, r)
+put_behind t ts a y (TakesThenFour b c d e) s u h r = (h.0, h.1, h.2, a, h.3, h.4, h.5, h.6, r)
+put_behind t ts a y (TakesThenFive b c d e f) s u h r = (h.0, h.1, h.2, h.3, a, h.4, h.5, h.6, h.7, h.8, r)
+put_behind t ts a y (TakesThenSix b c d e f g) s u h r = absurd u
 put_behind t ts a y Skips s u h r = absurd u
 put_behind t ts a y Stops s u h r = absurd h
 
 pub taken_off : (t : Lexeme) (ts y : Tokens) (m : Move) (s : Symbol) → After (behind m s) t ts y → (a : Tokens) × After m t ts a × Means s a y
-taken_off t ts y Takes0 s h = (ts, refl, h)
-taken_off t ts y (Takes1 b) s h = (h.0, h.1, h.2)
-taken_off t ts y (Takes2 b c) s h = (h.1, (h.0, h.2, h.3), h.4)
-taken_off t ts y (Takes3 b c d) s h = (h.2, (h.0, h.1, h.3, h.4, h.5), h.6)
-taken_off t ts y (Takes4 b c d e) s h = (h.3, (h.0, h.1, h.2, h.4, h.5, h.6, h.7), h.8)
-taken_off t ts y (Takes5 b c d e f) s h = (h.4, (h.0, h.1, h.2, h.3, h.5, h.6, h.7, h.8, h.9), h.10)
-taken_off t ts y (Takes6 b c d e f g) s h = absurd h
+taken_off t ts y Takes s h = (ts, refl, h)
+taken_off t ts y (TakesThen b) s h = (h.0, h.1, h.2)
+taken_off t ts y (TakesThenTwo b c) s h = (h.1, (h.0, h.2, h.3), h.4)
+taken_off t ts y (TakesThenThree b c d) s h = (h.2, (h.0, h.1, h.3, h.4, h.5), h.6)
+taken_off t ts y (TakesThenFour b c d e) s h = (h.3, (h.0, h.1, h.2, h.4, h.5, h.6, h.7), h.8)
+taken_off t ts y (TakesThenFive b c d e f) s h = (h.4, (h.0, h.1, h.2, h.3, h.5, h.6, h.7, h.8, h.9), h.10)
+taken_off t ts y (TakesThenSix b c d e f g) s h = absurd h
 taken_off t ts y Skips s h = absurd h
 taken_off t ts y Stops s h = absurd h

@@ -5,21 +5,20 @@ use Rattle.gq_text.specs.declared.place.Span.{Span}
 use Rattle.gq_lex.specs.declared.token.Kind.{Kind}
 use Rattle.gq_lex.specs.declared.token.Kind.TheVariants as kind
 use Rattle.gq_lex.specs.Tokens.{Lexeme}
-use Rattle.gq_tree.specs.Plain.{NameOf, DirectiveOf, VariableOf, Sels, BodyOf}
+use Rattle.gq_tree.specs.Plain.{NameOf, DirectiveOf, VariableOf, Sels, BodyOf, TypeSystemOf}
 use Rattle.gq_parse.specs.Grammar.{Tokens, IsPunctuator, IsName, IsKeyword, IsOptionalName, IsVariableDefinitions, IsDirectives, IsSelectionSet, IsOperationType, a_query, a_mutation, a_subscription, bare, typed, fragment_on, braces}
-use Rattle.gq_parse.specs.Words.{word_of}
+use Rattle.gq_parse.specs.Helping.Words.{word_of}
 use Rattle.gq_parse.specs.declared.expected.Word.{Word}
 use Rattle.gq_parse.specs.declared.expected.Word.TheVariants as word
 use Rattle.gq_parse.specs.declared.expected.Row.TheVariants.{Variables, Roots}
 use Rattle.gq_parse.specs.declared.expected.Symbol.{Symbol}
 use Rattle.gq_parse.specs.declared.expected.Symbol.TheVariants.{AnyName, FragmentName, Directives, SomeDirectives, OptionalRow, PartsWith, OptionalName, Set, FirstSelection, Definition, Described, Extension, ExtendedScalar}
-use Rattle.gq_parse.specs.declared.expected.Move.TheVariants.{Takes1, Takes4}
-use Rattle.gq_parse.specs.Expected.{move, name_move, described_move, extension_move, definition_word_move, definition_move}
+use Rattle.gq_parse.specs.declared.expected.Move.TheVariants.{TakesThen, TakesThenFour}
+use Rattle.gq_parse.specs.Helping.Expected.{move, name_move, described_move, extension_move, definition_word_move, definition_move}
 use Rattle.gq_parse.proofs.Means.{Means, After, Next, punctuator, spelled, here, spelled_here, name_here, at_kind, at_word}
 use Rattle.gq_parse.specs.TypeSystem.{IsDescription, no_description, a_description, a_block_description, a_schema, IsTypeBody, a_scalar, an_object_type, an_interface, a_union, an_enum_type, an_input_type, HasParts, IsTypeSystemDefinition, a_schema_definition, a_type_definition, a_directive_definition, a_schema_extension, a_type_extension}
 use Rattle.gq_parse.specs.Documents.{an_operation, a_fragment, a_type_system_definition}
 use Rattle.gq_tree.specs.declared.tree.OperationKind.{OperationKind}
-use Rattle.gq_tree.specs.Plain.{TypeSystemOf}
 use Rattle.gq_parse.proofs.NextTypeParts.{keyword, is_keyword}
 
 at_key : (t : Lexeme) (ts y : Tokens) (s : Symbol) (w : Word) → t.kind ≡ kind.Name → word_of t.text ≡ w → After (move s kind.Name w) t ts y → Next s t ts y
@@ -78,7 +77,7 @@ forth_extended_scalar t ts y (n, d, ds, a, h, i) =
     let e = spelled h in
     at_kind t ts y ExtendedScalar kind.Name e.0 (subst (λ (x : Tokens). Means SomeDirectives x y) e.1 (d, ds, i))
 
-pub back_extended_scalar : (t : Lexeme) (ts y : Tokens) (k : Kind) → t.kind ≡ k → After (name_move k (Takes1 SomeDirectives)) t ts y → Means ExtendedScalar (t ∷ ts) y
+pub back_extended_scalar : (t : Lexeme) (ts y : Tokens) (k : Kind) → t.kind ≡ k → After (name_move k (TakesThen SomeDirectives)) t ts y → Means ExtendedScalar (t ∷ ts) y
 back_extended_scalar t ts y kind.Name e h = (_, h.0, h.1, ts, name_here e, h.2)
 back_extended_scalar t ts y _ e h = absurd h
 
@@ -185,7 +184,7 @@ back_extend : (t : Lexeme) (ts y : Tokens) → t.kind ≡ kind.Name → word_of 
 back_extend t ts y e f (inl (ds, roots, s, some)) = (_, a_type_system_definition (a_schema_extension ts (is_keyword word.Extend tt t ts e f) s some))
 back_extend t ts y e f (inr (n, ds, body, h, some)) = (_, a_type_system_definition (a_type_extension ts (is_keyword word.Extend tt t ts e f) h some))
 
-back_typed : {type : OperationKind} (t : Lexeme) (ts y : Tokens) → IsOperationType type (t ∷ ts) ts → After (Takes4 OptionalName (OptionalRow Variables) (Directives false) Set) t ts y → Means Definition (t ∷ ts) y
+back_typed : {type : OperationKind} (t : Lexeme) (ts y : Tokens) → IsOperationType type (t ∷ ts) ts → After (TakesThenFour OptionalName (OptionalRow Variables) (Directives false) Set) t ts y → Means Definition (t ∷ ts) y
 back_typed t ts y o (m, n, p, a, b, c, s) = (_, an_operation (typed ts m n p o a.1 b.1 c.1 s.1))
 
 back_definition_word : (t : Lexeme) (ts y : Tokens) (w : Word) → t.kind ≡ kind.Name → word_of t.text ≡ w → (After (described_move w) t ts y → Means Described (t ∷ ts) y) → After (definition_word_move w) t ts y → Means Definition (t ∷ ts) y

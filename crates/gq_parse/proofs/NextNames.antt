@@ -7,14 +7,14 @@ use Rattle.gq_lex.specs.Tokens.{Lexeme}
 use Rattle.gq_tree.specs.Plain.{TypeOf}
 use Rattle.gq_parse.specs.Grammar.{Tokens, IsPunctuator, NotNext, no_name, a_name, no_default, a_default, IsType, nullable, without_null, IsNullableType, named_type, list_type, no_directive, a_directive}
 use Rattle.gq_parse.specs.declared.expected.Symbol.TheVariants.{AnyName, Colon, AtSign, CloseBracket, Value, Directives, SomeDirectives, OptionalDefault, AnyType, OptionalBang, OptionalName, OptionalAlias}
-use Rattle.gq_parse.specs.declared.expected.Move.TheVariants.{Takes0, Skips}
-use Rattle.gq_parse.specs.Expected.{name_move, colon_move, at_move, bracket_move, default_move, type_move, bang_move, optional_name_move, alias_move, directives_move, some_directives_move}
+use Rattle.gq_parse.specs.declared.expected.Move.TheVariants.{Takes, Skips}
+use Rattle.gq_parse.specs.Helping.Expected.{name_move, colon_move, at_move, bracket_move, default_move, type_move, bang_move, optional_name_move, alias_move, directives_move, some_directives_move}
 use Rattle.gq_parse.proofs.Means.{Means, After, Next, punctuator, spelled, here, name_here, at_kind, by_move}
 
 pub forth_name : (t : Lexeme) (ts y : Tokens) → Means AnyName (t ∷ ts) y → Next AnyName t ts y
 forth_name t ts y (n, h) = let e = spelled h in at_kind t ts y AnyName kind.Name e.0 (sym e.1)
 
-pub back_name : (t : Lexeme) (ts y : Tokens) (k : Kind) → t.kind ≡ k → After (name_move k Takes0) t ts y → Means AnyName (t ∷ ts) y
+pub back_name : (t : Lexeme) (ts y : Tokens) (k : Kind) → t.kind ≡ k → After (name_move k Takes) t ts y → Means AnyName (t ∷ ts) y
 back_name t ts y kind.Name e h = subst (Means AnyName (t ∷ ts)) h (_, name_here e)
 back_name t ts y _ e h = absurd h
 

@@ -7,14 +7,14 @@ use Rattle.gq_lex.specs.declared.token.Kind.TheVariants as kind
 use Rattle.gq_lex.specs.Tokens.{Lexeme}
 use Rattle.gq_tree.specs.Plain.{Val, VariableOf, InputOf, FieldDefinitionOf, EnumValueOf, RootOf}
 use Rattle.gq_parse.specs.Grammar.{Tokens, IsPunctuator, IsValueWord, IsArgument, an_argument, IsVariableDefinition, a_variable_definition, a_query, a_mutation, a_subscription}
-use Rattle.gq_parse.specs.Words.{word_of}
+use Rattle.gq_parse.specs.Helping.Words.{word_of}
 use Rattle.gq_parse.specs.declared.expected.Word.{Word}
 use Rattle.gq_parse.specs.declared.expected.Word.TheVariants as word
 use Rattle.gq_parse.specs.declared.expected.Row.{Row}
 use Rattle.gq_parse.specs.declared.expected.Row.TheVariants.{Arguments, Variables, ArgumentDefinitions, InputFields, Fields, EnumValues, Roots}
 use Rattle.gq_parse.specs.declared.expected.Symbol.TheVariants.{AnyName, EnumValueName, Directives, OptionalRow}
-use Rattle.gq_parse.specs.declared.expected.Move.TheVariants.{Takes1}
-use Rattle.gq_parse.specs.Expected.{name_move, argument_move, variable_move, input_move, field_move, value_word_stops, enum_value_move, root_word_move, part_move}
+use Rattle.gq_parse.specs.declared.expected.Move.TheVariants.{TakesThen}
+use Rattle.gq_parse.specs.Helping.Expected.{name_move, argument_move, variable_move, input_move, field_move, value_word_stops, enum_value_move, root_word_move, part_move}
 use Rattle.gq_parse.proofs.Means.{PartOf, IsPart, Means, After, punctuator, spelled, here, spelled_here, name_here, keyword_here, by_move, CanGoOn}
 use Rattle.gq_parse.specs.TypeSystem.{no_description, a_description, a_block_description, IsRoot, a_root, IsInputValue, an_input_value, IsFieldDefinition, a_field_definition, IsEnumValueDefinition, an_enum_value}
 use Rattle.gq_parse.proofs.WordsAre.{spells, keyword_is}
@@ -100,7 +100,7 @@ forth_enum_value : {v : EnumValueOf Span} (t : Lexeme) (ts y : Tokens) → IsEnu
 forth_enum_value t ts y (an_enum_value a b (no_description _ _) n v j) =
     let e = spelled n in
     let u : IsValueWord t.text → ⊥ = subst (λ (x : List ℕ). IsValueWord x → ⊥) e.2 v in
-    part_at t ts y EnumValues kind.Name e.0 (by_move t ts y (Takes1 (Directives true)) (value_word_stops (word_of t.text) (Takes1 (Directives true))) (no_value_word t.text (word_of t.text) (Takes1 (Directives true)) refl u) (subst (λ (x : Tokens). Means (Directives true) x y) e.1 (_, j)))
+    part_at t ts y EnumValues kind.Name e.0 (by_move t ts y (TakesThen (Directives true)) (value_word_stops (word_of t.text) (TakesThen (Directives true))) (no_value_word t.text (word_of t.text) (TakesThen (Directives true)) refl u) (subst (λ (x : Tokens). Means (Directives true) x y) e.1 (_, j)))
 forth_enum_value t ts y (an_enum_value a b (a_description s) n v j) =
     let e = spelled s in
     part_at t ts y EnumValues kind.String e.0 (b, subst (λ (x : Tokens). Means EnumValueName x b) e.1 (_, n, v), (_, j))
@@ -110,7 +110,7 @@ forth_enum_value t ts y (an_enum_value a b (a_block_description s) n v j) =
 
 back_enum_value : (t : Lexeme) (ts y : Tokens) (k : Kind) → t.kind ≡ k → After (enum_value_move k (word_of t.text)) t ts y → (v : EnumValueOf Span) × IsEnumValueDefinition v (t ∷ ts) y
 back_enum_value t ts y kind.Name e h =
-    let r = is_no_value_word t ts y (word_of t.text) (Takes1 (Directives true)) refl h in
+    let r = is_no_value_word t ts y (word_of t.text) (TakesThen (Directives true)) refl h in
     (_, an_enum_value (t ∷ ts) ts (no_description (λ q. cc) (λ q. cc)) (name_here e) r.0 r.1.1)
 back_enum_value t ts y kind.String e (m, n, j) = (_, an_enum_value ts m (a_description (spelled_here e)) n.1 n.2 j.1)
 back_enum_value t ts y kind.BlockString e (m, n, j) = (_, an_enum_value ts m (a_block_description (spelled_here e)) n.1 n.2 j.1)
@@ -164,7 +164,7 @@ root_goes_on : (k : Kind) (w : Word) → CanGoOn (name_move k (root_word_move w)
 root_goes_on kind.Name w = root_word_goes_on w
 root_goes_on _ w = tt
 
-value_word_goes_on : (w : Word) → CanGoOn (value_word_stops w (Takes1 (Directives true)))
+value_word_goes_on : (w : Word) → CanGoOn (value_word_stops w (TakesThen (Directives true)))
 value_word_goes_on word.True = tt
 value_word_goes_on _ = tt
 

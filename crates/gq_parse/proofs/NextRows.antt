@@ -1,20 +1,19 @@
 -- Rows of parts between two punctuators, and what an extension has of them.
-use Rattle.std.proofs.Common.{◌≡◌, ◌≢◌, List, [], ◌∷◌, Bool, true, false, refl, ap, sym, subst, inl, inr}
+use Rattle.std.proofs.Common.{◌≡◌, ◌≢◌, List, [], ◌∷◌, Bool, true, false, refl, ap, sym, subst, inl, inr, ◌∙◌, cond}
 use Rattle.gq_lex.specs.declared.token.Kind.{Kind}
 use Rattle.gq_lex.specs.declared.token.Kind.TheVariants as kind
 use Rattle.gq_lex.specs.Tokens.{Lexeme}
 use Rattle.gq_parse.specs.Grammar.{Tokens, closed, another, absent, enclosed, no_directive, a_directive}
-use Rattle.gq_parse.specs.Words.{word_of}
+use Rattle.gq_parse.specs.Helping.Words.{word_of}
 use Rattle.gq_parse.specs.declared.expected.Word.{Word}
 use Rattle.gq_parse.specs.declared.expected.Row.{Row}
 use Rattle.gq_parse.specs.declared.expected.Row.TheVariants.{Arguments, Variables, ArgumentDefinitions, InputFields, Fields, EnumValues, Roots}
 use Rattle.gq_parse.specs.declared.expected.Symbol.{Symbol}
 use Rattle.gq_parse.specs.declared.expected.Symbol.TheVariants.{AnyName, OptionalRow, WholeRow, FirstOf, MoreOf, PartsWith}
 use Rattle.gq_parse.specs.declared.expected.Move.{Move}
-use Rattle.gq_parse.specs.declared.expected.Move.TheVariants.{Takes0, Takes1, Skips, Stops}
-use Rattle.gq_parse.specs.Expected.{behind, part_move, in_parens, opening, closing, opens, closes, row_move, more_move, parts_move}
+use Rattle.gq_parse.specs.declared.expected.Move.TheVariants.{Takes, TakesThen, Skips, Stops}
+use Rattle.gq_parse.specs.Helping.Expected.{behind, part_move, in_parens, opening, closing, opens, closes, row_move, more_move, parts_move}
 use Rattle.gq_parse.proofs.Means.{PartOf, IsRow, Means, After, Next, punctuator, here, at_kind, by_move, put_behind, taken_off}
-use Rattle.std.proofs.Common.{◌∙◌, cond}
 use Rattle.gq_parse.proofs.NextParts.{forth_part, back_part, part_goes_on}
 
 -- the tests of punctuators
@@ -68,8 +67,8 @@ back_first r t ts y h =
     let p = back_part r t ts n.0 n.1 in
     (p.0, n.2.0, another n.0 p.1 n.2.1)
 
-more_by : (r : Row) (k : Kind) (w : Word) (b : Bool) → closes (in_parens r) k ≡ b → more_move r k w ≡ cond b Takes0 (behind (part_move r k w) (MoreOf r))
-more_by r k w b e = ap (λ (x : Bool). cond x Takes0 (behind (part_move r k w) (MoreOf r))) e
+more_by : (r : Row) (k : Kind) (w : Word) (b : Bool) → closes (in_parens r) k ≡ b → more_move r k w ≡ cond b Takes (behind (part_move r k w) (MoreOf r))
+more_by r k w b e = ap (λ (x : Bool). cond x Takes (behind (part_move r k w) (MoreOf r))) e
 
 forth_more_test : (r : Row) (t : Lexeme) (ts y : Tokens) (b : Bool) → closes (in_parens r) t.kind ≡ b → Means (FirstOf r) (t ∷ ts) y → Next (MoreOf r) t ts y
 forth_more_test r t ts y true e (p, ps, another a h i) =
@@ -80,10 +79,10 @@ forth_more_test r t ts y false e h =
 pub forth_more : (r : Row) (t : Lexeme) (ts y : Tokens) → Means (MoreOf r) (t ∷ ts) y → Next (MoreOf r) t ts y
 forth_more r t ts y (ps, closed p) =
     let e = punctuator p in
-    by_move t ts y Takes0 (more_move r t.kind (word_of t.text)) (more_by r t.kind (word_of t.text) true (closes_at (in_parens r) t.kind e.0)) (sym e.1)
+    by_move t ts y Takes (more_move r t.kind (word_of t.text)) (more_by r t.kind (word_of t.text) true (closes_at (in_parens r) t.kind e.0)) (sym e.1)
 forth_more r t ts y (ps, another {x = p} {xs = qs} a h i) = forth_more_test r t ts y (closes (in_parens r) t.kind) refl (p, qs, another a h i)
 
-back_more_test : (r : Row) (t : Lexeme) (ts y : Tokens) (b : Bool) → closes (in_parens r) t.kind ≡ b → After (cond b Takes0 (behind (part_move r t.kind (word_of t.text)) (MoreOf r))) t ts y → Means (MoreOf r) (t ∷ ts) y
+back_more_test : (r : Row) (t : Lexeme) (ts y : Tokens) (b : Bool) → closes (in_parens r) t.kind ≡ b → After (cond b Takes (behind (part_move r t.kind (word_of t.text)) (MoreOf r))) t ts y → Means (MoreOf r) (t ∷ ts) y
 back_more_test r t ts y true e h = subst (Means (MoreOf r) (t ∷ ts)) h ([], closed (here (closes_then (in_parens r) t.kind e)))
 back_more_test r t ts y false e h = let n = back_first r t ts y h in (_, n.2)
 
@@ -91,13 +90,13 @@ pub back_more : (r : Row) (t : Lexeme) (ts y : Tokens) → Next (MoreOf r) t ts 
 back_more r t ts y h = back_more_test r t ts y (closes (in_parens r) t.kind) refl h
 
 -- whole rows
-row_by : (r : Row) (k : Kind) (m : Move) (b : Bool) → opens (in_parens r) k ≡ b → row_move r k m ≡ cond b (Takes1 (FirstOf r)) m
-row_by r k m b e = ap (λ (x : Bool). cond x (Takes1 (FirstOf r)) m) e
+row_by : (r : Row) (k : Kind) (m : Move) (b : Bool) → opens (in_parens r) k ≡ b → row_move r k m ≡ cond b (TakesThen (FirstOf r)) m
+row_by r k m b e = ap (λ (x : Bool). cond x (TakesThen (FirstOf r)) m) e
 
 forth_some : (r : Row) (p : PartOf r) (ps : List (PartOf r)) (m : Move) (t : Lexeme) (ts y : Tokens) → IsRow r (p ∷ ps) (t ∷ ts) y → After (row_move r t.kind m) t ts y
 forth_some r p ps m t ts y (enclosed a q h) =
     let e = punctuator q in
-    by_move t ts y (Takes1 (FirstOf r)) (row_move r t.kind m) (row_by r t.kind m true (opens_at (in_parens r) t.kind e.0)) (subst (λ (x : Tokens). Means (FirstOf r) x y) e.1 (p, ps, h))
+    by_move t ts y (TakesThen (FirstOf r)) (row_move r t.kind m) (row_by r t.kind m true (opens_at (in_parens r) t.kind e.0)) (subst (λ (x : Tokens). Means (FirstOf r) x y) e.1 (p, ps, h))
 
 back_some : (r : Row) (t : Lexeme) (ts y : Tokens) → opens (in_parens r) t.kind ≡ true → Means (FirstOf r) ts y → Means (WholeRow r) (t ∷ ts) y
 back_some r t ts y e (p, ps, h) = (p, ps, enclosed ts (here (opens_then (in_parens r) t.kind e)) h)
@@ -107,7 +106,7 @@ forth_optional_row r t ts y ([], absent n) =
     by_move t ts y Skips (row_move r t.kind Skips) (row_by r t.kind Skips false (opens_not (in_parens r) t.kind n)) refl
 forth_optional_row r t ts y (p ∷ ps, h) = forth_some r p ps Skips t ts y h
 
-back_optional_test : (r : Row) (t : Lexeme) (ts y : Tokens) (b : Bool) → opens (in_parens r) t.kind ≡ b → After (cond b (Takes1 (FirstOf r)) Skips) t ts y → Means (OptionalRow r) (t ∷ ts) y
+back_optional_test : (r : Row) (t : Lexeme) (ts y : Tokens) (b : Bool) → opens (in_parens r) t.kind ≡ b → After (cond b (TakesThen (FirstOf r)) Skips) t ts y → Means (OptionalRow r) (t ∷ ts) y
 back_optional_test r t ts y true e h = let n = back_some r t ts y e h in (n.0 ∷ n.1, n.2)
 back_optional_test r t ts y false e h = subst (Means (OptionalRow r) (t ∷ ts)) h ([], absent (opens_else (in_parens r) t.kind e))
 
@@ -117,7 +116,7 @@ back_optional_row r t ts y h = back_optional_test r t ts y (opens (in_parens r) 
 pub forth_whole_row : (r : Row) (t : Lexeme) (ts y : Tokens) → Means (WholeRow r) (t ∷ ts) y → Next (WholeRow r) t ts y
 forth_whole_row r t ts y (p, ps, h) = forth_some r p ps Stops t ts y h
 
-back_whole_test : (r : Row) (t : Lexeme) (ts y : Tokens) (b : Bool) → opens (in_parens r) t.kind ≡ b → After (cond b (Takes1 (FirstOf r)) Stops) t ts y → Means (WholeRow r) (t ∷ ts) y
+back_whole_test : (r : Row) (t : Lexeme) (ts y : Tokens) (b : Bool) → opens (in_parens r) t.kind ≡ b → After (cond b (TakesThen (FirstOf r)) Stops) t ts y → Means (WholeRow r) (t ∷ ts) y
 back_whole_test r t ts y true e h = back_some r t ts y e h
 back_whole_test r t ts y false e h = absurd h
 

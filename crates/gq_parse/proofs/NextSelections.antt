@@ -1,5 +1,5 @@
 -- Selections.
-use Rattle.std.proofs.Common.{◌≡◌, ◌≢◌, List, [], ◌∷◌, false, Option, None, refl, ap, sym, subst, inl, inr}
+use Rattle.std.proofs.Common.{◌≡◌, ◌≢◌, List, [], ◌∷◌, false, Option, None, refl, ap, sym, subst, inl, inr, ◌∙◌}
 use Rattle.std.specs.Prelude.{codes}
 use Rattle.gq_text.specs.declared.place.Span.{Span}
 use Rattle.gq_lex.specs.declared.token.Kind.{Kind}
@@ -8,23 +8,22 @@ use Rattle.gq_lex.specs.Tokens.{Lexeme}
 use Rattle.gq_tree.specs.Forest.{more}
 use Rattle.gq_tree.specs.Plain.{NameOf, DirectiveOf, Head, Sels}
 use Rattle.gq_parse.specs.Grammar.{Tokens, IsPunctuator, IsName, NotNext, IsFragmentName, IsOptionalCondition, no_condition, a_condition, IsDirectives, no_directive, a_directive, IsFieldName, no_alias, alias, IsSelection, a_field, a_spread, an_inline, no_set, a_set, IsSelectionSet, braces, set_closed, selection}
-use Rattle.gq_parse.specs.Words.{word_of}
+use Rattle.gq_parse.specs.Helping.Words.{word_of}
 use Rattle.gq_parse.specs.declared.expected.Word.{Word}
 use Rattle.gq_parse.specs.declared.expected.Word.TheVariants as word
 use Rattle.gq_parse.specs.declared.expected.Row.TheVariants.{Arguments}
 use Rattle.gq_parse.specs.declared.expected.Symbol.TheVariants.{AnyName, Directives, OptionalRow, OptionalAlias, Set, OptionalSet, FirstSelection, MoreSelections, AfterDots}
 use Rattle.gq_parse.specs.declared.expected.Move.{Move}
-use Rattle.gq_parse.specs.declared.expected.Move.TheVariants.{Takes1, Takes4, Skips, Stops}
-use Rattle.gq_parse.specs.Expected.{behind, set_move, selection_move, selections_move, dots_word_move, dots_move}
+use Rattle.gq_parse.specs.declared.expected.Move.TheVariants.{TakesThen, TakesThenFour, Skips, Stops}
+use Rattle.gq_parse.specs.Helping.Expected.{behind, set_move, selection_move, selections_move, dots_word_move, dots_move}
 use Rattle.gq_parse.proofs.Means.{Means, After, Next, punctuator, spelled, here, name_here, keyword_here, at_kind, at_word, by_move, CanGoOn, put_behind, taken_off}
-use Rattle.std.proofs.Common.{◌∙◌}
 use Rattle.gq_parse.proofs.WordsAre.{spells, keyword_is}
 
 -- SelectionSet
 forth_braces : {ss : Sels Span} (t : Lexeme) (ts y : Tokens) (m : Move) → IsSelectionSet ss (t ∷ ts) y → After (set_move t.kind m) t ts y
 forth_braces t ts y m (braces a p h) =
     let e = punctuator p in
-    by_move t ts y (Takes1 FirstSelection) (set_move t.kind m) (ap (λ (k : Kind). set_move k m) e.0) (subst (λ (x : Tokens). Means FirstSelection x y) e.1 (_, _, _, h))
+    by_move t ts y (TakesThen FirstSelection) (set_move t.kind m) (ap (λ (k : Kind). set_move k m) e.0) (subst (λ (x : Tokens). Means FirstSelection x y) e.1 (_, _, _, h))
 
 set_here : (t : Lexeme) (ts y : Tokens) → t.kind ≡ kind.BraceOpen → Means FirstSelection ts y → Means Set (t ∷ ts) y
 set_here t ts y e (h, below, ss, s) = (more h below ss, braces ts (here e) s)
@@ -60,13 +59,13 @@ is_field_name t ts a e (inr (b, n, p, h)) = (_, n, alias ts b (name_here e) p h)
 forth_selection : {h : Head Span} {below : Sels Span} (t : Lexeme) (ts y : Tokens) → IsSelection h below (t ∷ ts) y → After (selection_move t.kind) t ts y
 forth_selection t ts y (a_field a b c n i j s) =
     let e = field_name t ts a n in
-    by_move t ts y (Takes4 OptionalAlias (OptionalRow (Arguments false)) (Directives false) OptionalSet) (selection_move t.kind) (ap selection_move e.0) (a, b, c, e.1, (_, i), (_, j), (_, _, s))
+    by_move t ts y (TakesThenFour OptionalAlias (OptionalRow (Arguments false)) (Directives false) OptionalSet) (selection_move t.kind) (ap selection_move e.0) (a, b, c, e.1, (_, i), (_, j), (_, _, s))
 forth_selection t ts y (a_spread a b p n j) =
     let e = punctuator p in
-    by_move t ts y (Takes1 AfterDots) (selection_move t.kind) (ap selection_move e.0) (t ∷ ts, _, _, a_spread a b p n j, here e.0)
+    by_move t ts y (TakesThen AfterDots) (selection_move t.kind) (ap selection_move e.0) (t ∷ ts, _, _, a_spread a b p n j, here e.0)
 forth_selection t ts y (an_inline a b c p o j s) =
     let e = punctuator p in
-    by_move t ts y (Takes1 AfterDots) (selection_move t.kind) (ap selection_move e.0) (t ∷ ts, _, _, an_inline a b c p o j s, here e.0)
+    by_move t ts y (TakesThen AfterDots) (selection_move t.kind) (ap selection_move e.0) (t ∷ ts, _, _, an_inline a b c p o j s, here e.0)
 
 same_rest : {k j : Kind} {x a b : Tokens} → IsPunctuator k x a → IsPunctuator j x b → a ≡ b
 same_rest p q = let e = p.first in let f = q.first in cc
@@ -120,9 +119,9 @@ forth_spread : {n : NameOf Span} {ds : List (DirectiveOf Span)} (t : Lexeme) (ts
 forth_spread t ts b y n j =
     let e = spelled n.is_name in
     let f : word_of t.text ≢ word.On = λ q. n.not_on (e.2 ∙ spells t.text word.On tt q) in
-    dots_at t ts y kind.Name e.0 (by_move t ts y (Takes1 (Directives false)) (dots_word_move (word_of t.text)) (no_on (word_of t.text) f) (subst (λ (x : Tokens). Means (Directives false) x y) e.1 (_, j)))
+    dots_at t ts y kind.Name e.0 (by_move t ts y (TakesThen (Directives false)) (dots_word_move (word_of t.text)) (no_on (word_of t.text) f) (subst (λ (x : Tokens). Means (Directives false) x y) e.1 (_, j)))
   where
-    no_on : (w : Word) → w ≢ word.On → dots_word_move w ≡ Takes1 (Directives false)
+    no_on : (w : Word) → w ≢ word.On → dots_word_move w ≡ TakesThen (Directives false)
     no_on word.On m = absurd (m refl)
     no_on _ m = refl
 

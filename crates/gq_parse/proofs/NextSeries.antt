@@ -1,20 +1,19 @@
 -- Series of parts with a punctuator between each two.
-use Rattle.std.proofs.Common.{◌≡◌, ◌≢◌, List, ◌∷◌, Bool, true, false, refl, ap, sym, subst, inl, inr}
+use Rattle.std.proofs.Common.{◌≡◌, ◌≢◌, List, ◌∷◌, Bool, true, false, refl, ap, sym, subst, inl, inr, cond}
 use Rattle.gq_lex.specs.declared.token.Kind.{Kind}
 use Rattle.gq_lex.specs.declared.token.Kind.TheVariants as kind
 use Rattle.gq_lex.specs.Tokens.{Lexeme}
 use Rattle.gq_parse.specs.Grammar.{Tokens, IsPunctuator, NotNext}
-use Rattle.gq_parse.specs.Words.{word_of}
+use Rattle.gq_parse.specs.Helping.Words.{word_of}
 use Rattle.gq_parse.specs.declared.expected.Word.{Word}
 use Rattle.gq_parse.specs.declared.expected.Word.TheVariants as word
 use Rattle.gq_parse.specs.declared.expected.Series.{Series}
 use Rattle.gq_parse.specs.declared.expected.Series.TheVariants.{Interfaces, Members, Locations}
 use Rattle.gq_parse.specs.declared.expected.Symbol.TheVariants.{LedSeries, SeriesPart, MoreParts}
 use Rattle.gq_parse.specs.declared.expected.Move.{Move}
-use Rattle.gq_parse.specs.declared.expected.Move.TheVariants.{Takes1, Skips}
-use Rattle.gq_parse.specs.Expected.{name_move, separates, location_move, series_word_move, separator_move}
+use Rattle.gq_parse.specs.declared.expected.Move.TheVariants.{TakesThen, Skips}
+use Rattle.gq_parse.specs.Helping.Expected.{name_move, separates, location_move, series_word_move, separator_move}
 use Rattle.gq_parse.proofs.Means.{PieceOf, IsPieceOf, separator, Means, After, Next, punctuator, spelled, here, name_here, at_kind, at_word, by_move}
-use Rattle.std.proofs.Common.{cond}
 use Rattle.gq_tree.specs.declared.type_system.DirectiveLocation.{DirectiveLocation}
 use Rattle.gq_parse.specs.TypeSystem.{Separated, last, next, plain, led, IsLocation, a_location}
 use Rattle.gq_parse.proofs.WordsAre.{located, location_is}
@@ -79,19 +78,19 @@ pub back_series_part : (s : Series) (t : Lexeme) (ts y : Tokens) → Next (Serie
 back_series_part s t ts y h = back_separated s t ts y t.kind refl h
 
 -- behind a part, and before the first one
-separator_by : (s : Series) (k : Kind) (m : Move) (b : Bool) → separates s k ≡ b → separator_move s k m ≡ cond b (Takes1 (SeriesPart s)) m
-separator_by s k m b e = ap (λ (x : Bool). cond x (Takes1 (SeriesPart s)) m) e
+separator_by : (s : Series) (k : Kind) (m : Move) (b : Bool) → separates s k ≡ b → separator_move s k m ≡ cond b (TakesThen (SeriesPart s)) m
+separator_by s k m b e = ap (λ (x : Bool). cond x (TakesThen (SeriesPart s)) m) e
 
 forth_separator : (s : Series) (t : Lexeme) (ts y a : Tokens) (m : Move) → IsPunctuator (separator s) (t ∷ ts) a → Means (SeriesPart s) a y → After (separator_move s t.kind m) t ts y
 forth_separator s t ts y a m p h =
     let e = punctuator p in
-    by_move t ts y (Takes1 (SeriesPart s)) (separator_move s t.kind m) (separator_by s t.kind m true (separates_at s t.kind e.0)) (subst (λ (x : Tokens). Means (SeriesPart s) x y) e.1 h)
+    by_move t ts y (TakesThen (SeriesPart s)) (separator_move s t.kind m) (separator_by s t.kind m true (separates_at s t.kind e.0)) (subst (λ (x : Tokens). Means (SeriesPart s) x y) e.1 h)
 
 pub forth_more_parts : (s : Series) (t : Lexeme) (ts y : Tokens) → Means (MoreParts s) (t ∷ ts) y → Next (MoreParts s) t ts y
 forth_more_parts s t ts y (inl (n, e)) = by_move t ts y Skips (separator_move s t.kind Skips) (separator_by s t.kind Skips false (separates_not s t.kind n)) e
 forth_more_parts s t ts y (inr (ps, b, p, h)) = forth_separator s t ts y b Skips p (ps, h)
 
-back_more_test : (s : Series) (t : Lexeme) (ts y : Tokens) (b : Bool) → separates s t.kind ≡ b → After (cond b (Takes1 (SeriesPart s)) Skips) t ts y → Means (MoreParts s) (t ∷ ts) y
+back_more_test : (s : Series) (t : Lexeme) (ts y : Tokens) (b : Bool) → separates s t.kind ≡ b → After (cond b (TakesThen (SeriesPart s)) Skips) t ts y → Means (MoreParts s) (t ∷ ts) y
 back_more_test s t ts y true e h = inr (h.0, ts, here (separates_then s t.kind e), h.1)
 back_more_test s t ts y false e h = inl (separates_else s t.kind e, h)
 
@@ -104,7 +103,7 @@ forth_led s t ts y (ps, plain n h) =
     by_move t ts y m (separator_move s t.kind m) (separator_by s t.kind m false (separates_not s t.kind n)) (forth_separated s t ts y h)
 forth_led s t ts y (ps, led a p h) = forth_separator s t ts y a (name_move t.kind (series_word_move s (word_of t.text))) p (ps, h)
 
-back_led_test : (s : Series) (t : Lexeme) (ts y : Tokens) (b : Bool) → separates s t.kind ≡ b → After (cond b (Takes1 (SeriesPart s)) (name_move t.kind (series_word_move s (word_of t.text)))) t ts y → Means (LedSeries s) (t ∷ ts) y
+back_led_test : (s : Series) (t : Lexeme) (ts y : Tokens) (b : Bool) → separates s t.kind ≡ b → After (cond b (TakesThen (SeriesPart s)) (name_move t.kind (series_word_move s (word_of t.text)))) t ts y → Means (LedSeries s) (t ∷ ts) y
 back_led_test s t ts y true e h = (h.0, led ts (here (separates_then s t.kind e)) h.1)
 back_led_test s t ts y false e h = let n = back_series_part s t ts y h in (n.0, plain (separates_else s t.kind e) n.1)
 

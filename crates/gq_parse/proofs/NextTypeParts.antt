@@ -1,5 +1,5 @@
 -- What types, unions and directive definitions have behind their names.
-use Rattle.std.proofs.Common.{◌≡◌, ◌≢◌, List, [], ◌∷◌, true, refl, ap, sym, subst, ◌⊎◌, inl, inr}
+use Rattle.std.proofs.Common.{◌≡◌, ◌≢◌, List, [], ◌∷◌, true, refl, ap, sym, subst, ◌⊎◌, inl, inr, ◌∙◌}
 use Rattle.std.specs.Prelude.{codes}
 use Rattle.gq_text.specs.declared.place.Span.{Span}
 use Rattle.gq_lex.specs.declared.token.Kind.{Kind}
@@ -7,19 +7,17 @@ use Rattle.gq_lex.specs.declared.token.Kind.TheVariants as kind
 use Rattle.gq_lex.specs.Tokens.{Lexeme}
 use Rattle.gq_tree.specs.Plain.{NameOf}
 use Rattle.gq_parse.specs.Grammar.{Tokens, IsPunctuator, IsName, IsKeyword, no_directive, a_directive}
-use Rattle.gq_parse.specs.Words.{word_of}
+use Rattle.gq_parse.specs.Helping.Words.{word_of, spelling}
 use Rattle.gq_parse.specs.declared.expected.Word.{Word}
 use Rattle.gq_parse.specs.declared.expected.Word.TheVariants as word
 use Rattle.gq_parse.specs.declared.expected.Row.TheVariants.{Fields}
 use Rattle.gq_parse.specs.declared.expected.Series.TheVariants.{Interfaces, Members}
 use Rattle.gq_parse.specs.declared.expected.Symbol.TheVariants.{AnyName, OnWord, Directives, OptionalRow, PartsWith, LedSeries, TypeParts, UnionParts, OptionalImplements, OptionalMembers, OptionalRepeatable}
 use Rattle.gq_parse.specs.declared.expected.Move.{Move}
-use Rattle.gq_parse.specs.declared.expected.Move.TheVariants.{Takes1, Takes3, Skips, Stops}
-use Rattle.gq_parse.specs.Expected.{name_move, implements_move, optional_implements_move, members_move, repeatable_move, type_parts_move, parts_move, row_move}
+use Rattle.gq_parse.specs.declared.expected.Move.TheVariants.{TakesThen, TakesThenThree, Skips, Stops}
+use Rattle.gq_parse.specs.Helping.Expected.{name_move, implements_move, optional_implements_move, members_move, repeatable_move, type_parts_move, parts_move, row_move}
 use Rattle.gq_parse.proofs.Means.{Means, After, Next, punctuator, spelled, here, keyword_here, at_kind, at_word, by_move}
-use Rattle.std.proofs.Common.{◌∙◌}
-use Rattle.gq_parse.specs.TypeSystem.{Separated, last, next, Led, plain, led, NotWord, no_interfaces, interfaces, no_members, members, once, repeatable}
-use Rattle.gq_parse.specs.Words.{spelling}
+use Rattle.gq_parse.specs.TypeSystem.{Separated, last, next, Delimited, plain, led, NotWord, no_interfaces, interfaces, no_members, members, once, repeatable}
 use Rattle.gq_parse.proofs.WordsAre.{IsPlain, spells, keyword_is}
 use Rattle.gq_parse.proofs.NextRows.{forth_parts}
 
@@ -36,7 +34,7 @@ implements_not word.Implements m n h = absurd (h refl)
 implements_not _ m n h = refl
 
 skips_implements : (k : Kind) (w : Word) → (k ≡ kind.Name → w ≢ word.Implements) → optional_implements_move k w ≡ Skips
-skips_implements kind.Name w h = implements_not w (Takes1 (LedSeries Interfaces)) Skips (h refl)
+skips_implements kind.Name w h = implements_not w (TakesThen (LedSeries Interfaces)) Skips (h refl)
 skips_implements _ w h = refl
 
 pub forth_implements : (t : Lexeme) (ts y : Tokens) → Means OptionalImplements (t ∷ ts) y → Next OptionalImplements t ts y
@@ -49,7 +47,7 @@ forth_implements t ts y (is, interfaces a h l) =
 no_implements : (t : Lexeme) (ts y : Tokens) (k : Kind) → t.kind ≡ k → (k ≡ kind.Name → word_of t.text ≢ word.Implements) → NotWord (codes "implements") (t ∷ ts)
 no_implements t ts y k e n f g = n (sym e ∙ f) (keyword_is t.text word.Implements tt g)
 
-back_implements_word : (t : Lexeme) (ts y : Tokens) (w : Word) → t.kind ≡ kind.Name → word_of t.text ≡ w → After (implements_move w (Takes1 (LedSeries Interfaces)) Skips) t ts y → Means OptionalImplements (t ∷ ts) y
+back_implements_word : (t : Lexeme) (ts y : Tokens) (w : Word) → t.kind ≡ kind.Name → word_of t.text ≡ w → After (implements_move w (TakesThen (LedSeries Interfaces)) Skips) t ts y → Means OptionalImplements (t ∷ ts) y
 back_implements_word t ts y word.Implements e f h = (_, interfaces ts (is_keyword word.Implements tt t ts e f) h.1)
 back_implements_word t ts y _ e f h = subst (Means OptionalImplements (t ∷ ts)) h (_, no_interfaces (no_implements t ts y kind.Name e (λ p q. cc)))
 
@@ -58,10 +56,10 @@ back_implements t ts y kind.Name e h = back_implements_word t ts y (word_of t.te
 back_implements t ts y k e h = subst (Means OptionalImplements (t ∷ ts)) h (_, no_interfaces (no_implements t ts y k e (λ p q. cc)))
 
 -- UnionMemberTypes?
-forth_some_members : {names : List (NameOf Span)} (t : Lexeme) (ts a y : Tokens) (m : Move) → IsPunctuator kind.Equals (t ∷ ts) a → Led IsName kind.Pipe names a y → After (members_move t.kind m) t ts y
+forth_some_members : {names : List (NameOf Span)} (t : Lexeme) (ts a y : Tokens) (m : Move) → IsPunctuator kind.Equals (t ∷ ts) a → Delimited IsName kind.Pipe names a y → After (members_move t.kind m) t ts y
 forth_some_members t ts a y m p h =
     let e = punctuator p in
-    by_move t ts y (Takes1 (LedSeries Members)) (members_move t.kind m) (ap (λ (k : Kind). members_move k m) e.0) (subst (λ (x : Tokens). Means (LedSeries Members) x y) e.1 (_, h))
+    by_move t ts y (TakesThen (LedSeries Members)) (members_move t.kind m) (ap (λ (k : Kind). members_move k m) e.0) (subst (λ (x : Tokens). Means (LedSeries Members) x y) e.1 (_, h))
 
 pub forth_members : (t : Lexeme) (ts y : Tokens) → Means OptionalMembers (t ∷ ts) y → Next OptionalMembers t ts y
 forth_members t ts y (names, no_members n) = by_move t ts y Skips (members_move t.kind Skips) (skips t.kind n) refl
@@ -80,7 +78,7 @@ some_separated : {A : Type 0} {X : A → Tokens → Tokens → Type 0} {k : Kind
 some_separated (last h n) e = absurd (cc)
 some_separated (next a b h p i) e = absurd (cc)
 
-some_led : {A : Type 0} {X : A → Tokens → Tokens → Type 0} {k : Kind} {ps : List A} {x y : Tokens} → Led X k ps x y → ps ≢ []
+some_led : {A : Type 0} {X : A → Tokens → Tokens → Type 0} {k : Kind} {ps : List A} {x y : Tokens} → Delimited X k ps x y → ps ≢ []
 some_led (plain n h) = some_separated h
 some_led (led a p h) = some_separated h
 
@@ -117,7 +115,7 @@ forth_type_parts t ts y (is, ds, fields, a, b, interfaces c k l, h, i, some) =
     let e = keyword word.Implements tt k in
     at_word t ts y TypeParts kind.Name word.Implements e.0 e.2 (a, b, subst (λ (x : Tokens). Means (LedSeries Interfaces) x a) e.1 (_, l), (_, h), (_, i))
 
-back_type_word : (t : Lexeme) (ts y : Tokens) (w : Word) → t.kind ≡ kind.Name → word_of t.text ≡ w → After (implements_move w (Takes3 (LedSeries Interfaces) (Directives true) (OptionalRow Fields)) Stops) t ts y → Means TypeParts (t ∷ ts) y
+back_type_word : (t : Lexeme) (ts y : Tokens) (w : Word) → t.kind ≡ kind.Name → word_of t.text ≡ w → After (implements_move w (TakesThenThree (LedSeries Interfaces) (Directives true) (OptionalRow Fields)) Stops) t ts y → Means TypeParts (t ∷ ts) y
 back_type_word t ts y word.Implements e f (m, n, l, h, i) =
     (_, _, _, m, n, interfaces ts (is_keyword word.Implements tt t ts e f) l.1, h.1, i.1, inr (inl (some_led l.1)))
 back_type_word t ts y _ e f h = absurd h

@@ -5,19 +5,19 @@ use Rattle.gq_lex.specs.declared.token.Kind.{Kind}
 use Rattle.gq_lex.specs.declared.token.Kind.TheVariants as kind
 use Rattle.gq_lex.specs.Tokens.{Lexeme}
 use Rattle.gq_parse.specs.Grammar.{Tokens, IsPunctuator, a_variable, an_int, a_float, a_string, a_block_string, is_true, is_false, is_null, an_enum, a_list, an_object, list_closed, an_item, object_closed, an_object_field}
-use Rattle.gq_parse.specs.Words.{word_of}
+use Rattle.gq_parse.specs.Helping.Words.{word_of}
 use Rattle.gq_parse.specs.declared.expected.Word.{Word}
 use Rattle.gq_parse.specs.declared.expected.Word.TheVariants as word
 use Rattle.gq_parse.specs.declared.expected.Symbol.TheVariants.{AnyName, Value, MoreValues, MoreObjectFields}
-use Rattle.gq_parse.specs.declared.expected.Move.TheVariants.{Takes1}
-use Rattle.gq_parse.specs.Expected.{behind, value_move, values_move, object_fields_move}
+use Rattle.gq_parse.specs.declared.expected.Move.TheVariants.{TakesThen}
+use Rattle.gq_parse.specs.Helping.Expected.{behind, value_move, values_move, object_fields_move}
 use Rattle.gq_parse.proofs.Means.{Means, After, Next, punctuator, spelled, here, spelled_here, name_here, keyword_here, at_kind, by_move, CanGoOn, put_behind, taken_off}
 use Rattle.gq_parse.proofs.WordsAre.{spells, value_word}
 
 pub forth_value : (c : Bool) (t : Lexeme) (ts y : Tokens) → Means (Value c) (t ∷ ts) y → Next (Value c) t ts y
 forth_value c t ts y (s, vs, a_variable a free p h) =
     let e = punctuator p in
-    at_kind t ts y (Value c) kind.Dollar e.0 (by_move t ts y (Takes1 AnyName) (value_move c kind.Dollar) (ap (λ (b : Bool). value_move b kind.Dollar) free) (subst (λ (x : Tokens). Means AnyName x y) e.1 (_, h)))
+    at_kind t ts y (Value c) kind.Dollar e.0 (by_move t ts y (TakesThen AnyName) (value_move c kind.Dollar) (ap (λ (b : Bool). value_move b kind.Dollar) free) (subst (λ (x : Tokens). Means AnyName x y) e.1 (_, h)))
 forth_value c t ts y (s, vs, an_int h) = let e = spelled h in at_kind t ts y (Value c) kind.Int e.0 (sym e.1)
 forth_value c t ts y (s, vs, a_float h) = let e = spelled h in at_kind t ts y (Value c) kind.Float e.0 (sym e.1)
 forth_value c t ts y (s, vs, a_string h) = let e = spelled h in at_kind t ts y (Value c) kind.String e.0 (sym e.1)

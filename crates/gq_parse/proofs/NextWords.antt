@@ -1,23 +1,22 @@
 -- Names that are words, or are not.
-use Rattle.std.proofs.Common.{◌≡◌, ◌≢◌, List, ◌∷◌, refl, sym, subst, inl, inr}
+use Rattle.std.proofs.Common.{◌≡◌, ◌≢◌, List, ◌∷◌, refl, sym, subst, inl, inr, ◌∙◌}
 use Rattle.std.specs.Prelude.{codes, ℕ}
 use Rattle.gq_lex.specs.declared.token.Kind.{Kind}
 use Rattle.gq_lex.specs.declared.token.Kind.TheVariants as kind
 use Rattle.gq_lex.specs.Tokens.{Lexeme}
 use Rattle.gq_parse.specs.Grammar.{Tokens, IsValueWord}
-use Rattle.gq_parse.specs.Words.{word_of}
+use Rattle.gq_parse.specs.Helping.Words.{word_of}
 use Rattle.gq_parse.specs.declared.expected.Word.{Word}
 use Rattle.gq_parse.specs.declared.expected.Word.TheVariants as word
 use Rattle.gq_parse.specs.declared.expected.Symbol.TheVariants.{FragmentName, EnumValueName, OnWord}
 use Rattle.gq_parse.specs.declared.expected.Move.{Move}
-use Rattle.gq_parse.specs.declared.expected.Move.TheVariants.{Takes0}
-use Rattle.gq_parse.specs.Expected.{name_move, not_on_move, value_word_stops, on_word_move}
+use Rattle.gq_parse.specs.declared.expected.Move.TheVariants.{Takes}
+use Rattle.gq_parse.specs.Helping.Expected.{name_move, not_on_move, value_word_stops, on_word_move}
 use Rattle.gq_parse.proofs.Means.{Means, After, Next, spelled, name_here, keyword_here, at_kind, at_word, by_move}
-use Rattle.std.proofs.Common.{◌∙◌}
 use Rattle.gq_parse.proofs.WordsAre.{spells, keyword_is, value_word}
 
 -- FragmentName
-not_on_takes : (w : Word) → w ≢ word.On → not_on_move w Takes0 ≡ Takes0
+not_on_takes : (w : Word) → w ≢ word.On → not_on_move w Takes ≡ Takes
 not_on_takes word.On n = absurd (n refl)
 not_on_takes _ n = refl
 
@@ -25,13 +24,13 @@ pub forth_fragment_name : (t : Lexeme) (ts y : Tokens) → Means FragmentName (t
 forth_fragment_name t ts y (n, h) =
     let e = spelled h.is_name in
     let f : word_of t.text ≢ word.On = λ q. h.not_on (e.2 ∙ spells t.text word.On tt q) in
-    at_kind t ts y FragmentName kind.Name e.0 (by_move t ts y Takes0 (not_on_move (word_of t.text) Takes0) (not_on_takes (word_of t.text) f) (sym e.1))
+    at_kind t ts y FragmentName kind.Name e.0 (by_move t ts y Takes (not_on_move (word_of t.text) Takes) (not_on_takes (word_of t.text) f) (sym e.1))
 
-back_not_on : (t : Lexeme) (ts y : Tokens) (w : Word) → t.kind ≡ kind.Name → word_of t.text ≡ w → After (not_on_move w Takes0) t ts y → Means FragmentName (t ∷ ts) y
+back_not_on : (t : Lexeme) (ts y : Tokens) (w : Word) → t.kind ≡ kind.Name → word_of t.text ≡ w → After (not_on_move w Takes) t ts y → Means FragmentName (t ∷ ts) y
 back_not_on t ts y word.On e f h = absurd h
 back_not_on t ts y _ e f h = subst (Means FragmentName (t ∷ ts)) h (_, record { is_name = name_here e; not_on = λ q. let r = keyword_is t.text word.On tt q in cc })
 
-pub back_fragment_name : (t : Lexeme) (ts y : Tokens) (k : Kind) → t.kind ≡ k → After (name_move k (not_on_move (word_of t.text) Takes0)) t ts y → Means FragmentName (t ∷ ts) y
+pub back_fragment_name : (t : Lexeme) (ts y : Tokens) (k : Kind) → t.kind ≡ k → After (name_move k (not_on_move (word_of t.text) Takes)) t ts y → Means FragmentName (t ∷ ts) y
 back_fragment_name t ts y kind.Name e h = back_not_on t ts y (word_of t.text) e refl h
 back_fragment_name t ts y _ e h = absurd h
 
@@ -52,11 +51,11 @@ is_no_value_word t ts y _ m e h = (value_word t.text _ e (λ q. cc) (λ q. cc) (
 pub forth_enum_value_name : (t : Lexeme) (ts y : Tokens) → Means EnumValueName (t ∷ ts) y → Next EnumValueName t ts y
 forth_enum_value_name t ts y (n, h, v) =
     let e = spelled h in
-    at_kind t ts y EnumValueName kind.Name e.0 (by_move t ts y Takes0 (value_word_stops (word_of t.text) Takes0) (no_value_word t.text (word_of t.text) Takes0 refl (subst (λ (x : List ℕ). IsValueWord x → ⊥) e.2 v)) (sym e.1))
+    at_kind t ts y EnumValueName kind.Name e.0 (by_move t ts y Takes (value_word_stops (word_of t.text) Takes) (no_value_word t.text (word_of t.text) Takes refl (subst (λ (x : List ℕ). IsValueWord x → ⊥) e.2 v)) (sym e.1))
 
-pub back_enum_value_name : (t : Lexeme) (ts y : Tokens) (k : Kind) → t.kind ≡ k → After (name_move k (value_word_stops (word_of t.text) Takes0)) t ts y → Means EnumValueName (t ∷ ts) y
+pub back_enum_value_name : (t : Lexeme) (ts y : Tokens) (k : Kind) → t.kind ≡ k → After (name_move k (value_word_stops (word_of t.text) Takes)) t ts y → Means EnumValueName (t ∷ ts) y
 back_enum_value_name t ts y kind.Name e h =
-    let r = is_no_value_word t ts y (word_of t.text) Takes0 refl h in
+    let r = is_no_value_word t ts y (word_of t.text) Takes refl h in
     subst (Means EnumValueName (t ∷ ts)) r.1 (_, name_here e, r.0)
 back_enum_value_name t ts y _ e h = absurd h
 

@@ -1,5 +1,5 @@
 -- What a move puts below the top of the stack can be completed before whatever is below.
-use Rattle.std.proofs.Common.{◌≡◌, Bool, true, false, refl}
+use Rattle.std.proofs.Common.{◌≡◌, Bool, true, false, refl, cond}
 use Rattle.gq_lex.specs.declared.token.Kind.{Kind}
 use Rattle.gq_lex.specs.declared.token.Kind.TheVariants as kind
 use Rattle.gq_parse.specs.declared.expected.Word.{Word}
@@ -11,9 +11,8 @@ use Rattle.gq_parse.specs.declared.expected.Series.TheVariants.{Interfaces, Memb
 use Rattle.gq_parse.specs.declared.expected.Symbol.{Symbol}
 use Rattle.gq_parse.specs.declared.expected.Symbol.TheVariants.{AnyName, FragmentName, EnumValueName, OnWord, Colon, AtSign, CloseBracket, Value, MoreValues, MoreObjectFields, Directives, SomeDirectives, OptionalRow, WholeRow, FirstOf, MoreOf, PartsWith, LedSeries, SeriesPart, MoreParts, OptionalDefault, AnyType, OptionalBang, OptionalName, OptionalAlias, Set, OptionalSet, FirstSelection, MoreSelections, AfterDots, Definition, Described, Extension, ExtendedScalar, TypeParts, UnionParts, OptionalImplements, OptionalMembers, OptionalRepeatable}
 use Rattle.gq_parse.specs.declared.expected.Move.{Move}
-use Rattle.gq_parse.specs.declared.expected.Move.TheVariants.{Takes0, Takes1, Takes2, Takes3, Takes4, Takes5, Takes6, Skips, Stops}
-use Rattle.gq_parse.specs.Expected.{behind, move, name_move, on_word_move, not_on_move, colon_move, at_move, bracket_move, value_move, values_move, object_fields_move, default_move, directives_move, type_move, bang_move, optional_name_move, alias_move, set_move, selection_move, selections_move, dots_word_move, dots_move, argument_move, variable_move, input_move, field_move, value_word_stops, enum_value_move, root_word_move, part_move, in_parens, opens, closes, row_move, more_move, parts_move, some_directives_move, separates, location_move, series_word_move, separator_move, implements_move, optional_implements_move, members_move, repeatable_move, type_parts_move, described_move, extension_move, definition_word_move, definition_move}
-use Rattle.std.proofs.Common.{cond}
+use Rattle.gq_parse.specs.declared.expected.Move.TheVariants.{Takes, TakesThen, TakesThenTwo, TakesThenThree, TakesThenFour, TakesThenFive, TakesThenSix, Skips, Stops}
+use Rattle.gq_parse.specs.Helping.Expected.{behind, move, name_move, on_word_move, not_on_move, colon_move, at_move, bracket_move, value_move, values_move, object_fields_move, default_move, directives_move, type_move, bang_move, optional_name_move, alias_move, set_move, selection_move, selections_move, dots_word_move, dots_move, argument_move, variable_move, input_move, field_move, value_word_stops, enum_value_move, root_word_move, part_move, in_parens, opens, closes, row_move, more_move, parts_move, some_directives_move, separates, location_move, series_word_move, separator_move, implements_move, optional_implements_move, members_move, repeatable_move, type_parts_move, described_move, extension_move, definition_word_move, definition_move}
 use Rattle.std.specs.Prelude.{◌&&◌}
 use Rattle.gq_parse.proofs.Completions.{IsSafe}
 
@@ -24,11 +23,11 @@ safe SomeDirectives = false
 safe _ = true
 
 abbrev pub safe_tail : Move → Bool
-safe_tail (Takes2 a b) = safe b
-safe_tail (Takes3 a b c) = safe b && safe c
-safe_tail (Takes4 a b c d) = safe b && (safe c && safe d)
-safe_tail (Takes5 a b c d e) = safe b && (safe c && (safe d && safe e))
-safe_tail (Takes6 a b c d e f) = safe b && (safe c && (safe d && (safe e && safe f)))
+safe_tail (TakesThenTwo a b) = safe b
+safe_tail (TakesThenThree a b c) = safe b && safe c
+safe_tail (TakesThenFour a b c d) = safe b && (safe c && safe d)
+safe_tail (TakesThenFive a b c d e) = safe b && (safe c && (safe d && safe e))
+safe_tail (TakesThenSix a b c d e f) = safe b && (safe c && (safe d && (safe e && safe f)))
 safe_tail _ = true
 
 pub is_safe : (s : Symbol) → safe s ≡ true → IsSafe s
@@ -44,15 +43,15 @@ by_bool : (b : Bool) (m n : Move) → safe_tail m ≡ true → safe_tail n ≡ t
 by_bool true m n e f = e
 by_bool false m n e f = f
 
-of_not_on : (w : Word) → safe_tail ((λ (v : Word). not_on_move v Takes0) w) ≡ true
+of_not_on : (w : Word) → safe_tail ((λ (v : Word). not_on_move v Takes) w) ≡ true
 of_not_on word.On = refl
 of_not_on _ = refl
 
-of_value_word : (w : Word) → safe_tail ((λ (v : Word). value_word_stops v Takes0) w) ≡ true
+of_value_word : (w : Word) → safe_tail ((λ (v : Word). value_word_stops v Takes) w) ≡ true
 of_value_word word.True = refl
 of_value_word _ = refl
 
-of_value_word_directives : (w : Word) → safe_tail ((λ (v : Word). value_word_stops v (Takes1 (Directives true))) w) ≡ true
+of_value_word_directives : (w : Word) → safe_tail ((λ (v : Word). value_word_stops v (TakesThen (Directives true))) w) ≡ true
 of_value_word_directives word.True = refl
 of_value_word_directives _ = refl
 
@@ -142,7 +141,7 @@ of_root_word : (r : Row) (w : Word) → safe_tail ((λ (q : Row) (v : Word). beh
 of_root_word r word.Query = refl
 of_root_word r _ = refl
 
-of_enum_word : (w : Word) → safe_tail ((λ (v : Word). behind (value_word_stops v (Takes1 (Directives true))) (MoreOf EnumValues)) w) ≡ true
+of_enum_word : (w : Word) → safe_tail ((λ (v : Word). behind (value_word_stops v (TakesThen (Directives true))) (MoreOf EnumValues)) w) ≡ true
 of_enum_word word.True = refl
 of_enum_word _ = refl
 
@@ -180,10 +179,10 @@ of_first EnumValues k w = of_enum_value k w
 of_first Roots k w = of_root k w
 
 of_row : (r : Row) (k : Kind) (m : Move) → safe_tail m ≡ true → safe_tail (row_move r k m) ≡ true
-of_row r k m e = by_bool (opens (in_parens r) k) (Takes1 (FirstOf r)) m refl e
+of_row r k m e = by_bool (opens (in_parens r) k) (TakesThen (FirstOf r)) m refl e
 
 of_more : (r : Row) (k : Kind) (w : Word) → safe_tail (more_move r k w) ≡ true
-of_more r k w = by_bool (closes (in_parens r) k) Takes0 (behind (part_move r k w) (MoreOf r)) refl (of_first r k w)
+of_more r k w = by_bool (closes (in_parens r) k) Takes (behind (part_move r k w) (MoreOf r)) refl (of_first r k w)
 
 of_parts : (k : Kind) (s : Symbol) (m : Move) → safe s ≡ true → safe_tail m ≡ true → safe_tail (parts_move k s m) ≡ true
 of_parts kind.At s m e f = e
@@ -199,14 +198,14 @@ of_series_word Members w = refl
 of_series_word Locations w = of_location w
 
 of_separator : (s : Series) (k : Kind) (m : Move) → safe_tail m ≡ true → safe_tail (separator_move s k m) ≡ true
-of_separator s k m e = by_bool (separates s k) (Takes1 (SeriesPart s)) m refl e
+of_separator s k m e = by_bool (separates s k) (TakesThen (SeriesPart s)) m refl e
 
 of_implements : (w : Word) (m n : Move) → safe_tail m ≡ true → safe_tail n ≡ true → safe_tail (implements_move w m n) ≡ true
 of_implements word.Implements m n e f = e
 of_implements _ m n e f = f
 
 of_optional_implements : (k : Kind) (w : Word) → safe_tail (optional_implements_move k w) ≡ true
-of_optional_implements kind.Name w = of_implements w (Takes1 (LedSeries Interfaces)) Skips refl refl
+of_optional_implements kind.Name w = of_implements w (TakesThen (LedSeries Interfaces)) Skips refl refl
 of_optional_implements _ w = refl
 
 of_members : (k : Kind) (m : Move) → safe_tail m ≡ true → safe_tail (members_move k m) ≡ true
@@ -234,13 +233,13 @@ of_definition kind.Name w = of_definition_word w
 of_definition _ w = refl
 
 of_type_parts : (k : Kind) (w : Word) → safe_tail (parts_move k (OptionalRow Fields) (row_move Fields k Stops)) ≡ true → safe_tail (type_parts_move k w) ≡ true
-of_type_parts kind.Name w e = of_implements w (Takes3 (LedSeries Interfaces) (Directives true) (OptionalRow Fields)) Stops refl refl
+of_type_parts kind.Name w e = of_implements w (TakesThenThree (LedSeries Interfaces) (Directives true) (OptionalRow Fields)) Stops refl refl
 of_type_parts _ w e = e
 
 pub tail_is_safe : (s : Symbol) (k : Kind) (w : Word) → safe_tail (move s k w) ≡ true
-tail_is_safe AnyName k w = by_name k Takes0 refl
-tail_is_safe FragmentName k w = by_name k (not_on_move w Takes0) (of_not_on w)
-tail_is_safe EnumValueName k w = by_name k (value_word_stops w Takes0) (of_value_word w)
+tail_is_safe AnyName k w = by_name k Takes refl
+tail_is_safe FragmentName k w = by_name k (not_on_move w Takes) (of_not_on w)
+tail_is_safe EnumValueName k w = by_name k (value_word_stops w Takes) (of_value_word w)
 tail_is_safe OnWord k w = by_name k (on_word_move w) (of_on w)
 tail_is_safe Colon k w = of_colon k
 tail_is_safe AtSign k w = of_at k
@@ -271,7 +270,7 @@ tail_is_safe AfterDots k w = of_dots k w
 tail_is_safe Definition k w = of_definition k w
 tail_is_safe Described k w = by_name k (described_move w) (of_described w)
 tail_is_safe Extension k w = by_name k (extension_move w) (of_extension w)
-tail_is_safe ExtendedScalar k w = by_name k (Takes1 SomeDirectives) refl
+tail_is_safe ExtendedScalar k w = by_name k (TakesThen SomeDirectives) refl
 tail_is_safe TypeParts k w = of_type_parts k w (of_parts k (OptionalRow Fields) (row_move Fields k Stops) refl (of_row Fields k Stops refl))
 tail_is_safe UnionParts k w = of_parts k OptionalMembers (members_move k Stops) refl (of_members k Stops refl)
 tail_is_safe OptionalImplements k w = of_optional_implements k w

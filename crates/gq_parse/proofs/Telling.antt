@@ -14,7 +14,7 @@ use Rattle.gq_parse.specs.Faults.{IsWrongAt, IsUnfinished, IsSyntaxPlace}
 use Rattle.gq_parse.specs.declared.fault.Fault.TheVariants.{Syntax, Limit, NoMemory}
 use Rattle.gq_parse.specs.declared.fault.Fault.{Fault}
 use Rattle.gq_lex.specs.declared.token.Token.{Token}
-use Rattle.gq_parse.specs.Telling.{told, IsFirstWrong, IsFirstDeep, HasNone, IsFaultIn}
+use Rattle.gq_parse.specs.Helping.Telling.{told, IsFirstWrong, IsFirstDeep, HasNone, IsFaultIn}
 use Rattle.gq_parse.proofs.Nesting.{nested_front}
 use Rattle.gq_parse.proofs.Derivations.{too_deep_is, tokens_derive}
 use Rattle.gq_parse.specs.Derives.{Derives}

@@ -5,7 +5,7 @@ use Rattle.gq_lex.specs.declared.token.Kind.{Kind}
 use Rattle.gq_lex.specs.declared.token.Kind.TheVariants as kind
 use Rattle.gq_lex.specs.Tokens.{Lexeme}
 use Rattle.gq_tree.specs.Plain.{NameOf}
-use Rattle.gq_parse.specs.Grammar.{Tokens, IsPunctuator, IsSpelled, IsName, NotNext, Closed, closed, another, Enclosed, absent, enclosed, IsFragmentName, IsTypeCondition, IsOptionalCondition, no_condition, a_condition, IsOptionalName, no_name, a_name, IsFieldName, no_alias, alias}
+use Rattle.gq_parse.specs.Grammar.{Tokens, IsPunctuator, IsSpelled, IsName, NotNext, ManyUntil, closed, another, OptionalMany, absent, enclosed, IsFragmentName, IsTypeCondition, IsOptionalCondition, no_condition, a_condition, IsOptionalName, no_name, a_name, IsFieldName, no_alias, alias}
 use Rattle.gq_parse.specs.Phrases.{Begins}
 
 head_is : {a b : Lexeme} {x y : Tokens} → ◌≡◌ {A = Tokens} (a ∷ x) (b ∷ y) → a ≡ b
@@ -58,7 +58,7 @@ Unique {A} X = (x y : A) (tokens other a b : Tokens) → X x tokens a → tokens
 abbrev pub NeverBegins : {A : Type 0} → Kind → (A → Tokens → Tokens → Type 0) → Type 0
 NeverBegins {A} k X = (x : A) (tokens a : Tokens) → X x tokens a → Begins k tokens → ⊥
 
-pub same_closed : {A : Type 0} {X : A → Tokens → Tokens → Type 0} {k : Kind} {xs ys : List A} {tokens other a b : Tokens} → Unique X → NeverBegins k X → Closed X k xs tokens a → tokens ≡ other → Closed X k ys other b → (xs ≡ ys) × (a ≡ b)
+pub same_closed : {A : Type 0} {X : A → Tokens → Tokens → Type 0} {k : Kind} {xs ys : List A} {tokens other a b : Tokens} → Unique X → NeverBegins k X → ManyUntil X k xs tokens a → tokens ≡ other → ManyUntil X k ys other b → (xs ≡ ys) × (a ≡ b)
 same_closed unique apart (closed m) same (closed m2) = (refl, same_punctuator m same m2)
 same_closed unique apart (closed m) same (another {x = x} a2 x2 others2) = absurd (apart x _ a2 x2 (moved _ same (punctuator_begins m)))
 same_closed unique apart (another {x = x} a x1 others) same (closed m2) = absurd (apart x _ a x1 (moved _ (sym same) (punctuator_begins m2)))
@@ -67,7 +67,7 @@ same_closed {A} unique apart (another {x = x} {xs = xs} a x1 others) same (anoth
     let r = same_closed unique apart others e.1 others2 in
     (ap (λ (z : A). z ∷ xs) e.0 ∙ ap (λ (zs : List A). y ∷ zs) r.0, r.1)
 
-pub same_enclosed : {A : Type 0} {X : A → Tokens → Tokens → Type 0} {k j : Kind} {xs ys : List A} {tokens other a b : Tokens} → Unique X → NeverBegins j X → Enclosed X k j xs tokens a → tokens ≡ other → Enclosed X k j ys other b → (xs ≡ ys) × (a ≡ b)
+pub same_enclosed : {A : Type 0} {X : A → Tokens → Tokens → Type 0} {k j : Kind} {xs ys : List A} {tokens other a b : Tokens} → Unique X → NeverBegins j X → OptionalMany X k j xs tokens a → tokens ≡ other → OptionalMany X k j ys other b → (xs ≡ ys) × (a ≡ b)
 same_enclosed unique apart (absent free) same (absent free2) = (refl, same)
 same_enclosed unique apart (absent free) same (enclosed a2 m2 xs2) = absurd (not_next _ _ free (moved _ (sym same) (punctuator_begins m2)))
 same_enclosed unique apart (enclosed a m xs) same (absent free2) = absurd (not_next _ _ free2 (moved _ same (punctuator_begins m)))

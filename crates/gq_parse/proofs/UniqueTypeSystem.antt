@@ -4,8 +4,8 @@ use Rattle.gq_text.specs.declared.place.Span.{Span}
 use Rattle.gq_lex.specs.declared.token.Kind.{Kind}
 use Rattle.gq_lex.specs.declared.token.Kind.TheVariants as kind
 use Rattle.gq_tree.specs.Plain.{NameOf, DirectiveOf, InputOf, FieldDefinitionOf, EnumValueOf, RootOf, BodyOf}
-use Rattle.gq_parse.specs.Grammar.{Tokens, IsName, IsKeyword, Enclosed}
-use Rattle.gq_parse.specs.TypeSystem.{NotWord, IsDescription, no_description, a_description, a_block_description, Separated, last, next, Led, plain, led, IsRoot, a_root, IsSchema, a_schema, IsInputValue, an_input_value, IsFieldDefinition, a_field_definition, IsFieldsDefinition, IsEnumValueDefinition, an_enum_value, IsImplements, no_interfaces, interfaces, IsMembers, no_members, members, IsTypeBody, a_scalar, an_object_type, an_interface, a_union, an_enum_type, an_input_type}
+use Rattle.gq_parse.specs.Grammar.{Tokens, IsName, IsKeyword, OptionalMany}
+use Rattle.gq_parse.specs.TypeSystem.{NotWord, IsDescription, no_description, a_description, a_block_description, Separated, last, next, Delimited, plain, led, IsRoot, a_root, IsSchema, a_schema, IsInputValue, an_input_value, IsFieldDefinition, a_field_definition, IsFieldsDefinition, IsEnumValueDefinition, an_enum_value, IsImplements, no_interfaces, interfaces, IsMembers, no_members, members, IsTypeBody, a_scalar, an_object_type, an_interface, a_union, an_enum_type, an_input_type}
 use Rattle.gq_parse.specs.Phrases.{Begins}
 use Rattle.gq_parse.proofs.Unique.{first_letter, one_kind, not_next, moved, punctuator_begins, spelled_begins, same_punctuator, same_spelled, same_name, Unique, NeverBegins, same_enclosed}
 use Rattle.gq_parse.proofs.UniqueValues.{same_directives, same_type, same_default}
@@ -48,7 +48,7 @@ same_separated unique (next {x = x} a b one m others) same (next {x = y} a2 b2 t
     let f = same_separated unique others (same_punctuator m e.1 m2) others2 in
     let e0 = e.0 in let f0 = f.0 in let f1 = f.1 in (cc, f1)
 
-pub same_led : {A : Type 0} {X : A → Tokens → Tokens → Type 0} {k : Kind} {xs ys : List A} {tokens other a b : Tokens} → Unique X → Led X k xs tokens a → tokens ≡ other → Led X k ys other b → (xs ≡ ys) × (a ≡ b)
+pub same_led : {A : Type 0} {X : A → Tokens → Tokens → Type 0} {k : Kind} {xs ys : List A} {tokens other a b : Tokens} → Unique X → Delimited X k xs tokens a → tokens ≡ other → Delimited X k ys other b → (xs ≡ ys) × (a ≡ b)
 same_led unique (plain free h) same (plain free2 h2) = same_separated unique h same h2
 same_led unique (plain free h) same (led a2 m2 h2) = absurd (not_next _ _ free (moved _ (sym same) (punctuator_begins m2)))
 same_led unique (led a m h) same (plain free2 h2) = absurd (not_next _ _ free2 (moved _ same (punctuator_begins m)))
@@ -90,7 +90,7 @@ paren_never x tokens a (an_input_value c d e f g said n m t v r) begins = descri
 pub brace_never : NeverBegins kind.BraceClose IsInputValue
 brace_never x tokens a (an_input_value c d e f g said n m t v r) begins = described kind.BraceClose (λ h. cc) (λ h. cc) (λ h. cc) said n begins
 
-pub same_inputs : {k j : Kind} {xs ys : List (InputOf Span)} {tokens other a b : Tokens} → NeverBegins j IsInputValue → Enclosed IsInputValue k j xs tokens a → tokens ≡ other → Enclosed IsInputValue k j ys other b → (xs ≡ ys) × (a ≡ b)
+pub same_inputs : {k j : Kind} {xs ys : List (InputOf Span)} {tokens other a b : Tokens} → NeverBegins j IsInputValue → OptionalMany IsInputValue k j xs tokens a → tokens ≡ other → OptionalMany IsInputValue k j ys other b → (xs ≡ ys) × (a ≡ b)
 same_inputs never h same h2 = same_enclosed unique_input never h same h2
 
 -- fields
@@ -120,7 +120,7 @@ unique_enum_value x y tokens other a b (an_enum_value c d said n free r) same (a
 pub enum_value_never : NeverBegins kind.BraceClose IsEnumValueDefinition
 enum_value_never x tokens a (an_enum_value c d said n free r) begins = described kind.BraceClose (λ h. cc) (λ h. cc) (λ h. cc) said n begins
 
-pub same_enum_values : {xs ys : List (EnumValueOf Span)} {tokens other a b : Tokens} → Enclosed IsEnumValueDefinition kind.BraceOpen kind.BraceClose xs tokens a → tokens ≡ other → Enclosed IsEnumValueDefinition kind.BraceOpen kind.BraceClose ys other b → (xs ≡ ys) × (a ≡ b)
+pub same_enum_values : {xs ys : List (EnumValueOf Span)} {tokens other a b : Tokens} → OptionalMany IsEnumValueDefinition kind.BraceOpen kind.BraceClose xs tokens a → tokens ≡ other → OptionalMany IsEnumValueDefinition kind.BraceOpen kind.BraceClose ys other b → (xs ≡ ys) × (a ≡ b)
 same_enum_values h same h2 = same_enclosed unique_enum_value enum_value_never h same h2
 
 -- interfaces and members

@@ -6,7 +6,7 @@ use Rattle.gq_tree.specs.declared.type_system.DirectiveLocation.{DirectiveLocati
 use Rattle.gq_tree.specs.declared.type_system.DirectiveLocation.TheVariants as location
 use Rattle.gq_parse.specs.Grammar.{IsValueWord}
 use Rattle.gq_parse.specs.TypeSystem.{location_word}
-use Rattle.gq_parse.specs.Words.{spelling, keywords, locations, is_location, other_word, word_among, word_of}
+use Rattle.gq_parse.specs.Helping.Words.{spelling, keywords, locations, is_location, other_word, word_among, word_of}
 use Rattle.gq_parse.specs.declared.expected.Word.{Word}
 use Rattle.gq_parse.specs.declared.expected.Word.TheVariants as word
 

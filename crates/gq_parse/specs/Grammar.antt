@@ -55,14 +55,14 @@ abbrev pub covered : Tokens → Tokens → Span
 covered tokens rest = record { start = starts tokens; end = ends (take (length tokens - length rest) tokens) }
 
 -- X* and the punctuator that closes them
-pub data Closed {A : Type 0} (X : A → Tokens → Tokens → Type 0) (k : Kind) : List A → Tokens → Tokens → Type 0 where
-  closed : {tokens rest : Tokens} → IsPunctuator k tokens rest → Closed X k [] tokens rest
-  another : {x : A} {xs : List A} {tokens rest : Tokens} (a : Tokens) → X x tokens a → Closed X k xs a rest → Closed X k (x ∷ xs) tokens rest
+pub data ManyUntil {A : Type 0} (X : A → Tokens → Tokens → Type 0) (k : Kind) : List A → Tokens → Tokens → Type 0 where
+  closed : {tokens rest : Tokens} → IsPunctuator k tokens rest → ManyUntil X k [] tokens rest
+  another : {x : A} {xs : List A} {tokens rest : Tokens} (a : Tokens) → X x tokens a → ManyUntil X k xs a rest → ManyUntil X k (x ∷ xs) tokens rest
 
 -- (opening X+ closing)?
-pub data Enclosed {A : Type 0} (X : A → Tokens → Tokens → Type 0) (k j : Kind) : List A → Tokens → Tokens → Type 0 where
-  absent : {tokens : Tokens} → NotNext k tokens → Enclosed X k j [] tokens tokens
-  enclosed : {x : A} {xs : List A} {tokens rest : Tokens} (a : Tokens) → IsPunctuator k tokens a → Closed X j (x ∷ xs) a rest → Enclosed X k j (x ∷ xs) tokens rest
+pub data OptionalMany {A : Type 0} (X : A → Tokens → Tokens → Type 0) (k j : Kind) : List A → Tokens → Tokens → Type 0 where
+  absent : {tokens : Tokens} → NotNext k tokens → OptionalMany X k j [] tokens tokens
+  enclosed : {x : A} {xs : List A} {tokens rest : Tokens} (a : Tokens) → IsPunctuator k tokens a → ManyUntil X j (x ∷ xs) a rest → OptionalMany X k j (x ∷ xs) tokens rest
 
 -- FragmentName : Name but not `on` (section 2.8)
 pub record IsFragmentName (name : NameOf Span) (tokens rest : Tokens) : Type 0 where
@@ -128,7 +128,7 @@ pub data IsArgument (constant : Bool) : Val Span → Tokens → Tokens → Type 
 
 -- Arguments? ; Arguments : ( Argument+ ) (section 2.6)
 abbrev pub IsArguments : Bool → List (Val Span) → Tokens → Tokens → Type 0
-IsArguments constant = Enclosed (IsArgument constant) kind.ParenOpen kind.ParenClose
+IsArguments constant = OptionalMany (IsArgument constant) kind.ParenOpen kind.ParenClose
 
 -- Directives? ; Directives : Directive+ ; Directive : @ Name Arguments? (section 2.12)
 pub data IsDirectives (constant : Bool) : List (DirectiveOf Span) → Tokens → Tokens → Type 0 where
@@ -159,7 +159,7 @@ pub data IsVariableDefinition : VariableOf Span → Tokens → Tokens → Type 0
 
 -- VariableDefinitions? ; VariableDefinitions : ( VariableDefinition+ ) (section 2.10)
 abbrev pub IsVariableDefinitions : List (VariableOf Span) → Tokens → Tokens → Type 0
-IsVariableDefinitions = Enclosed IsVariableDefinition kind.ParenOpen kind.ParenClose
+IsVariableDefinitions = OptionalMany IsVariableDefinition kind.ParenOpen kind.ParenClose
 
 -- Alias? Name, of a Field; Alias : Name `:` (section 2.7)
 pub data IsFieldName : Option (NameOf Span) → NameOf Span → Tokens → Tokens → Type 0 where

@@ -5,10 +5,8 @@ pub mod Limits
 pub mod Derives
 pub mod Prefix
 pub mod Faults
-pub mod Telling
 pub mod Phrases
 pub mod Parts
 pub mod Locations
 pub mod From
-pub mod Words
-pub mod Expected
+pub mod Helping

@@ -7,8 +7,8 @@ use Rattle.gq_tree.specs.declared.type_system.DirectiveLocation.{DirectiveLocati
 use Rattle.gq_tree.specs.Plain.{NameOf, DirectiveOf, InputOf, FieldDefinitionOf, EnumValueOf, RootOf, BodyOf, scalar_type, object_type, interface_type, union_type, enum_type, input_type, TypeSystemOf, schema, type_definition, directive_definition, Def, type_system}
 use Rattle.gq_parse.specs.declared.type_definitions.TypeKind.{TypeKind}
 use Rattle.gq_parse.specs.declared.type_definitions.TypeKind.TheVariants as of
-use Rattle.gq_parse.specs.Grammar.{Tokens, covered, IsPunctuator, IsName, IsKeyword, Enclosed, IsDirectives, IsOperationDefinition}
-use Rattle.gq_parse.specs.TypeSystem.{Led, IsImplements, IsFieldsDefinition, IsMembers, IsEnumValueDefinition, IsInputValue, IsArgumentsDefinition, IsTypeBody, IsSchema, IsLocation, IsRepeatable, HasParts, IsTypeSystemDefinition}
+use Rattle.gq_parse.specs.Grammar.{Tokens, covered, IsPunctuator, IsName, IsKeyword, OptionalMany, IsDirectives, IsOperationDefinition}
+use Rattle.gq_parse.specs.TypeSystem.{Delimited, IsImplements, IsFieldsDefinition, IsMembers, IsEnumValueDefinition, IsInputValue, IsArgumentsDefinition, IsTypeBody, IsSchema, IsLocation, IsRepeatable, HasParts, IsTypeSystemDefinition}
 
 -- the keyword of a type, and the type that a word begins, computed
 abbrev pub kind_word : TypeKind → List ℕ
@@ -51,8 +51,8 @@ IsBodyBehind of.Scalar name directives body tokens rest = IsNamed name directive
 IsBodyBehind of.Object name directives body tokens rest = (is : List (NameOf Span)) × (fields : List (FieldDefinitionOf Span)) × IsFielded name is directives fields tokens rest × (body ≡ object_type is fields)
 IsBodyBehind of.Interface name directives body tokens rest = (is : List (NameOf Span)) × (fields : List (FieldDefinitionOf Span)) × IsFielded name is directives fields tokens rest × (body ≡ interface_type is fields)
 IsBodyBehind of.Union name directives body tokens rest = (names : List (NameOf Span)) × (a : Tokens) × IsNamed name directives tokens a × IsMembers names a rest × (body ≡ union_type names)
-IsBodyBehind of.Enum name directives body tokens rest = (values : List (EnumValueOf Span)) × (a : Tokens) × IsNamed name directives tokens a × Enclosed IsEnumValueDefinition kind.BraceOpen kind.BraceClose values a rest × (body ≡ enum_type values)
-IsBodyBehind of.InputObject name directives body tokens rest = (fields : List (InputOf Span)) × (a : Tokens) × IsNamed name directives tokens a × Enclosed IsInputValue kind.BraceOpen kind.BraceClose fields a rest × (body ≡ input_type fields)
+IsBodyBehind of.Enum name directives body tokens rest = (values : List (EnumValueOf Span)) × (a : Tokens) × IsNamed name directives tokens a × OptionalMany IsEnumValueDefinition kind.BraceOpen kind.BraceClose values a rest × (body ≡ enum_type values)
+IsBodyBehind of.InputObject name directives body tokens rest = (fields : List (InputOf Span)) × (a : Tokens) × IsNamed name directives tokens a × OptionalMany IsInputValue kind.BraceOpen kind.BraceClose fields a rest × (body ≡ input_type fields)
 
 -- no such phrase stands first
 abbrev pub LacksNamed : Tokens → Type 0
@@ -101,7 +101,7 @@ pub data IsTypeDescribed (first : Tokens) (description : Option (NameOf Span)) :
   type_described : {name : NameOf Span} {directives : List (DirectiveOf Span)} {body : BodyOf Span} {tokens rest : Tokens} → IsTypeBody name directives body tokens rest → IsTypeDescribed first description (type_definition false description name directives body (covered first rest)) tokens rest
 
 pub data IsDirectiveDescribed (first : Tokens) (description : Option (NameOf Span)) : TypeSystemOf Span → Tokens → Tokens → Type 0 where
-  directive_described : {name : NameOf Span} {arguments : List (InputOf Span)} {again : Bool} {locations : List DirectiveLocation} {place : Span} {tokens rest : Tokens} (b c d e f : Tokens) → IsKeyword (codes "directive") place tokens b → IsPunctuator kind.At b c → IsName name c d → IsArgumentsDefinition arguments d e → IsRepeatable again e f → Led IsLocation kind.Pipe locations f rest → IsDirectiveDescribed first description (directive_definition description name arguments again locations (covered first rest)) tokens rest
+  directive_described : {name : NameOf Span} {arguments : List (InputOf Span)} {again : Bool} {locations : List DirectiveLocation} {place : Span} {tokens rest : Tokens} (b c d e f : Tokens) → IsKeyword (codes "directive") place tokens b → IsPunctuator kind.At b c → IsName name c d → IsArgumentsDefinition arguments d e → IsRepeatable again e f → Delimited IsLocation kind.Pipe locations f rest → IsDirectiveDescribed first description (directive_definition description name arguments again locations (covered first rest)) tokens rest
 
 abbrev pub IsDirectiveOrType : Tokens → Option (NameOf Span) → TypeSystemOf Span → Tokens → Tokens → Type 0
 IsDirectiveOrType first description d tokens rest = IsDirectiveDescribed first description d tokens rest ⊎ IsTypeDescribed first description d tokens rest

@@ -8,7 +8,7 @@ use Rattle.gq_tree.specs.declared.tree.OperationKind.{OperationKind}
 use Rattle.gq_tree.specs.declared.type_system.DirectiveLocation.{DirectiveLocation}
 use Rattle.gq_tree.specs.declared.type_system.DirectiveLocation.TheVariants as location
 use Rattle.gq_tree.specs.Plain.{NameOf, Val, DirectiveOf, TypeOf, InputOf, FieldDefinitionOf, EnumValueOf, RootOf, BodyOf, scalar_type, object_type, interface_type, union_type, enum_type, input_type, TypeSystemOf, schema, type_definition, directive_definition}
-use Rattle.gq_parse.specs.Grammar.{Tokens, IsPunctuator, IsSpelled, IsName, IsKeyword, NotNext, covered, Enclosed, IsValueWord, IsDirectives, IsType, IsDefaultValue, IsOperationType}
+use Rattle.gq_parse.specs.Grammar.{Tokens, IsPunctuator, IsSpelled, IsName, IsKeyword, NotNext, covered, OptionalMany, IsValueWord, IsDirectives, IsType, IsDefaultValue, IsOperationType}
 
 -- the next token, if there is one, is not this word
 abbrev pub NotWord : List ℕ → Tokens → Type 0
@@ -27,9 +27,9 @@ pub data Separated {A : Type 0} (X : A → Tokens → Tokens → Type 0) (k : Ki
   next : {x : A} {xs : List A} {tokens rest : Tokens} (a b : Tokens) → X x tokens a → IsPunctuator k a b → Separated X k xs b rest → Separated X k (x ∷ xs) tokens rest
 
 -- the same, with the punctuator before the first one too where it stands there
-pub data Led {A : Type 0} (X : A → Tokens → Tokens → Type 0) (k : Kind) : List A → Tokens → Tokens → Type 0 where
-  plain : {xs : List A} {tokens rest : Tokens} → NotNext k tokens → Separated X k xs tokens rest → Led X k xs tokens rest
-  led : {xs : List A} {tokens rest : Tokens} (a : Tokens) → IsPunctuator k tokens a → Separated X k xs a rest → Led X k xs tokens rest
+pub data Delimited {A : Type 0} (X : A → Tokens → Tokens → Type 0) (k : Kind) : List A → Tokens → Tokens → Type 0 where
+  plain : {xs : List A} {tokens rest : Tokens} → NotNext k tokens → Separated X k xs tokens rest → Delimited X k xs tokens rest
+  led : {xs : List A} {tokens rest : Tokens} (a : Tokens) → IsPunctuator k tokens a → Separated X k xs a rest → Delimited X k xs tokens rest
 
 -- RootOperationTypeDefinition : OperationType `:` NamedType (section 3.3)
 pub data IsRoot : RootOf Span → Tokens → Tokens → Type 0 where
@@ -37,7 +37,7 @@ pub data IsRoot : RootOf Span → Tokens → Tokens → Type 0 where
 
 -- schema Directives? { RootOperationTypeDefinition+ }, of which the braces may be left out by an extension
 pub data IsSchema : List (DirectiveOf Span) → List (RootOf Span) → Tokens → Tokens → Type 0 where
-  a_schema : {directives : List (DirectiveOf Span)} {roots : List (RootOf Span)} {place : Span} {tokens rest : Tokens} (a b : Tokens) → IsKeyword (codes "schema") place tokens a → IsDirectives true directives a b → Enclosed IsRoot kind.BraceOpen kind.BraceClose roots b rest → IsSchema directives roots tokens rest
+  a_schema : {directives : List (DirectiveOf Span)} {roots : List (RootOf Span)} {place : Span} {tokens rest : Tokens} (a b : Tokens) → IsKeyword (codes "schema") place tokens a → IsDirectives true directives a b → OptionalMany IsRoot kind.BraceOpen kind.BraceClose roots b rest → IsSchema directives roots tokens rest
 
 -- InputValueDefinition : Description? Name `:` Type DefaultValue? Directives? (sections 3.6.1 and 3.10)
 pub data IsInputValue : InputOf Span → Tokens → Tokens → Type 0 where
@@ -45,7 +45,7 @@ pub data IsInputValue : InputOf Span → Tokens → Tokens → Type 0 where
 
 -- ArgumentsDefinition? ; ArgumentsDefinition : ( InputValueDefinition+ ) (section 3.6.1)
 abbrev pub IsArgumentsDefinition : List (InputOf Span) → Tokens → Tokens → Type 0
-IsArgumentsDefinition = Enclosed IsInputValue kind.ParenOpen kind.ParenClose
+IsArgumentsDefinition = OptionalMany IsInputValue kind.ParenOpen kind.ParenClose
 
 -- FieldDefinition : Description? Name ArgumentsDefinition? `:` Type Directives? (section 3.6)
 pub data IsFieldDefinition : FieldDefinitionOf Span → Tokens → Tokens → Type 0 where
@@ -53,7 +53,7 @@ pub data IsFieldDefinition : FieldDefinitionOf Span → Tokens → Tokens → Ty
 
 -- FieldsDefinition? ; FieldsDefinition : { FieldDefinition+ } (section 3.6)
 abbrev pub IsFieldsDefinition : List (FieldDefinitionOf Span) → Tokens → Tokens → Type 0
-IsFieldsDefinition = Enclosed IsFieldDefinition kind.BraceOpen kind.BraceClose
+IsFieldsDefinition = OptionalMany IsFieldDefinition kind.BraceOpen kind.BraceClose
 
 -- EnumValueDefinition : Description? EnumValue Directives? ; EnumValue : Name but not true, false, null (section 3.9)
 pub data IsEnumValueDefinition : EnumValueOf Span → Tokens → Tokens → Type 0 where
@@ -63,12 +63,12 @@ pub data IsEnumValueDefinition : EnumValueOf Span → Tokens → Tokens → Type
 -- (section 3.6)
 pub data IsImplements : List (NameOf Span) → Tokens → Tokens → Type 0 where
   no_interfaces : {tokens : Tokens} → NotWord (codes "implements") tokens → IsImplements [] tokens tokens
-  interfaces : {names : List (NameOf Span)} {place : Span} {tokens rest : Tokens} (a : Tokens) → IsKeyword (codes "implements") place tokens a → Led IsName kind.Ampersand names a rest → IsImplements names tokens rest
+  interfaces : {names : List (NameOf Span)} {place : Span} {tokens rest : Tokens} (a : Tokens) → IsKeyword (codes "implements") place tokens a → Delimited IsName kind.Ampersand names a rest → IsImplements names tokens rest
 
 -- UnionMemberTypes? ; UnionMemberTypes : = `|`? NamedType, then `|` NamedType any number of times (section 3.8)
 pub data IsMembers : List (NameOf Span) → Tokens → Tokens → Type 0 where
   no_members : {tokens : Tokens} → NotNext kind.Equals tokens → IsMembers [] tokens tokens
-  members : {names : List (NameOf Span)} {tokens rest : Tokens} (a : Tokens) → IsPunctuator kind.Equals tokens a → Led IsName kind.Pipe names a rest → IsMembers names tokens rest
+  members : {names : List (NameOf Span)} {tokens rest : Tokens} (a : Tokens) → IsPunctuator kind.Equals tokens a → Delimited IsName kind.Pipe names a rest → IsMembers names tokens rest
 
 -- a type from its keyword on: its name, its directives, and its parts
 pub data IsTypeBody : NameOf Span → List (DirectiveOf Span) → BodyOf Span → Tokens → Tokens → Type 0 where
@@ -81,9 +81,9 @@ pub data IsTypeBody : NameOf Span → List (DirectiveOf Span) → BodyOf Span �
   -- union Name Directives? UnionMemberTypes? (section 3.8)
   a_union : {name : NameOf Span} {names : List (NameOf Span)} {directives : List (DirectiveOf Span)} {place : Span} {tokens rest : Tokens} (a b c : Tokens) → IsKeyword (codes "union") place tokens a → IsName name a b → IsDirectives true directives b c → IsMembers names c rest → IsTypeBody name directives (union_type names) tokens rest
   -- enum Name Directives? { EnumValueDefinition+ }? (section 3.9)
-  an_enum_type : {name : NameOf Span} {values : List (EnumValueOf Span)} {directives : List (DirectiveOf Span)} {place : Span} {tokens rest : Tokens} (a b c : Tokens) → IsKeyword (codes "enum") place tokens a → IsName name a b → IsDirectives true directives b c → Enclosed IsEnumValueDefinition kind.BraceOpen kind.BraceClose values c rest → IsTypeBody name directives (enum_type values) tokens rest
+  an_enum_type : {name : NameOf Span} {values : List (EnumValueOf Span)} {directives : List (DirectiveOf Span)} {place : Span} {tokens rest : Tokens} (a b c : Tokens) → IsKeyword (codes "enum") place tokens a → IsName name a b → IsDirectives true directives b c → OptionalMany IsEnumValueDefinition kind.BraceOpen kind.BraceClose values c rest → IsTypeBody name directives (enum_type values) tokens rest
   -- input Name Directives? { InputValueDefinition+ }? (section 3.10)
-  an_input_type : {name : NameOf Span} {fields : List (InputOf Span)} {directives : List (DirectiveOf Span)} {place : Span} {tokens rest : Tokens} (a b c : Tokens) → IsKeyword (codes "input") place tokens a → IsName name a b → IsDirectives true directives b c → Enclosed IsInputValue kind.BraceOpen kind.BraceClose fields c rest → IsTypeBody name directives (input_type fields) tokens rest
+  an_input_type : {name : NameOf Span} {fields : List (InputOf Span)} {directives : List (DirectiveOf Span)} {place : Span} {tokens rest : Tokens} (a b c : Tokens) → IsKeyword (codes "input") place tokens a → IsName name a b → IsDirectives true directives b c → OptionalMany IsInputValue kind.BraceOpen kind.BraceClose fields c rest → IsTypeBody name directives (input_type fields) tokens rest
 
 -- the word of a DirectiveLocation (section 3.13)
 abbrev pub location_word : DirectiveLocation → List ℕ
@@ -131,7 +131,7 @@ pub data IsTypeSystemDefinition : TypeSystemOf Span → Tokens → Tokens → Ty
   -- TypeDefinition (section 3.4)
   a_type_definition : {description : Option (NameOf Span)} {name : NameOf Span} {directives : List (DirectiveOf Span)} {body : BodyOf Span} {tokens rest : Tokens} (a : Tokens) → IsDescription description tokens a → IsTypeBody name directives body a rest → IsTypeSystemDefinition (type_definition false description name directives body (covered tokens rest)) tokens rest
   -- DirectiveDefinition : Description? directive @ Name ArgumentsDefinition? repeatable? on DirectiveLocations (section 3.13)
-  a_directive_definition : {description : Option (NameOf Span)} {name : NameOf Span} {arguments : List (InputOf Span)} {again : Bool} {locations : List DirectiveLocation} {place : Span} {tokens rest : Tokens} (a b c d e f : Tokens) → IsDescription description tokens a → IsKeyword (codes "directive") place a b → IsPunctuator kind.At b c → IsName name c d → IsArgumentsDefinition arguments d e → IsRepeatable again e f → Led IsLocation kind.Pipe locations f rest → IsTypeSystemDefinition (directive_definition description name arguments again locations (covered tokens rest)) tokens rest
+  a_directive_definition : {description : Option (NameOf Span)} {name : NameOf Span} {arguments : List (InputOf Span)} {again : Bool} {locations : List DirectiveLocation} {place : Span} {tokens rest : Tokens} (a b c d e f : Tokens) → IsDescription description tokens a → IsKeyword (codes "directive") place a b → IsPunctuator kind.At b c → IsName name c d → IsArgumentsDefinition arguments d e → IsRepeatable again e f → Delimited IsLocation kind.Pipe locations f rest → IsTypeSystemDefinition (directive_definition description name arguments again locations (covered tokens rest)) tokens rest
   -- SchemaExtension (section 3.3.2)
   a_schema_extension : {directives : List (DirectiveOf Span)} {roots : List (RootOf Span)} {place : Span} {tokens rest : Tokens} (a : Tokens) → IsKeyword (codes "extend") place tokens a → IsSchema directives roots a rest → (directives ≢ []) ⊎ (roots ≢ []) → IsTypeSystemDefinition (schema true None directives roots (covered tokens rest)) tokens rest
   -- TypeExtension (section 3.4.3)

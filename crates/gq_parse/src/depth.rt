@@ -9,7 +9,7 @@ use gq_lex::{Kind, Token};
 pub const NESTING_MAX: usize = 100;
 
 /// Where the first token begins that opens more brackets than may be open at once.
-pub(crate) fn too_deep(tokens: &[Token<'_>]) -> Option<usize>
+pub fn too_deep(tokens: &[Token<'_>]) -> Option<usize>
     ensures found { IfSome result (IsTooDeepAt (map lexeme_of tokens.now)) }
     ensures none { IfNone result (IsNestedWithin 100 (map lexeme_of tokens.now)) }
 {

@@ -3,7 +3,7 @@ ghost use Rattle.std.specs.Prelude.{◌≡◌, ◌≢◌, ◌+◌, ◌<◌, ◌�
 ghost use Rattle.std.specs.Option.{option_map};
 ghost use Rattle.gq_lex.specs.declared.token.Kind.TheVariants as kind;
 ghost use Rattle.gq_tree.specs.Views.{literal_view, type_system_view};
-ghost use Rattle.gq_parse.specs.TypeSystem.{Separated, Led, IsLocation, IsRepeatable};
+ghost use Rattle.gq_parse.specs.TypeSystem.{Separated, Delimited, IsLocation, IsRepeatable};
 ghost use Rattle.gq_parse.specs.From.{from};
 ghost use Rattle.gq_parse.specs.Phrases.{Lacks};
 ghost use Rattle.gq_parse.specs.Locations.{executable_location, type_system_location, location_named};
@@ -73,9 +73,9 @@ fn led_locations(
     at: usize,
 ) -> Result<(Vec<DirectiveLocation>, usize), Miss>
     requires { at ≤ length tokens.now }
-    ensures found { IfOk result (λ x. Led IsLocation kind.Pipe x.0.items (from tokens.now at) (from tokens.now x.1)) }
+    ensures found { IfOk result (λ x. Delimited IsLocation kind.Pipe x.0.items (from tokens.now at) (from tokens.now x.1)) }
     ensures within { IfOk result (λ x. (at < x.1) × (x.1 ≤ length tokens.now)) }
-    ensures none { IfErr result (λ miss. miss ≢ Miss.NoMemory → Lacks (Led IsLocation kind.Pipe) (from tokens.now at)) }
+    ensures none { IfErr result (λ miss. miss ≢ Miss.NoMemory → Lacks (Delimited IsLocation kind.Pipe) (from tokens.now at)) }
 {
     match punctuator(Kind::Pipe, tokens, at) {
         Some(behind) => separated_locations(alloc, tokens, behind),

@@ -104,14 +104,14 @@ pub(crate) enum Symbol {
 #[derive(Clone, Copy)]
 pub(crate) enum Move {
     /// It is taken, and nothing more of the symbol is expected.
-    Takes0,
+    Takes,
     /// It is taken, and these symbols are expected behind it, the first one next.
-    Takes1(Symbol),
-    Takes2(Symbol, Symbol),
-    Takes3(Symbol, Symbol, Symbol),
-    Takes4(Symbol, Symbol, Symbol, Symbol),
-    Takes5(Symbol, Symbol, Symbol, Symbol, Symbol),
-    Takes6(Symbol, Symbol, Symbol, Symbol, Symbol, Symbol),
+    TakesThen(Symbol),
+    TakesThenTwo(Symbol, Symbol),
+    TakesThenThree(Symbol, Symbol, Symbol),
+    TakesThenFour(Symbol, Symbol, Symbol, Symbol),
+    TakesThenFive(Symbol, Symbol, Symbol, Symbol, Symbol),
+    TakesThenSix(Symbol, Symbol, Symbol, Symbol, Symbol, Symbol),
     /// The symbol ends before it.
     Skips,
     /// It cannot stand here.

@@ -5,7 +5,7 @@ ghost use Rattle.std.specs.Str.{bytes_eq};
 ghost use Rattle.std.specs.Option.{option_map};
 ghost use Rattle.gq_lex.specs.declared.token.Kind.TheVariants as kind;
 ghost use Rattle.gq_tree.specs.Views.{literal_view, input_view, field_definition_view, enum_value_view};
-ghost use Rattle.gq_parse.specs.Grammar.{NotNext, Closed, Enclosed};
+ghost use Rattle.gq_parse.specs.Grammar.{NotNext, ManyUntil, OptionalMany};
 ghost use Rattle.gq_parse.specs.TypeSystem.{IsDescription, IsInputValue, IsFieldDefinition, IsFieldsDefinition, IsEnumValueDefinition};
 ghost use Rattle.gq_parse.specs.From.{from};
 ghost use Rattle.gq_parse.specs.Phrases.{Lacks};
@@ -97,9 +97,9 @@ pub(crate) fn input_values(
 ) -> Result<(Vec<InputValueDefinition>, usize), Miss>
     requires within { at ≤ length tokens.now }
     requires closing { (closing ≡ kind.ParenClose) ⊎ (closing ≡ kind.BraceClose) }
-    ensures found { IfOk result (λ x. Enclosed IsInputValue opening closing (map input_view x.0.items) (from tokens.now at) (from tokens.now x.1)) }
+    ensures found { IfOk result (λ x. OptionalMany IsInputValue opening closing (map input_view x.0.items) (from tokens.now at) (from tokens.now x.1)) }
     ensures within { IfOk result (λ x. (at ≤ x.1) × (x.1 ≤ length tokens.now)) }
-    ensures none { IfErr result (λ miss. miss ≢ Miss.NoMemory → Lacks (Enclosed IsInputValue opening closing) (from tokens.now at)) }
+    ensures none { IfErr result (λ miss. miss ≢ Miss.NoMemory → Lacks (OptionalMany IsInputValue opening closing) (from tokens.now at)) }
 {
     match punctuator(opening, tokens, at) {
         Some(behind) => {
@@ -121,9 +121,9 @@ fn closed_inputs(
 ) -> Result<(Vec<InputValueDefinition>, usize), Miss>
     requires within { start ≤ length tokens.now }
     requires closing { (closing ≡ kind.ParenClose) ⊎ (closing ≡ kind.BraceClose) }
-    ensures found { IfOk result (λ x. Closed IsInputValue closing (map input_view x.0.items) (from tokens.now start) (from tokens.now x.1)) }
+    ensures found { IfOk result (λ x. ManyUntil IsInputValue closing (map input_view x.0.items) (from tokens.now start) (from tokens.now x.1)) }
     ensures within { IfOk result (λ x. (start < x.1) × (x.1 ≤ length tokens.now)) }
-    ensures none { IfErr result (λ miss. miss ≢ Miss.NoMemory → Lacks (Closed IsInputValue closing) (from tokens.now start)) }
+    ensures none { IfErr result (λ miss. miss ≢ Miss.NoMemory → Lacks (ManyUntil IsInputValue closing) (from tokens.now start)) }
 {
     let mut inputs = Vec::new(alloc);
     let mut at = start;
@@ -205,9 +205,9 @@ fn closed_fields(
     start: usize,
 ) -> Result<(Vec<FieldDefinition>, usize), Miss>
     requires { start ≤ length tokens.now }
-    ensures found { IfOk result (λ x. Closed IsFieldDefinition kind.BraceClose (map field_definition_view x.0.items) (from tokens.now start) (from tokens.now x.1)) }
+    ensures found { IfOk result (λ x. ManyUntil IsFieldDefinition kind.BraceClose (map field_definition_view x.0.items) (from tokens.now start) (from tokens.now x.1)) }
     ensures within { IfOk result (λ x. (start < x.1) × (x.1 ≤ length tokens.now)) }
-    ensures none { IfErr result (λ miss. miss ≢ Miss.NoMemory → Lacks (Closed IsFieldDefinition kind.BraceClose) (from tokens.now start)) }
+    ensures none { IfErr result (λ miss. miss ≢ Miss.NoMemory → Lacks (ManyUntil IsFieldDefinition kind.BraceClose) (from tokens.now start)) }
 {
     let mut fields = Vec::new(alloc);
     let mut at = start;
@@ -269,9 +269,9 @@ pub(crate) fn enum_values(
     at: usize,
 ) -> Result<(Vec<EnumValueDefinition>, usize), Miss>
     requires { at ≤ length tokens.now }
-    ensures found { IfOk result (λ x. Enclosed IsEnumValueDefinition kind.BraceOpen kind.BraceClose (map enum_value_view x.0.items) (from tokens.now at) (from tokens.now x.1)) }
+    ensures found { IfOk result (λ x. OptionalMany IsEnumValueDefinition kind.BraceOpen kind.BraceClose (map enum_value_view x.0.items) (from tokens.now at) (from tokens.now x.1)) }
     ensures within { IfOk result (λ x. (at ≤ x.1) × (x.1 ≤ length tokens.now)) }
-    ensures none { IfErr result (λ miss. miss ≢ Miss.NoMemory → Lacks (Enclosed IsEnumValueDefinition kind.BraceOpen kind.BraceClose) (from tokens.now at)) }
+    ensures none { IfErr result (λ miss. miss ≢ Miss.NoMemory → Lacks (OptionalMany IsEnumValueDefinition kind.BraceOpen kind.BraceClose) (from tokens.now at)) }
 {
     match punctuator(Kind::BraceOpen, tokens, at) {
         Some(behind) => {
@@ -291,9 +291,9 @@ fn closed_enum_values(
     start: usize,
 ) -> Result<(Vec<EnumValueDefinition>, usize), Miss>
     requires { start ≤ length tokens.now }
-    ensures found { IfOk result (λ x. Closed IsEnumValueDefinition kind.BraceClose (map enum_value_view x.0.items) (from tokens.now start) (from tokens.now x.1)) }
+    ensures found { IfOk result (λ x. ManyUntil IsEnumValueDefinition kind.BraceClose (map enum_value_view x.0.items) (from tokens.now start) (from tokens.now x.1)) }
     ensures within { IfOk result (λ x. (start < x.1) × (x.1 ≤ length tokens.now)) }
-    ensures none { IfErr result (λ miss. miss ≢ Miss.NoMemory → Lacks (Closed IsEnumValueDefinition kind.BraceClose) (from tokens.now start)) }
+    ensures none { IfErr result (λ miss. miss ≢ Miss.NoMemory → Lacks (ManyUntil IsEnumValueDefinition kind.BraceClose) (from tokens.now start)) }
 {
     let mut values = Vec::new(alloc);
     let mut at = start;

@@ -2,7 +2,7 @@
 
 ghost use Rattle.std.specs.Prelude.{◌≡◌, IfOk, IfSome, IfNone, Some, None, MatchBool, map, reverse};
 ghost use Rattle.gq_lex.specs.Tokens.{lexeme_of};
-ghost use Rattle.gq_parse.specs.Expected.{advance, pushed};
+ghost use Rattle.gq_parse.specs.Helping.Expected.{advance, pushed};
 ghost use Rattle.gq_parse.specs.Prefix.{Begins, IsSyntaxAt};
 
 use crate::expected::{Move, Symbol, Word};
@@ -46,31 +46,31 @@ fn push_all(stack: &mut Vec<Symbol>, moved: Move) -> Result<bool, NoMemory>
     ensures { IfOk result (λ taken. MatchBool taken (pushed moved (reverse stack.old.items) ≡ Some (reverse stack.new.items)) (pushed moved (reverse stack.old.items) ≡ None)) }
 {
     match moved {
-        Move::Takes0 => {}
-        Move::Takes1(a) => stack.push(a)?,
-        Move::Takes2(a, b) => {
+        Move::Takes => {}
+        Move::TakesThen(a) => stack.push(a)?,
+        Move::TakesThenTwo(a, b) => {
             stack.push(b)?;
             stack.push(a)?;
         }
-        Move::Takes3(a, b, c) => {
+        Move::TakesThenThree(a, b, c) => {
             stack.push(c)?;
             stack.push(b)?;
             stack.push(a)?;
         }
-        Move::Takes4(a, b, c, d) => {
+        Move::TakesThenFour(a, b, c, d) => {
             stack.push(d)?;
             stack.push(c)?;
             stack.push(b)?;
             stack.push(a)?;
         }
-        Move::Takes5(a, b, c, d, e) => {
+        Move::TakesThenFive(a, b, c, d, e) => {
             stack.push(e)?;
             stack.push(d)?;
             stack.push(c)?;
             stack.push(b)?;
             stack.push(a)?;
         }
-        Move::Takes6(a, b, c, d, e, f) => {
+        Move::TakesThenSix(a, b, c, d, e, f) => {
             stack.push(f)?;
             stack.push(e)?;
             stack.push(d)?;

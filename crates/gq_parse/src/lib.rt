@@ -23,7 +23,7 @@ mod values;
 mod variables;
 mod words;
 
-pub use depth::NESTING_MAX;
+pub use depth::{NESTING_MAX, too_deep};
 pub use fault::Fault;
 pub use gq_project::Doc;
 pub use gq_tree::{

@@ -1,7 +1,7 @@
 //! What a token does where a symbol is expected.
 
 ghost use Rattle.std.specs.Prelude.{◌≡◌};
-ghost use Rattle.gq_parse.specs.Expected.{behind, move, name_move};
+ghost use Rattle.gq_parse.specs.Helping.Expected.{behind, move, name_move};
 
 mod definitions;
 mod names;
@@ -33,9 +33,9 @@ pub(crate) fn move_of(symbol: Symbol, kind: Kind, word: Word) -> Move
     ensures { result ≡ move symbol kind word }
 {
     match symbol {
-        Symbol::AnyName => name_move(kind, Move::Takes0),
-        Symbol::FragmentName => name_move(kind, not_on_move(word, Move::Takes0)),
-        Symbol::EnumValueName => name_move(kind, value_word_stops(word, Move::Takes0)),
+        Symbol::AnyName => name_move(kind, Move::Takes),
+        Symbol::FragmentName => name_move(kind, not_on_move(word, Move::Takes)),
+        Symbol::EnumValueName => name_move(kind, value_word_stops(word, Move::Takes)),
         Symbol::OnWord => name_move(kind, on_word_move(word)),
         Symbol::Colon => colon_move(kind),
         Symbol::AtSign => at_move(kind),
@@ -78,7 +78,7 @@ pub(crate) fn move_of(symbol: Symbol, kind: Kind, word: Word) -> Move
         Symbol::Definition => definition_move(kind, word),
         Symbol::Described => name_move(kind, described_move(word)),
         Symbol::Extension => name_move(kind, extension_move(word)),
-        Symbol::ExtendedScalar => name_move(kind, Move::Takes1(Symbol::SomeDirectives)),
+        Symbol::ExtendedScalar => name_move(kind, Move::TakesThen(Symbol::SomeDirectives)),
         Symbol::TypeParts => type_parts_move(kind, word),
         Symbol::UnionParts => {
             parts_move(
@@ -98,13 +98,13 @@ pub(crate) fn behind(moved: Move, symbol: Symbol) -> Move
     ensures { result ≡ behind moved symbol }
 {
     match moved {
-        Move::Takes0 => Move::Takes1(symbol),
-        Move::Takes1(a) => Move::Takes2(a, symbol),
-        Move::Takes2(a, b) => Move::Takes3(a, b, symbol),
-        Move::Takes3(a, b, c) => Move::Takes4(a, b, c, symbol),
-        Move::Takes4(a, b, c, d) => Move::Takes5(a, b, c, d, symbol),
-        Move::Takes5(a, b, c, d, e) => Move::Takes6(a, b, c, d, e, symbol),
-        Move::Takes6(..) | Move::Skips | Move::Stops => Move::Stops,
+        Move::Takes => Move::TakesThen(symbol),
+        Move::TakesThen(a) => Move::TakesThenTwo(a, symbol),
+        Move::TakesThenTwo(a, b) => Move::TakesThenThree(a, b, symbol),
+        Move::TakesThenThree(a, b, c) => Move::TakesThenFour(a, b, c, symbol),
+        Move::TakesThenFour(a, b, c, d) => Move::TakesThenFive(a, b, c, d, symbol),
+        Move::TakesThenFive(a, b, c, d, e) => Move::TakesThenSix(a, b, c, d, e, symbol),
+        Move::TakesThenSix(..) | Move::Skips | Move::Stops => Move::Stops,
     }
 }
 

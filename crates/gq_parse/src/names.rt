@@ -3,7 +3,7 @@
 ghost use Rattle.std.specs.Prelude.{◌≡◌, ◌≢◌, ◌+◌, ◌<◌, ◌≤◌, ◌++◌, ◌∷◌, [], length, map, IfOk, IfErr, OnOk};
 ghost use Rattle.gq_tree.specs.Views.{name_of};
 ghost use Rattle.gq_parse.specs.Grammar.{IsName};
-ghost use Rattle.gq_parse.specs.TypeSystem.{Separated, Led, IsImplements, IsMembers};
+ghost use Rattle.gq_parse.specs.TypeSystem.{Separated, Delimited, IsImplements, IsMembers};
 ghost use Rattle.gq_parse.specs.From.{from};
 ghost use Rattle.gq_parse.specs.Phrases.{Lacks};
 
@@ -54,9 +54,9 @@ fn led_names(
     at: usize,
 ) -> Result<(Vec<Name>, usize), Miss>
     requires { at ≤ length tokens.now }
-    ensures found { IfOk result (λ x. Led IsName between (map name_of x.0.items) (from tokens.now at) (from tokens.now x.1)) }
+    ensures found { IfOk result (λ x. Delimited IsName between (map name_of x.0.items) (from tokens.now at) (from tokens.now x.1)) }
     ensures within { IfOk result (λ x. (at < x.1) × (x.1 ≤ length tokens.now)) }
-    ensures none { IfErr result (λ miss. miss ≢ Miss.NoMemory → Lacks (Led IsName between) (from tokens.now at)) }
+    ensures none { IfErr result (λ miss. miss ≢ Miss.NoMemory → Lacks (Delimited IsName between) (from tokens.now at)) }
 {
     match punctuator(between, tokens, at) {
         Some(behind) => separated_names(alloc, between, tokens, behind),

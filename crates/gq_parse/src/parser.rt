@@ -9,7 +9,7 @@ ghost use Rattle.gq_parse.specs.Derives.{Derives};
 ghost use Rattle.gq_parse.specs.Faults.{IsSyntaxFault, IsLimitFault};
 ghost use Rattle.gq_parse.specs.From.{from};
 ghost use Rattle.gq_parse.specs.Limits.{IsNestedWithin};
-ghost use Rattle.gq_parse.specs.Telling.{told, IsFirstWrong, IsFirstDeep, IsFaultIn};
+ghost use Rattle.gq_parse.specs.Helping.Telling.{told, IsFirstWrong, IsFirstDeep, IsFaultIn};
 
 use crate::definitions::document;
 use crate::depth::too_deep;

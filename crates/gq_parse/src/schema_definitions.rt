@@ -2,7 +2,7 @@
 ghost use Rattle.std.specs.Prelude.{◌≡◌, ◌≢◌, List, ◌+◌, ◌<◌, ◌≤◌, ◌++◌, ◌∷◌, [], length, map, IfOk, IfErr, OnOk};
 ghost use Rattle.gq_lex.specs.declared.token.Kind.TheVariants as kind;
 ghost use Rattle.gq_tree.specs.Views.{directive_view, root_view};
-ghost use Rattle.gq_parse.specs.Grammar.{Closed, Enclosed};
+ghost use Rattle.gq_parse.specs.Grammar.{ManyUntil, OptionalMany};
 ghost use Rattle.gq_parse.specs.TypeSystem.{IsRoot, IsSchema};
 ghost use Rattle.gq_parse.specs.From.{from};
 ghost use Rattle.gq_parse.specs.Phrases.{Lacks};
@@ -40,9 +40,9 @@ fn roots(
     at: usize,
 ) -> Result<(Vec<RootOperationType>, usize), Miss>
     requires { at ≤ length tokens.now }
-    ensures found { IfOk result (λ x. Enclosed IsRoot kind.BraceOpen kind.BraceClose (map root_view x.0.items) (from tokens.now at) (from tokens.now x.1)) }
+    ensures found { IfOk result (λ x. OptionalMany IsRoot kind.BraceOpen kind.BraceClose (map root_view x.0.items) (from tokens.now at) (from tokens.now x.1)) }
     ensures within { IfOk result (λ x. (at ≤ x.1) × (x.1 ≤ length tokens.now)) }
-    ensures none { IfErr result (λ miss. miss ≢ Miss.NoMemory → Lacks (Enclosed IsRoot kind.BraceOpen kind.BraceClose) (from tokens.now at)) }
+    ensures none { IfErr result (λ miss. miss ≢ Miss.NoMemory → Lacks (OptionalMany IsRoot kind.BraceOpen kind.BraceClose) (from tokens.now at)) }
 {
     match punctuator(Kind::BraceOpen, tokens, at) {
         Some(behind) => {
@@ -62,9 +62,9 @@ fn closed_roots(
     start: usize,
 ) -> Result<(Vec<RootOperationType>, usize), Miss>
     requires { start ≤ length tokens.now }
-    ensures found { IfOk result (λ x. Closed IsRoot kind.BraceClose (map root_view x.0.items) (from tokens.now start) (from tokens.now x.1)) }
+    ensures found { IfOk result (λ x. ManyUntil IsRoot kind.BraceClose (map root_view x.0.items) (from tokens.now start) (from tokens.now x.1)) }
     ensures within { IfOk result (λ x. (start < x.1) × (x.1 ≤ length tokens.now)) }
-    ensures none { IfErr result (λ miss. miss ≢ Miss.NoMemory → Lacks (Closed IsRoot kind.BraceClose) (from tokens.now start)) }
+    ensures none { IfErr result (λ miss. miss ≢ Miss.NoMemory → Lacks (ManyUntil IsRoot kind.BraceClose) (from tokens.now start)) }
 {
     let mut roots = Vec::new(alloc);
     let mut at = start;

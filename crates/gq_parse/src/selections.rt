@@ -5,7 +5,7 @@ ghost use Rattle.gq_text.specs.declared.place.Span.{Span};
 ghost use Rattle.gq_lex.specs.declared.token.Kind.TheVariants as kind;
 ghost use Rattle.gq_tree.specs.Plain.{NameOf, Sels};
 ghost use Rattle.gq_tree.specs.Views.{name_of, sel_view, sels_view, below_of, braces_of};
-ghost use Rattle.gq_parse.specs.Grammar.{Tokens, covered, Closed, NotNext, IsPunctuator, IsFragmentName, IsOptionalCondition, IsFieldName, IsOptionalSet, IsSelectionSet};
+ghost use Rattle.gq_parse.specs.Grammar.{Tokens, covered, ManyUntil, NotNext, IsPunctuator, IsFragmentName, IsOptionalCondition, IsFieldName, IsOptionalSet, IsSelectionSet};
 ghost use Rattle.gq_parse.specs.From.{from};
 ghost use Rattle.gq_parse.specs.Phrases.{Lacks, IsSel};
 
@@ -69,9 +69,9 @@ fn selections(
     start: usize,
 ) -> Result<(Vec<Selection>, usize), Miss>
     requires { start ≤ length tokens.now }
-    ensures found { IfOk result (λ x. Closed IsSel kind.BraceClose (map sel_view x.0.items) (from tokens.now start) (from tokens.now x.1)) }
+    ensures found { IfOk result (λ x. ManyUntil IsSel kind.BraceClose (map sel_view x.0.items) (from tokens.now start) (from tokens.now x.1)) }
     ensures within { IfOk result (λ x. (start < x.1) × (x.1 ≤ length tokens.now)) }
-    ensures none { IfErr result (λ miss. miss ≢ Miss.NoMemory → Lacks (Closed IsSel kind.BraceClose) (from tokens.now start)) }
+    ensures none { IfErr result (λ miss. miss ≢ Miss.NoMemory → Lacks (ManyUntil IsSel kind.BraceClose) (from tokens.now start)) }
 {
     let mut items = Vec::new(alloc);
     let mut at = start;

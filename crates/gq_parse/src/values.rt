@@ -4,7 +4,7 @@ ghost use Rattle.gq_text.specs.declared.place.Span.{Span};
 ghost use Rattle.gq_lex.specs.declared.token.Kind.TheVariants as kind;
 ghost use Rattle.gq_tree.specs.Plain.{under};
 ghost use Rattle.gq_tree.specs.Views.{name_of, value_view, entry_view, argument_view};
-ghost use Rattle.gq_parse.specs.Grammar.{Tokens, covered, Closed, IsArgument, IsArguments};
+ghost use Rattle.gq_parse.specs.Grammar.{Tokens, covered, ManyUntil, IsArgument, IsArguments};
 ghost use Rattle.gq_parse.specs.From.{from};
 ghost use Rattle.gq_parse.specs.Phrases.{Begins, Lacks, IsVariable, IsLoneValue};
 
@@ -184,9 +184,9 @@ fn values(
     start: usize,
 ) -> Result<(Vec<Value>, usize), Miss>
     requires { start ≤ length tokens.now }
-    ensures found { IfOk result (λ x. Closed (IsLoneValue constant) kind.BracketClose (map value_view x.0.items) (from tokens.now start) (from tokens.now x.1)) }
+    ensures found { IfOk result (λ x. ManyUntil (IsLoneValue constant) kind.BracketClose (map value_view x.0.items) (from tokens.now start) (from tokens.now x.1)) }
     ensures within { IfOk result (λ x. (start < x.1) × (x.1 ≤ length tokens.now)) }
-    ensures none { IfErr result (λ miss. miss ≢ Miss.NoMemory → Lacks (Closed (IsLoneValue constant) kind.BracketClose) (from tokens.now start)) }
+    ensures none { IfErr result (λ miss. miss ≢ Miss.NoMemory → Lacks (ManyUntil (IsLoneValue constant) kind.BracketClose) (from tokens.now start)) }
 {
     let mut items = Vec::new(alloc);
     let mut at = start;
@@ -243,9 +243,9 @@ fn object_fields(
     start: usize,
 ) -> Result<(Vec<ObjectField>, usize), Miss>
     requires { start ≤ length tokens.now }
-    ensures found { IfOk result (λ x. Closed (IsArgument constant) kind.BraceClose (map entry_view x.0.items) (from tokens.now start) (from tokens.now x.1)) }
+    ensures found { IfOk result (λ x. ManyUntil (IsArgument constant) kind.BraceClose (map entry_view x.0.items) (from tokens.now start) (from tokens.now x.1)) }
     ensures within { IfOk result (λ x. (start < x.1) × (x.1 ≤ length tokens.now)) }
-    ensures none { IfErr result (λ miss. miss ≢ Miss.NoMemory → Lacks (Closed (IsArgument constant) kind.BraceClose) (from tokens.now start)) }
+    ensures none { IfErr result (λ miss. miss ≢ Miss.NoMemory → Lacks (ManyUntil (IsArgument constant) kind.BraceClose) (from tokens.now start)) }
 {
     let mut fields = Vec::new(alloc);
     let mut at = start;
@@ -324,9 +324,9 @@ fn closed_arguments(
     start: usize,
 ) -> Result<(Vec<Argument>, usize), Miss>
     requires { start ≤ length tokens.now }
-    ensures found { IfOk result (λ x. Closed (IsArgument constant) kind.ParenClose (map argument_view x.0.items) (from tokens.now start) (from tokens.now x.1)) }
+    ensures found { IfOk result (λ x. ManyUntil (IsArgument constant) kind.ParenClose (map argument_view x.0.items) (from tokens.now start) (from tokens.now x.1)) }
     ensures within { IfOk result (λ x. (start < x.1) × (x.1 ≤ length tokens.now)) }
-    ensures none { IfErr result (λ miss. miss ≢ Miss.NoMemory → Lacks (Closed (IsArgument constant) kind.ParenClose) (from tokens.now start)) }
+    ensures none { IfErr result (λ miss. miss ≢ Miss.NoMemory → Lacks (ManyUntil (IsArgument constant) kind.ParenClose) (from tokens.now start)) }
 {
     let mut arguments = Vec::new(alloc);
     let mut at = start;

@@ -3,7 +3,7 @@ ghost use Rattle.std.specs.Prelude.{◌≡◌, ◌≢◌, true, ◌+◌, ◌<◌
 ghost use Rattle.std.specs.Option.{option_map};
 ghost use Rattle.gq_lex.specs.declared.token.Kind.TheVariants as kind;
 ghost use Rattle.gq_tree.specs.Views.{value_view, variable_view};
-ghost use Rattle.gq_parse.specs.Grammar.{Closed, IsDefaultValue, IsVariableDefinition, IsVariableDefinitions};
+ghost use Rattle.gq_parse.specs.Grammar.{ManyUntil, IsDefaultValue, IsVariableDefinition, IsVariableDefinitions};
 ghost use Rattle.gq_parse.specs.From.{from};
 ghost use Rattle.gq_parse.specs.Phrases.{Lacks};
 
@@ -45,9 +45,9 @@ fn closed_definitions(
     start: usize,
 ) -> Result<(Vec<VariableDefinition>, usize), Miss>
     requires { start ≤ length tokens.now }
-    ensures found { IfOk result (λ x. Closed IsVariableDefinition kind.ParenClose (map variable_view x.0.items) (from tokens.now start) (from tokens.now x.1)) }
+    ensures found { IfOk result (λ x. ManyUntil IsVariableDefinition kind.ParenClose (map variable_view x.0.items) (from tokens.now start) (from tokens.now x.1)) }
     ensures within { IfOk result (λ x. (start < x.1) × (x.1 ≤ length tokens.now)) }
-    ensures none { IfErr result (λ miss. miss ≢ Miss.NoMemory → Lacks (Closed IsVariableDefinition kind.ParenClose) (from tokens.now start)) }
+    ensures none { IfErr result (λ miss. miss ≢ Miss.NoMemory → Lacks (ManyUntil IsVariableDefinition kind.ParenClose) (from tokens.now start)) }
 {
     let mut variables = Vec::new(alloc);
     let mut at = start;

@@ -1,7 +1,7 @@
 //! The words that have a meaning in some place of a document.
 
 ghost use Rattle.std.specs.Prelude.{◌≡◌};
-ghost use Rattle.gq_parse.specs.Words.{word_of, other_word, locations, is_location};
+ghost use Rattle.gq_parse.specs.Helping.Words.{word_of, other_word, locations, is_location};
 
 use crate::expected::Word;
 

@@ -17,7 +17,7 @@ use Rattle.gq_rewrite.specs.Projects.{edit_if_any}
 use Rattle.gq_rewrite.proofs.EditedParts.{Part, documents_of, edits_of, made_in, after_parts, order_parts, fit_parts}
 use Rattle.gq_pieces.specs.declared.pieces.Piece.{Piece}
 use Rattle.gq_pieces.specs.Pieces.{edits_from, replacements_in}
-use Rattle.gq_pieces.specs.FittingPieces.{AllFit}
+use Rattle.gq_pieces.specs.Helping.FittingPieces.{AllFit}
 
 -- each document with its replacements
 abbrev pub parts_from : List Piece → ℕ → List Doc → List Part

@@ -4,7 +4,7 @@ ghost use Rattle.gq_edit.specs.Edits.{FitDocuments, is_moved};
 ghost use Rattle.gq_edit.specs.Replacements.{AreDisjoint, FitText};
 ghost use Rattle.gq_rewrite.specs.Projects.{edit_if_any};
 ghost use Rattle.gq_pieces.specs.Pieces.{edits_from, replacements_in};
-ghost use Rattle.gq_pieces.specs.FittingPieces.{AllFit};
+ghost use Rattle.gq_pieces.specs.Helping.FittingPieces.{AllFit};
 
 use gq_edit::{DocumentEdit, Edit, Replacements};
 use gq_project::{Doc, Project};

@@ -20,14 +20,14 @@ use Rattle.gq_spans.specs.Mentions.{MentionOf}
 use Rattle.gq_spans.specs.Views.{mention_view}
 use Rattle.gq_spans.specs.declared.mention.Mention.{Mention}
 use Rattle.gq_query.specs.Asked.{asked, AtMention}
-use Rattle.gq_query.specs.Gathered.{if_wanted, places_among, first_of}
+use Rattle.gq_query.specs.Helping.Gathered.{if_wanted, places_among, first_of}
 use Rattle.gq_query.specs.Groups.{StandsInGroup, variable_at}
 use Rattle.gq_query.specs.Hovers.{IsVariableTold}
 use Rattle.gq_query.specs.Words.{variable_words}
 use Rattle.gq_query.specs.Order.{occurrence_cmp, AreExactly}
 use Rattle.gq_query.specs.References.{IsReference, IsUse, IsDeclaration}
 use Rattle.gq_query.specs.Views.{definitions_view}
-use Rattle.gq_query.specs.Wants.{IsWanted}
+use Rattle.gq_query.specs.Helping.Wants.{IsWanted}
 use Rattle.gq_query.specs.declared.executables.Executable.{Executable}
 use Rattle.gq_query.proofs.Grouped.{in_group, in_past, first_in_group, first_past}
 

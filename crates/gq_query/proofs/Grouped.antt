@@ -13,7 +13,7 @@ use Rattle.gq_types.proofs.Gathered.{nothing_in, first, later, cases_cons, from_
 use Rattle.gq_index.specs.declared.occurrence.Occurrence.{Occurrence}
 use Rattle.gq_index.specs.Occurrences.{DefinitionOf, called, occurrences_of, places_called, definition_places, place_of}
 use Rattle.gq_index.specs.VariableGroups.{VariableGroup, itself, with_operation, with_fragment}
-use Rattle.gq_query.specs.Gathered.{first_of, occurrence_in, places_at, places_among}
+use Rattle.gq_query.specs.Helping.Gathered.{first_of, occurrence_in, places_at, places_among}
 use Rattle.gq_query.specs.Groups.{StandsInGroup, variable_in, variable_at, IsFirstInGroup, here, nowhere}
 
 -- past the last definition nothing else is in the group

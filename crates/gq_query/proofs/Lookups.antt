@@ -15,7 +15,7 @@ use Rattle.gq_types.proofs.PartLemmas.{numbered_at}
 use Rattle.gq_types.proofs.Searches.{find_through}
 use Rattle.gq_document.specs.Selections.{typename}
 use Rattle.gq_index.specs.declared.occurrence.Occurrence.{Occurrence}
-use Rattle.gq_query.specs.Gathered.{first_of, field_place_in, field_places_at}
+use Rattle.gq_query.specs.Helping.Gathered.{first_of, field_place_in, field_places_at}
 use Rattle.gq_query.specs.Places.{field_name_place, field_place, type_name_place, type_place}
 
 map_or : {A B : Type 0} (f : A → B) (a b : Option A) → option_map f (option_or a b) ≡ option_or (option_map f a) (option_map f b)

@@ -9,7 +9,7 @@ use Rattle.gq_query.specs.contracts.order.PlaceOrd.TheImpl as place_order
 use Rattle.gq_query.specs.contracts.order.PlacePartialEq.TheImpl as place_equality
 use Rattle.gq_query.specs.declared.order.Place.{Place}
 use Rattle.gq_query.specs.Order.{occurrence_cmp}
-use Rattle.gq_query.specs.Placed.{occurrence_view, place_view, place_cmp}
+use Rattle.gq_query.specs.Helping.Placed.{occurrence_view, place_view, place_cmp}
 
 cmp_is : (x y : Place) → place_order.ghosts.cmp x y ≡ place_cmp x y
 cmp_is x y = refl

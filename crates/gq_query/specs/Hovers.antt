@@ -4,8 +4,8 @@ use Rattle.std.specs.Option.{option_map}
 use Rattle.gq_text.specs.declared.place.Span.{Span}
 use Rattle.gq_tree.specs.Plain.{VariableOf}
 use Rattle.gq_project.specs.declared.document.Doc.{Doc}
-use Rattle.gq_read.specs.declared.reader.Reading.{Reading}
-use Rattle.gq_read.specs.Readings.{AreReadings}
+use Rattle.gq_read.specs.declared.reader.Parsed.{Parsed}
+use Rattle.gq_read.specs.Parsed.{AreParsed}
 use Rattle.gq_types.specs.Entries.{Text}
 use Rattle.gq_index.specs.Occurrences.{DefinitionOf, executables}
 use Rattle.gq_spans.specs.declared.mention.MentionKind.{MentionKind}
@@ -46,6 +46,6 @@ IsHoverAt documents ds (Some m) result = IsHoverOf documents ds m result
 
 -- the answer to a hover at an offset of the document of that key
 pub record IsHover (documents : List Doc) (key : List ℕ) (offset : ℕ) (result : Option Hover) : Type 0 where
-  pub readings : List Reading
-  pub are_readings : AreReadings documents readings
+  pub readings : List Parsed
+  pub are_readings : AreParsed documents readings
   pub is_hover : IsHoverAt documents (executables readings) (asked documents (executables readings) key offset) result

@@ -9,6 +9,4 @@ pub mod Hovers
 pub mod Definitions
 pub mod References
 pub mod Views
-pub mod Placed
-pub mod Gathered
-pub mod Wants
+pub mod Helping

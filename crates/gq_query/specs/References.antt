@@ -1,8 +1,8 @@
 -- Where fragments and variables are declared and used (LSP 3.17, "Find References Request").
 use Rattle.std.specs.Prelude.{ℕ, Bool, List, Contains, IsTrue, ◌⊎◌}
 use Rattle.gq_project.specs.declared.document.Doc.{Doc}
-use Rattle.gq_read.specs.declared.reader.Reading.{Reading}
-use Rattle.gq_read.specs.Readings.{AreReadings}
+use Rattle.gq_read.specs.declared.reader.Parsed.{Parsed}
+use Rattle.gq_read.specs.Parsed.{AreParsed}
 use Rattle.gq_types.specs.Entries.{Text}
 use Rattle.gq_index.specs.declared.occurrence.Occurrence.{Occurrence}
 use Rattle.gq_index.specs.VariableNames.{used_variables, defined_variables}
@@ -35,6 +35,6 @@ IsReference ds declared m o = IsUse ds m.kind m.name.text m.definition o ⊎ (Is
 
 -- the references to what the offset means in the document of that key; none where it means nothing
 pub record AreReferences (documents : List Doc) (key : List ℕ) (offset : ℕ) (declared : Bool) (found : List Occurrence) : Type 0 where
-  pub readings : List Reading
-  pub are_readings : AreReadings documents readings
+  pub readings : List Parsed
+  pub are_readings : AreParsed documents readings
   pub exactly : AreExactly (λ o. AtMention documents (executables readings) key offset (λ m. IsReference (executables readings) declared m o)) found

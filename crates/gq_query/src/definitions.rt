@@ -1,7 +1,7 @@
 //! Where what is named is defined (LSP 3.17, "Goto Definition Request").
 ghost use Rattle.std.specs.Prelude.{◌≡◌, List, [], ◌∷◌, Some, IfOk};
-ghost use Rattle.gq_read.specs.declared.reader.Reading.{Reading};
-ghost use Rattle.gq_read.specs.Readings.{AreReadings};
+ghost use Rattle.gq_read.specs.declared.reader.Parsed.{Parsed};
+ghost use Rattle.gq_read.specs.Parsed.{AreParsed};
 ghost use Rattle.gq_index.specs.Occurrences.{executables};
 ghost use Rattle.gq_spans.specs.declared.mention.MentionKind.TheVariants as kind;
 ghost use Rattle.gq_spans.specs.Views.{mention_view};
@@ -17,7 +17,7 @@ use crate::schemas::{field_place_by_schema, type_place_by_schema};
 use crate::wanted::{Wanted, wanted_places};
 use gq_index::Occurrence;
 use gq_project::Project;
-use gq_read::{Reading, read};
+use gq_read::{Parsed, read};
 use gq_schema::laws::documents_have_one_type_system;
 use gq_spans::{Mention, MentionKind};
 use gq_text::NoMemory;
@@ -42,11 +42,11 @@ pub fn definition(
 fn definition_in(
     alloc: Global,
     project: &Project,
-    readings: &[Reading],
+    readings: &[Parsed],
     key: &str,
     offset: usize,
 ) -> Result<Vec<Occurrence>, NoMemory>
-    requires { AreReadings project.now readings.now }
+    requires { AreParsed project.now readings.now }
     ensures { IfOk result (λ found. AreExactly (λ o. AtMention project.now (executables readings.now) key.now offset (λ m. IsDefinitionOf project.now (executables readings.now) m.kind m o)) found.items) }
 {
     let definitions = executables(alloc, readings)?;
@@ -66,7 +66,7 @@ fn definition_of(
     definitions: &[Executable<'_>],
     mention: &Mention<'_>,
 ) -> Result<Vec<Occurrence>, NoMemory>
-    ensures { IfOk result (λ found. (readings : List Reading) → AreReadings project.now readings → definitions_view definitions.now ≡ executables readings → AreExactly (IsDefinitionOf project.now (executables readings) (mention_view mention.now).kind (mention_view mention.now)) found.items) }
+    ensures { IfOk result (λ found. (readings : List Parsed) → AreParsed project.now readings → definitions_view definitions.now ≡ executables readings → AreExactly (IsDefinitionOf project.now (executables readings) (mention_view mention.now).kind (mention_view mention.now)) found.items) }
 {
     match mention.kind {
         MentionKind::Fragment => declarations_of(alloc, project, mention),
@@ -82,7 +82,7 @@ fn declarations_of(
     project: &Project,
     mention: &Mention<'_>,
 ) -> Result<Vec<Occurrence>, NoMemory>
-    ensures { IfOk result (λ found. (readings : List Reading) → AreReadings project.now readings → AreExactly (IsDeclaration (executables readings) (mention_view mention.now).kind (mention_view mention.now).name.text (mention_view mention.now).definition) found.items) }
+    ensures { IfOk result (λ found. (readings : List Parsed) → AreParsed project.now readings → AreExactly (IsDeclaration (executables readings) (mention_view mention.now).kind (mention_view mention.now).name.text (mention_view mention.now).definition) found.items) }
 {
     let wanted = Wanted {
         uses: false,
@@ -111,7 +111,7 @@ fn condition_definition(
     project: &Project,
     mention: &Mention<'_>,
 ) -> Result<Vec<Occurrence>, NoMemory>
-    ensures { IfOk result (λ found. (readings : List Reading) → AreExactly (IsDefinitionOf project.now (executables readings) kind.Condition (mention_view mention.now)) found.items) }
+    ensures { IfOk result (λ found. (readings : List Parsed) → AreExactly (IsDefinitionOf project.now (executables readings) kind.Condition (mention_view mention.now)) found.items) }
 {
     documents_have_one_type_system();
     let place = type_place_by_schema(alloc, project, mention.name.text.as_str())?;

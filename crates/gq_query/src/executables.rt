@@ -5,7 +5,7 @@ ghost use Rattle.gq_document.specs.Definitions.{in_document};
 ghost use Rattle.gq_index.specs.Occurrences.{executable_in, executables};
 ghost use Rattle.gq_query.specs.Views.{definitions_view};
 
-use gq_read::Reading;
+use gq_read::Parsed;
 use gq_text::NoMemory;
 use gq_tree::Definition;
 use std::alloc::Global;
@@ -21,7 +21,7 @@ pub(crate) struct Executable<'a> {
 /// The operations and fragments of the documents, in their order.
 pub(crate) fn executables<'a>(
     alloc: Global,
-    readings: &'a [Reading],
+    readings: &'a [Parsed],
 ) -> Result<Vec<Executable<'a>>, NoMemory>
     ensures { IfOk result (λ all. definitions_view all.items ≡ executables readings.now) }
 {
@@ -34,15 +34,15 @@ pub(crate) fn executables<'a>(
 
 fn put_reading<'a>(
     file: usize,
-    reading: &'a Reading,
+    reading: &'a Parsed,
     all: &mut Vec<Executable<'a>>,
 ) -> Result<(), NoMemory>
     ensures { OnOk result (definitions_view all.new.items ≡ definitions_view all.old.items ++ in_document executable_in file reading.now) }
 {
     match reading {
-        Reading::Tree(document) => put_all(file, &document.definitions, all),
-        Reading::Syntax { .. } => Ok(()),
-        Reading::Limit { .. } => Ok(()),
+        Parsed::Tree(document) => put_all(file, &document.definitions, all),
+        Parsed::Syntax { .. } => Ok(()),
+        Parsed::Limit { .. } => Ok(()),
     }
 }
 

@@ -3,7 +3,7 @@ ghost use Rattle.std.specs.Prelude.{◌≡◌, ◌++◌, ℕ, List, IfOk, OnOk, 
 ghost use Rattle.gq_index.specs.Indexed.{IsIndexOf};
 ghost use Rattle.gq_index.specs.Occurrences.{DefinitionOf, fragment_definitions, fragment_spreads};
 ghost use Rattle.gq_index.specs.VariableNames.{used_variables, defined_variables};
-ghost use Rattle.gq_query.specs.Gathered.{places_at, places_among, occurrence_in};
+ghost use Rattle.gq_query.specs.Helping.Gathered.{places_at, places_among, occurrence_in};
 
 use gq_index::{Index, Occurrence};
 use gq_text::{NoMemory, Span};

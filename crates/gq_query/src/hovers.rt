@@ -1,7 +1,7 @@
 //! What a hover tells (LSP 3.17, "Hover Request").
 ghost use Rattle.std.specs.Prelude.{◌≡◌, List, IfOk};
-ghost use Rattle.gq_read.specs.declared.reader.Reading.{Reading};
-ghost use Rattle.gq_read.specs.Readings.{AreReadings};
+ghost use Rattle.gq_read.specs.declared.reader.Parsed.{Parsed};
+ghost use Rattle.gq_read.specs.Parsed.{AreParsed};
 ghost use Rattle.gq_index.specs.Occurrences.{executables};
 ghost use Rattle.gq_spans.specs.Views.{mention_view};
 ghost use Rattle.gq_query.specs.Asked.{asked};
@@ -15,7 +15,7 @@ use crate::schemas::{condition_told_by_schema, field_told_by_schema};
 use crate::told::Hover;
 use crate::variables::variable_told;
 use gq_project::Project;
-use gq_read::{Reading, read};
+use gq_read::{Parsed, read};
 use gq_spans::{Mention, MentionKind};
 use gq_text::{NoMemory, OwnedText};
 use std::alloc::Global;
@@ -38,11 +38,11 @@ pub fn hover(
 fn hover_in(
     alloc: Global,
     project: &Project,
-    readings: &[Reading],
+    readings: &[Parsed],
     key: &str,
     offset: usize,
 ) -> Result<Option<Hover>, NoMemory>
-    requires { AreReadings project.now readings.now }
+    requires { AreParsed project.now readings.now }
     ensures { IfOk result (IsHoverAt project.now (executables readings.now) (asked project.now (executables readings.now) key.now offset)) }
 {
     let definitions = executables(alloc, readings)?;
@@ -59,7 +59,7 @@ fn hover_of(
     definitions: &[Executable<'_>],
     mention: &Mention<'_>,
 ) -> Result<Option<Hover>, NoMemory>
-    ensures { IfOk result (λ found. (readings : List Reading) → AreReadings project.now readings → definitions_view definitions.now ≡ executables readings → IsHoverOf project.now (executables readings) (mention_view mention.now) found) }
+    ensures { IfOk result (λ found. (readings : List Parsed) → AreParsed project.now readings → definitions_view definitions.now ≡ executables readings → IsHoverOf project.now (executables readings) (mention_view mention.now) found) }
 {
     match told_of(alloc, project, definitions, mention)? {
         Some(value) => Ok(Some(Hover {
@@ -76,7 +76,7 @@ fn told_of(
     definitions: &[Executable<'_>],
     mention: &Mention<'_>,
 ) -> Result<Option<OwnedText>, NoMemory>
-    ensures { IfOk result (λ told. (readings : List Reading) → AreReadings project.now readings → definitions_view definitions.now ≡ executables readings → IsToldOf project.now (executables readings) (mention_view mention.now).kind (mention_view mention.now) told) }
+    ensures { IfOk result (λ told. (readings : List Parsed) → AreParsed project.now readings → definitions_view definitions.now ≡ executables readings → IsToldOf project.now (executables readings) (mention_view mention.now).kind (mention_view mention.now) told) }
 {
     match mention.kind {
         MentionKind::Fragment => fragment_told(alloc, definitions, mention.name.text.as_str()),

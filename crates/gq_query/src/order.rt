@@ -2,7 +2,7 @@
 ghost use Rattle.std.specs.Prelude.{◌≡◌, ◌↔◌, Contains, IfOk, map};
 ghost use Rattle.std.specs.List.Sorted.{IsStrictlySortedBy};
 ghost use Rattle.gq_query.specs.Order.{occurrence_cmp};
-ghost use Rattle.gq_query.specs.Placed.{occurrence_view, place_view, place_cmp};
+ghost use Rattle.gq_query.specs.Helping.Placed.{occurrence_view, place_view, place_cmp};
 
 use gq_index::Occurrence;
 use gq_text::{NoMemory, Span};

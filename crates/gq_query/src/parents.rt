@@ -3,8 +3,9 @@ ghost use Rattle.std.specs.Prelude.{◌≡◌, ◌++◌, Some, IfOk, OnOk, find,
 ghost use Rattle.std.specs.Option.{option_map};
 ghost use Rattle.gq_tree.specs.Views.{sel_view, sels_view, def_view};
 ghost use Rattle.gq_types.specs.Look.{types_view, text_of};
-ghost use Rattle.gq_document.specs.Selections.{selected_field, base_name, selected_among};
-ghost use Rattle.gq_document.specs.Trees.{selected_in};
+ghost use Rattle.gq_document.specs.Selections.{selected_field, selected_among};
+ghost use Rattle.gq_tree.specs.NamedTypes.{base_name};
+ghost use Rattle.gq_document.specs.Helping.Trees.{selected_in};
 ghost use Rattle.gq_document.specs.Views.{selections_view};
 ghost use Rattle.gq_query.specs.Parents.{is_field_at, selections_in, parent_at};
 ghost use Rattle.gq_query.specs.Views.{definition_view};

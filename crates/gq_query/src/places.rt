@@ -5,7 +5,7 @@ ghost use Rattle.gq_tree.specs.Views.{field_definition_view, type_system_view};
 ghost use Rattle.gq_types.specs.BuiltIn.{built_in_scalars};
 ghost use Rattle.gq_types.specs.Look.{types_view};
 ghost use Rattle.gq_query.specs.Places.{field_place, type_place, type_name_place};
-ghost use Rattle.gq_query.specs.Gathered.{field_places_at, field_place_in, first_of};
+ghost use Rattle.gq_query.specs.Helping.Gathered.{field_places_at, field_place_in, first_of};
 
 use gq_index::Occurrence;
 use gq_tree::{FieldDefinition, TypeSystemDefinition};

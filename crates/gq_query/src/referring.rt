@@ -1,7 +1,7 @@
 //! Where fragments and variables are used (LSP 3.17, "Find References Request").
 ghost use Rattle.std.specs.Prelude.{List, IfOk};
-ghost use Rattle.gq_read.specs.declared.reader.Reading.{Reading};
-ghost use Rattle.gq_read.specs.Readings.{AreReadings};
+ghost use Rattle.gq_read.specs.declared.reader.Parsed.{Parsed};
+ghost use Rattle.gq_read.specs.Parsed.{AreParsed};
 ghost use Rattle.gq_index.specs.Occurrences.{executables};
 ghost use Rattle.gq_spans.specs.Views.{mention_view};
 ghost use Rattle.gq_query.specs.Asked.{AtMention};
@@ -13,7 +13,7 @@ use crate::executables::executables;
 use crate::wanted::{Wanted, wanted_places};
 use gq_index::Occurrence;
 use gq_project::Project;
-use gq_read::{Reading, read};
+use gq_read::{Parsed, read};
 use gq_spans::Mention;
 use gq_text::NoMemory;
 use std::alloc::Global;
@@ -38,12 +38,12 @@ pub fn references(
 fn references_in(
     alloc: Global,
     project: &Project,
-    readings: &[Reading],
+    readings: &[Parsed],
     key: &str,
     offset: usize,
     declared: bool,
 ) -> Result<Vec<Occurrence>, NoMemory>
-    requires { AreReadings project.now readings.now }
+    requires { AreParsed project.now readings.now }
     ensures { IfOk result (λ found. AreExactly (λ o. AtMention project.now (executables readings.now) key.now offset (λ m. IsReference (executables readings.now) declared m o)) found.items) }
 {
     let definitions = executables(alloc, readings)?;
@@ -63,7 +63,7 @@ fn references_of(
     mention: &Mention<'_>,
     declared: bool,
 ) -> Result<Vec<Occurrence>, NoMemory>
-    ensures { IfOk result (λ found. (readings : List Reading) → AreReadings project.now readings → AreExactly (IsReference (executables readings) declared (mention_view mention.now)) found.items) }
+    ensures { IfOk result (λ found. (readings : List Parsed) → AreParsed project.now readings → AreExactly (IsReference (executables readings) declared (mention_view mention.now)) found.items) }
 {
     let wanted = Wanted {
         uses: true,

@@ -3,13 +3,13 @@ ghost use Rattle.std.specs.Prelude.{◌≡◌, ◌<◌, ◌≤◌, ◌↔◌, �
 ghost use Rattle.std.specs.Option.{option_map};
 ghost use Rattle.std.specs.List.Sorted.{IsStrictlyIncreasing};
 ghost use Rattle.gq_tree.specs.Views.{variable_view, def_view};
-ghost use Rattle.gq_read.specs.declared.reader.Reading.{Reading};
-ghost use Rattle.gq_read.specs.Readings.{AreReadings};
+ghost use Rattle.gq_read.specs.declared.reader.Parsed.{Parsed};
+ghost use Rattle.gq_read.specs.Parsed.{AreParsed};
 ghost use Rattle.gq_index.specs.Indexed.{IsIndexOf};
 ghost use Rattle.gq_index.specs.Occurrences.{DefinitionOf, executables};
 ghost use Rattle.gq_index.specs.VariableGroups.{VariableGroup};
 ghost use Rattle.gq_spans.specs.Views.{mention_view};
-ghost use Rattle.gq_query.specs.Gathered.{first_of};
+ghost use Rattle.gq_query.specs.Helping.Gathered.{first_of};
 ghost use Rattle.gq_query.specs.Groups.{variable_in, variable_at};
 ghost use Rattle.gq_query.specs.Hovers.{IsVariableTold};
 ghost use Rattle.gq_query.specs.Views.{definitions_view, found_variable};
@@ -32,7 +32,7 @@ pub(crate) fn variable_told(
     definitions: &[Executable<'_>],
     mention: &Mention<'_>,
 ) -> Result<Option<OwnedText>, NoMemory>
-    ensures { IfOk result (λ told. (readings : List Reading) → AreReadings project.now readings → definitions_view definitions.now ≡ executables readings → IsVariableTold (executables readings) (mention_view mention.now).name.text mention.now.definition told) }
+    ensures { IfOk result (λ told. (readings : List Parsed) → AreParsed project.now readings → definitions_view definitions.now ≡ executables readings → IsVariableTold (executables readings) (mention_view mention.now).name.text mention.now.definition told) }
 {
     documents_have_one_list();
     let index = Index::of(alloc, project)?;

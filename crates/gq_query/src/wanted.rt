@@ -1,15 +1,15 @@
 //! Where a fragment or a variable is used and declared in a project.
 ghost use Rattle.std.specs.Prelude.{◌≡◌, ◌↔◌, ◌++◌, ℕ, List, Contains, IfOk, OnOk};
-ghost use Rattle.gq_read.specs.declared.reader.Reading.{Reading};
-ghost use Rattle.gq_read.specs.Readings.{AreReadings};
+ghost use Rattle.gq_read.specs.declared.reader.Parsed.{Parsed};
+ghost use Rattle.gq_read.specs.Parsed.{AreParsed};
 ghost use Rattle.gq_index.specs.declared.occurrence.Occurrence.{Occurrence};
 ghost use Rattle.gq_index.specs.Indexed.{IsIndexOf};
 ghost use Rattle.gq_index.specs.Occurrences.{DefinitionOf, executables, fragment_definitions, fragment_spreads};
 ghost use Rattle.gq_index.specs.VariableNames.{used_variables, defined_variables};
 ghost use Rattle.gq_spans.specs.Views.{mention_view};
-ghost use Rattle.gq_query.specs.Gathered.{places_among, if_wanted};
+ghost use Rattle.gq_query.specs.Helping.Gathered.{places_among, if_wanted};
 ghost use Rattle.gq_query.specs.Order.{AreExactly};
-ghost use Rattle.gq_query.specs.Wants.{IsWanted};
+ghost use Rattle.gq_query.specs.Helping.Wants.{IsWanted};
 
 use crate::groups::{put_definitions, put_uses};
 use crate::order::in_order;
@@ -34,7 +34,7 @@ pub(crate) fn wanted_places(
     mention: &Mention<'_>,
     wanted: Wanted,
 ) -> Result<Vec<Occurrence>, NoMemory>
-    ensures { IfOk result (λ found. (readings : List Reading) → AreReadings project.now readings → AreExactly (IsWanted (executables readings) wanted.uses wanted.declarations (mention_view mention.now)) found.items) }
+    ensures { IfOk result (λ found. (readings : List Parsed) → AreParsed project.now readings → AreExactly (IsWanted (executables readings) wanted.uses wanted.declarations (mention_view mention.now)) found.items) }
 {
     documents_have_one_list();
     let index = Index::of(alloc, project)?;

@@ -10,7 +10,7 @@ use Rattle.std.proofs.lemmas.Bool.{cases_lt, false≢true}
 use Rattle.gq_reach.specs.Reach.{Reach, start, step, LeadsBack, row, InRange, NoneTwice}
 use Rattle.gq_reach.specs.Found.{Marked, Added}
 use Rattle.gq_reach.specs.Finished.{Finished}
-use Rattle.gq_reach.specs.Turned.{Turned}
+use Rattle.gq_reach.specs.Transposed.{Transposed}
 use Rattle.gq_reach.specs.Components.{Led, Closed, Also, SomeMarked, Collected}
 use Rattle.gq_reach.proofs.Ways.{contains_nothing, contains_one, one_contains, way_on, way_of, way_from, way_back, way_starts, way_into, FirstStep, first_step, Beyond, beyond, Parts, finished_pop}
 use Rattle.gq_reach.proofs.Marking.{marked_at}
@@ -184,7 +184,7 @@ pub record Components (rows back : List (Vec ℕ Global)) (order : List ℕ) (fo
   pub sound : (n : ℕ) → At marks n → LeadsBack (row rows) n
   pub complete : (n : ℕ) → Contains found n → LeadsBack (row rows) n → At marks n
 
-led_closed : (rows back : List (Vec ℕ Global)) (found : List ℕ) → Turned rows back → Led (row back) found found →
+led_closed : (rows back : List (Vec ℕ Global)) (found : List ℕ) → Transposed rows back → Led (row back) found found →
     (m n : ℕ) → Contains found n → Contains (row rows m) n → Contains found m
 led_closed rows back found t led m n h on =
     All-contains (λ k. Contains found k) (row back n) m
@@ -192,7 +192,7 @@ led_closed rows back found t led m n h on =
 
 -- One turn of a table: what was found before and after it.
 pub turn : (rows back : List (Vec ℕ Global)) (l : List ℕ) (v : ℕ) (marks' : List Bool) (found found' added : List ℕ) →
-    InRange rows → Turned rows back → Finished (row rows) (l ++ v ∷ []) → ((n : ℕ) → n < length rows → Contains (l ++ v ∷ []) n ⊎ Contains found n) →
+    InRange rows → Transposed rows back → Finished (row rows) (l ++ v ∷ []) → ((n : ℕ) → n < length rows → Contains (l ++ v ∷ []) n ⊎ Contains found n) →
     Led (row back) found found → Led (row back) found' found' → found' ≡ found ++ added → Contains found' v → All (λ n. Reach (v ∷ []) (row back) n) added →
     Marked marks' found' → length marks' ≡ length rows → Turn (row rows) (length rows) l v found found' added
 turn rows back l v marks' found found' added range t order all led led' is here taken m e =
@@ -213,7 +213,7 @@ turn rows back l v marks' found found' added range t order all led led' is here 
     }
 
 pub components_next : (rows back : List (Vec ℕ Global)) (l : List ℕ) (v : ℕ) (found_marks found_marks' marks marks' : List Bool) (found found' : List ℕ) →
-    InRange rows → Turned rows back → Components rows back (l ++ v ∷ []) found_marks found marks →
+    InRange rows → Transposed rows back → Components rows back (l ++ v ∷ []) found_marks found marks →
     Collected (row rows v) (row back) v found found' marks marks' → Marked found_marks' found' → length found_marks' ≡ length rows →
     length marks' ≡ length marks → Components rows back l found_marks' found' marks'
 components_next rows back l v found_marks found_marks' marks marks' found found' range t k c m e same =

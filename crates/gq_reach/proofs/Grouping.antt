@@ -8,7 +8,7 @@ use Rattle.std.proofs.lemmas.List.Elements.{Contains-append_left, Contains-appen
 use Rattle.gq_reach.specs.Reach.{Reach, LeadToEachOther, row, InRange}
 use Rattle.gq_reach.specs.Found.{Marked}
 use Rattle.gq_reach.specs.Finished.{Finished}
-use Rattle.gq_reach.specs.Turned.{Turned}
+use Rattle.gq_reach.specs.Transposed.{Transposed}
 use Rattle.gq_reach.specs.Components.{Led}
 use Rattle.gq_reach.specs.Mutual.{Assigned, Gathered}
 use Rattle.gq_reach.proofs.Ways.{contains_nothing, way_on, way_into}
@@ -78,7 +78,7 @@ module _ (next : ℕ → List ℕ) (count : ℕ) (l : List ℕ) (v : ℕ) (found
       ]
 
 pub groups_next : (rows back : List (Vec ℕ Global)) (l : List ℕ) (v : ℕ) (found_marks found_marks' : List Bool) (found found' components components' : List ℕ) →
-    InRange rows → Turned rows back → Groups rows back (l ++ v ∷ []) found_marks found components → Gathered (row back) v found found' components components' →
+    InRange rows → Transposed rows back → Groups rows back (l ++ v ∷ []) found_marks found components → Gathered (row back) v found found' components components' →
     Marked found_marks' found' → length found_marks' ≡ length rows → length components' ≡ length components → Groups rows back l found_marks' found' components'
 groups_next rows back l v found_marks found_marks' found found' components components' range t k g m e same =
     let u : Turn (row rows) (length rows) l v found found' g.added =

@@ -6,7 +6,7 @@ use Rattle.std.specs.declared.alloc.Global.{Global}
 use Rattle.std.proofs.lemmas.List.Elements.{Contains-append_left, Contains-append_right, Contains-push, Contains-push_cases, Contains-get_or, All-nil, All-append, All-weaker, All-contains, All-cons, All-head, All-tail}
 use Rattle.std.proofs.lemmas.Bool.{cases_eq, cases_lt}
 use Rattle.gq_reach.specs.Reach.{row, InRange}
-use Rattle.gq_reach.specs.Turned.{Put, Turned}
+use Rattle.gq_reach.specs.Transposed.{Put, Transposed}
 use Rattle.gq_reach.proofs.Searching.{row_at}
 use Rattle.gq_reach.proofs.Ways.{contains_nothing}
 
@@ -119,7 +119,7 @@ turned_next rows m old new t e p = record {
 }
 
 pub turned_ends : (rows : List (Vec ℕ Global)) (done : ℕ) (back : List (Vec ℕ Global)) → TurnedBelow rows done back →
-    length rows ≤ done → Turned rows back
+    length rows ≤ done → Transposed rows back
 turned_ends rows done back t all = record {
   count = t.count;
   sound = t.sound;
@@ -127,7 +127,7 @@ turned_ends rows done back t all = record {
 }
 
 -- a table that is turned round stays in range
-pub turned_in_range : (rows back : List (Vec ℕ Global)) → Turned rows back → InRange back
+pub turned_in_range : (rows back : List (Vec ℕ Global)) → Transposed rows back → InRange back
 turned_in_range rows back t k d lt i e b =
     let v : Vec ℕ Global = get_or back k d in
     let at : row back k ≡ v.items = row_at back k d lt in

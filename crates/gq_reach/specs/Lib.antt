@@ -1,6 +1,6 @@
 pub mod Reach
 pub mod Found
-pub mod Turned
+pub mod Transposed
 pub mod Finished
 pub mod Components
 pub mod Mutual

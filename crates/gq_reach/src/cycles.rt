@@ -11,7 +11,7 @@ ghost use Rattle.gq_reach.specs.Components.{Led, SomeMarked, Collected};
 use crate::closing::close;
 use crate::found::Found;
 use crate::marks::mark_all;
-use crate::turned::turned;
+use crate::transposed::transposed;
 use crate::walk::finished;
 use gq_text::NoMemory;
 use std::alloc::Global;
@@ -23,7 +23,7 @@ pub fn on_cycles(alloc: Global, rows: &[Vec<usize>]) -> Result<Vec<bool>, NoMemo
     ensures count { IfOk result (λ marks. length marks.items ≡ length rows.now) }
     ensures exact { IfOk result (λ marks. (n : ℕ) → n < length rows.now → IsTrue (slice_index_or marks.items n false) ↔ LeadsBack (row rows.now) n) }
 {
-    let back = turned(alloc, rows)?;
+    let back = transposed(alloc, rows)?;
     let mut order = finished(alloc, rows)?;
     let mut found = Found::new(alloc, rows.len())?;
     let mut marks = vec![in alloc; false; rows.len()]?;

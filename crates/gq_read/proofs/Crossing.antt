@@ -12,7 +12,7 @@ use Rattle.gq_tree.proofs.value.Variable.TheSendSync as Variable
 use Rattle.gq_tree.proofs.types.TypeRef.TheLaws.TheKnot.{send-TypeRef, sync-TypeRef}
 use Rattle.gq_tree.proofs.value.Value.TheLaws.TheKnot.{send-Value, sync-Value}
 use Rattle.gq_tree.proofs.tree.Selection.TheLaws.TheKnot.{send-SelectionSet, sync-SelectionSet, sync-Selection}
-use Rattle.gq_read.specs.contracts.reader.Reading as ReadingType
+use Rattle.gq_read.specs.contracts.reader.Parsed as ReadingType
 use Rattle.gq_tree.specs.contracts.types.TypeRef as TypeRefType
 use Rattle.gq_tree.specs.contracts.value.Value as ValueType
 use Rattle.gq_tree.specs.contracts.value.Argument as ArgumentType
@@ -200,5 +200,5 @@ Definition-send = search (sendable, crosses, Definition-field_send) depth 12
 Document-field_send : IsSend (DocumentType.the_field).row
 Document-field_send = search (sendable, crosses, Definition-send) depth 12
 
-pub Reading-send : IsSend ReadingType.the_row
-Reading-send = search (sendable, crosses, Document-field_send) depth 12
+pub Parsed-send : IsSend ReadingType.the_row
+Parsed-send = search (sendable, crosses, Document-field_send) depth 12

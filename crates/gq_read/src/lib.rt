@@ -3,4 +3,4 @@
 
 pub mod reader;
 
-pub use reader::{Reading, read, read_by_threads};
+pub use reader::{Parsed, read, read_by_threads};

@@ -1,5 +1,5 @@
 //! The trees of the documents of a project.
-ghost use Rattle.gq_read.specs.Readings.{IsReading, AreReadings};
+ghost use Rattle.gq_read.specs.Parsed.{IsParsed, AreParsed};
 ghost use Rattle.std.specs.Prelude.{◌≤◌, IfOk, length};
 ghost use Rattle.std.specs.Thread.{IsSync};
 
@@ -12,7 +12,7 @@ use std::thread::{Threads, join};
 
 /// The tree of a text, or why it has none. Places are offsets in bytes.
 #[derive(Drop)]
-pub enum Reading {
+pub enum Parsed {
     Tree(Document),
     /// The text is no document, and this is the first place at which that shows.
     Syntax { place: usize },
@@ -21,8 +21,8 @@ pub enum Reading {
 }
 
 /// The readings of these documents, one for each, in their order.
-pub fn read(alloc: Global, documents: &[Doc]) -> Result<Vec<Reading>, NoMemory>
-    ensures { IfOk result (λ readings. AreReadings documents.now readings.items) }
+pub fn read(alloc: Global, documents: &[Doc]) -> Result<Vec<Parsed>, NoMemory>
+    ensures { IfOk result (λ readings. AreParsed documents.now readings.items) }
 {
     let mut readings = Vec::new(alloc);
     for document in documents {
@@ -39,8 +39,8 @@ pub fn read_by_threads<R: Threads + Sync>(
     rt: &R,
     alloc: Global,
     documents: &[Doc],
-) -> Result<Vec<Reading>, NoMemory>
-    ensures { IfOk result (λ readings. AreReadings documents.now readings.items) }
+) -> Result<Vec<Parsed>, NoMemory>
+    ensures { IfOk result (λ readings. AreParsed documents.now readings.items) }
 {
     read_halves(rt, alloc, documents, HALVINGS)
 }
@@ -76,21 +76,21 @@ fn read_halves<R: Threads + Sync>(
     alloc: Global,
     documents: &[Doc],
     halvings: usize,
-) -> Result<Vec<Reading>, NoMemory>
-    ensures { IfOk result (λ readings. AreReadings documents.now readings.items) }
+) -> Result<Vec<Parsed>, NoMemory>
+    ensures { IfOk result (λ readings. AreParsed documents.now readings.items) }
 {
     if halvings == 0 || documents.len() < 2 {
         return read(alloc, documents);
     }
     let left = halvings - 1;
     let (front, back) = documents.split_at(middle_of(documents));
-    let read_front = || -> Result<Vec<Reading>, NoMemory>
+    let read_front = || -> Result<Vec<Parsed>, NoMemory>
         requires { IsSync R.row }
-        ensures { IfOk result (λ readings. AreReadings front.entry.now readings.items) }
+        ensures { IfOk result (λ readings. AreParsed front.entry.now readings.items) }
     { read_halves(rt, alloc, front, left) };
-    let read_back = || -> Result<Vec<Reading>, NoMemory>
+    let read_back = || -> Result<Vec<Parsed>, NoMemory>
         requires { IsSync R.row }
-        ensures { IfOk result (λ readings. AreReadings back.entry.now readings.items) }
+        ensures { IfOk result (λ readings. AreParsed back.entry.now readings.items) }
     { read_halves(rt, alloc, back, left) };
     let (front, back) = join(rt, read_front, read_back);
     let mut readings = front?;
@@ -99,13 +99,13 @@ fn read_halves<R: Threads + Sync>(
 }
 
 /// The reading of one text.
-pub fn read_text(alloc: Global, text: &str) -> Result<Reading, NoMemory>
-    ensures { IfOk result (λ reading. IsReading text.now reading) }
+pub fn read_text(alloc: Global, text: &str) -> Result<Parsed, NoMemory>
+    ensures { IfOk result (λ reading. IsParsed text.now reading) }
 {
     match parse(alloc, text) {
-        Ok(document) => Ok(Reading::Tree(document)),
-        Err(Fault::Syntax { place }) => Ok(Reading::Syntax { place }),
-        Err(Fault::Limit { place }) => Ok(Reading::Limit { place }),
+        Ok(document) => Ok(Parsed::Tree(document)),
+        Err(Fault::Syntax { place }) => Ok(Parsed::Syntax { place }),
+        Err(Fault::Limit { place }) => Ok(Parsed::Limit { place }),
         Err(Fault::NoMemory) => Err(NoMemory),
     }
 }

@@ -5,8 +5,8 @@ use Rattle.std.proofs.lemmas.Grind.{not_there}
 use Rattle.gq_project.specs.declared.document.Doc.{Doc}
 use Rattle.gq_edit.specs.declared.edit.DocumentEdit.{DocumentEdit}
 use Rattle.gq_edit.specs.Edits.{FitDocuments, after_edit, is_too_large}
-use Rattle.gq_read.specs.declared.reader.Reading.{Reading}
-use Rattle.gq_read.specs.Readings.{AreReadings}
+use Rattle.gq_read.specs.declared.reader.Parsed.{Parsed}
+use Rattle.gq_read.specs.Parsed.{AreParsed}
 use Rattle.gq_index.specs.Occurrences.{DefinitionOf, executables}
 use Rattle.gq_rewrite.specs.Names.{IsNameText}
 use Rattle.gq_rewrite.specs.Renamings.{Renaming, MayName}
@@ -21,8 +21,8 @@ use Rattle.gq_rename.specs.Refusals.{number_of}
 use Rattle.gq_rename.specs.Asks.{RenameAsk, trees_of, target_of, MayBeCalled, IsTaken, Changes, fragments, variables}
 use Rattle.gq_rename.specs.Rename.{Renames, cut, AtTarget, IsTooLarge, ReadsAsRenamed, PassesCheck, Refuses, IsRenameAnswer, KeepsTrees}
 use Rattle.gq_rename.specs.Sound.{IsSound, edits_by}
-use Rattle.gq_rename.specs.NameRefusals.{IsNameRefusal}
-use Rattle.gq_rename.specs.Checked.{IsChecked}
+use Rattle.gq_rename.specs.Helping.NameRefusals.{IsNameRefusal}
+use Rattle.gq_rename.specs.Helping.Checked.{IsChecked}
 use Rattle.gq_rename.proofs.Edited.{too_large}
 use Rattle.gq_rename.proofs.Groups.{one_rule}
 
@@ -38,7 +38,7 @@ may_name_each {old = old} new (variables {group = group} is) may = may_name grou
 abbrev pub ask_of : List ℕ → ℕ → List ℕ → RenameAsk
 ask_of key offset new = record { key = key; offset = offset; new = new }
 
-module _ (documents : List Doc) (rs : List Reading) (key : List ℕ) (offset : ℕ) (new : List ℕ) (are : AreReadings documents rs) (valid : ∥ IsValid documents ∥₁) where
+module _ (documents : List Doc) (rs : List Parsed) (key : List ℕ) (offset : ℕ) (new : List ℕ) (are : AreParsed documents rs) (valid : ∥ IsValid documents ∥₁) where
   abbrev Refused : Refusal → Type 0
   Refused = Refuses documents rs (ask_of key offset new)
 

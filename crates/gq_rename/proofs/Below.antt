@@ -8,7 +8,7 @@ use Rattle.gq_tree.specs.Forest.{labels, labels_in}
 use Rattle.gq_tree.specs.Plain.{Says, Part, Val, DirectiveOf, VariableOf, Head, Sels, Def, variable, int, float, string, boolean, null, enum, list, object, field, spread, inline, operation, fragment, type_system}
 use Rattle.gq_project.specs.declared.document.Doc.{Doc}
 use Rattle.gq_project.specs.Documents.{has_key}
-use Rattle.gq_read.specs.declared.reader.Reading.{Reading}
+use Rattle.gq_read.specs.declared.reader.Parsed.{Parsed}
 use Rattle.gq_document.specs.Definitions.{definitions_read}
 use Rattle.gq_index.specs.Occurrences.{DefinitionOf, executable_in, executables}
 use Rattle.gq_rewrite.specs.Renamed.{next_number}
@@ -106,7 +106,7 @@ count_in j k (operation kind name variables directives set braces place ∷ ds) 
 count_in j k (fragment name on directives set braces place ∷ ds) rest = let h = count_in j (k + 1) ds rest in omega (arith, h)
 count_in j k (type_system one ∷ ds) rest = count_in j k ds rest
 
-project_below : (key : List ℕ) (j k : ℕ) (documents : List Doc) (rs : List Reading) → AllByRecursion (Below (length (executables_from j rs) + k)) (renameables_of key k documents (trees_of rs))
+project_below : (key : List ℕ) (j k : ℕ) (documents : List Doc) (rs : List Parsed) → AllByRecursion (Below (length (executables_from j rs) + k)) (renameables_of key k documents (trees_of rs))
 project_below key j k [] rs = tt
 project_below key j k (document ∷ documents) [] = tt
 project_below key j k (document ∷ documents) (r ∷ rs) = by (has_key key document) (project_below key (j + 1) (number_behind (definitions_read r) k) documents rs)
@@ -135,7 +135,7 @@ meant_in P offset ts t h e = by (find (holds offset) ts) refl e
     by None f g = found_in P (ends_at offset) ts t h g
 
 -- the definition of a target is one of the project
-pub target_below : (documents : List Doc) (rs : List Reading) (key : List ℕ) (offset : ℕ) (t : Target) → target_of documents rs key offset ≡ Some t → t.definition < length (executables rs)
+pub target_below : (documents : List Doc) (rs : List Parsed) (key : List ℕ) (offset : ℕ) (t : Target) → target_of documents rs key offset ≡ Some t → t.definition < length (executables rs)
 target_below documents rs key offset t e =
     let h = meant_in (Below (length (executables_from 0 rs) + 0)) offset (renameables_of key 0 documents (trees_of rs)) t (project_below key 0 0 documents rs) e in
     omega (arith, h)

@@ -8,7 +8,7 @@ use Rattle.gq_index.specs.Occurrences.{DefinitionOf}
 use Rattle.gq_target.specs.declared.target.TargetKind.{TargetKind}
 use Rattle.gq_rename.specs.declared.refusal.Refusal.{Refusal}
 use Rattle.gq_rename.specs.Asks.{MayBeCalled, IsTaken}
-use Rattle.gq_rename.specs.NameRefusals.{IsNameRefusal, first_refusal}
+use Rattle.gq_rename.specs.Helping.NameRefusals.{IsNameRefusal, first_refusal}
 
 pub first_is : (ds : List DefinitionOf) (of : TargetKind) (old : List ℕ) (definition : ℕ) (new : List ℕ) (may same taken : Bool) →
     (may ≡ true → MayBeCalled of new) → (MayBeCalled of new → may ≡ true) → (same ≡ true → old ≡ new) → (same ≡ false → old ≡ new → ⊥) →

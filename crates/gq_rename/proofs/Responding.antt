@@ -8,10 +8,10 @@ use Rattle.gq_project.specs.declared.document.Doc.{Doc}
 use Rattle.gq_project.specs.Documents.{IsInOrder}
 use Rattle.gq_edit.specs.declared.edit.DocumentEdit.{DocumentEdit}
 use Rattle.gq_edit.specs.Edits.{after_edit}
-use Rattle.gq_read.specs.declared.reader.Reading.{Reading}
-use Rattle.gq_read.specs.declared.reader.Reading.TheVariants as reading
-use Rattle.gq_read.specs.Readings.{AreReadings}
-use Rattle.gq_read.specs.Readings as readings
+use Rattle.gq_read.specs.declared.reader.Parsed.{Parsed}
+use Rattle.gq_read.specs.declared.reader.Parsed.TheVariants as reading
+use Rattle.gq_read.specs.Parsed.{AreParsed}
+use Rattle.gq_read.specs.Parsed as readings
 use Rattle.gq_document.proofs.OneReading.{same_in_documents}
 use Rattle.gq_index.specs.Occurrences.{DefinitionOf, executable_in, executables}
 use Rattle.gq_rewrite.specs.Renamings.{Renaming}
@@ -33,11 +33,12 @@ use Rattle.gq_rename.specs.Rename.{Renames, cut, IsRenameAnswer, KeepsTrees}
 use Rattle.gq_rename.specs.Responses.{IsGivenAlike, KeepsResponses}
 use Rattle.gq_rename.specs.Sound.{ValidDocumentsAreTrees}
 use Rattle.gq_rename.proofs.Groups.{one_rule}
-use Rattle.gq_rename.proofs.Trees.{OneTree, same_trees, same_target}
+use Rattle.gq_document.proofs.OneReading.{OneTree, same_trees}
+use Rattle.gq_rename.proofs.Trees.{same_target}
 
 module _ (one_tree : OneTree) where
   -- what is read of texts that have trees are these
-  read_trees : {documents : List Doc} {rs : List Reading} {trees : List (List (Def Span))} → AreReadings documents rs → AreTrees documents trees → trees_of rs ≡ trees
+  read_trees : {documents : List Doc} {rs : List Parsed} {trees : List (List (Def Span))} → AreParsed documents rs → AreTrees documents trees → trees_of rs ≡ trees
   read_trees readings.none none = refl
   read_trees (readings.more {document = document} {one = reading.Tree d} {readings = rs} p ps) (more {tree = tree} {trees = trees} q qs) =
       ap (λ (t : List (Def Span)). t ∷ trees_of rs) (one_tree document.text (document_view d) tree p q) ∙ ap (λ (ts : List (List (Def Span))). tree ∷ ts) (read_trees ps qs)
@@ -45,7 +46,7 @@ module _ (one_tree : OneTree) where
   read_trees (readings.more {one = reading.Limit place} p ps) (more {tree = tree} q qs) = absurd (p.0 tree q)
 
   module _ (fragments_keep : FragmentRenamesKeep) (variables_keep : VariableRenamesKeep) (are_trees : ValidDocumentsAreTrees) where
-    module _ (documents : List Doc) (before after : List Reading) (new : List ℕ) (valid : ∥ IsValid documents ∥₁) (t : Target) (rows : List RowOf) (name : Option (List ℕ)) (raw raw_after : Values) (response : ResponseOf) where
+    module _ (documents : List Doc) (before after : List Parsed) (new : List ℕ) (valid : ∥ IsValid documents ∥₁) (t : Target) (rows : List RowOf) (name : Option (List ℕ)) (raw raw_after : Values) (response : ResponseOf) where
       -- by the kind of the target
       by_kind : (of : TargetKind) {rule : ℕ → Renaming} → Changes (executables before) t.name.text t.definition of rule → AreRenamed rule new documents before after →
           (IsTaken (executables before) of t.name.text t.definition new → ⊥) → (t.name.text ≡ new → ⊥) → IsGivenAlike of before t new name raw raw_after →
@@ -78,7 +79,7 @@ module _ (one_tree : OneTree) where
           in_order = in_order;
           are_read = are;
           are_trees = are_trees documents before are valid;
-          are_read_after = subst (λ (es : List DocumentEdit). AreReadings (after_edit es documents) after) edits_are are_after;
+          are_read_after = subst (λ (es : List DocumentEdit). AreParsed (after_edit es documents) after) edits_are are_after;
           renamed =
               ap (map erase_document) after_are
               ∙ k.reads.renamed

@@ -15,7 +15,7 @@ use Rattle.gq_index.specs.declared.occurrence.Occurrence.{Occurrence}
 use Rattle.gq_index.specs.Occurrences.{DefinitionOf, fragment_name, called, occurrences_of, fragment_definitions, definitions_in}
 use Rattle.gq_index.specs.VariableGroups.{IsOperationAt}
 use Rattle.gq_rename.specs.Asks.{IsFragmentDefined, IsVariableDefined, IsGroup}
-use Rattle.gq_rename.specs.Defines.{defines}
+use Rattle.gq_rename.specs.Helping.Defines.{defines}
 
 -- a fragment's name among those of a definition is that of the fragment
 fragment_here : (file : ℕ) (new : Text) (x : Def Span) (o : Occurrence) → Contains (occurrences_of file new (fragment_name x)) o → (f : FragmentOf) × Contains (fragment_in file x) f × (f.name.text ≡ new)

@@ -6,8 +6,8 @@ use Rattle.std.proofs.lemmas.Bool.Decides.{nat_tests}
 use Rattle.std.proofs.lemmas.Option.{slice_get-get_or}
 use Rattle.gq_project.specs.declared.document.Doc.{Doc}
 use Rattle.gq_project.specs.Documents.{has_key}
-use Rattle.gq_read.specs.declared.reader.Reading.{Reading}
-use Rattle.gq_read.specs.Readings.{IsReading, AreReadings}
+use Rattle.gq_read.specs.declared.reader.Parsed.{Parsed}
+use Rattle.gq_read.specs.Parsed.{IsParsed, AreParsed}
 use Rattle.gq_document.specs.Definitions.{definitions_read}
 use Rattle.gq_index.specs.declared.occurrence.Occurrence.{Occurrence}
 use Rattle.gq_index.specs.Occurrences.{DefinitionOf, executables, definition_places}
@@ -15,31 +15,31 @@ use Rattle.gq_target.specs.declared.target.Target.{Target}
 use Rattle.gq_target.specs.Renameables.{renameables}
 use Rattle.gq_target.specs.Targets.{target}
 use Rattle.gq_rename.specs.Asks.{IsTarget, target_of}
-use Rattle.gq_rename.specs.Found.{stands_before}
+use Rattle.gq_rename.specs.Helping.Found.{stands_before}
 use Rattle.gq_rename.proofs.Numbering.{read_at, read_nowhere, some_place, no_place}
 
 -- what is found of all readings is what is told of one
 abbrev pub FoundOf : List Doc → List ℕ → ℕ → Option Target → Type 0
-FoundOf documents key offset found = (readings : List Reading) → AreReadings documents readings → found ≡ target_of documents readings key offset
+FoundOf documents key offset found = (readings : List Parsed) → AreParsed documents readings → found ≡ target_of documents readings key offset
 
-pub is_target : (listed documents : List Doc) (key : List ℕ) (offset : ℕ) (found : Option Target) (rs : List Reading) → listed ≡ documents → AreReadings listed rs → FoundOf listed key offset found → (t : Target) → (found ≡ Some t) ↔ IsTarget documents key offset t
+pub is_target : (listed documents : List Doc) (key : List ℕ) (offset : ℕ) (found : Option Target) (rs : List Parsed) → listed ≡ documents → AreParsed listed rs → FoundOf listed key offset found → (t : Target) → (found ≡ Some t) ↔ IsTarget documents key offset t
 is_target listed documents key offset found rs same are of t = (
   (λ e. let T : List Doc → Type 0 = λ ds. IsTarget ds key offset t in subst T same (record { readings = rs; are_readings = are; here = sym (of rs are) ∙ e })),
-  (λ w. let A : List Doc → Type 0 = λ ds. AreReadings ds w.readings in
+  (λ w. let A : List Doc → Type 0 = λ ds. AreParsed ds w.readings in
       let of_them : found ≡ target_of listed w.readings key offset = of w.readings (subst A (sym same) w.are_readings) in
       of_them ∙ ap (λ (ds : List Doc). target_of ds w.readings key offset) same ∙ w.here),
 )
 
 -- under a key that no document has
-pub found_nowhere : (listed documents : List Doc) (key : List ℕ) (offset : ℕ) (rs : List Reading) → listed ≡ documents → AreReadings documents rs → None ≡ position (has_key key) listed → None ≡ target_of documents rs key offset
+pub found_nowhere : (listed documents : List Doc) (key : List ℕ) (offset : ℕ) (rs : List Parsed) → listed ≡ documents → AreParsed documents rs → None ≡ position (has_key key) listed → None ≡ target_of documents rs key offset
 found_nowhere listed documents key offset rs same are none =
     let past = no_place (has_key key) documents (sym (none ∙ ap (position (has_key key)) same)) in
     sym (ap (target offset) (read_nowhere key 0 documents rs are past))
 
 -- in the document of the key
-pub found_there : (listed documents : List Doc) (key : List ℕ) (offset : ℕ) (rs : List Reading) (ds : List DefinitionOf) (places : List Occurrence) (file first : ℕ) (document : Doc) (found : Option Target) →
-    listed ≡ documents → AreReadings documents rs → ds ≡ executables rs → Some file ≡ position (has_key key) listed → slice_get listed file ≡ Some document → places ≡ definition_places ds → first ≡ prefix_len (stands_before file) places →
-    ((r : Reading) → IsReading document.text r → found ≡ target offset (renameables first (definitions_read r))) → found ≡ target_of documents rs key offset
+pub found_there : (listed documents : List Doc) (key : List ℕ) (offset : ℕ) (rs : List Parsed) (ds : List DefinitionOf) (places : List Occurrence) (file first : ℕ) (document : Doc) (found : Option Target) →
+    listed ≡ documents → AreParsed documents rs → ds ≡ executables rs → Some file ≡ position (has_key key) listed → slice_get listed file ≡ Some document → places ≡ definition_places ds → first ≡ prefix_len (stands_before file) places →
+    ((r : Parsed) → IsParsed document.text r → found ≡ target offset (renameables first (definitions_read r))) → found ≡ target_of documents rs key offset
 found_there listed documents key offset rs ds places file first document found same are is at there places_are first_is of =
     let place = some_place (has_key key) documents file (sym (at ∙ ap (position (has_key key)) same)) in
     let here : slice_get documents file ≡ Some document = ap (λ (l : List Doc). slice_get l file) (sym same) ∙ there in

@@ -3,9 +3,6 @@ pub mod Offers
 pub mod Asks
 pub mod Rename
 pub mod Sound
-pub mod Found
-pub mod Defines
-pub mod NameRefusals
-pub mod Checked
 pub mod Prepare
 pub mod Responses
+pub mod Helping

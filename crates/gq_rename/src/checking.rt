@@ -2,7 +2,7 @@
 ghost use Rattle.std.specs.Prelude.{◌≡◌, None, find};
 ghost use Rattle.gq_edit.specs.Edits.{FitDocuments, is_moved};
 ghost use Rattle.gq_project.specs.Documents.{IsInOrder};
-ghost use Rattle.gq_rename.specs.Checked.{IsChecked, IsValidated};
+ghost use Rattle.gq_rename.specs.Helping.Checked.{IsChecked, IsValidated};
 ghost use Rattle.gq_rename.specs.Sound.{AreUtf8};
 
 use crate::refusal::Refusal;

@@ -6,8 +6,8 @@ ghost use Rattle.gq_index.specs.Occurrences.{DefinitionOf};
 ghost use Rattle.gq_rewrite.specs.Names.{IsNameText, IsFragmentNameText};
 ghost use Rattle.gq_target.specs.declared.target.TargetKind.TheVariants as kind;
 ghost use Rattle.gq_rename.specs.Asks.{IsGroup};
-ghost use Rattle.gq_rename.specs.Defines.{defines};
-ghost use Rattle.gq_rename.specs.NameRefusals.{IsNameRefusal, first_refusal};
+ghost use Rattle.gq_rename.specs.Helping.Defines.{defines};
+ghost use Rattle.gq_rename.specs.Helping.NameRefusals.{IsNameRefusal, first_refusal};
 
 use crate::refusal::Refusal;
 use gq_index::Index;

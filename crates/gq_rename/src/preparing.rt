@@ -1,8 +1,8 @@
 //! What would be renamed at an offset (LSP 3.17, "Prepare Rename Request").
 ghost use Rattle.std.specs.Prelude.{◌≡◌, List, IfOk};
 ghost use Rattle.std.specs.Option.{option_map};
-ghost use Rattle.gq_read.specs.declared.reader.Reading.{Reading};
-ghost use Rattle.gq_read.specs.Readings.{AreReadings};
+ghost use Rattle.gq_read.specs.declared.reader.Parsed.{Parsed};
+ghost use Rattle.gq_read.specs.Parsed.{AreParsed};
 ghost use Rattle.gq_index.specs.Indexed.{IsIndexOfProject};
 ghost use Rattle.gq_rename.specs.Asks.{target_of};
 ghost use Rattle.gq_rename.specs.Prepare.{IsPrepared};
@@ -37,7 +37,7 @@ fn token_by(
     offset: usize,
 ) -> Result<Option<Span>, NoMemory>
     requires { IsIndexOfProject project.now index.now }
-    ensures { IfOk result (λ found. (readings : List Reading) → AreReadings project.now readings → found ≡ option_map (λ t. t.name.span) (target_of project.now readings key.now offset)) }
+    ensures { IfOk result (λ found. (readings : List Parsed) → AreParsed project.now readings → found ≡ option_map (λ t. t.name.span) (target_of project.now readings key.now offset)) }
 {
     match target_by(alloc, project, index, key, offset)? {
         Some(target) => Ok(Some(target.name.span)),

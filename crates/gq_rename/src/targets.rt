@@ -2,15 +2,15 @@
 ghost use Rattle.std.specs.Prelude.{◌≡◌, ◌↔◌, ◌<◌, ◌≤◌, ◌^◌, ◌+◌, List, Some, IfOk, length, position};
 ghost use Rattle.std.specs.List.{prefix_len};
 ghost use Rattle.gq_project.specs.Documents.{has_key};
-ghost use Rattle.gq_read.specs.declared.reader.Reading.{Reading};
-ghost use Rattle.gq_read.specs.Readings.{IsReading, AreReadings};
+ghost use Rattle.gq_read.specs.declared.reader.Parsed.{Parsed};
+ghost use Rattle.gq_read.specs.Parsed.{IsParsed, AreParsed};
 ghost use Rattle.gq_document.specs.Definitions.{definitions_read};
 ghost use Rattle.gq_index.specs.Indexed.{IsIndexOfProject};
 ghost use Rattle.gq_target.specs.declared.target.Target.{Target};
 ghost use Rattle.gq_target.specs.Renameables.{renameables};
 ghost use Rattle.gq_target.specs.Targets.{target};
 ghost use Rattle.gq_rename.specs.Asks.{IsTarget, target_of};
-ghost use Rattle.gq_rename.specs.Found.{stands_before};
+ghost use Rattle.gq_rename.specs.Helping.Found.{stands_before};
 
 use crate::laws::offsets_mean_one_target;
 use gq_index::laws::documents_have_one_list;
@@ -49,7 +49,7 @@ pub(crate) fn target_by(
     offset: usize,
 ) -> Result<Option<Target>, NoMemory>
     requires { IsIndexOfProject project.now index.now }
-    ensures { IfOk result (λ found. (readings : List Reading) → AreReadings project.now readings → found ≡ target_of project.now readings key.now offset) }
+    ensures { IfOk result (λ found. (readings : List Parsed) → AreParsed project.now readings → found ≡ target_of project.now readings key.now offset) }
 {
     documents_have_one_list();
     let documents = project.documents();
@@ -91,7 +91,7 @@ fn target_at(
     offset: usize,
 ) -> Result<Option<Target>, NoMemory>
     requires { first < 2 ^ 63 }
-    ensures { IfOk result (λ found. (reading : Reading) → IsReading document.now.text reading → found ≡ target offset (renameables first (definitions_read reading))) }
+    ensures { IfOk result (λ found. (reading : Parsed) → IsParsed document.now.text reading → found ≡ target offset (renameables first (definitions_read reading))) }
 {
     one_tree();
     match parse(alloc, document.text.as_str()) {

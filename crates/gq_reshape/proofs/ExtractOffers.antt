@@ -8,7 +8,7 @@ use Rattle.gq_tree.specs.Plain.{Sels}
 use Rattle.gq_project.specs.declared.document.Doc.{Doc}
 use Rattle.gq_project.specs.Documents.{has_key}
 use Rattle.gq_edit.specs.declared.edit.DocumentEdit.{DocumentEdit}
-use Rattle.gq_read.specs.declared.reader.Reading.{Reading}
+use Rattle.gq_read.specs.declared.reader.Parsed.{Parsed}
 use Rattle.gq_types.specs.Entries.{Text, EntryOf}
 use Rattle.gq_index.specs.Occurrences.{DefinitionOf, executables}
 use Rattle.gq_rules.specs.Validity.{IsValid}
@@ -23,9 +23,9 @@ use Rattle.gq_reshape.specs.Asks.{RangeAsk, IsAskedOf}
 use Rattle.gq_reshape.specs.Cuts.{Cut}
 use Rattle.gq_reshape.specs.Extract.{Touched, run_at, innermost_at, parent_in_question, sets_asked, Extraction, extract_at, extract_cut, NothingToExtract, HasNoObject, HasNoPossibleType, AreNoSiblings}
 use Rattle.gq_reshape.specs.Naming.{IsLeastFree, extracted_name}
-use Rattle.gq_reshape.specs.Judged.{IsJudged}
+use Rattle.gq_reshape.specs.Helping.Judged.{IsJudged}
 use Rattle.gq_reshape.specs.Reshape.{PassesLimits, FailsCheck, RefusesExtract}
-use Rattle.gq_reshape.specs.Steps.{ExtractOffer, IsNoRun}
+use Rattle.gq_reshape.specs.Helping.Steps.{ExtractOffer, IsNoRun}
 
 abbrev pub OneReading : Type 0
 OneReading = (text : List ℕ) (a b : List Lexeme) → Reads text a → Reads text b → a ≡ b
@@ -40,7 +40,7 @@ least_once ds m n a b =
     let below : n < m → ⊥ = λ less. a.least n b.positive less b.free in
     omega (arith, above, below)
 
-module _ (documents : List Doc) (es : List EntryOf) (readings : List Reading) (ask : RangeAsk) (valid : ∥ IsValid documents ∥₁) where
+module _ (documents : List Doc) (es : List EntryOf) (readings : List Parsed) (ask : RangeAsk) (valid : ∥ IsValid documents ∥₁) where
   -- what is refuted by what is known so far
   none_before : (n : ℕ) → (2 < n → NothingToExtract documents es readings ask → ⊥) → (7 < n → HasNoPossibleType documents es readings ask → ⊥) → (8 < n → AreNoSiblings documents es readings ask → ⊥) →
       (10 < n → (e : Extraction documents es readings ask) → PassesLimits documents (extract_cut e) → ⊥) → (11 < n → (e : Extraction documents es readings ask) → FailsCheck documents readings (extract_cut e) → ⊥) →

@@ -8,8 +8,8 @@ use Rattle.gq_text.specs.declared.place.Span.{Span}
 use Rattle.gq_tree.specs.Plain as tree
 use Rattle.gq_tree.specs.Plain.{NameOf, DirectiveOf, Head, Def}
 use Rattle.gq_project.specs.declared.document.Doc.{Doc}
-use Rattle.gq_read.specs.declared.reader.Reading.{Reading}
-use Rattle.gq_read.specs.Readings.{AreReadings}
+use Rattle.gq_read.specs.declared.reader.Parsed.{Parsed}
+use Rattle.gq_read.specs.Parsed.{AreParsed}
 use Rattle.gq_types.specs.Entries.{EntryOf}
 use Rattle.gq_types.proofs.Gathered.{or_cases, found}
 use Rattle.gq_document.specs.Definitions.{FragmentOf, fragments_of}
@@ -47,7 +47,7 @@ two_elsewhere a b k e f = by (comes_first b a)
     by true = other_document b (a ∷ []) k f ∙ other_document a [] k e
     by false = other_document a (b ∷ []) k e ∙ other_document b [] k f
 
-module _ (documents : List Doc) (ask : RangeAsk) (rs : List Reading) (are : AreReadings documents rs) (es : List EntryOf) (promise : Promised es rs) where
+module _ (documents : List Doc) (ask : RangeAsk) (rs : List Parsed) (are : AreParsed documents rs) (es : List EntryOf) (promise : Promised es rs) where
   module _ (i : Inlining documents es rs ask) where
     abbrev asked : SelectedOf
     asked = record { file = i.file; parent = i.selected.parent; selection = i.selected.selection }

@@ -11,9 +11,9 @@ use Rattle.gq_project.specs.declared.document.Doc.{Doc}
 use Rattle.gq_project.specs.Documents.{IsInOrder}
 use Rattle.gq_parse.specs.Derives.{Derives}
 use Rattle.gq_parse.specs.Limits.{PassesLimitAt}
-use Rattle.gq_read.specs.declared.reader.Reading.{Reading}
-use Rattle.gq_read.specs.Readings.{IsReading, AreReadings}
-use Rattle.gq_read.specs.Readings as readings
+use Rattle.gq_read.specs.declared.reader.Parsed.{Parsed}
+use Rattle.gq_read.specs.Parsed.{IsParsed, AreParsed}
+use Rattle.gq_read.specs.Parsed as readings
 use Rattle.gq_types.proofs.Gathered.{nothing_in, cases_cons, found, from_map, to_map}
 use Rattle.gq_edit.specs.declared.edit.DocumentEdit.{DocumentEdit}
 use Rattle.gq_edit.specs.Edits.{document_of, edited_text, is_too_large}
@@ -22,14 +22,14 @@ use Rattle.gq_rewrite.proofs.EditedParts.{Part, documents_of, edits_of, made_in}
 use Rattle.gq_rename.specs.Rename.{IsTooLarge}
 use Rattle.gq_pieces.proofs.PieceLemmas.{of_part, edit_of_part, its_document}
 use Rattle.gq_reshape.proofs.LowLemmas.{drop_read}
-use Rattle.gq_reshape.specs.Limits.{PassesSomeLimit, OnePasses, NonePasses}
+use Rattle.gq_reshape.specs.Helping.Limits.{PassesSomeLimit, OnePasses, NonePasses}
 
 -- as many readings as documents, each of its own
-pub as_many : {documents : List Doc} {rs : List Reading} → AreReadings documents rs → length documents ≡ length rs
+pub as_many : {documents : List Doc} {rs : List Parsed} → AreParsed documents rs → length documents ≡ length rs
 as_many readings.none = refl
 as_many (readings.more h hs) = ap suc (as_many hs)
 
-pub reading_at : {documents : List Doc} {rs : List Reading} → AreReadings documents rs → (i : ℕ) (d : Doc) (r : Reading) → i < length documents → IsReading (get_or documents i d).text (get_or rs i r)
+pub reading_at : {documents : List Doc} {rs : List Parsed} → AreParsed documents rs → (i : ℕ) (d : Doc) (r : Parsed) → i < length documents → IsParsed (get_or documents i d).text (get_or rs i r)
 reading_at readings.none i d r h = absurd (omega (arith, h))
 reading_at (readings.more h hs) zero d r inside = h
 reading_at (readings.more h hs) (suc i) d r inside = reading_at hs i d r (omega (arith, inside))

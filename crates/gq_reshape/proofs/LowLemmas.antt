@@ -11,15 +11,15 @@ use Rattle.gq_lex.specs.Faults.{IsFault}
 use Rattle.gq_lex.specs.Tokens.{Lexeme, Reads, IsBadAt, IsLimitAt}
 use Rattle.gq_tree.specs.declared.value.Directive.{Directive}
 use Rattle.gq_tree.specs.Views.{directive_view}
-use Rattle.gq_read.specs.declared.reader.Reading.{Reading}
+use Rattle.gq_read.specs.declared.reader.Parsed.{Parsed}
 use Rattle.gq_parse.specs.Limits.{IsNestedWithin}
 use Rattle.gq_parse.proofs.Nesting.{nested_front}
 use Rattle.gq_document.specs.Definitions.{FragmentOf, fragment_in, in_document}
 use Rattle.gq_regroup.specs.Rewrites.{Rewrite}
 use Rattle.gq_reshape.specs.declared.fragments.FragmentIn.{FragmentIn}
-use Rattle.gq_reshape.specs.Fragments.{fragment_found}
-use Rattle.gq_reshape.specs.Limits.{PassesSomeLimit}
-use Rattle.gq_reshape.specs.Rereading.{is_edited, IsRewrittenAt, AreRewrittenFrom}
+use Rattle.gq_reshape.specs.Helping.Fragments.{fragment_found}
+use Rattle.gq_reshape.specs.Helping.Limits.{PassesSomeLimit}
+use Rattle.gq_reshape.specs.Helping.Rereading.{is_edited, IsRewrittenAt, AreRewrittenFrom}
 use Rattle.gq_reshape.specs.Texts.{last_directive_end, directives_text}
 
 pub drop_read : {X : Type 0} (xs : List X) (i : ℕ) (x : X) → i < length xs → x ≡ get_or xs i x → drop i xs ≡ x ∷ drop (suc i) xs
@@ -28,7 +28,7 @@ drop_read (y ∷ ys) zero x h is = ap (λ z. z ∷ ys) (sym is)
 drop_read (y ∷ ys) (suc i) x h is = drop_read ys i x (omega (arith, h)) is
 
 -- the readings at one place, and those behind
-module _ (r : Rewrite) (file : ℕ) (before after : List Reading) (b a : Reading) (h : file < length before) (few : length before ≤ length after) (b_is : b ≡ get_or before file b) (a_is : a ≡ get_or after file a)
+module _ (r : Rewrite) (file : ℕ) (before after : List Parsed) (b a : Parsed) (h : file < length before) (few : length before ≤ length after) (b_is : b ≡ get_or before file b) (a_is : a ≡ get_or after file a)
     (invariant : AreRewrittenFrom r file (drop file before) (drop file after) ↔ AreRewrittenFrom r 0 before after) where
   Here : Type 0
   Here = (is_edited r file ≡ true → IsRewrittenAt r file b a) × AreRewrittenFrom r (suc file) (drop (suc file) before) (drop (suc file) after)
@@ -36,8 +36,8 @@ module _ (r : Rewrite) (file : ℕ) (before after : List Reading) (b a : Reading
   here : AreRewrittenFrom r file (drop file before) (drop file after) ≡ Here
   unfolding Here
   here =
-      ap (λ (xs : List Reading). AreRewrittenFrom r file xs (drop file after)) (drop_read before file b h b_is)
-      ∙ ap (λ (ys : List Reading). AreRewrittenFrom r file (b ∷ drop (suc file) before) ys) (drop_read after file a (omega (arith, h, few)) a_is)
+      ap (λ (xs : List Parsed). AreRewrittenFrom r file xs (drop file after)) (drop_read before file b h b_is)
+      ∙ ap (λ (ys : List Parsed). AreRewrittenFrom r file (b ∷ drop (suc file) before) ys) (drop_read after file a (omega (arith, h, few)) a_is)
 
   -- it is not as it should be
   pub not_here : is_edited r file ≡ true → (IsRewrittenAt r file b a → ⊥) → AreRewrittenFrom r 0 before after → ⊥
@@ -59,9 +59,9 @@ nothing_left [] (suc n) h = refl
 nothing_left (x ∷ xs) zero h = absurd (omega (arith, h))
 nothing_left (x ∷ xs) (suc n) h = nothing_left xs n (omega (arith, h))
 
-pub all_looked_at : (r : Rewrite) (file : ℕ) (before after : List Reading) → length before ≤ file → AreRewrittenFrom r file (drop file before) (drop file after) ↔ AreRewrittenFrom r 0 before after → AreRewrittenFrom r 0 before after
+pub all_looked_at : (r : Rewrite) (file : ℕ) (before after : List Parsed) → length before ≤ file → AreRewrittenFrom r file (drop file before) (drop file after) ↔ AreRewrittenFrom r 0 before after → AreRewrittenFrom r 0 before after
 all_looked_at r file before after h invariant =
-    let P : List Reading → Type 0 = λ xs. AreRewrittenFrom r file xs (drop file after) in
+    let P : List Parsed → Type 0 = λ xs. AreRewrittenFrom r file xs (drop file after) in
     invariant.0 (subst P (sym (nothing_left before file h)) tt)
 
 -- the end of the last directive
@@ -78,12 +78,12 @@ all_directives (d ∷ ds) head last text between some is =
     ∙ ap (λ (n : ℕ). 32 ∷ slice_range text d.span.start n) (sym (last_end d ds last))
 
 -- fragments, document after document
-module _ (p : FragmentOf → Bool) (readings : List Reading) (i : ℕ) (x : Reading) (h : i < length readings) (is : x ≡ get_or readings i x) (whole : Option FragmentOf) where
-  abbrev In : ℕ → List Reading → List FragmentOf
+module _ (p : FragmentOf → Bool) (readings : List Parsed) (i : ℕ) (x : Parsed) (h : i < length readings) (is : x ≡ get_or readings i x) (whole : Option FragmentOf) where
+  abbrev In : ℕ → List Parsed → List FragmentOf
   In k rs = flat_map (λ r. in_document fragment_in r.0 r.1) (enumerate_from k rs)
 
   split : find p (In i (drop i readings)) ≡ option_or (find p (in_document fragment_in i x)) (find p (In (i + 1) (drop (suc i) readings)))
-  split = ap (λ (rs : List Reading). find p (In i rs)) (drop_read readings i x h is) ∙ find-append p (in_document fragment_in i x) (In (i + 1) (drop (suc i) readings))
+  split = ap (λ (rs : List Parsed). find p (In i rs)) (drop_read readings i x h is) ∙ find-append p (in_document fragment_in i x) (In (i + 1) (drop (suc i) readings))
 
   pub found_read : (y : FragmentOf) → find p (In i (drop i readings)) ≡ whole → Some y ≡ find p (in_document fragment_in i x) → Some y ≡ whole
   found_read y invariant mine = ap (λ (o : Option FragmentOf). option_or o (find p (In (i + 1) (drop (suc i) readings)))) mine ∙ sym split ∙ invariant

@@ -5,7 +5,7 @@ use Rattle.gq_types.specs.Entries.{Text, EntryOf}
 use Rattle.gq_types.specs.LookUps.{texts_of}
 use Rattle.gq_types.specs.Possible.{IsPossible}
 use Rattle.gq_types.proofs.Gathered.{nothing_in, first}
-use Rattle.gq_reshape.specs.Steps.{HasObject}
+use Rattle.gq_reshape.specs.Helping.Steps.{HasObject}
 
 pub has_objects : (es : List EntryOf) (type_name : Text) (objects : List (Bor Text)) (empty : Bool) → ((object : Text) → Contains (texts_of objects) object ↔ IsPossible es type_name object) → ((length objects ≡ 0) → empty ≡ true) → (empty ≡ true → length objects ≡ 0) → HasObject es type_name (not empty)
 has_objects es type_name [] empty all when back = subst (HasObject es type_name) (sym (ap not (when refl))) (λ object possible. nothing_in object ((all object).1 possible))

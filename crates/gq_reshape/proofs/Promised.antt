@@ -14,20 +14,19 @@ use Rattle.gq_tree.specs.Plain.{NameOf, Head, Sel, Sels}
 use Rattle.gq_project.specs.declared.document.Doc.{Doc}
 use Rattle.gq_names.specs.Repeats.{IsRepeated}
 use Rattle.gq_found.specs.declared.code.Code.TheVariants.{UnknownFragment, FragmentNameNotUnique}
-use Rattle.gq_found.specs.declared.item.Item.{Item}
-use Rattle.gq_read.specs.declared.reader.Reading.{Reading}
-use Rattle.gq_read.specs.Readings.{AreReadings}
+use Rattle.gq_found.specs.declared.fault.Fault.{Fault}
+use Rattle.gq_read.specs.declared.reader.Parsed.{Parsed}
+use Rattle.gq_read.specs.Parsed.{AreParsed}
 use Rattle.gq_types.specs.Entries.{Text, EntryOf}
 use Rattle.gq_types.proofs.Gathered.{nothing_in, first, later, cases_cons, only, to_flat}
 use Rattle.gq_document.specs.Definitions.{OperationOf, FragmentOf, definitions_read, operations_of, fragments_of}
 use Rattle.gq_document.specs.Executable.{ExecutableOf}
-use Rattle.gq_document.specs.Selections.{SelectedOf, StandsAmong, here, within, after, of_operation, of_fragment}
-use Rattle.gq_spreads.specs.Items as spread
+use Rattle.gq_document.specs.Selections.{SelectedOf, IsSelectionWithin, here, within, after, of_operation, of_fragment}
+use Rattle.gq_found.specs.FaultPlaces as places
 use Rattle.gq_spreads.specs.FragmentSpreadTargetDefined as target
 use Rattle.gq_spreads.specs.FragmentSpreadTargetDefined.{IsSpreadName, IsUnknownFragment}
 use Rattle.gq_spreads.specs.FragmentSpreadsMustNotFormCycles.{IsFragmentCycle}
 use Rattle.gq_spreads.specs.SpreadFaults.{unknown_fragment, fragment_cycle}
-use Rattle.gq_fragments.specs.Items as fragments
 use Rattle.gq_fragments.specs.FragmentFaults.{repeated_fragment_name}
 use Rattle.gq_rules.specs.Project.{type_system_of}
 use Rattle.gq_rules.specs.RuleFaults.{IsRuleFault, of_spreads, of_fragments}
@@ -76,12 +75,12 @@ module _ {A : Type 0} (text : A → List ℕ) where
 
 -- ---- spreads
 
-pub label_in : {es : List EntryOf} {parent inner : Option Text} {sels : Sels Span} {s : Sel Span} → StandsAmong es parent sels inner s → Contains (labels sels) s.label
+pub label_in : {es : List EntryOf} {parent inner : Option Text} {sels : Sels Span} {s : Sel Span} → IsSelectionWithin es parent sels inner s → Contains (labels sels) s.label
 label_in (here {head = head} {below = below} {rest = rest}) = first head head (labels below ++ labels rest) refl
 label_in {s = s} (within {head = head} {below = below} {rest = rest} w) = later head s.label (labels below ++ labels rest) (Contains-append_left (labels below) (labels rest) s.label (label_in w))
 label_in {s = s} (after {head = head} {below = below} {rest = rest} w) = later head s.label (labels below ++ labels rest) (Contains-append_right (labels below) (labels rest) s.label (label_in w))
 
-name_in : {es : List EntryOf} {parent inner : Option Text} {sels : Sels Span} {s : Sel Span} → StandsAmong es parent sels inner s → (name : NameOf Span) → Contains (spread_name s.label) name → Contains (spread_names sels) name
+name_in : {es : List EntryOf} {parent inner : Option Text} {sels : Sels Span} {s : Sel Span} → IsSelectionWithin es parent sels inner s → (name : NameOf Span) → Contains (spread_name s.label) name → Contains (spread_names sels) name
 name_in {sels = sels} {s = s} w name c = to_flat spread_name (labels sels) s.label name (label_in w) c
 
 -- a fragment of the name is found
@@ -97,10 +96,10 @@ found_some (g ∷ fs) f name c e = by (bytes_eq name g.name.text) refl (cases_co
         absurd (let f : true ≡ false = sym bad ∙ t in cc)
     by false t (inr d) next = let i = next d in (i.0, ap (λ (b : Bool). if b then Some (seen_fragment g) else find_definition (map seen_fragment fs) name) t ∙ i.1)
 
-abbrev pub project_over : List EntryOf → List Reading → ExecutableOf
+abbrev pub project_over : List EntryOf → List Parsed → ExecutableOf
 project_over es readings = record { entries = es; operations = operations_of readings; fragments = fragments_of readings }
 
-module _ (es : List EntryOf) (rs : List Reading) (no_fault : (item : Item) → IsRuleFault (project_over es rs) item → ⊥) where
+module _ (es : List EntryOf) (rs : List Parsed) (no_fault : (item : Fault) → IsRuleFault (project_over es rs) item → ⊥) where
   is_spread_name : (s : SelectedOf) → Selected rs es s → (name : NameOf Span) → Contains (spread_name s.selection.label) name → IsSpreadName (project_over es rs) s.file name
   is_spread_name s (of_operation c w) name d = target.of_operation c (name_in w.1 name d) w.0
   is_spread_name s (of_fragment c w) name d = target.of_fragment c (name_in w.1 name d) w.0
@@ -116,7 +115,7 @@ module _ (es : List EntryOf) (rs : List Reading) (no_fault : (item : Item) → I
         | inl f ↦
             let P : List Definition → Type 0 = λ ds. (d : Definition) × (find_definition ds name.text ≡ Some d) in
             subst P (sym (fragments_seen rs)) (found_some (fragments_of rs) f.0 name.text f.1 f.2)
-        | inr nowhere ↦ absurd (no_fault (spread.item_at s.file UnknownFragment name) (of_spreads (unknown_fragment (record {
+        | inr nowhere ↦ absurd (no_fault (places.fault_at s.file UnknownFragment name) (of_spreads (unknown_fragment (record {
           file = s.file;
           name = name;
           is_spread = is_name name (first name name [] refl);
@@ -129,7 +128,7 @@ module _ (es : List EntryOf) (rs : List Reading) (no_fault : (item : Item) → I
   fragment_unique : (f : FragmentOf) → Contains (fragments_of rs) f → (g : FragmentOf) → Contains (fragments_of rs) g → g.name.text ≡ f.name.text → g ≡ f
   fragment_unique f c g d e =
       one_named (λ (f : FragmentOf). f.name.text) (fragments_of rs)
-      (λ x r. no_fault (fragments.item_at x.file FragmentNameNotUnique x.name) (of_fragments (repeated_fragment_name (record { later = x; is_repeated = r; is = refl })))) f g c d e
+      (λ x r. no_fault (places.fault_at x.file FragmentNameNotUnique x.name) (of_fragments (repeated_fragment_name (record { later = x; is_repeated = r; is = refl })))) f g c d e
 
   -- an operation that asks for nothing, beside the fragments
   no_operation : OperationOf
@@ -147,7 +146,7 @@ module _ (es : List EntryOf) (rs : List Reading) (no_fault : (item : Item) → I
   abbrev alone : ExecutableOf
   alone = record { entries = []; operations = no_operation ∷ []; fragments = fragments_of rs }
 
-  no_cycle : (item : Item) → IsFragmentCycle alone item → ⊥
+  no_cycle : (item : Fault) → IsFragmentCycle alone item → ⊥
   no_cycle item c = no_fault item (of_spreads (fragment_cycle (record {
     fragment = c.fragment;
     stands = c.stands;
@@ -170,7 +169,7 @@ module _ (es : List EntryOf) (rs : List Reading) (no_fault : (item : Item) → I
   same_spread file name (target.of_operation {o = o} c d e) = not_of_it o name c d
   same_spread file name (target.of_fragment c d e) = target.of_fragment c d e
 
-  no_unknown : (item : Item) → IsUnknownFragment alone item → ⊥
+  no_unknown : (item : Fault) → IsUnknownFragment alone item → ⊥
   no_unknown item u = no_fault item (of_spreads (unknown_fragment (record { file = u.file; name = u.name; is_spread = same_spread u.file u.name u.is_spread; is_unknown = u.is_unknown; is = u.is })))
 
   -- fragments are ranked
@@ -181,7 +180,7 @@ module _ (es : List EntryOf) (rs : List Reading) (no_fault : (item : Item) → I
       (r.0, subst (IsRanked r.0) (sym seen) r.1)
 
 -- All that is promised.
-pub record Promised (es : List EntryOf) (rs : List Reading) : Type 0 where
+pub record Promised (es : List EntryOf) (rs : List Parsed) : Type 0 where
   pub rooted : Rooted rs es
   pub known : (s : SelectedOf) → Selected rs es s → (p : Text) × (s.parent ≡ Some p)
   pub defined : (s : SelectedOf) → Selected rs es s → IsSpreadDefined (definitions_of (trees_read rs)) s.selection.label
@@ -189,7 +188,7 @@ pub record Promised (es : List EntryOf) (rs : List Reading) : Type 0 where
   pub ranked : (rank : Text → ℕ) × IsRanked rank (definitions_of (trees_read rs))
   pub one_kind : AllByRecursion (λ r. AreOfOneKind (definitions_read r)) rs
 
-pub promised : NoneIsBoth → (documents : List Doc) → ∥ IsValid documents ∥₁ → (rs : List Reading) → AreReadings documents rs → Promised (type_system_of rs) rs
+pub promised : NoneIsBoth → (documents : List Doc) → ∥ IsValid documents ∥₁ → (rs : List Parsed) → AreParsed documents rs → Promised (type_system_of rs) rs
 promised apart documents valid rs are =
     let nothing = nothing_demanded apart in
     let no_fault = no_rule nothing documents rs valid are in

@@ -9,7 +9,7 @@ use Rattle.gq_pieces.specs.declared.pieces.Piece.{Piece}
 use Rattle.gq_pieces.specs.Pieces.{replacements_in}
 use Rattle.gq_reshape.specs.Extract.{extract_at}
 use Rattle.gq_reshape.specs.Inline.{inline_at, comes_first, in_order}
-use Rattle.gq_reshape.specs.Judged.{IsQuiet}
+use Rattle.gq_reshape.specs.Helping.Judged.{IsQuiet}
 use Rattle.gq_reshape.specs.Remove.{remove_at}
 use Rattle.gq_reshape.specs.Texts.{inlined_text, opened_text, spread_text, fragment_text}
 

@@ -7,7 +7,7 @@ use Rattle.gq_reshape.specs.Extract.{extract_cut}
 use Rattle.gq_reshape.specs.Inline.{inline_cut}
 use Rattle.gq_reshape.specs.Remove.{remove_cut}
 use Rattle.gq_reshape.specs.Reshape.{IsExtractAnswer, IsInlineAnswer, IsRemoveAnswer}
-use Rattle.gq_reshape.proofs.SameEntries.{OneTree}
+use Rattle.gq_document.proofs.OneReading.{OneTree}
 use Rattle.gq_reshape.proofs.Changed.{all_promised, keeping_keeps}
 use Rattle.gq_reshape.proofs.Removed.{removed_keeping}
 use Rattle.gq_reshape.proofs.Extracted.{extracted_keeping}

@@ -6,8 +6,8 @@ use Rattle.std.specs.Str.{bytes_eq}
 use Rattle.gq_text.specs.declared.place.Span.{Span}
 use Rattle.gq_tree.specs.Plain.{NameOf, DirectiveOf, inline}
 use Rattle.gq_project.specs.declared.document.Doc.{Doc}
-use Rattle.gq_read.specs.declared.reader.Reading.{Reading}
-use Rattle.gq_read.specs.Readings.{AreReadings}
+use Rattle.gq_read.specs.declared.reader.Parsed.{Parsed}
+use Rattle.gq_read.specs.Parsed.{AreParsed}
 use Rattle.gq_types.specs.Entries.{Text, EntryOf}
 use Rattle.gq_types.proofs.Gathered.{and_parts, or_cases}
 use Rattle.gq_document.specs.Selections.{SelectedOf}
@@ -25,7 +25,7 @@ use Rattle.gq_pieces.specs.Pieces.{replacements_in}
 use Rattle.gq_reshape.specs.Asks.{RangeAsk, tree_at}
 use Rattle.gq_reshape.specs.Inline.{has_directive}
 use Rattle.gq_reshape.specs.Remove.{Removal, is_parents_type, says_nothing, remove_cut, IsNotRedundant}
-use Rattle.gq_reshape.specs.Rereading.{is_edited}
+use Rattle.gq_reshape.specs.Helping.Rereading.{is_edited}
 use Rattle.gq_reshape.proofs.Changed.{IsKeeping, it_holds, selected_holds}
 use Rattle.gq_reshape.proofs.Promised.{Promised}
 use Rattle.gq_reshape.proofs.RunStands.{same_number}
@@ -61,7 +61,7 @@ nothing_said (Some on) directives braces place p e =
     let parts = and_parts (not (has_directive directives)) (is_parents_type (Some on) (Some p)) e in
     (no_directive directives parts.0, sym (same_text p on.text parts.1))
 
-module _ (documents : List Doc) (ask : RangeAsk) (rs : List Reading) (are : AreReadings documents rs) (es : List EntryOf) (promise : Promised es rs) where
+module _ (documents : List Doc) (ask : RangeAsk) (rs : List Parsed) (are : AreParsed documents rs) (es : List EntryOf) (promise : Promised es rs) where
   pub removed_keeping : (r : Removal documents es rs ask) → (IsNotRedundant documents es rs ask → ⊥) → IsKeeping es rs (remove_cut r)
   removed_keeping r redundant =
       let s : SelectedOf = record { file = r.file; parent = r.selected.parent; selection = r.selected.selection } in

@@ -1,4 +1,4 @@
--- Reading again after an edit: the edited documents have the trees of the rewrite where those in which something may change read so.
+-- Parsed again after an edit: the edited documents have the trees of the rewrite where those in which something may change read so.
 use Rattle.std.proofs.Common.{◌≡◌, ℕ, suc, Bool, true, false, ◌&&◌, ◌||◌, not, nat_eq, List, [], ◌∷◌, ◌++◌, Option, Some, None, refl, sym, ap, subst, ◌∙◌, map, if◌then◌else◌}
 use Rattle.std.specs.List.{filter}
 use Rattle.std.specs.Option.{option_map_or}
@@ -9,10 +9,10 @@ use Rattle.gq_tree.specs.Plain.{Def, erase_document, place_def, no_place}
 use Rattle.gq_tree.specs.Views.{document_view}
 use Rattle.gq_project.specs.declared.document.Doc.{Doc}
 use Rattle.gq_parse.specs.Derives.{Derives}
-use Rattle.gq_read.specs.declared.reader.Reading.{Reading}
-use Rattle.gq_read.specs.declared.reader.Reading.TheVariants as reading
-use Rattle.gq_read.specs.Readings.{IsReading, AreReadings}
-use Rattle.gq_read.specs.Readings as readings
+use Rattle.gq_read.specs.declared.reader.Parsed.{Parsed}
+use Rattle.gq_read.specs.declared.reader.Parsed.TheVariants as reading
+use Rattle.gq_read.specs.Parsed.{IsParsed, AreParsed}
+use Rattle.gq_read.specs.Parsed as readings
 use Rattle.gq_document.specs.Definitions.{definitions_read}
 use Rattle.gq_rewrite.specs.Projects.{AreTrees, none, more}
 use Rattle.gq_rewrite.proofs.EditedParts.{made_in}
@@ -20,21 +20,19 @@ use Rattle.gq_regroup.specs.Rewrites.{Rewrite, DefinitionPlace, is_kept, rewritt
 use Rattle.gq_pieces.specs.declared.pieces.Piece.{Piece}
 use Rattle.gq_pieces.specs.Pieces.{replacements_in}
 use Rattle.gq_pieces.proofs.PieceLemmas.{parts_from}
-use Rattle.gq_reshape.specs.Rereading.{is_edited, IsTree, IsRewrittenAt, AreRewrittenFrom}
+use Rattle.gq_reshape.specs.Helping.Rereading.{is_edited, IsTree, IsRewrittenAt, AreRewrittenFrom}
+use Rattle.gq_document.proofs.OneReading.{OneTree}
 
-abbrev pub OneTree : Type 0
-OneTree = (text : List ℕ) (a b : List (Def Span)) → Derives text a → Derives text b → a ≡ b
-
-abbrev pub trees_read : List Reading → List (List (Def Span))
+abbrev pub trees_read : List Parsed → List (List (Def Span))
 trees_read rs = map definitions_read rs
 
 -- a text with a tree reads as that
-tree_read : OneTree → (text : List ℕ) (a : Reading) (tree : List (Def Span)) → IsReading text a → Derives text tree → (definitions_read a ≡ tree) × IsTree a
+tree_read : OneTree → (text : List ℕ) (a : Parsed) (tree : List (Def Span)) → IsParsed text a → Derives text tree → (definitions_read a ≡ tree) × IsTree a
 tree_read one text (reading.Tree d) tree p q = (one text (document_view d) tree p q, tt)
 tree_read one text (reading.Syntax place) tree p q = absurd (p.0 tree q)
 tree_read one text (reading.Limit place) tree p q = absurd (p.0 tree q)
 
-derived : (text : List ℕ) (a : Reading) → IsReading text a → IsTree a → Derives text (definitions_read a)
+derived : (text : List ℕ) (a : Parsed) → IsParsed text a → IsTree a → Derives text (definitions_read a)
 derived text (reading.Tree d) p t = p
 derived text (reading.Syntax place) p t = absurd t
 derived text (reading.Limit place) p t = absurd t
@@ -59,7 +57,7 @@ kept_document r k ds e =
 
 module _ (one_tree : OneTree) (r : Rewrite) (pieces : List Piece) where
   -- the trees are the rewritten ones: then all reads as it should
-  pub forward : (k : ℕ) (documents : List Doc) (bs rest : List Reading) (trees : List (List (Def Span))) → AreReadings documents bs → AreReadings (map made_in (parts_from pieces k documents)) rest → AreTrees (map made_in (parts_from pieces k documents)) trees →
+  pub forward : (k : ℕ) (documents : List Doc) (bs rest : List Parsed) (trees : List (List (Def Span))) → AreParsed documents bs → AreParsed (map made_in (parts_from pieces k documents)) rest → AreTrees (map made_in (parts_from pieces k documents)) trees →
       map erase_document trees ≡ rewritten_from r k (trees_read bs) → AreRewrittenFrom r k bs rest
   forward k [] [] rest trees p q x e = tt
   forward k [] (b ∷ bs) rest trees p q x e = elim p [ ]
@@ -72,17 +70,17 @@ module _ (one_tree : OneTree) (r : Rewrite) (pieces : List Piece) where
       let own = tree_read one_tree (replaced (replacements_in pieces k) d.text) a t q x in
       (λ edited. (own.1, ap erase_document own.0 ∙ first), forward (suc k) ds bs rest ts ps qs xs others)
 
-  pub record Again (k : ℕ) (documents : List Doc) (bs : List Reading) : Type 0 where
+  pub record Again (k : ℕ) (documents : List Doc) (bs : List Parsed) : Type 0 where
     pub trees : List (List (Def Span))
     pub are_trees : AreTrees (map made_in (parts_from pieces k documents)) trees
     pub rewritten : map erase_document trees ≡ rewritten_from r k (trees_read bs)
 
   module _ (quiet : (k : ℕ) → is_edited r k ≡ false → replacements_in pieces k ≡ []) where
-    record Own (k : ℕ) (d : Doc) (b a : Reading) : Type 0 where
+    record Own (k : ℕ) (d : Doc) (b a : Parsed) : Type 0 where
       pub derives : Derives (replaced (replacements_in pieces k) d.text) (definitions_read a)
       pub is : erase_document (definitions_read a) ≡ rewritten_document r k (definitions_read b)
 
-    own : (k : ℕ) (d : Doc) (b a : Reading) → IsReading (replaced (replacements_in pieces k) d.text) a → Derives d.text (definitions_read b) → (is_edited r k ≡ true → IsRewrittenAt r k b a) → Own k d b a
+    own : (k : ℕ) (d : Doc) (b a : Parsed) → IsParsed (replaced (replacements_in pieces k) d.text) a → Derives d.text (definitions_read b) → (is_edited r k ≡ true → IsRewrittenAt r k b a) → Own k d b a
     own k d b a q x h = by (is_edited r k) refl
       where
         by : (e : Bool) → is_edited r k ≡ e → Own k d b a
@@ -97,7 +95,7 @@ module _ (one_tree : OneTree) (r : Rewrite) (pieces : List Piece) where
             }
 
     -- all reads as it should: then the trees are the rewritten ones
-    pub backward : (k : ℕ) (documents : List Doc) (bs rest : List Reading) → AreReadings documents bs → AreReadings (map made_in (parts_from pieces k documents)) rest → AreTrees documents (trees_read bs) → AreRewrittenFrom r k bs rest → Again k documents bs
+    pub backward : (k : ℕ) (documents : List Doc) (bs rest : List Parsed) → AreParsed documents bs → AreParsed (map made_in (parts_from pieces k documents)) rest → AreTrees documents (trees_read bs) → AreRewrittenFrom r k bs rest → Again k documents bs
     backward k [] [] rest p q x h = record { trees = []; are_trees = none; rewritten = refl }
     backward k [] (b ∷ bs) rest p q x h = elim p [ ]
     backward k (d ∷ ds) [] rest p q x h = elim p [ ]

@@ -6,16 +6,15 @@ use Rattle.gq_text.specs.declared.place.Span.{Span}
 use Rattle.gq_text.specs.declared.replacement.Replacement.{Replacement}
 use Rattle.gq_text.specs.Replaced.{replaced}
 use Rattle.gq_tree.specs.Plain.{Sels, Def, operation, fragment, type_system, no_place, place_def, erase_document}
-use Rattle.gq_tree.specs.Views.{document_view}
 use Rattle.gq_project.specs.declared.document.Doc.{Doc}
 use Rattle.gq_project.specs.Documents.{IsInOrder}
-use Rattle.gq_parse.specs.Derives.{Derives}
 use Rattle.gq_edit.specs.Edits.{after_edit}
-use Rattle.gq_read.specs.declared.reader.Reading.{Reading}
-use Rattle.gq_read.specs.declared.reader.Reading.TheVariants as reading
-use Rattle.gq_read.specs.Readings.{IsReading, AreReadings}
-use Rattle.gq_read.specs.Readings as readings
+use Rattle.gq_read.specs.declared.reader.Parsed.{Parsed}
+use Rattle.gq_read.specs.declared.reader.Parsed.TheVariants as reading
+use Rattle.gq_read.specs.Parsed.{IsParsed, AreParsed}
+use Rattle.gq_read.specs.Parsed as readings
 use Rattle.gq_types.specs.Entries.{EntryOf}
+use Rattle.gq_document.proofs.OneReading.{OneTree, same_definitions}
 use Rattle.gq_document.specs.Definitions.{definitions_read, entry_in, in_document, entries_of}
 use Rattle.gq_meaning.specs.Thin.{IsIn}
 use Rattle.gq_rewrite.proofs.EditedParts.{made_in}
@@ -24,12 +23,9 @@ use Rattle.gq_pieces.specs.declared.pieces.Piece.{Piece}
 use Rattle.gq_pieces.specs.Pieces.{edits_from, replacements_in}
 use Rattle.gq_pieces.proofs.PieceLemmas.{parts_from, made_after}
 use Rattle.gq_alike.proofs.SameTypes.{IsExecutable, IsOfTypes, AreOfOneKind}
-use Rattle.gq_reshape.specs.Rereading.{is_edited}
+use Rattle.gq_reshape.specs.Helping.Rereading.{is_edited}
 
-abbrev pub OneTree : Type 0
-OneTree = (text : List ℕ) (a b : List (Def Span)) → Derives text a → Derives text b → a ≡ b
-
-abbrev pub trees_read : List Reading → List (List (Def Span))
+abbrev pub trees_read : List Parsed → List (List (Def Span))
 trees_read rs = map definitions_read rs
 
 -- an operation or a fragment stands among definitions
@@ -108,29 +104,8 @@ no_entry n (fragment name on directives set braces place ∷ ds) h = no_entry n 
 no_entry n (type_system one ∷ ds) h = absurd h.0
 
 module _ (one_tree : OneTree) where
-  pub same_definitions : (text : List ℕ) (a b : Reading) → IsReading text a → IsReading text b → definitions_read a ≡ definitions_read b
-  same_definitions text (reading.Tree d) (reading.Tree e) p q = one_tree text (document_view d) (document_view e) p q
-  same_definitions text (reading.Tree d) (reading.Syntax place) p q = absurd (q.0 (document_view d) p)
-  same_definitions text (reading.Tree d) (reading.Limit place) p q = absurd (q.0 (document_view d) p)
-  same_definitions text (reading.Syntax place) (reading.Tree e) p q = absurd (p.0 (document_view e) q)
-  same_definitions text (reading.Syntax place) (reading.Syntax other) p q = refl
-  same_definitions text (reading.Syntax place) (reading.Limit other) p q = refl
-  same_definitions text (reading.Limit place) (reading.Tree e) p q = absurd (p.0 (document_view e) q)
-  same_definitions text (reading.Limit place) (reading.Syntax other) p q = refl
-  same_definitions text (reading.Limit place) (reading.Limit other) p q = refl
-
-  -- so documents have the same trees, however they are read
-  pub same_trees : (documents : List Doc) (xs ys : List Reading) → AreReadings documents xs → AreReadings documents ys → trees_read xs ≡ trees_read ys
-  same_trees [] [] [] p q = refl
-  same_trees [] [] (b ∷ ys) p q = elim q [ ]
-  same_trees [] (a ∷ xs) ys p q = elim p [ ]
-  same_trees (document ∷ documents) [] ys p q = elim p [ ]
-  same_trees (document ∷ documents) (a ∷ xs) [] p q = elim q [ ]
-  same_trees (document ∷ documents) (a ∷ xs) (b ∷ ys) (readings.more p ps) (readings.more q qs) =
-      ap (λ (t : List (Def Span)). t ∷ trees_read xs) (same_definitions document.text a b p q) ∙ ap (λ (ts : List (List (Def Span))). definitions_read b ∷ ts) (same_trees documents xs ys ps qs)
-
   module _ (r : Rewrite) (pieces : List Piece) (quiet : (k : ℕ) → is_edited r k ≡ false → replacements_in pieces k ≡ []) (added : AllByRecursion IsExecutable r.added) where
-    document_stays : (k n : ℕ) (d : Doc) (b a : Reading) → IsReading d.text b → IsReading (replaced (replacements_in pieces k) d.text) a → erase_document (definitions_read a) ≡ rewritten_document r k (definitions_read b) →
+    document_stays : (k n : ℕ) (d : Doc) (b a : Parsed) → IsParsed d.text b → IsParsed (replaced (replacements_in pieces k) d.text) a → erase_document (definitions_read a) ≡ rewritten_document r k (definitions_read b) →
         AreOfOneKind (definitions_read b) → (is_edited r k ≡ true → SomeExecutable (definitions_read b)) → in_document entry_in n b ≡ in_document entry_in n a
     document_stays k n d b a p q e kind some = by (is_edited r k) refl
       where
@@ -140,11 +115,11 @@ module _ (one_tree : OneTree) where
             no_entry n (definitions_read b) (executables_bare (definitions_read b) all)
             ∙ sym (no_entry n (definitions_read a) (subst (λ (z : List (Def (Unit {0}))). AllByRecursion IsExecutable z) (sym e) (rewritten_executables r k (definitions_read b) added all)))
         by false t =
-            let R : List Replacement → Type 0 = λ xs. IsReading (replaced xs d.text) a in
-            let again : IsReading d.text a = subst R (quiet k t) q in
-            ap (λ (ds : List (Def Span)). flat_map (entry_in n) ds) (same_definitions d.text b a p again)
+            let R : List Replacement → Type 0 = λ xs. IsParsed (replaced xs d.text) a in
+            let again : IsParsed d.text a = subst R (quiet k t) q in
+            ap (λ (ds : List (Def Span)). flat_map (entry_in n) ds) (same_definitions one_tree d.text b a p again)
 
-    entries_from : (k n : ℕ) (documents : List Doc) (bs rest : List Reading) → AreReadings documents bs → AreReadings (map made_in (parts_from pieces k documents)) rest → map erase_document (trees_read rest) ≡ rewritten_from r k (trees_read bs) →
+    entries_from : (k n : ℕ) (documents : List Doc) (bs rest : List Parsed) → AreParsed documents bs → AreParsed (map made_in (parts_from pieces k documents)) rest → map erase_document (trees_read rest) ≡ rewritten_from r k (trees_read bs) →
         AllByRecursion (λ b. AreOfOneKind (definitions_read b)) bs → AreOfOperations r k (trees_read bs) → flat_map (λ x. in_document entry_in x.0 x.1) (enumerate_from n bs) ≡ flat_map (λ x. in_document entry_in x.0 x.1) (enumerate_from n rest)
     entries_from k n [] [] [] p q e kinds some = refl
     entries_from k n [] [] (a ∷ rest) p q e kinds some = elim q [ ]
@@ -157,7 +132,7 @@ module _ (one_tree : OneTree) where
         ap (λ (es : List EntryOf). es ++ flat_map (λ x. in_document entry_in x.0 x.1) (enumerate_from (n + 1) bs)) (document_stays k n d b a p q own kinds.0 some.0)
         ∙ ap (λ (es : List EntryOf). in_document entry_in n a ++ es) (entries_from (suc k) (n + 1) ds bs rest ps qs others kinds.1 some.1)
 
-    pub same_entries : (documents : List Doc) (before after : List Reading) → IsInOrder documents → AreReadings documents before → AreReadings (after_edit (edits_from pieces 0 documents) documents) after →
+    pub same_entries : (documents : List Doc) (before after : List Parsed) → IsInOrder documents → AreParsed documents before → AreParsed (after_edit (edits_from pieces 0 documents) documents) after →
         map erase_document (trees_read after) ≡ rewritten_from r 0 (trees_read before) → AllByRecursion (λ b. AreOfOneKind (definitions_read b)) before → AreOfOperations r 0 (trees_read before) → entries_of before ≡ entries_of after
     same_entries documents before after in_order are are_after e kinds some =
-        entries_from 0 0 documents before after are (subst (λ (ds : List Doc). AreReadings ds after) (made_after pieces documents in_order) are_after) e kinds some
+        entries_from 0 0 documents before after are (subst (λ (ds : List Doc). AreParsed ds after) (made_after pieces documents in_order) are_after) e kinds some

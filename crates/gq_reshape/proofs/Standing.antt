@@ -9,9 +9,9 @@ use Rattle.gq_tree.specs.Plain.{Head, Sel, Sels, Def, operation, fragment, type_
 use Rattle.gq_types.specs.Entries.{Text, EntryOf}
 use Rattle.gq_types.specs.Roots.{root_of}
 use Rattle.gq_types.proofs.Gathered.{first, to_flat}
-use Rattle.gq_read.specs.declared.reader.Reading.{Reading}
+use Rattle.gq_read.specs.declared.reader.Parsed.{Parsed}
 use Rattle.gq_document.specs.Definitions.{OperationOf, FragmentOf, operation_in, fragment_in, definitions_read, in_document, operations_of, fragments_of}
-use Rattle.gq_document.specs.Selections.{SelectedOf, StandsAmong, here, within, after, parent_below, IsSelected, of_operation, of_fragment}
+use Rattle.gq_document.specs.Selections.{SelectedOf, IsSelectionWithin, here, within, after, parent_below, IsSelected, of_operation, of_fragment}
 use Rattle.gq_meaning.specs.Thin.{IsIn}
 use Rattle.gq_regroup.specs.Rewrites.{head_place}
 use Rattle.gq_restated.specs.Documents.{EndsSetIn, AreTyped}
@@ -76,15 +76,15 @@ meant_stands kind range sets s e = elim (best_passes (is_meant kind range) (stan
 
 module _ (es : List EntryOf) where
   -- selections of a set stand in it
-  set_holds : (parent : Option Text) (sels : Sels Span) (x : StandingOf) → IsIn x (standing_in parent sels) → StandsAmong es parent sels x.parent x.selection
+  set_holds : (parent : Option Text) (sels : Sels Span) (x : StandingOf) → IsIn x (standing_in parent sels) → IsSelectionWithin es parent sels x.parent x.selection
   set_holds parent none x m = absurd m
   set_holds parent (more head below rest) x (inl e) =
       let own : StandingOf = record { parent = parent; selection = record { label = head; below = below } } in
-      let P : StandingOf → Type 0 = λ z. StandsAmong es parent (more head below rest) z.parent z.selection in
+      let P : StandingOf → Type 0 = λ z. IsSelectionWithin es parent (more head below rest) z.parent z.selection in
       subst P (sym e) here
   set_holds parent (more head below rest) x (inr m) = after (set_holds parent rest x m)
 
-  stands_deeper : {parent inner deeper : Option Text} {sels : Sels Span} {s t : Sel Span} → StandsAmong es parent sels inner s → StandsAmong es (parent_below es inner s.label) s.below deeper t → StandsAmong es parent sels deeper t
+  stands_deeper : {parent inner deeper : Option Text} {sels : Sels Span} {s t : Sel Span} → IsSelectionWithin es parent sels inner s → IsSelectionWithin es (parent_below es inner s.label) s.below deeper t → IsSelectionWithin es parent sels deeper t
   stands_deeper here k = within k
   stands_deeper (within w) k = within (stands_deeper w k)
   stands_deeper (after w) k = after (stands_deeper w k)
@@ -93,7 +93,7 @@ module _ (es : List EntryOf) where
   pub record SetBelow (parent : Option Text) (sels : Sels Span) (set : SetOf) : Type 0 where
     pub inner : Option Text
     pub selection : Sel Span
-    pub stands : StandsAmong es parent sels inner selection
+    pub stands : IsSelectionWithin es parent sels inner selection
     pub is_parent : set.parent ≡ parent_below es inner selection.label
     pub is : set.selections ≡ selection.below
 
@@ -123,25 +123,25 @@ module _ (es : List EntryOf) where
 
   -- what stands in a set of selections, or in one below them
   within_sets : (parent : Option Text) (sels : Sels Span) (braces : Span) (set : SetOf) (x : StandingOf) → IsIn set (record { parent = parent; braces = braces; selections = sels } ∷ sets_among es parent sels) → IsIn x (standing_in set.parent set.selections) →
-      StandsAmong es parent sels x.parent x.selection
+      IsSelectionWithin es parent sels x.parent x.selection
   within_sets parent sels braces set x (inl e) m =
       let P : SetOf → Type 0 = λ z. IsIn x (standing_in z.parent z.selections) in
       set_holds parent sels x (subst P e m)
   within_sets parent sels braces set x (inr inside) m =
       let i = set_below parent sels set inside in
-      let P : Option Text → Type 0 = λ z. StandsAmong es z set.selections x.parent x.selection in
-      let Q : Sels Span → Type 0 = λ z. StandsAmong es (parent_below es i.inner i.selection.label) z x.parent x.selection in
+      let P : Option Text → Type 0 = λ z. IsSelectionWithin es z set.selections x.parent x.selection in
+      let Q : Sels Span → Type 0 = λ z. IsSelectionWithin es (parent_below es i.inner i.selection.label) z x.parent x.selection in
       stands_deeper i.stands (subst Q i.is (subst P i.is_parent (set_holds set.parent set.selections x m)))
 
-  module _ (rs : List Reading) (file : ℕ) (r : Reading) (there : slice_get rs file ≡ Some r) where
+  module _ (rs : List Parsed) (file : ℕ) (r : Parsed) (there : slice_get rs file ≡ Some r) where
     numbered : Contains (enumerate_from 0 rs) (file, r)
     numbered = let e : 0 + file ≡ file = omega arith in subst (λ (n : ℕ). Contains (enumerate_from 0 rs) (n, r)) e (in_numbers 0 rs file r there)
 
     operation_there : (d : Def Span) → IsIn d (definitions_read r) → (o : OperationOf) → Contains (operation_in file d) o → Contains (operations_of rs) o
-    operation_there d m o c = to_flat (λ (x : ℕ × Reading). in_document operation_in x.0 x.1) (enumerate_from 0 rs) (file, r) o numbered (to_flat (operation_in file) (definitions_read r) d o (contains d (definitions_read r) m) c)
+    operation_there d m o c = to_flat (λ (x : ℕ × Parsed). in_document operation_in x.0 x.1) (enumerate_from 0 rs) (file, r) o numbered (to_flat (operation_in file) (definitions_read r) d o (contains d (definitions_read r) m) c)
 
     fragment_there : (d : Def Span) → IsIn d (definitions_read r) → (f : FragmentOf) → Contains (fragment_in file d) f → Contains (fragments_of rs) f
-    fragment_there d m f c = to_flat (λ (x : ℕ × Reading). in_document fragment_in x.0 x.1) (enumerate_from 0 rs) (file, r) f numbered (to_flat (fragment_in file) (definitions_read r) d f (contains d (definitions_read r) m) c)
+    fragment_there d m f c = to_flat (λ (x : ℕ × Parsed). in_document fragment_in x.0 x.1) (enumerate_from 0 rs) (file, r) f numbered (to_flat (fragment_in file) (definitions_read r) d f (contains d (definitions_read r) m) c)
 
     -- what stands in the sets of a document is a selection of the project
     in_definition : (d : Def Span) → IsIn d (definitions_read r) → (set : SetOf) → IsIn set (sets_of es d) → (x : StandingOf) → IsIn x (standing_in set.parent set.selections) →
@@ -195,20 +195,20 @@ module _ (es : List EntryOf) where
       set_there set m on p = let d = in_flat (sets_of es) (definitions_read r) set m in set_ends d.0 d.1 set d.2 on p
 
 -- the document that is asked of, where it has a set
-pub record DocumentAt (rs : List Reading) (file : ℕ) : Type 0 where
-  pub reading : Reading
+pub record DocumentAt (rs : List Parsed) (file : ℕ) : Type 0 where
+  pub reading : Parsed
   pub there : slice_get rs file ≡ Some reading
   pub is : tree_at rs file ≡ definitions_read reading
 
-pub document_at : (es : List EntryOf) (rs : List Reading) (file : ℕ) (set : SetOf) → IsIn set (document_sets es (tree_at rs file)) → DocumentAt rs file
+pub document_at : (es : List EntryOf) (rs : List Parsed) (file : ℕ) (set : SetOf) → IsIn set (document_sets es (tree_at rs file)) → DocumentAt rs file
 document_at es rs file set m = by (slice_get rs file) refl m
   where
-    by : (o : Option Reading) → slice_get rs file ≡ o → IsIn set (document_sets es (option_map_or definitions_read o [])) → DocumentAt rs file
+    by : (o : Option Parsed) → slice_get rs file ≡ o → IsIn set (document_sets es (option_map_or definitions_read o [])) → DocumentAt rs file
     by None e c = absurd c
-    by (Some r) e c = record { reading = r; there = e; is = ap (λ (o : Option Reading). option_map_or definitions_read o []) e }
+    by (Some r) e c = record { reading = r; there = e; is = ap (λ (o : Option Parsed). option_map_or definitions_read o []) e }
 
 -- what is meant there is a selection of the project
-pub selected_asked : (es : List EntryOf) (rs : List Reading) (file : ℕ) (x : StandingOf) → IsIn x (standing (document_sets es (tree_at rs file))) → IsSelected es (operations_of rs) (fragments_of rs) (record { file = file; parent = x.parent; selection = x.selection })
+pub selected_asked : (es : List EntryOf) (rs : List Parsed) (file : ℕ) (x : StandingOf) → IsIn x (standing (document_sets es (tree_at rs file))) → IsSelected es (operations_of rs) (fragments_of rs) (record { file = file; parent = x.parent; selection = x.selection })
 selected_asked es rs file x m =
     let s = in_flat (λ (s : SetOf). standing_in s.parent s.selections) (document_sets es (tree_at rs file)) x m in
     let d = document_at es rs file s.0 s.1 in

@@ -6,10 +6,6 @@ pub mod Extract
 pub mod Inline
 pub mod Remove
 pub mod Reshape
-pub mod Limits
-pub mod Rereading
-pub mod Judged
-pub mod Fragments
-pub mod Steps
 pub mod Asked
 pub mod Responses
+pub mod Helping

@@ -5,13 +5,13 @@ ghost use Rattle.gq_project.specs.Documents.{has_key};
 ghost use Rattle.gq_document.specs.Definitions.{definitions_read};
 ghost use Rattle.gq_rules.specs.Validity.{IsValid};
 ghost use Rattle.gq_schema.specs.SchemaOf.{IsTypeSystemOf};
-ghost use Rattle.gq_sets.specs.SetViews.{sets_view};
+ghost use Rattle.gq_sets.specs.Helping.SetViews.{sets_view};
 ghost use Rattle.gq_select.specs.Meant.{document_sets};
 ghost use Rattle.gq_reshape.specs.Asks.{tree_at};
 
 use gq_document::Definitions;
 use gq_project::Doc;
-use gq_read::{Reading, read};
+use gq_read::{Parsed, read};
 use gq_rules::Valid;
 use gq_sets::{SetIn, sets_in};
 use gq_text::NoMemory;
@@ -48,14 +48,14 @@ pub(crate) fn types_of(alloc: Global, documents: &[Doc]) -> Result<Types, NoMemo
 fn sets_read<'a>(
     alloc: Global,
     types: &'a Types,
-    reading: &'a Reading,
+    reading: &'a Parsed,
 ) -> Result<Vec<SetIn<'a>>, NoMemory>
     ensures { IfOk result (λ sets. sets_view sets.items ≡ document_sets (types_view types.now) (definitions_read reading.now)) }
 {
     match reading {
-        Reading::Tree(document) => sets_in(alloc, types, document),
-        Reading::Syntax { .. } => Ok(Vec::new(alloc)),
-        Reading::Limit { .. } => Ok(Vec::new(alloc)),
+        Parsed::Tree(document) => sets_in(alloc, types, document),
+        Parsed::Syntax { .. } => Ok(Vec::new(alloc)),
+        Parsed::Limit { .. } => Ok(Vec::new(alloc)),
     }
 }
 
@@ -63,7 +63,7 @@ fn sets_read<'a>(
 pub(crate) fn sets_at<'a>(
     alloc: Global,
     types: &'a Types,
-    readings: &'a [Reading],
+    readings: &'a [Parsed],
     file: usize,
 ) -> Result<Vec<SetIn<'a>>, NoMemory>
     ensures { IfOk result (λ sets. sets_view sets.items ≡ document_sets (types_view types.now) (tree_at readings.now file)) }

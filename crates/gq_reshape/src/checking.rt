@@ -2,13 +2,13 @@
 ghost use Rattle.std.specs.Prelude.{◌≡◌, ◌≤◌, find, length, None, IfOk};
 ghost use Rattle.gq_edit.specs.Edits.{FitDocuments, after_edit, is_moved, is_too_large};
 ghost use Rattle.gq_project.specs.Documents.{IsInOrder};
-ghost use Rattle.gq_read.specs.Readings.{AreReadings};
+ghost use Rattle.gq_read.specs.Parsed.{AreParsed};
 ghost use Rattle.gq_regroup.specs.Views.{rewrite_of};
 ghost use Rattle.gq_rules.specs.Validity.{IsValid};
-ghost use Rattle.gq_rename.specs.Checked.{IsValidated};
+ghost use Rattle.gq_rename.specs.Helping.Checked.{IsValidated};
 ghost use Rattle.gq_reshape.specs.Cuts.{Cut, edits_of};
-ghost use Rattle.gq_reshape.specs.Judged.{IsEdited, IsJudged, IsQuiet, IsVerdict};
-ghost use Rattle.gq_reshape.specs.Limits.{IsPassing};
+ghost use Rattle.gq_reshape.specs.Helping.Judged.{IsEdited, IsJudged, IsQuiet, IsVerdict};
+ghost use Rattle.gq_reshape.specs.Helping.Limits.{IsPassing};
 
 use crate::depth::passes_limit;
 use crate::reading::are_rewritten;
@@ -16,7 +16,7 @@ use gq_edit::{Edit, EditFault, apply};
 use gq_parse::laws::{no_tree_past_limits, one_tree};
 use gq_pieces::{Piece, edit_of};
 use gq_project::{Doc, Project};
-use gq_read::{Reading, read};
+use gq_read::{Parsed, read};
 use gq_regroup::Rewrite;
 use gq_rename::Refusal;
 use gq_rename::laws::valid_documents_are_trees;
@@ -33,12 +33,8 @@ pub(crate) fn documents_are_in_order(project: &Project)
 }
 
 /// Whether one of the documents, which are read so, passes a limit.
-fn one_passes_limit(
-    alloc: Global,
-    documents: &[Doc],
-    readings: &[Reading],
-) -> Result<bool, NoMemory>
-    requires { AreReadings documents.now readings.now }
+fn one_passes_limit(alloc: Global, documents: &[Doc], readings: &[Parsed]) -> Result<bool, NoMemory>
+    requires { AreParsed documents.now readings.now }
     ensures { IfOk result (IsPassing documents.now) }
 {
     for (index, document) in documents.iter().enumerate() {
@@ -69,11 +65,11 @@ fn edited(alloc: Global, project: &Project, edit: &Edit) -> Result<Project, Refu
 pub(crate) fn checked_edit(
     alloc: Global,
     valid: &Valid,
-    readings: &[Reading],
+    readings: &[Parsed],
     pieces: &[Piece],
     rewrite: &Rewrite<'_>,
 ) -> Result<Edit, Refusal>
-    requires { AreReadings valid.now readings.now }
+    requires { AreParsed valid.now readings.now }
     ensures judged { (cut : Cut) → pieces.now ≡ cut.pieces → rewrite_of rewrite.now ≡ cut.rewrite → IsQuiet cut → IsJudged valid.now readings.now cut result }
     ensures fits { IfOk result (FitDocuments valid.now) }
 {
@@ -87,14 +83,14 @@ pub(crate) fn checked_edit(
 fn checked(
     alloc: Global,
     project: &Project,
-    readings: &[Reading],
+    readings: &[Parsed],
     edit: Edit,
     rewrite: &Rewrite<'_>,
 ) -> Result<Edit, Refusal>
     requires fit { FitDocuments project.now edit }
     requires there { find (is_moved project.now) edit ≡ None }
     requires in_order { IsInOrder project.now }
-    requires read { AreReadings project.now readings.now }
+    requires read { AreParsed project.now readings.now }
     requires valid { ∥ IsValid project.now ∥₁ }
     ensures judged { (cut : Cut) → edit ≡ edits_of cut project.now → rewrite_of rewrite.now ≡ cut.rewrite → IsQuiet cut → IsJudged project.now readings.now cut result }
     ensures same { IfOk result (λ made. made ≡ edit) }
@@ -109,7 +105,7 @@ fn checked(
 fn judged(
     alloc: Global,
     project: &Project,
-    readings: &[Reading],
+    readings: &[Parsed],
     after: Project,
     edit: Edit,
     rewrite: &Rewrite<'_>,
@@ -117,7 +113,7 @@ fn judged(
     requires after { after ≡ after_edit edit project.now }
     requires small { find (is_too_large project.now) edit ≡ None }
     requires in_order { IsInOrder project.now }
-    requires read { AreReadings project.now readings.now }
+    requires read { AreParsed project.now readings.now }
     requires valid { ∥ IsValid project.now ∥₁ }
     ensures judged { (cut : Cut) → edit ≡ edits_of cut project.now → rewrite_of rewrite.now ≡ cut.rewrite → IsQuiet cut → IsJudged project.now readings.now cut result }
     ensures same { IfOk result (λ made. made ≡ edit) }
@@ -135,12 +131,12 @@ fn judged(
 /// What is wrong with edited documents that are read so: one passes a limit, or they do not read as the rewritten trees.
 fn why_not(
     alloc: Global,
-    before: &[Reading],
+    before: &[Parsed],
     documents: &[Doc],
-    after: &[Reading],
+    after: &[Parsed],
     rewrite: &Rewrite<'_>,
 ) -> Result<Option<Refusal>, NoMemory>
-    requires read { AreReadings documents.now after.now }
+    requires read { AreParsed documents.now after.now }
     requires few { length before.now ≤ length after.now }
     ensures { IfOk result (IsVerdict (rewrite_of rewrite.now) documents.now before.now after.now) }
 {

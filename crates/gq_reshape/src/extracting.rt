@@ -4,21 +4,21 @@ ghost use Rattle.std.specs.Option.{option_map};
 ghost use Rattle.gq_tree.specs.Views.{sels_view};
 ghost use Rattle.gq_project.specs.declared.document.Doc.{Doc};
 ghost use Rattle.gq_edit.specs.Edits.{FitDocuments, after_edit};
-ghost use Rattle.gq_read.specs.Readings.{AreReadings};
+ghost use Rattle.gq_read.specs.Parsed.{AreParsed};
 ghost use Rattle.gq_types.specs.Entries.{EntryOf};
 ghost use Rattle.gq_types.specs.Look.{types_view, text_of};
 ghost use Rattle.gq_rules.specs.Validity.{IsValid};
-ghost use Rattle.gq_sets.specs.SetViews.{set_view};
+ghost use Rattle.gq_sets.specs.Helping.SetViews.{set_view};
 ghost use Rattle.gq_select.specs.Touched.{Touches};
-ghost use Rattle.gq_select.specs.Views.{run_view};
+ghost use Rattle.gq_select.specs.Helping.Views.{run_view};
 ghost use Rattle.gq_rename.specs.declared.refusal.Refusal.TheVariants as refusal;
 ghost use Rattle.gq_reshape.specs.Asks.{RangeAsk, IsAskedOf, tree_at};
 ghost use Rattle.gq_reshape.specs.Extract.{extract_pieces, extract_at, run_at};
 ghost use Rattle.gq_select.specs.Meant.{document_sets};
-ghost use Rattle.gq_reshape.specs.Judged.{IsJudged};
+ghost use Rattle.gq_reshape.specs.Helping.Judged.{IsJudged};
 ghost use Rattle.gq_reshape.specs.Reshape.{IsExtractAnswer};
 ghost use Rattle.gq_reshape.specs.Responses.{KeepsResponses};
-ghost use Rattle.gq_reshape.specs.Steps.{ExtractOffer, HasObject, IsPossibleParent, IsNoRun};
+ghost use Rattle.gq_reshape.specs.Helping.Steps.{ExtractOffer, HasObject, IsPossibleParent, IsNoRun};
 
 use crate::asked::{place_of, projects_are_valid, sets_at, types_of};
 use crate::checking::{checked_edit, documents_are_in_order};
@@ -28,7 +28,7 @@ use crate::texts::{fragment_text, slice, spread_text};
 use gq_edit::Edit;
 use gq_lex::laws::one_reading;
 use gq_pieces::Piece;
-use gq_read::{Reading, read};
+use gq_read::{Parsed, read};
 use gq_regroup::{Added, Change, Rewrite};
 use gq_rename::Refusal;
 use gq_rules::Valid;
@@ -118,12 +118,12 @@ fn extract_pieces(
 fn extract_as(
     alloc: Global,
     valid: &Valid,
-    readings: &[Reading],
+    readings: &[Parsed],
     file: usize,
     place: Span,
     added: Added<'_>,
 ) -> Result<Edit, Refusal>
-    requires read { AreReadings valid.now readings.now }
+    requires read { AreParsed valid.now readings.now }
     requires there { file < length valid.now }
     ensures judged { (document : Doc) → slice_get valid.now file ≡ Some document → IsJudged valid.now readings.now (extract_at file document.text place added.entry.name.now added.entry.on.now (sels_view added.entry.run.now)) result }
     ensures fits { IfOk result (FitDocuments valid.now) }
@@ -148,13 +148,13 @@ fn extract_as(
 fn extract_on(
     alloc: Global,
     valid: &Valid,
-    readings: &[Reading],
+    readings: &[Parsed],
     file: usize,
     place: Span,
     on: &str,
     run: &[Selection],
 ) -> Result<Edit, Refusal>
-    requires read { AreReadings valid.now readings.now }
+    requires read { AreParsed valid.now readings.now }
     requires there { file < length valid.now }
     ensures answer { (es : List EntryOf) (ask : RangeAsk) (document : Doc) → IsAskedOf valid.now ask.key file document → Touches document.text ask.range place → run_at place (document_sets es (tree_at readings.now file)) ≡ Some (record { parent = Some on.now; run = sels_view run.now }) → HasObject es on.now true → ExtractOffer valid.now es readings.now ask result }
     ensures fits { IfOk result (FitDocuments valid.now) }
@@ -174,13 +174,13 @@ fn extract_on(
 fn extract_run(
     alloc: Global,
     valid: &Valid,
-    readings: &[Reading],
+    readings: &[Parsed],
     types: &Types,
     file: usize,
     place: Span,
     run: Run<'_>,
 ) -> Result<Edit, Refusal>
-    requires read { AreReadings valid.now readings.now }
+    requires read { AreParsed valid.now readings.now }
     requires there { file < length valid.now }
     requires run { run_at place (document_sets (types_view types.now) (tree_at readings.now file)) ≡ Some (run_view run) }
     ensures answer { (ask : RangeAsk) (document : Doc) → IsAskedOf valid.now ask.key file document → Touches document.text ask.range place → ExtractOffer valid.now (types_view types.now) readings.now ask result }
@@ -198,12 +198,12 @@ fn extract_run(
 fn extract_place(
     alloc: Global,
     valid: &Valid,
-    readings: &[Reading],
+    readings: &[Parsed],
     types: &Types,
     file: usize,
     place: Span,
 ) -> Result<Edit, Refusal>
-    requires read { AreReadings valid.now readings.now }
+    requires read { AreParsed valid.now readings.now }
     requires there { file < length valid.now }
     ensures answer { (ask : RangeAsk) (document : Doc) → IsAskedOf valid.now ask.key file document → Touches document.text ask.range place → ExtractOffer valid.now (types_view types.now) readings.now ask result }
     ensures fits { IfOk result (FitDocuments valid.now) }
@@ -221,12 +221,12 @@ fn extract_place(
 fn extract_file(
     alloc: Global,
     valid: &Valid,
-    readings: &[Reading],
+    readings: &[Parsed],
     types: &Types,
     file: usize,
     range: Span,
 ) -> Result<Edit, Refusal>
-    requires read { AreReadings valid.now readings.now }
+    requires read { AreParsed valid.now readings.now }
     requires there { file < length valid.now }
     ensures answer { (ask : RangeAsk) (document : Doc) → IsAskedOf valid.now ask.key file document → ask.range ≡ range → ExtractOffer valid.now (types_view types.now) readings.now ask result }
     ensures fits { IfOk result (FitDocuments valid.now) }
@@ -244,12 +244,12 @@ fn extract_file(
 fn extract_in(
     alloc: Global,
     valid: &Valid,
-    readings: &[Reading],
+    readings: &[Parsed],
     types: &Types,
     key: &str,
     range: Span,
 ) -> Result<Edit, Refusal>
-    requires { AreReadings valid.now readings.now }
+    requires { AreParsed valid.now readings.now }
     ensures answer { ExtractOffer valid.now (types_view types.now) readings.now (record { key = key.now; range = range }) result }
     ensures fits { IfOk result (FitDocuments valid.now) }
 {

@@ -4,9 +4,9 @@ ghost use Rattle.std.specs.Option.{option_map};
 ghost use Rattle.std.specs.Str.{bytes_eq};
 ghost use Rattle.gq_tree.specs.Views.{def_view};
 ghost use Rattle.gq_document.specs.Definitions.{fragments_of, in_document, fragment_in};
-ghost use Rattle.gq_reshape.specs.Fragments.{fragment_found};
+ghost use Rattle.gq_reshape.specs.Helping.Fragments.{fragment_found};
 
-use gq_read::Reading;
+use gq_read::Parsed;
 use gq_tree::{Definition, Fragment};
 
 /// A fragment, and the number of its document.
@@ -50,18 +50,18 @@ fn fragment_among<'a>(
 }
 
 /// That of a document as it is read.
-fn fragment_read<'a>(file: usize, reading: &'a Reading, name: &str) -> Option<FragmentIn<'a>>
+fn fragment_read<'a>(file: usize, reading: &'a Parsed, name: &str) -> Option<FragmentIn<'a>>
     ensures { option_map fragment_found result ≡ find (λ f. bytes_eq f.name.text name.now) (in_document fragment_in file reading.now) }
 {
     match reading {
-        Reading::Tree(document) => fragment_among(file, &document.definitions, name),
-        Reading::Syntax { .. } => None,
-        Reading::Limit { .. } => None,
+        Parsed::Tree(document) => fragment_among(file, &document.definitions, name),
+        Parsed::Syntax { .. } => None,
+        Parsed::Limit { .. } => None,
     }
 }
 
 /// The first fragment of that name in the documents.
-pub(crate) fn fragment_called<'a>(readings: &'a [Reading], name: &str) -> Option<FragmentIn<'a>>
+pub(crate) fn fragment_called<'a>(readings: &'a [Parsed], name: &str) -> Option<FragmentIn<'a>>
     ensures { option_map fragment_found result ≡ find (λ f. bytes_eq f.name.text name.now) (fragments_of readings.now) }
 {
     for (file, reading) in readings.iter().enumerate() {

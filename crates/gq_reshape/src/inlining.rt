@@ -7,7 +7,7 @@ ghost use Rattle.gq_tree.specs.Plain as plain;
 ghost use Rattle.gq_tree.specs.Views.{name_of, directive_view, sel_view};
 ghost use Rattle.gq_project.specs.declared.document.Doc.{Doc};
 ghost use Rattle.gq_edit.specs.Edits.{FitDocuments, after_edit};
-ghost use Rattle.gq_read.specs.Readings.{AreReadings};
+ghost use Rattle.gq_read.specs.Parsed.{AreParsed};
 ghost use Rattle.gq_types.specs.Entries.{EntryOf};
 ghost use Rattle.gq_types.specs.Look.{types_view, text_of};
 ghost use Rattle.gq_document.specs.Definitions.{fragments_of};
@@ -17,11 +17,11 @@ ghost use Rattle.gq_select.specs.Meant.{StandingOf, document_sets, is_spread, me
 ghost use Rattle.gq_rename.specs.declared.refusal.Refusal.TheVariants as refusal;
 ghost use Rattle.gq_reshape.specs.Asks.{RangeAsk, IsAskedOf, tree_at};
 ghost use Rattle.gq_reshape.specs.Inline.{comes_first, has_directive, in_order, inline_at, inline_pieces, is_in_way, is_only_spread};
-ghost use Rattle.gq_reshape.specs.Fragments.{fragment_found};
-ghost use Rattle.gq_reshape.specs.Judged.{IsJudged};
+ghost use Rattle.gq_reshape.specs.Helping.Fragments.{fragment_found};
+ghost use Rattle.gq_reshape.specs.Helping.Judged.{IsJudged};
 ghost use Rattle.gq_reshape.specs.Reshape.{IsInlineAnswer};
 ghost use Rattle.gq_reshape.specs.Responses.{KeepsResponses};
-ghost use Rattle.gq_reshape.specs.Steps.{InlineOffer};
+ghost use Rattle.gq_reshape.specs.Helping.Steps.{InlineOffer};
 
 use crate::asked::{place_of, projects_are_valid, sets_at, types_of};
 use crate::checking::{checked_edit, documents_are_in_order};
@@ -31,7 +31,7 @@ use crate::naming::is_only_spread;
 use crate::texts::inlined_text;
 use gq_edit::Edit;
 use gq_pieces::Piece;
-use gq_read::{Reading, read};
+use gq_read::{Parsed, read};
 use gq_regroup::{Change, Dropped, Rewrite};
 use gq_rename::Refusal;
 use gq_rules::Valid;
@@ -142,13 +142,13 @@ fn dropped(found: &FragmentIn<'_>, goes: bool) -> Option<Dropped>
 fn inline_as(
     alloc: Global,
     valid: &Valid,
-    readings: &[Reading],
+    readings: &[Parsed],
     file: usize,
     spread: &Spread,
     found: &FragmentIn<'_>,
     goes: bool,
 ) -> Result<Edit, Refusal>
-    requires read { AreReadings valid.now readings.now }
+    requires read { AreParsed valid.now readings.now }
     requires there { file < length valid.now }
     requires home { (fragment_found found.now).file < length valid.now }
     ensures judged { (document home : Doc) → slice_get valid.now file ≡ Some document → slice_get valid.now (fragment_found found.now).file ≡ Some home → IsJudged valid.now readings.now (inline_at file document.text (map directive_view spread.now.directives.items) spread.now.span (fragment_found found.now) home.text goes) result }
@@ -175,11 +175,11 @@ fn inline_as(
 fn inline_spread(
     alloc: Global,
     valid: &Valid,
-    readings: &[Reading],
+    readings: &[Parsed],
     file: usize,
     spread: &Spread,
 ) -> Result<Edit, Refusal>
-    requires read { AreReadings valid.now readings.now }
+    requires read { AreParsed valid.now readings.now }
     requires there { file < length valid.now }
     ensures answer { (es : List EntryOf) (ask : RangeAsk) (document : Doc) (s : StandingOf) → IsAskedOf valid.now ask.key file document → meant is_spread ask.range (document_sets es (tree_at readings.now file)) ≡ Some s → s.selection.label ≡ plain.spread (name_of spread.now.name) (map directive_view spread.now.directives.items) spread.now.span → InlineOffer valid.now es readings.now ask result }
     ensures fits { IfOk result (FitDocuments valid.now) }
@@ -202,12 +202,12 @@ fn is_directive_in_way(spread: &Spread, found: &FragmentIn<'_>) -> bool
 fn inline_found(
     alloc: Global,
     valid: &Valid,
-    readings: &[Reading],
+    readings: &[Parsed],
     file: usize,
     spread: &Spread,
     found: &FragmentIn<'_>,
 ) -> Result<Edit, Refusal>
-    requires read { AreReadings valid.now readings.now }
+    requires read { AreParsed valid.now readings.now }
     requires there { file < length valid.now }
     ensures answer { (es : List EntryOf) (ask : RangeAsk) (document : Doc) (s : StandingOf) → IsAskedOf valid.now ask.key file document → meant is_spread ask.range (document_sets es (tree_at readings.now file)) ≡ Some s → s.selection.label ≡ plain.spread (name_of spread.now.name) (map directive_view spread.now.directives.items) spread.now.span → find (λ f. bytes_eq f.name.text (name_of spread.now.name).text) (fragments_of readings.now) ≡ Some (fragment_found found.now) → InlineOffer valid.now es readings.now ask result }
     ensures fits { IfOk result (FitDocuments valid.now) }
@@ -228,12 +228,12 @@ fn inline_found(
 fn inline_in(
     alloc: Global,
     valid: &Valid,
-    readings: &[Reading],
+    readings: &[Parsed],
     types: &Types,
     key: &str,
     range: Span,
 ) -> Result<Edit, Refusal>
-    requires { AreReadings valid.now readings.now }
+    requires { AreParsed valid.now readings.now }
     ensures answer { InlineOffer valid.now (types_view types.now) readings.now (record { key = key.now; range = range }) result }
     ensures fits { IfOk result (FitDocuments valid.now) }
 {
@@ -248,12 +248,12 @@ fn inline_in(
 fn inline_at(
     alloc: Global,
     valid: &Valid,
-    readings: &[Reading],
+    readings: &[Parsed],
     types: &Types,
     file: usize,
     range: Span,
 ) -> Result<Edit, Refusal>
-    requires read { AreReadings valid.now readings.now }
+    requires read { AreParsed valid.now readings.now }
     requires there { file < length valid.now }
     ensures answer { (ask : RangeAsk) (document : Doc) → IsAskedOf valid.now ask.key file document → ask.range ≡ range → InlineOffer valid.now (types_view types.now) readings.now ask result }
     ensures fits { IfOk result (FitDocuments valid.now) }
@@ -271,11 +271,11 @@ fn inline_at(
 fn inline_selection(
     alloc: Global,
     valid: &Valid,
-    readings: &[Reading],
+    readings: &[Parsed],
     file: usize,
     selection: &Selection,
 ) -> Result<Edit, Refusal>
-    requires read { AreReadings valid.now readings.now }
+    requires read { AreParsed valid.now readings.now }
     requires there { file < length valid.now }
     ensures answer { (es : List EntryOf) (ask : RangeAsk) (document : Doc) (s : StandingOf) → IsAskedOf valid.now ask.key file document → meant is_spread ask.range (document_sets es (tree_at readings.now file)) ≡ Some s → s.selection.label ≡ (sel_view selection.now).label → InlineOffer valid.now es readings.now ask result }
     ensures fits { IfOk result (FitDocuments valid.now) }

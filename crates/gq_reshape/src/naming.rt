@@ -2,8 +2,8 @@
 ghost use Rattle.std.specs.Prelude.{◌≡◌, ◌↔◌, [], List, IfOk, IsTrue};
 ghost use Rattle.gq_index.specs.Indexed.{IsIndexOf};
 ghost use Rattle.gq_index.specs.Occurrences.{DefinitionOf, executables, fragment_definitions};
-ghost use Rattle.gq_read.specs.declared.reader.Reading.{Reading};
-ghost use Rattle.gq_read.specs.Readings.{AreReadings};
+ghost use Rattle.gq_read.specs.declared.reader.Parsed.{Parsed};
+ghost use Rattle.gq_read.specs.Parsed.{AreParsed};
 ghost use Rattle.gq_reshape.specs.Inline.{is_only_spread};
 ghost use Rattle.gq_reshape.specs.Naming.{IsLeastFree, extracted_name};
 
@@ -47,7 +47,7 @@ pub(crate) fn free_number(alloc: Global, index: &Index) -> Result<usize, NoMemor
 
 /// That number in a project.
 pub(crate) fn new_number(alloc: Global, project: &Project) -> Result<usize, NoMemory>
-    ensures { IfOk result (λ number. (readings : List Reading) → AreReadings project.now readings → IsLeastFree (executables readings) number) }
+    ensures { IfOk result (λ number. (readings : List Parsed) → AreParsed project.now readings → IsLeastFree (executables readings) number) }
 {
     documents_have_one_list();
     let index = Index::of(alloc, project)?;
@@ -57,7 +57,7 @@ pub(crate) fn new_number(alloc: Global, project: &Project) -> Result<usize, NoMe
 
 /// Whether a project has just one spread of the fragment of that name.
 pub(crate) fn is_only_spread(alloc: Global, project: &Project, name: &str) -> Result<bool, NoMemory>
-    ensures { IfOk result (λ only. (readings : List Reading) → AreReadings project.now readings → only ≡ is_only_spread readings name.now) }
+    ensures { IfOk result (λ only. (readings : List Parsed) → AreParsed project.now readings → only ≡ is_only_spread readings name.now) }
 {
     documents_have_one_list();
     let index = Index::of(alloc, project)?;

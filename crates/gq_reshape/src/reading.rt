@@ -3,9 +3,9 @@ ghost use Rattle.std.specs.Prelude.{◌≡◌, ◌↔◌, ◌≤◌, length, tru
 ghost use Rattle.std.specs.List.{AllByRecursion};
 ghost use Rattle.gq_tree.specs.Views.{def_view};
 ghost use Rattle.gq_regroup.specs.Views.{IsExecutable, rewrite_of};
-ghost use Rattle.gq_reshape.specs.Rereading.{is_edited, IsRewrittenAt, AreRewrittenFrom};
+ghost use Rattle.gq_reshape.specs.Helping.Rereading.{is_edited, IsRewrittenAt, AreRewrittenFrom};
 
-use gq_read::Reading;
+use gq_read::Parsed;
 use gq_regroup::{Rewrite, reads_as_rewritten};
 use gq_text::NoMemory;
 use gq_tree::{Definition, Document};
@@ -41,15 +41,15 @@ fn is_rewritten(
     alloc: Global,
     rewrite: &Rewrite<'_>,
     file: usize,
-    before: &Reading,
-    after: &Reading,
+    before: &Parsed,
+    after: &Parsed,
 ) -> Result<bool, NoMemory>
     ensures { IfOk result (λ yes. IsTrue yes ↔ IsRewrittenAt (rewrite_of rewrite.now) file before.now after.now) }
 {
-    let Reading::Tree(after) = after else {
+    let Parsed::Tree(after) = after else {
         return Ok(false);
     };
-    let Reading::Tree(before) = before else {
+    let Parsed::Tree(before) = before else {
         // not met: each document of a valid project has a tree
         return Err(NoMemory);
     };
@@ -64,8 +64,8 @@ fn is_rewritten(
 pub(crate) fn are_rewritten(
     alloc: Global,
     rewrite: &Rewrite<'_>,
-    before: &[Reading],
-    after: &[Reading],
+    before: &[Parsed],
+    after: &[Parsed],
 ) -> Result<bool, NoMemory>
     requires { length before.now ≤ length after.now }
     ensures { IfOk result (λ yes. IsTrue yes ↔ AreRewrittenFrom (rewrite_of rewrite.now) 0 before.now after.now) }

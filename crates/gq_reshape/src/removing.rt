@@ -6,19 +6,19 @@ ghost use Rattle.gq_tree.specs.Plain as plain;
 ghost use Rattle.gq_tree.specs.Views.{name_of, directive_view};
 ghost use Rattle.gq_project.specs.declared.document.Doc.{Doc};
 ghost use Rattle.gq_edit.specs.Edits.{FitDocuments, after_edit};
-ghost use Rattle.gq_read.specs.Readings.{AreReadings};
+ghost use Rattle.gq_read.specs.Parsed.{AreParsed};
 ghost use Rattle.gq_types.specs.Entries.{EntryOf};
 ghost use Rattle.gq_types.specs.Look.{types_view, text_of};
 ghost use Rattle.gq_rules.specs.Validity.{IsValid};
 ghost use Rattle.gq_select.specs.Meant.{StandingOf, document_sets, is_inline, meant};
-ghost use Rattle.gq_select.specs.Views.{standing_view};
+ghost use Rattle.gq_select.specs.Helping.Views.{standing_view};
 ghost use Rattle.gq_rename.specs.declared.refusal.Refusal.TheVariants as refusal;
 ghost use Rattle.gq_reshape.specs.Asks.{RangeAsk, IsAskedOf, tree_at};
-ghost use Rattle.gq_reshape.specs.Judged.{IsJudged};
+ghost use Rattle.gq_reshape.specs.Helping.Judged.{IsJudged};
 ghost use Rattle.gq_reshape.specs.Remove.{is_parents_type, remove_at, remove_pieces, says_nothing};
 ghost use Rattle.gq_reshape.specs.Reshape.{IsRemoveAnswer};
 ghost use Rattle.gq_reshape.specs.Responses.{KeepsResponses};
-ghost use Rattle.gq_reshape.specs.Steps.{RemoveOffer};
+ghost use Rattle.gq_reshape.specs.Helping.Steps.{RemoveOffer};
 
 use crate::asked::{place_of, projects_are_valid, sets_at, types_of};
 use crate::checking::{checked_edit, documents_are_in_order};
@@ -26,7 +26,7 @@ use crate::laws::refactorings_keep_responses;
 use crate::texts::opened_text;
 use gq_edit::Edit;
 use gq_pieces::Piece;
-use gq_read::{Reading, read};
+use gq_read::{Parsed, read};
 use gq_regroup::{Change, Rewrite};
 use gq_rename::Refusal;
 use gq_rules::Valid;
@@ -78,12 +78,12 @@ fn remove_pieces(
 fn remove_as(
     alloc: Global,
     valid: &Valid,
-    readings: &[Reading],
+    readings: &[Parsed],
     file: usize,
     place: Span,
     braces: Span,
 ) -> Result<Edit, Refusal>
-    requires read { AreReadings valid.now readings.now }
+    requires read { AreParsed valid.now readings.now }
     requires there { file < length valid.now }
     ensures judged { (document : Doc) → slice_get valid.now file ≡ Some document → IsJudged valid.now readings.now (remove_at file document.text place braces) result }
     ensures fits { IfOk result (FitDocuments valid.now) }
@@ -103,12 +103,12 @@ fn remove_as(
 fn remove_fragment(
     alloc: Global,
     valid: &Valid,
-    readings: &[Reading],
+    readings: &[Parsed],
     file: usize,
     parent: Option<&str>,
     inline: &InlineFragment,
 ) -> Result<Edit, Refusal>
-    requires read { AreReadings valid.now readings.now }
+    requires read { AreParsed valid.now readings.now }
     requires there { file < length valid.now }
     ensures answer { (es : List EntryOf) (ask : RangeAsk) (document : Doc) (s : StandingOf) → IsAskedOf valid.now ask.key file document → meant is_inline ask.range (document_sets es (tree_at readings.now file)) ≡ Some s → s.parent ≡ text_of parent.entry → s.selection.label ≡ plain.inline (option_map name_of inline.now.on) (map directive_view inline.now.directives.items) inline.now.set.span inline.now.span → RemoveOffer valid.now es readings.now ask result }
     ensures fits { IfOk result (FitDocuments valid.now) }
@@ -125,12 +125,12 @@ fn remove_fragment(
 fn remove_in(
     alloc: Global,
     valid: &Valid,
-    readings: &[Reading],
+    readings: &[Parsed],
     types: &Types,
     key: &str,
     range: Span,
 ) -> Result<Edit, Refusal>
-    requires { AreReadings valid.now readings.now }
+    requires { AreParsed valid.now readings.now }
     ensures answer { RemoveOffer valid.now (types_view types.now) readings.now (record { key = key.now; range = range }) result }
     ensures fits { IfOk result (FitDocuments valid.now) }
 {
@@ -145,12 +145,12 @@ fn remove_in(
 fn remove_at(
     alloc: Global,
     valid: &Valid,
-    readings: &[Reading],
+    readings: &[Parsed],
     types: &Types,
     file: usize,
     range: Span,
 ) -> Result<Edit, Refusal>
-    requires read { AreReadings valid.now readings.now }
+    requires read { AreParsed valid.now readings.now }
     requires there { file < length valid.now }
     ensures answer { (ask : RangeAsk) (document : Doc) → IsAskedOf valid.now ask.key file document → ask.range ≡ range → RemoveOffer valid.now (types_view types.now) readings.now ask result }
     ensures fits { IfOk result (FitDocuments valid.now) }
@@ -168,11 +168,11 @@ fn remove_at(
 fn remove_selection(
     alloc: Global,
     valid: &Valid,
-    readings: &[Reading],
+    readings: &[Parsed],
     file: usize,
     standing: Standing<'_>,
 ) -> Result<Edit, Refusal>
-    requires read { AreReadings valid.now readings.now }
+    requires read { AreParsed valid.now readings.now }
     requires there { file < length valid.now }
     ensures answer { (es : List EntryOf) (ask : RangeAsk) (document : Doc) (s : StandingOf) → IsAskedOf valid.now ask.key file document → meant is_inline ask.range (document_sets es (tree_at readings.now file)) ≡ Some s → s ≡ standing_view standing.entry → RemoveOffer valid.now es readings.now ask result }
     ensures fits { IfOk result (FitDocuments valid.now) }

@@ -6,7 +6,7 @@ use Rattle.gq_tree.specs.Forest.{Tree, row}
 use Rattle.gq_tree.specs.Plain as tree
 use Rattle.gq_tree.specs.Plain.{Head, Sel, Sels}
 use Rattle.gq_types.specs.Entries.{Text, EntryOf}
-use Rattle.gq_document.specs.Selections.{StandsAmong, here, within, after, parent_below}
+use Rattle.gq_document.specs.Selections.{IsSelectionWithin, here, within, after, parent_below}
 use Rattle.gq_meaning.specs.Selected.{Set, set_of}
 use Rattle.gq_meaning.specs.Selected as selected
 use Rattle.gq_meaning.specs.Rewritten.{Static}
@@ -23,7 +23,7 @@ parent_is es t (tree.inline None directives braces place) = refl
 parent_is es t (tree.inline (Some on) directives braces place) = refl
 
 -- What is so of each selection that stands among these.
-pub each_standing : (es : List EntryOf) (parent : Option Text) (sels : Sels Span) (IsSo : Head Span → Type 0) → ((inner : Option Text) (s : Sel Span) → StandsAmong es parent sels inner s → IsSo s.label) → Each IsSo sels
+pub each_standing : (es : List EntryOf) (parent : Option Text) (sels : Sels Span) (IsSo : Head Span → Type 0) → ((inner : Option Text) (s : Sel Span) → IsSelectionWithin es parent sels inner s → IsSo s.label) → Each IsSo sels
 each_standing es parent forest.none IsSo all = tt
 each_standing es parent (forest.more h b r) IsSo all = (
   all parent (record { label = h; below = b }) here,
@@ -32,18 +32,18 @@ each_standing es parent (forest.more h b r) IsSo all = (
 )
 
 -- Where the parent of each selection is known, each field with selections has its type.
-pub typed_parents : (es : List EntryOf) (t : Text) (sels : Sels Span) → ((inner : Option Text) (s : Sel Span) → StandsAmong es (Some t) sels inner s → (c : Text) × (inner ≡ Some c)) → IsTyped (static_of es) t (set_of sels)
+pub typed_parents : (es : List EntryOf) (t : Text) (sels : Sels Span) → ((inner : Option Text) (s : Sel Span) → IsSelectionWithin es (Some t) sels inner s → (c : Text) × (inner ≡ Some c)) → IsTyped (static_of es) t (set_of sels)
 typed_parents es t forest.none known = tt
 typed_parents es t (forest.more h b r) known =
     by h b (λ inner s w. known inner s (within w)) (λ c inner_known. typed_parents es c b inner_known) (typed_parents es t r (λ inner s w. known inner s (after w)))
   where
-    by : (head : Head Span) (below : Sels Span) → ((inner : Option Text) (s : Sel Span) → StandsAmong es (parent_below es (Some t) head) below inner s → (c : Text) × (inner ≡ Some c)) →
-        ((c : Text) → ((inner : Option Text) (s : Sel Span) → StandsAmong es (Some c) below inner s → (d : Text) × (inner ≡ Some d)) → IsTyped (static_of es) c (set_of below)) →
+    by : (head : Head Span) (below : Sels Span) → ((inner : Option Text) (s : Sel Span) → IsSelectionWithin es (parent_below es (Some t) head) below inner s → (c : Text) × (inner ≡ Some c)) →
+        ((c : Text) → ((inner : Option Text) (s : Sel Span) → IsSelectionWithin es (Some c) below inner s → (d : Text) × (inner ≡ Some d)) → IsTyped (static_of es) c (set_of below)) →
         IsTyped (static_of es) t (set_of r) → IsTyped (static_of es) t (set_of (forest.more head below r))
     by (tree.field alias name arguments directives braces place) forest.none inside next rest = (inl refl, rest)
     by (tree.field alias name arguments directives braces place) (forest.more h' b' r') inside next rest =
         let q = inside (static_of es t name.text) (record { label = h'; below = b' }) here in
-        (inr (q.0, q.1, next q.0 (λ inner s w. inside inner s (subst (λ z. StandsAmong es z (forest.more h' b' r') inner s) (sym q.1) w))), rest)
+        (inr (q.0, q.1, next q.0 (λ inner s w. inside inner s (subst (λ z. IsSelectionWithin es z (forest.more h' b' r') inner s) (sym q.1) w))), rest)
     by (tree.spread name directives place) below inside next rest = rest
     by (tree.inline None directives braces place) below inside next rest = (next t inside, rest)
     by (tree.inline (Some on) directives braces place) below inside next rest = (next on.text inside, rest)
@@ -55,13 +55,13 @@ pub record Begins (static : Static) (t : Text) (sels : Sels Span) (inner : Optio
   pub rest : Sels Span
   pub ends : EndsSet static t sels parent (forest.more s.label s.below rest)
 
-none_stands : (es : List EntryOf) (parent inner : Option Text) (s : Sel Span) → StandsAmong es parent forest.none inner s → ⊥
+none_stands : (es : List EntryOf) (parent inner : Option Text) (s : Sel Span) → IsSelectionWithin es parent forest.none inner s → ⊥
 none_stands es parent inner s w = elim w [ ]
 
-pub begins : (es : List EntryOf) (t : Text) (from to : ℕ) {parent inner : Option Text} {sels : Sels Span} {s : Sel Span} → parent ≡ Some t → StandsAmong es parent sels inner s → IsTyped (static_of es) t (set_of sels) → AreNested from to sels → Begins (static_of es) t sels inner s
+pub begins : (es : List EntryOf) (t : Text) (from to : ℕ) {parent inner : Option Text} {sels : Sels Span} {s : Sel Span} → parent ≡ Some t → IsSelectionWithin es parent sels inner s → IsTyped (static_of es) t (set_of sels) → AreNested from to sels → Begins (static_of es) t sels inner s
 begins es t from to e (here {rest}) typed nested = record { parent = t; is_parent = e; rest = rest; ends = ends_here }
 begins es t from to {parent} {inner} {s = s} e (within {head} {below} {rest} w) typed nested =
-    by head (λ q. none_stands es (parent_below es parent head) inner s (subst (λ z. StandsAmong es (parent_below es parent head) z inner s) q w)) typed nested.5
+    by head (λ q. none_stands es (parent_below es parent head) inner s (subst (λ z. IsSelectionWithin es (parent_below es parent head) z inner s) q w)) typed nested.5
     (λ c k typed_below. begins es c ((head_place head).start + 1) (head_place head).end (ap (λ z. parent_below es z head) e ∙ parent_is es t head ∙ k) w typed_below nested.3)
   where
     by : (h : Head Span) → (below ≡ forest.none → ⊥) → IsTyped (static_of es) t (set_of (forest.more h below rest)) → HoldsNone h below →

@@ -7,8 +7,8 @@ use Rattle.gq_lex.specs.Tokens.{Lexeme}
 use Rattle.gq_tree.specs.declared.tree.OperationKind.{OperationKind}
 use Rattle.gq_tree.specs.declared.type_system.DirectiveLocation.{DirectiveLocation}
 use Rattle.gq_tree.specs.Plain.{NameOf, Says, Val, Vals, DirectiveOf, TypeOf, VariableOf, Head, Sels, InputOf, FieldDefinitionOf, EnumValueOf, RootOf, BodyOf, TypeSystemOf}
-use Rattle.gq_parse.specs.Grammar.{Tokens, IsPunctuator, IsSpelled, IsName, Closed, closed, another, Enclosed, absent, enclosed, IsFragmentName, IsTypeCondition, IsOptionalCondition, no_condition, a_condition, IsOptionalName, no_name, a_name, IsValue, a_variable, an_int, a_float, a_string, a_block_string, is_true, is_false, is_null, an_enum, a_list, an_object, IsValues, list_closed, an_item, IsObjectFields, object_closed, an_object_field, IsArgument, an_argument, IsDirectives, no_directive, a_directive, IsType, nullable, without_null, IsNullableType, named_type, list_type, IsDefaultValue, no_default, a_default, IsVariableDefinition, a_variable_definition, IsFieldName, no_alias, alias, IsSelection, a_field, a_spread, an_inline, IsOptionalSet, no_set, a_set, IsSelectionSet, braces, IsSelections, set_closed, selection, IsOperationType, a_query, a_mutation, a_subscription}
-use Rattle.gq_parse.specs.TypeSystem.{IsDescription, no_description, a_description, a_block_description, Separated, last, next, Led, plain, led, IsRoot, a_root, IsSchema, a_schema, IsInputValue, an_input_value, IsFieldDefinition, a_field_definition, IsEnumValueDefinition, an_enum_value, IsImplements, no_interfaces, interfaces, IsMembers, no_members, members, IsTypeBody, a_scalar, an_object_type, an_interface, a_union, an_enum_type, an_input_type, IsLocation, a_location, IsRepeatable, once, repeatable, IsTypeSystemDefinition, a_schema_definition, a_type_definition, a_directive_definition, a_schema_extension, a_type_extension}
+use Rattle.gq_parse.specs.Grammar.{Tokens, IsPunctuator, IsSpelled, IsName, ManyUntil, closed, another, OptionalMany, absent, enclosed, IsFragmentName, IsTypeCondition, IsOptionalCondition, no_condition, a_condition, IsOptionalName, no_name, a_name, IsValue, a_variable, an_int, a_float, a_string, a_block_string, is_true, is_false, is_null, an_enum, a_list, an_object, IsValues, list_closed, an_item, IsObjectFields, object_closed, an_object_field, IsArgument, an_argument, IsDirectives, no_directive, a_directive, IsType, nullable, without_null, IsNullableType, named_type, list_type, IsDefaultValue, no_default, a_default, IsVariableDefinition, a_variable_definition, IsFieldName, no_alias, alias, IsSelection, a_field, a_spread, an_inline, IsOptionalSet, no_set, a_set, IsSelectionSet, braces, IsSelections, set_closed, selection, IsOperationType, a_query, a_mutation, a_subscription}
+use Rattle.gq_parse.specs.TypeSystem.{IsDescription, no_description, a_description, a_block_description, Separated, last, next, Delimited, plain, led, IsRoot, a_root, IsSchema, a_schema, IsInputValue, an_input_value, IsFieldDefinition, a_field_definition, IsEnumValueDefinition, an_enum_value, IsImplements, no_interfaces, interfaces, IsMembers, no_members, members, IsTypeBody, a_scalar, an_object_type, an_interface, a_union, an_enum_type, an_input_type, IsLocation, a_location, IsRepeatable, once, repeatable, IsTypeSystemDefinition, a_schema_definition, a_type_definition, a_directive_definition, a_schema_extension, a_type_extension}
 
 -- The second list is an end of the first, or all of it.
 pub data Past : Tokens → Tokens → Type 0 where
@@ -43,11 +43,11 @@ pub past_spelled : {k : Kind} {text : List ℕ} {place : Span} {tokens rest : To
 past_spelled p = one_token p.first
 
 -- rows
-past_closed : {A : Type 0} (X : A → Tokens → Tokens → Type 0) (k : Kind) → ((x : A) (tokens rest : Tokens) → X x tokens rest → Past tokens rest) → {xs : List A} {tokens rest : Tokens} → Closed X k xs tokens rest → Past tokens rest
+past_closed : {A : Type 0} (X : A → Tokens → Tokens → Type 0) (k : Kind) → ((x : A) (tokens rest : Tokens) → X x tokens rest → Past tokens rest) → {xs : List A} {tokens rest : Tokens} → ManyUntil X k xs tokens rest → Past tokens rest
 past_closed X k g (closed p) = as_past (past_punctuator p)
 past_closed X k g (another a x c) = over (g _ _ _ x) (past_closed X k g c)
 
-past_enclosed : {A : Type 0} (X : A → Tokens → Tokens → Type 0) (j k : Kind) → ((x : A) (tokens rest : Tokens) → X x tokens rest → Past tokens rest) → {xs : List A} {tokens rest : Tokens} → Enclosed X j k xs tokens rest → Past tokens rest
+past_enclosed : {A : Type 0} (X : A → Tokens → Tokens → Type 0) (j k : Kind) → ((x : A) (tokens rest : Tokens) → X x tokens rest → Past tokens rest) → {xs : List A} {tokens rest : Tokens} → OptionalMany X j k xs tokens rest → Past tokens rest
 past_enclosed X j k g (absent n) = at_once
 past_enclosed X j k g (enclosed a p c) = over (as_past (past_punctuator p)) (past_closed X k g c)
 
@@ -55,7 +55,7 @@ past_separated : {A : Type 0} (X : A → Tokens → Tokens → Type 0) (k : Kind
 past_separated X k g (last x n) = g _ _ _ x
 past_separated X k g (next a b x p s) = over (g _ _ _ x) (over (as_past (past_punctuator p)) (past_separated X k g s))
 
-past_led : {A : Type 0} (X : A → Tokens → Tokens → Type 0) (k : Kind) → ((x : A) (tokens rest : Tokens) → X x tokens rest → Past tokens rest) → {xs : List A} {tokens rest : Tokens} → Led X k xs tokens rest → Past tokens rest
+past_led : {A : Type 0} (X : A → Tokens → Tokens → Type 0) (k : Kind) → ((x : A) (tokens rest : Tokens) → X x tokens rest → Past tokens rest) → {xs : List A} {tokens rest : Tokens} → Delimited X k xs tokens rest → Past tokens rest
 past_led X k g (plain n s) = past_separated X k g s
 past_led X k g (led a p s) = over (as_past (past_punctuator p)) (past_separated X k g s)
 
@@ -137,7 +137,7 @@ mutual
   past_selections (selection a x s) = passed_over (past_selection x) (as_past (past_selections s))
 
 -- what stands before the braces of a field, of an inline fragment, of an operation, and of a fragment
-pub before_field_set : {x : Option (NameOf Span)} {n : NameOf Span} {arguments : List (Val Span)} {directives : List (DirectiveOf Span)} {tokens a b c : Tokens} → IsFieldName x n tokens a → Enclosed (IsArgument false) kind.ParenOpen kind.ParenClose arguments a b → IsDirectives false directives b c → Past tokens c
+pub before_field_set : {x : Option (NameOf Span)} {n : NameOf Span} {arguments : List (Val Span)} {directives : List (DirectiveOf Span)} {tokens a b c : Tokens} → IsFieldName x n tokens a → OptionalMany (IsArgument false) kind.ParenOpen kind.ParenClose arguments a b → IsDirectives false directives b c → Past tokens c
 before_field_set n g ds = over (as_past (past_field_name n)) (over (past_enclosed _ _ _ past_argument g) (past_directives ds))
 
 pub before_inline_set : {on : Option (NameOf Span)} {directives : List (DirectiveOf Span)} {tokens a b c : Tokens} → IsPunctuator kind.Spread tokens a → IsOptionalCondition on a b → IsDirectives false directives b c → Past tokens c
@@ -152,7 +152,7 @@ past_optional_name : {n : Option (NameOf Span)} {tokens rest : Tokens} → IsOpt
 past_optional_name (no_name n) = at_once
 past_optional_name (a_name n) = as_past (past_spelled n)
 
-pub before_operation_set : {k : OperationKind} {n : Option (NameOf Span)} {variables : List (VariableOf Span)} {directives : List (DirectiveOf Span)} {tokens a b c d : Tokens} → IsOperationType k tokens a → IsOptionalName n a b → Enclosed IsVariableDefinition kind.ParenOpen kind.ParenClose variables b c → IsDirectives false directives c d → Past tokens d
+pub before_operation_set : {k : OperationKind} {n : Option (NameOf Span)} {variables : List (VariableOf Span)} {directives : List (DirectiveOf Span)} {tokens a b c d : Tokens} → IsOperationType k tokens a → IsOptionalName n a b → OptionalMany IsVariableDefinition kind.ParenOpen kind.ParenClose variables b c → IsDirectives false directives c d → Past tokens d
 before_operation_set t n vs ds = over (past_operation_type t) (over (past_optional_name n) (over (past_enclosed _ _ _ past_variable vs) (past_directives ds)))
 
 pub before_fragment_set : {word : List ℕ} {first : Span} {name on : NameOf Span} {directives : List (DirectiveOf Span)} {tokens a b c d : Tokens} → IsSpelled kind.Name word first tokens a → IsFragmentName name a b → IsTypeCondition on b c → IsDirectives false directives c d → Past tokens d

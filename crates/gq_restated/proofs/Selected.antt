@@ -6,9 +6,9 @@ use Rattle.gq_tree.specs.Forest.{more, row}
 use Rattle.gq_tree.specs.Plain.{Head, Sel, Sels, Def}
 use Rattle.gq_types.specs.Entries.{Text, EntryOf}
 use Rattle.gq_types.specs.Roots.{root_of}
-use Rattle.gq_read.specs.declared.reader.Reading.{Reading}
+use Rattle.gq_read.specs.declared.reader.Parsed.{Parsed}
 use Rattle.gq_document.specs.Definitions.{OperationOf, FragmentOf, operations_of, fragments_of}
-use Rattle.gq_document.specs.Selections.{SelectedOf, StandsAmong, of_operation, of_fragment}
+use Rattle.gq_document.specs.Selections.{SelectedOf, IsSelectionWithin, of_operation, of_fragment}
 use Rattle.gq_meaning.specs.Selected.{set_of}
 use Rattle.gq_meaning.specs.Thin.{IsIn}
 use Rattle.gq_meaning.specs.Rewritten.{Static}
@@ -38,7 +38,7 @@ pub record BeginsIn (static : Static) (roots : OperationKind → Text) (tree : L
   pub rest : Sels Span
   pub ends : EndsSetIn static roots tree parent (more s.selection.label s.selection.below rest)
 
-module _ (readings : List Reading) (es : List EntryOf) where
+module _ (readings : List Parsed) (es : List EntryOf) where
   abbrev static : Static
   static = static_of es
 
@@ -62,7 +62,7 @@ module _ (readings : List Reading) (es : List EntryOf) where
 
   -- what stands among the selections of a set in place
   in_set : (file : ℕ) (document : HasDocument (trees_read readings) file) → AreTyped static roots (trees_read readings) → (d : Def Span) → IsIn d document.tree → {t : Text} {set : Sels Span} → IsSetOf roots d t set →
-      (parent inner : Option Text) (s : Sel Span) → parent ≡ Some t → StandsAmong es parent set inner s → Begins static t set inner s
+      (parent inner : Option Text) (s : Sel Span) → parent ≡ Some t → IsSelectionWithin es parent set inner s → Begins static t set inner s
   in_set file document typed d m {t} {set} is_set parent inner s e w =
       let b = bounds roots 0 document.tree document.in_place d m is_set in
       let known = each_in (OfSet roots (λ t set. IsTyped static t (set_of set))) 0 (trees_read readings) typed document.tree (number_in (trees_read readings) file document.tree document.is_tree) d m in

@@ -6,7 +6,8 @@ use Rattle.gq_tree.specs.declared.tree.OperationKind.{OperationKind}
 use Rattle.gq_types.specs.Entries.{Text, EntryOf}
 use Rattle.gq_types.specs.Roots.{root_of}
 use Rattle.gq_document.specs.Definitions.{OperationOf, FragmentOf}
-use Rattle.gq_document.specs.Selections.{field_on, base_name}
+use Rattle.gq_document.specs.Selections.{field_on}
+use Rattle.gq_tree.specs.NamedTypes.{base_name}
 use Rattle.gq_meaning.specs.Selected.{set_of}
 use Rattle.gq_meaning.specs.Expand.{Definition}
 use Rattle.gq_meaning.specs.Rewritten.{Static}

@@ -12,7 +12,7 @@ use Rattle.gq_tree.specs.declared.tree.OperationKind.{OperationKind}
 use Rattle.gq_lex.specs.declared.token.Kind.TheVariants as kind
 use Rattle.gq_tree.specs.Forest.{none, more, labels, labels_in, relabel}
 use Rattle.gq_tree.specs.Plain.{NameOf, Says, Part, Val, Vals, variable, int, float, string, boolean, null, enum, list, object, under, unnamed, DirectiveOf, TypeOf, named, list_of, non_null, VariableOf, Head, Sels, Def, field, spread, inline, place_name, place_says, place_part, place_value, place_directive, place_type, place_variable, place_head, place_def, no_place, erase_all}
-use Rattle.gq_parse.specs.Grammar.{Tokens, IsSpelled, IsName, IsPunctuator, IsFragmentName, IsTypeCondition, IsOptionalCondition, no_condition, a_condition, NotNext, covered, Closed, closed, another, Enclosed, absent, enclosed, IsValue, a_variable, an_int, a_float, a_string, a_block_string, is_true, is_false, is_null, an_enum, a_list, an_object, IsValues, list_closed, an_item, IsObjectFields, object_closed, an_object_field, IsArgument, an_argument, IsArguments, IsDirectives, no_directive, a_directive, IsType, nullable, without_null, IsNullableType, named_type, list_type, IsDefaultValue, no_default, a_default, IsVariableDefinition, a_variable_definition, IsVariableDefinitions, IsFieldName, no_alias, alias, IsSelection, a_field, a_spread, an_inline, IsOptionalSet, no_set, a_set, IsSelectionSet, braces, IsSelections, set_closed, selection, IsOptionalName, no_name, a_name, IsOperationType, a_query, a_mutation, a_subscription}
+use Rattle.gq_parse.specs.Grammar.{Tokens, IsSpelled, IsName, IsPunctuator, IsFragmentName, IsTypeCondition, IsOptionalCondition, no_condition, a_condition, NotNext, covered, ManyUntil, closed, another, OptionalMany, absent, enclosed, IsValue, a_variable, an_int, a_float, a_string, a_block_string, is_true, is_false, is_null, an_enum, a_list, an_object, IsValues, list_closed, an_item, IsObjectFields, object_closed, an_object_field, IsArgument, an_argument, IsArguments, IsDirectives, no_directive, a_directive, IsType, nullable, without_null, IsNullableType, named_type, list_type, IsDefaultValue, no_default, a_default, IsVariableDefinition, a_variable_definition, IsVariableDefinitions, IsFieldName, no_alias, alias, IsSelection, a_field, a_spread, an_inline, IsOptionalSet, no_set, a_set, IsSelectionSet, braces, IsSelections, set_closed, selection, IsOptionalName, no_name, a_name, IsOperationType, a_query, a_mutation, a_subscription}
 use Rattle.gq_rewrite.specs.Renamings.{Renaming, nothing_renamed, renamed_text, MayName}
 use Rattle.gq_rewrite.specs.Renamed.{rename_says, rename_part, rename_value, rename_directive, rename_definition, rename_head, rename_selections}
 use Rattle.gq_rewrite.specs.Changed.{changed_name, changed_in_says, changed_in_part, changed_in_values, changed_in_value, changed_in_arguments, changed_in_directives, changed_in_head, changed_in_selections}
@@ -258,32 +258,32 @@ pub skipped : {new : List ℕ} {A B : Type 0} {X : A → Tokens → Tokens → T
 skipped {X = X} {f} x one free = changed (λ u v q. let P : Tokens → Type 0 = λ l. X x u l in (x, subst P q.0 (one u q.1), refl)) (peeked free)
 
 -- phrases and the punctuator that closes them
-closed_again : {new : List ℕ} {A B : Type 0} {names : A → List (NameOf Span)} {X : A → Tokens → Tokens → Type 0} {f : A → B} (g : B → B) {k : Kind} {xs : List A} {tokens rest : Tokens} → AllRenamed new names X f g → Closed X k xs tokens rest → Again new (flat_map names xs) (Renamed (Closed X k) (map f) (map g) xs) tokens rest
+closed_again : {new : List ℕ} {A B : Type 0} {names : A → List (NameOf Span)} {X : A → Tokens → Tokens → Type 0} {f : A → B} (g : B → B) {k : Kind} {xs : List A} {tokens rest : Tokens} → AllRenamed new names X f g → ManyUntil X k xs tokens rest → Again new (flat_map names xs) (Renamed (ManyUntil X k) (map f) (map g) xs) tokens rest
 closed_again g each (closed m) = changed (λ u v q. ([], closed q, refl)) (marked_again m)
 closed_again {X = X} {f} g {tokens = tokens} each (another {x = x} {xs = xs} a one others) =
     changed (λ u v q. (q.1.0 ∷ q.2.0, another q.0 q.1.1 q.2.1, let e = q.1.2 in let d = q.2.2 in cc)) (joined (each x tokens a one) (closed_again {f = f} g each others))
 
-enclose : {A B : Type 0} {X : A → Tokens → Tokens → Type 0} {f : A → B} (g : B → B) {k j : Kind} {u v w : Tokens} (x : A) (xs ys : List A) → IsPunctuator k u v → Closed X j ys v w → map f ys ≡ map g (f x ∷ map f xs) → Renamed (Enclosed X k j) (map f) (map g) (x ∷ xs) u w
+enclose : {A B : Type 0} {X : A → Tokens → Tokens → Type 0} {f : A → B} (g : B → B) {k j : Kind} {u v w : Tokens} (x : A) (xs ys : List A) → IsPunctuator k u v → ManyUntil X j ys v w → map f ys ≡ map g (f x ∷ map f xs) → Renamed (OptionalMany X k j) (map f) (map g) (x ∷ xs) u w
 enclose g x xs [] m c e = absurd (cc)
 enclose g {v = v} x xs (y ∷ ys) m c e = (y ∷ ys, enclosed v m c, e)
 
-pub enclosed_renamed : {new : List ℕ} {A B : Type 0} {names : A → List (NameOf Span)} {X : A → Tokens → Tokens → Type 0} {f : A → B} (g : B → B) {k j : Kind} {xs : List A} {tokens rest : Tokens} → AllRenamed new names X f g → Enclosed X k j xs tokens rest → Again new (flat_map names xs) (Renamed (Enclosed X k j) (map f) (map g) xs) tokens rest
-enclosed_renamed {X = X} {f} g {k} {j} each (absent free) = changed (λ u v q. let P : Tokens → Type 0 = λ l. Enclosed X k j [] u l in ([], subst P q.0 (absent q.1), refl)) (peeked free)
+pub enclosed_renamed : {new : List ℕ} {A B : Type 0} {names : A → List (NameOf Span)} {X : A → Tokens → Tokens → Type 0} {f : A → B} (g : B → B) {k j : Kind} {xs : List A} {tokens rest : Tokens} → AllRenamed new names X f g → OptionalMany X k j xs tokens rest → Again new (flat_map names xs) (Renamed (OptionalMany X k j) (map f) (map g) xs) tokens rest
+enclosed_renamed {X = X} {f} g {k} {j} each (absent free) = changed (λ u v q. let P : Tokens → Type 0 = λ l. OptionalMany X k j [] u l in ([], subst P q.0 (absent q.1), refl)) (peeked free)
 enclosed_renamed {X = X} {f} g {k} {j} each (enclosed {x = x} {xs = xs} a m c) =
     changed (λ u v q. enclose g x xs q.2.0 q.1 q.2.1 q.2.2) (joined (marked_again m) (closed_again {f = f} g each c))
 
 -- the same where nothing is changed
-closed_kept : {new : List ℕ} {A B : Type 0} {X : A → Tokens → Tokens → Type 0} {f : A → B} {k : Kind} {xs : List A} {tokens rest : Tokens} → AllKept new X f → Closed X k xs tokens rest → Again new [] (Like (Closed X k) (map f) xs) tokens rest
+closed_kept : {new : List ℕ} {A B : Type 0} {X : A → Tokens → Tokens → Type 0} {f : A → B} {k : Kind} {xs : List A} {tokens rest : Tokens} → AllKept new X f → ManyUntil X k xs tokens rest → Again new [] (Like (ManyUntil X k) (map f) xs) tokens rest
 closed_kept each (closed m) = changed (λ u v q. ([], closed q, refl)) (marked_again m)
 closed_kept {X = X} {f} {tokens = tokens} each (another {x = x} {xs = xs} a one others) =
     changed (λ u v q. (q.1.0 ∷ q.2.0, another q.0 q.1.1 q.2.1, let e = q.1.2 in let d = q.2.2 in cc)) (joined (each x tokens a one) (closed_kept {f = f} each others))
 
-enclose_kept : {A B : Type 0} {X : A → Tokens → Tokens → Type 0} {f : A → B} {k j : Kind} {u v w : Tokens} (x : A) (xs ys : List A) → IsPunctuator k u v → Closed X j ys v w → map f ys ≡ f x ∷ map f xs → Like (Enclosed X k j) (map f) (x ∷ xs) u w
+enclose_kept : {A B : Type 0} {X : A → Tokens → Tokens → Type 0} {f : A → B} {k j : Kind} {u v w : Tokens} (x : A) (xs ys : List A) → IsPunctuator k u v → ManyUntil X j ys v w → map f ys ≡ f x ∷ map f xs → Like (OptionalMany X k j) (map f) (x ∷ xs) u w
 enclose_kept x xs [] m c e = absurd (cc)
 enclose_kept {v = v} x xs (y ∷ ys) m c e = (y ∷ ys, enclosed v m c, e)
 
-pub enclosed_again : {new : List ℕ} {A B : Type 0} {X : A → Tokens → Tokens → Type 0} {f : A → B} {k j : Kind} {xs : List A} {tokens rest : Tokens} → AllKept new X f → Enclosed X k j xs tokens rest → Again new [] (Like (Enclosed X k j) (map f) xs) tokens rest
-enclosed_again {X = X} {f} {k} {j} each (absent free) = skipped {X = Enclosed X k j} {f = map f} [] (λ u h. absent h) free
+pub enclosed_again : {new : List ℕ} {A B : Type 0} {X : A → Tokens → Tokens → Type 0} {f : A → B} {k j : Kind} {xs : List A} {tokens rest : Tokens} → AllKept new X f → OptionalMany X k j xs tokens rest → Again new [] (Like (OptionalMany X k j) (map f) xs) tokens rest
+enclosed_again {X = X} {f} {k} {j} each (absent free) = skipped {X = OptionalMany X k j} {f = map f} [] (λ u h. absent h) free
 enclosed_again {X = X} {f} {k} {j} each (enclosed {x = x} {xs = xs} a m c) =
     changed (λ u v q. enclose_kept x xs q.2.0 q.1 q.2.1 q.2.2) (joined (marked_again m) (closed_kept {f = f} each c))
 

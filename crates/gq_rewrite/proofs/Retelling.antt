@@ -1,6 +1,6 @@
 -- A text in which some of its names are replaced reads as the same tokens, those names changed.
 use Rattle.std.proofs.Common.{◌≡◌, ℕ, suc, ◌+◌, ◌-◌, ◌<◌, ◌≤◌, List, [], ◌∷◌, ◌++◌, length, take, drop, Bool, true, false, Option, Some, refl, sym, ap, subst, ◌∙◌, ◌⊎◌, inl, inr, arith, append_assoc, length-append, map}
-use Rattle.std.specs.Prelude.{◌==◌, if◌then◌else◌}
+use Rattle.std.specs.Prelude.{◌==◌, if◌then◌else◌, All}
 use Rattle.std.proofs.lemmas.List.{drop_at, drop-drop}
 use Rattle.std.proofs.Math.Seq.{take-append-add, drop-append-add}
 use Rattle.std.proofs.lemmas.Bool.Decides.{nat_tests}
@@ -11,7 +11,6 @@ use Rattle.gq_edit.specs.Replacements.{AreDisjointFrom, FitText}
 use Rattle.gq_lex.specs.declared.token.Kind.{Kind}
 use Rattle.gq_lex.specs.declared.token.Kind.TheVariants as kind
 use Rattle.gq_lex.specs.Bytes.{Passes, Stops, look_up, punctuators, punctuator, is_name_start, is_name_continue, is_comment_byte}
-use Rattle.std.specs.Prelude.{All}
 use Rattle.std.specs.Str.{IsCharBoundary}
 use Rattle.gq_lex.specs.Places.{IsCutOf}
 use Rattle.gq_lex.specs.Numbers.{IsIntegerPart, zero as int_zero, negative_zero, digits, negative_digits, IsFloat, with_fraction, with_exponent, with_both, is_number_continue}

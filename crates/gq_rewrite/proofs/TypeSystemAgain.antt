@@ -9,8 +9,8 @@ use Rattle.gq_lex.specs.declared.token.Kind.{Kind}
 use Rattle.gq_lex.specs.declared.token.Kind.TheVariants as kind
 use Rattle.gq_tree.specs.declared.type_system.DirectiveLocation.{DirectiveLocation}
 use Rattle.gq_tree.specs.Plain.{NameOf, DirectiveOf, InputOf, FieldDefinitionOf, EnumValueOf, RootOf, BodyOf, scalar_type, object_type, interface_type, union_type, enum_type, input_type, TypeSystemOf, schema, type_definition, directive_definition, place_input, place_field, place_enum_value, place_root, place_body, place_type_system, no_place}
-use Rattle.gq_parse.specs.Grammar.{Tokens, NotNext, covered, Enclosed}
-use Rattle.gq_parse.specs.TypeSystem.{NotWord, IsDescription, no_description, a_description, a_block_description, Separated, last, next, Led, plain, led, IsRoot, a_root, IsSchema, a_schema, IsInputValue, an_input_value, IsFieldDefinition, a_field_definition, IsFieldsDefinition, IsEnumValueDefinition, an_enum_value, IsImplements, no_interfaces, interfaces, IsMembers, no_members, members, IsTypeBody, a_scalar, an_object_type, an_interface, a_union, an_enum_type, an_input_type, IsLocation, a_location, IsRepeatable, once, repeatable, HasParts, IsTypeSystemDefinition, a_schema_definition, a_type_definition, a_directive_definition, a_schema_extension, a_type_extension}
+use Rattle.gq_parse.specs.Grammar.{Tokens, NotNext, covered, OptionalMany}
+use Rattle.gq_parse.specs.TypeSystem.{NotWord, IsDescription, no_description, a_description, a_block_description, Separated, last, next, Delimited, plain, led, IsRoot, a_root, IsSchema, a_schema, IsInputValue, an_input_value, IsFieldDefinition, a_field_definition, IsFieldsDefinition, IsEnumValueDefinition, an_enum_value, IsImplements, no_interfaces, interfaces, IsMembers, no_members, members, IsTypeBody, a_scalar, an_object_type, an_interface, a_union, an_enum_type, an_input_type, IsLocation, a_location, IsRepeatable, once, repeatable, HasParts, IsTypeSystemDefinition, a_schema_definition, a_type_definition, a_directive_definition, a_schema_extension, a_type_extension}
 use Rattle.gq_rewrite.proofs.Retelling.{Marked, tokens_of, Retold, MarksNames}
 use Rattle.gq_rewrite.proofs.Regrammar.{BeginsUnmarked, SameNext, Again, cut_retold, next_kept, none_retold, marked_names, marked_append, marks_append, name_in, Then, joined, changed, peeked, marked_again, kept_again, plain_name, plain_directive, Like, AllKept, named_again, skipped, enclosed_again, constant_directives_again, type_again, default_again, operation_type_again}
 
@@ -164,7 +164,7 @@ separated_again {f = f} {tokens = tokens} each (next {x = x} {xs = xs} a b one m
     changed (λ u v q. (q.1.0 ∷ q.2.2.0, next q.0 q.2.0 q.1.1 q.2.1 q.2.2.1, let e = q.1.2 in let d = q.2.2.2 in cc))
     (joined (each x tokens a one) (joined (marked_again m) (separated_again {f = f} each others)))
 
-led_again : {new : List ℕ} {A B : Type 0} {X : A → Tokens → Tokens → Type 0} {f : A → B} {k : Kind} {xs : List A} {tokens rest : Tokens} → AllKept new X f → Led X k xs tokens rest → Again new [] (Like (Led X k) (map f) xs) tokens rest
+led_again : {new : List ℕ} {A B : Type 0} {X : A → Tokens → Tokens → Type 0} {f : A → B} {k : Kind} {xs : List A} {tokens rest : Tokens} → AllKept new X f → Delimited X k xs tokens rest → Again new [] (Like (Delimited X k) (map f) xs) tokens rest
 led_again {X = X} {f} {k} each (plain free h) =
     changed (λ u v q.
     let e = q.1.0 in
@@ -210,7 +210,7 @@ input_again (an_input_value {description = desc} {name = name} {t = t} {default 
     ))
     (joined (description_again said) (joined (kept_again n) (joined (marked_again m) (joined (type_again type) (joined (default_again value) (constant_directives_again dirs))))))
 
-inputs_again : {new : List ℕ} {k j : Kind} {vs : List (InputOf Span)} {tokens rest : Tokens} → Enclosed IsInputValue k j vs tokens rest → Again new [] (Like (Enclosed IsInputValue k j) (map plain_input) vs) tokens rest
+inputs_again : {new : List ℕ} {k j : Kind} {vs : List (InputOf Span)} {tokens rest : Tokens} → OptionalMany IsInputValue k j vs tokens rest → Again new [] (Like (OptionalMany IsInputValue k j) (map plain_input) vs) tokens rest
 inputs_again h = enclosed_again (λ x t r one. input_again one) h
 
 field_again : {new : List ℕ} {i : FieldDefinitionOf Span} {tokens rest : Tokens} → IsFieldDefinition i tokens rest → Again new [] (Like IsFieldDefinition plain_field i) tokens rest

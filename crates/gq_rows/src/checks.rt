@@ -4,7 +4,7 @@ ghost use Rattle.std.specs.Prelude.{◌≡◌, false};
 use crate::no_answer::NoAnswer;
 use crate::row::{Row, project_of};
 use crate::telling::Telling;
-use gq_check::{File, check, check_by_threads, exec};
+use gq_check::{File, check, check_by_threads, exec, words};
 use gq_found::Found;
 use gq_rpc::Sink;
 use gq_rules::{Valid, Why, validate};
@@ -186,7 +186,7 @@ fn tell_found(found: &[Found], telling: &mut Telling) {
         telling.put(one.code.as_str());
         telling.put_span(one.span.start, one.span.end);
         telling.put(" ");
-        telling.put(one.words());
+        telling.put(words(one.code));
     }
 }
 

@@ -1,5 +1,5 @@
 //! The documents of a project as they are read, what they define, and their selections.
-use crate::items::documents_of;
+use crate::faults::documents_of;
 use crate::no_answer::NoAnswer;
 use crate::row::{Row, project_of};
 use crate::telling::Telling;
@@ -7,22 +7,22 @@ use gq_document::{
     Definitions, FragmentEntry, OperationEntry, Selected, fragment_selections, operation_selections,
 };
 use gq_project::{Doc, Project};
-use gq_read::{Reading, read, read_by_threads};
+use gq_read::{Parsed, read, read_by_threads};
 use gq_tree::Selection;
 use gq_types::Types;
 use std::alloc::Global;
 use std::thread::Threads;
 
 /// Tells readings, each behind the name of its document: how many definitions it has, or where it is at fault.
-fn tell_each(documents: &[Doc], readings: &[Reading], telling: &mut Telling) {
+fn tell_each(documents: &[Doc], readings: &[Parsed], telling: &mut Telling) {
     for (document, reading) in documents.iter().zip(readings) {
         telling.put(if telling.is_empty() { "" } else { "\n" });
         telling.put(document.key.as_str());
         telling.put(": ");
         let (word, number) = match reading {
-            Reading::Tree(tree) => ("definitions ", tree.definitions.len()),
-            Reading::Syntax { place } => ("syntax ", *place),
-            Reading::Limit { place } => ("limit ", *place),
+            Parsed::Tree(tree) => ("definitions ", tree.definitions.len()),
+            Parsed::Syntax { place } => ("syntax ", *place),
+            Parsed::Limit { place } => ("limit ", *place),
         };
         telling.put(word);
         telling.put_number(number);

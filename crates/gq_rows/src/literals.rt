@@ -1,16 +1,16 @@
 //! Values and directives at their types, as the rules of the type system and of operations share them.
-use crate::items::tell_items;
+use crate::faults::tell_in_order;
 use crate::no_answer::NoAnswer;
 use crate::row::Row;
 use crate::telling::Telling;
-use gq_found::Item;
+use gq_found::Fault;
 use gq_names::NameList;
 use gq_parse::{Definition, parse};
 use gq_text::NoMemory;
 use gq_tree::{Directive, DirectiveLocation, TypeSystemDefinition};
 use gq_types::{Entry, Types};
 use gq_values::fitting::{is_built_in_scalar, is_int_32};
-use gq_values::{Read, put_argument_faults, put_directive_faults, put_literal_faults};
+use gq_values::{ExpectedType, add_argument_faults, add_directive_faults, add_literal_faults};
 use std::alloc::Global;
 
 /// The types that a text defines.
@@ -28,11 +28,18 @@ pub fn types_of(alloc: Global, text: &str) -> Result<Types, NoAnswer> {
 }
 
 /// Puts what is wrong with the default value of the input field `v` of `P`.
-fn put_value(alloc: Global, types: &Types, items: &mut Vec<Item>) -> Result<(), NoMemory> {
+fn put_value(alloc: Global, types: &Types, faults: &mut Vec<Fault>) -> Result<(), NoMemory> {
     match types.input_field("P", "v") {
         Some(input) => match &input.default {
             Some(value) => {
-                put_literal_faults(alloc, types, 0, Read::AtType(&input.type_ref), value, items)
+                add_literal_faults(
+                    alloc,
+                    types,
+                    0,
+                    ExpectedType::AtType(&input.type_ref),
+                    value,
+                    faults,
+                )
             }
             None => Ok(()),
         },
@@ -60,38 +67,38 @@ fn put_directives(
     alloc: Global,
     types: &Types,
     location: DirectiveLocation,
-    items: &mut Vec<Item>,
+    faults: &mut Vec<Fault>,
 ) -> Result<usize, NoMemory> {
     let mut names = NameList::new(alloc);
     let all = directives(types);
-    put_directive_faults(alloc, types, 0, location, &mut names, all, items)?;
+    add_directive_faults(alloc, types, 0, location, &mut names, all, faults)?;
     Ok(names.len())
 }
 
 /// Puts what is wrong with the arguments of the directives on the type `T`, if these are not known.
-fn put_arguments(alloc: Global, types: &Types, items: &mut Vec<Item>) -> Result<(), NoMemory> {
+fn put_arguments(alloc: Global, types: &Types, faults: &mut Vec<Fault>) -> Result<(), NoMemory> {
     for one in directives(types) {
-        put_argument_faults(alloc, types, 0, None, &one.name, &one.arguments, items)?;
+        add_argument_faults(alloc, types, 0, None, &one.name, &one.arguments, faults)?;
     }
     Ok(())
 }
 
 /// Puts what is wrong with what the word says.
-fn put_faults(
+fn add_faults(
     alloc: Global,
     types: &Types,
     word: &str,
-    items: &mut Vec<Item>,
+    faults: &mut Vec<Fault>,
 ) -> Result<(), NoMemory> {
     match word {
-        "value" => put_value(alloc, types, items)?,
+        "value" => put_value(alloc, types, faults)?,
         "OBJECT" => {
-            let _ = put_directives(alloc, types, DirectiveLocation::Object, items)?;
+            let _ = put_directives(alloc, types, DirectiveLocation::Object, faults)?;
         }
         "SCALAR" => {
-            let _ = put_directives(alloc, types, DirectiveLocation::Scalar, items)?;
+            let _ = put_directives(alloc, types, DirectiveLocation::Scalar, faults)?;
         }
-        _ => put_arguments(alloc, types, items)?,
+        _ => put_arguments(alloc, types, faults)?,
     }
     Ok(())
 }
@@ -107,15 +114,15 @@ pub fn tell_literals(alloc: Global, row: &Row<'_>, telling: &mut Telling) -> Res
         "is_built_in_scalar" => telling.put_yes_or_no(is_built_in_scalar(text)),
         "names" => {
             let types = types_of(alloc, text)?;
-            let mut items = Vec::new(alloc);
+            let mut faults = Vec::new(alloc);
             let object = DirectiveLocation::Object;
-            telling.put_number(put_directives(alloc, &types, object, &mut items)?);
+            telling.put_number(put_directives(alloc, &types, object, &mut faults)?);
         }
         _ => {
             let types = types_of(alloc, text)?;
-            let mut items = Vec::new(alloc);
-            put_faults(alloc, &types, word, &mut items)?;
-            tell_items(row, &mut items, telling);
+            let mut faults = Vec::new(alloc);
+            add_faults(alloc, &types, word, &mut faults)?;
+            tell_in_order(row, &mut faults, telling);
         }
     }
     Ok(())

@@ -4,8 +4,8 @@
 
 mod checks;
 mod documents;
+mod faults;
 mod indexes;
-mod items;
 mod literals;
 mod no_answer;
 mod pictures;

@@ -3,8 +3,8 @@ use crate::checks::{tell_check, tell_execution, tell_report, tell_validity};
 use crate::documents::{
     tell_definitions, tell_readings, tell_readings_by_threads, tell_selections,
 };
+use crate::faults::{Rules, tell_faults};
 use crate::indexes::tell_index;
-use crate::items::{Rules, tell_faults};
 use crate::literals::tell_literals;
 use crate::no_answer::NoAnswer;
 use crate::row::Row;

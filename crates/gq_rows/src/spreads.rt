@@ -1,5 +1,5 @@
 //! Which fragments an operation reaches, and where fragments of a name stand.
-use crate::items::{Documents, documents_of};
+use crate::faults::{Documents, documents_of};
 use crate::no_answer::NoAnswer;
 use crate::row::Row;
 use crate::telling::Telling;

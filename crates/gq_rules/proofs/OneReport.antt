@@ -12,15 +12,16 @@ use Rattle.gq_names.proofs.RepeatLemmas.{contains_none, contains_later, contains
 use Rattle.gq_project.specs.declared.document.Doc.{Doc}
 use Rattle.gq_parse.specs.Faults.{IsSyntaxFault, IsLimitFault}
 use Rattle.gq_found.specs.declared.found.Found.{Found}
-use Rattle.gq_found.specs.declared.item.Item.{Item}
+use Rattle.gq_found.specs.declared.fault.Fault.{Fault}
 use Rattle.gq_found.specs.Codes.{number_of}
-use Rattle.gq_found.specs.Order.{item_cmp}
+use Rattle.gq_found.specs.Order.{fault_cmp}
 use Rattle.gq_found.specs.Tells.{told}
-use Rattle.gq_read.specs.declared.reader.Reading.{Reading}
-use Rattle.gq_read.specs.declared.reader.Reading.TheVariants as reading
-use Rattle.gq_read.specs.Readings.{IsReading}
+use Rattle.gq_read.specs.declared.reader.Parsed.{Parsed}
+use Rattle.gq_read.specs.declared.reader.Parsed.TheVariants as reading
+use Rattle.gq_read.specs.Parsed.{IsParsed}
 use Rattle.gq_rules.specs.Validity.{IsReportOf}
-use Rattle.gq_rules.proofs.OneReading.{OneTree, said, tree, syntax_at, limit_at, all_same, demanded_back}
+use Rattle.gq_document.proofs.OneReading.{OneTree}
+use Rattle.gq_rules.proofs.OneReading.{said, tree, syntax_at, limit_at, all_same, demanded_back}
 
 -- lists in order with the same members are one
 module _ {X : Type 0} {c : X → X → Ordering} (o : IsTotalOrder c) where
@@ -56,11 +57,11 @@ module _ {X : Type 0} {c : X → X → Ordering} (o : IsTotalOrder c) where
       (λ z. (behind x y xs ys e s (λ w. (h w).0) z, behind y x ys xs (sym e) t (λ w. (h w).1) z)) in
       ap (λ z. z ∷ xs) e ∙ ap (λ zs. y ∷ zs) rest
 
-item_cmp_total : IsTotalOrder item_cmp
+item_cmp_total : IsTotalOrder fault_cmp
 item_cmp_total =
-    then_total (on_total (λ (i : Item). i.file) nat_cmp_total)
-    (then_total (on_total (λ (i : Item). i.start) nat_cmp_total)
-    (then_total (on_total (λ (i : Item). number_of i.code) nat_cmp_total) (on_total (λ (i : Item). i.end) nat_cmp_total)))
+    then_total (on_total (λ (i : Fault). i.file) nat_cmp_total)
+    (then_total (on_total (λ (i : Fault). i.start) nat_cmp_total)
+    (then_total (on_total (λ (i : Fault). number_of i.code) nat_cmp_total) (on_total (λ (i : Fault). i.end) nat_cmp_total)))
 
 -- no two faults of a text, and none of both kinds
 abbrev pub OneSyntax : Type 0
@@ -73,7 +74,7 @@ abbrev pub NotBoth : Type 0
 NotBoth = (text : List ℕ) (a b : ℕ) → IsSyntaxFault text a → IsLimitFault text b → ⊥
 
 module _ (one_tree : OneTree) (one_syntax : OneSyntax) (one_limit : OneLimit) (not_both : NotBoth) where
-  same_reading : (text : List ℕ) (a b : Reading) → IsReading text a → IsReading text b → said a ≡ said b
+  same_reading : (text : List ℕ) (a b : Parsed) → IsParsed text a → IsParsed text b → said a ≡ said b
   same_reading text (reading.Tree d) (reading.Tree e) p q = ap tree (one_tree text (document_view d) (document_view e) p q)
   same_reading text (reading.Tree d) (reading.Syntax m) p q = absurd (q.0 (document_view d) p)
   same_reading text (reading.Tree d) (reading.Limit m) p q = absurd (q.0 (document_view d) p)
@@ -87,8 +88,8 @@ module _ (one_tree : OneTree) (one_syntax : OneSyntax) (one_limit : OneLimit) (n
   pub one_report : (documents : List Doc) (a b : List Found) → IsReportOf documents a → IsReportOf documents b → a ≡ b
   one_report documents a b r s =
       let same : map said r.readings ≡ map said s.readings = all_same documents r.readings s.readings (λ file text x y at. same_reading text x y) r.are_readings s.are_readings in
-      let items : r.items ≡ s.items = one_list item_cmp_total r.items s.items r.sorted s.sorted (λ z. (
+      let faults : r.faults ≡ s.faults = one_list item_cmp_total r.faults s.faults r.sorted s.sorted (λ z. (
         (λ k. (s.exact z).1 (demanded_back s.readings r.readings (sym same) z ((r.exact z).0 k))),
         (λ k. (r.exact z).1 (demanded_back r.readings s.readings same z ((s.exact z).0 k))),
       )) in
-      r.are_told ∙ ap (told documents) items ∙ sym s.are_told
+      r.are_told ∙ ap (told documents) faults ∙ sym s.are_told

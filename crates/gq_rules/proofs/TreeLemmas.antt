@@ -4,17 +4,17 @@ use Rattle.std.specs.List.{AllByRecursion}
 use Rattle.gq_tree.specs.Views.{document_view}
 use Rattle.gq_project.specs.declared.document.Doc.{Doc}
 use Rattle.gq_found.specs.declared.code.Code.TheVariants.{Syntax, OverLimit}
-use Rattle.gq_read.specs.declared.reader.Reading.{Reading}
-use Rattle.gq_read.specs.declared.reader.Reading.TheVariants as reading
-use Rattle.gq_read.specs.Readings.{AreReadings}
-use Rattle.gq_read.specs.Readings as readings
-use Rattle.gq_rules.specs.Demands.{first, unread}
+use Rattle.gq_read.specs.declared.reader.Parsed.{Parsed}
+use Rattle.gq_read.specs.declared.reader.Parsed.TheVariants as reading
+use Rattle.gq_read.specs.Parsed.{AreParsed}
+use Rattle.gq_read.specs.Parsed as readings
+use Rattle.gq_rules.specs.Faults.{first, unread}
 use Rattle.gq_rules.specs.Trees.{HasTree}
-use Rattle.gq_rules.specs.Unread.{item_before, syntax, limit}
+use Rattle.gq_rules.specs.Unread.{fault_before, syntax, limit}
 use Rattle.gq_rules.specs.Validity.{IsValid}
 
 -- where no reading is a fault
-all_have : {documents : List Doc} {rs : List Reading} → AreReadings documents rs → ((file place : ℕ) → slice_get rs file ≡ Some (reading.Syntax place) → ⊥) →
+all_have : {documents : List Doc} {rs : List Parsed} → AreParsed documents rs → ((file place : ℕ) → slice_get rs file ≡ Some (reading.Syntax place) → ⊥) →
     ((file place : ℕ) → slice_get rs file ≡ Some (reading.Limit place) → ⊥) → AllByRecursion (λ document. HasTree document.text) documents
 all_have readings.none no_syntax no_limit = tt
 all_have (readings.more {one = reading.Tree d} p ps) no_syntax no_limit =
@@ -24,5 +24,5 @@ all_have (readings.more {one = reading.Limit place} p ps) no_syntax no_limit = a
 
 pub have_trees : (documents : List Doc) → IsValid documents → AllByRecursion (λ document. HasTree document.text) documents
 have_trees documents v = all_have v.are_readings
-    (λ file place at. v.none (item_before file Syntax place) (first (unread (syntax at refl))))
-    (λ file place at. v.none (item_before file OverLimit place) (first (unread (limit at refl))))
+    (λ file place at. v.none (fault_before file Syntax place) (first (unread (syntax at refl))))
+    (λ file place at. v.none (fault_before file OverLimit place) (first (unread (limit at refl))))

@@ -1,17 +1,17 @@
--- What an empty list of items, and one that is not empty, say of a project.
+-- What an empty list of faults, and one that is not empty, say of a project.
 use Rattle.std.proofs.Common.{◌≡◌, ◌↔◌, List, [], ◌∷◌, Contains, refl, subst}
 use Rattle.gq_names.proofs.RepeatLemmas.{contains_none, contains_first}
 use Rattle.gq_project.specs.declared.document.Doc.{Doc}
-use Rattle.gq_found.specs.declared.item.Item.{Item}
-use Rattle.gq_read.specs.declared.reader.Reading.{Reading}
-use Rattle.gq_read.specs.Readings.{AreReadings}
-use Rattle.gq_rules.specs.Demands.{IsDemanded}
+use Rattle.gq_found.specs.declared.fault.Fault.{Fault}
+use Rattle.gq_read.specs.declared.reader.Parsed.{Parsed}
+use Rattle.gq_read.specs.Parsed.{AreParsed}
+use Rattle.gq_rules.specs.Faults.{IsFaultOf}
 use Rattle.gq_rules.specs.Validity.{IsValid, IsInvalid}
 
-module _ (documents : List Doc) (readings : List Reading) (are : AreReadings documents readings) where
-  pub valid : (items : List Item) → ((item : Item) → Contains items item ↔ IsDemanded readings item) → items ≡ [] → IsValid documents
-  valid items exact e = record { readings = readings; are_readings = are; none = λ item d. contains_none item (subst (λ xs. Contains xs item) e ((exact item).1 d)) }
+module _ (documents : List Doc) (readings : List Parsed) (are : AreParsed documents readings) where
+  pub valid : (faults : List Fault) → ((fault : Fault) → Contains faults fault ↔ IsFaultOf readings fault) → faults ≡ [] → IsValid documents
+  valid faults exact e = record { readings = readings; are_readings = are; none = λ fault d. contains_none fault (subst (λ xs. Contains xs fault) e ((exact fault).1 d)) }
 
-  pub invalid : (items : List Item) → ((item : Item) → Contains items item ↔ IsDemanded readings item) → (items ≡ [] → ⊥) → IsInvalid documents
+  pub invalid : (faults : List Fault) → ((fault : Fault) → Contains faults fault ↔ IsFaultOf readings fault) → (faults ≡ [] → ⊥) → IsInvalid documents
   invalid [] exact n = absurd (n refl)
-  invalid (item ∷ items) exact n = record { readings = readings; are_readings = are; some = (item, (exact item).0 (contains_first item items item refl)) }
+  invalid (fault ∷ faults) exact n = record { readings = readings; are_readings = are; some = (fault, (exact fault).0 (contains_first fault faults fault refl)) }

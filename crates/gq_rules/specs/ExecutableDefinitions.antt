@@ -5,10 +5,10 @@ use Rattle.std.specs.List.{list_any}
 use Rattle.gq_text.specs.declared.place.Span.{Span}
 use Rattle.gq_tree.specs.Plain.{Def, operation, fragment, type_system, TypeSystemOf}
 use Rattle.gq_found.specs.declared.code.Code.TheVariants.{MixedFile}
-use Rattle.gq_found.specs.declared.item.Item.{Item}
-use Rattle.gq_read.specs.declared.reader.Reading.{Reading}
+use Rattle.gq_found.specs.declared.fault.Fault.{Fault}
+use Rattle.gq_read.specs.declared.reader.Parsed.{Parsed}
 use Rattle.gq_document.specs.Definitions.{definitions_read}
-use Rattle.gq_type_system.specs.Items.{item_in}
+use Rattle.gq_found.specs.FaultPlaces.{fault_over}
 use Rattle.gq_type_system.specs.DefinedTwice.{definition_place}
 
 -- an operation or a fragment
@@ -25,11 +25,11 @@ first_of_type_system (fragment name on directives set braces place ∷ ds) = fir
 first_of_type_system (type_system definition ∷ ds) = Some definition
 
 -- the document has both; it is told at the first one of the type system
-pub record IsMixed (readings : List Reading) (item : Item) : Type 0 where
+pub record IsMixed (readings : List Parsed) (fault : Fault) : Type 0 where
   pub file : ℕ
-  pub reading : Reading
+  pub reading : Parsed
   pub at : slice_get readings file ≡ Some reading
   pub executable : list_any is_executable (definitions_read reading) ≡ true
   pub definition : TypeSystemOf Span
   pub first : first_of_type_system (definitions_read reading) ≡ Some definition
-  pub is : item ≡ item_in file MixedFile (definition_place definition)
+  pub is : fault ≡ fault_over file MixedFile (definition_place definition)

@@ -2,12 +2,9 @@ pub mod Project
 pub mod Unread
 pub mod ExecutableDefinitions
 pub mod RuleFaults
-pub mod RuleGroups
-pub mod Demands
-pub mod Demanded
-pub mod Places
-pub mod Wrongs
+pub mod Faults
 pub mod Validity
 pub mod ValidityViews
 pub mod Reported
 pub mod Trees
+pub mod Helping

@@ -5,10 +5,10 @@ ghost use Rattle.std.specs.List.{list_any};
 ghost use Rattle.gq_tree.specs.Views.{def_view, type_system_view};
 ghost use Rattle.gq_type_system.specs.DefinedTwice.{definition_place};
 ghost use Rattle.gq_rules.specs.ExecutableDefinitions.{is_executable, first_of_type_system};
-ghost use Rattle.gq_rules.specs.Places.{mixed_in, mixed_at, each_from};
+ghost use Rattle.gq_rules.specs.Helping.Places.{mixed_in, mixed_at, each_from};
 
-use gq_found::{Code, Item};
-use gq_read::Reading;
+use gq_found::{Code, Fault};
+use gq_read::Parsed;
 use gq_text::{NoMemory, Span};
 use gq_tree::{Definition, TypeSystemDefinition};
 use gq_type_system::definition_place;
@@ -45,19 +45,19 @@ fn first_of_type_system(definitions: &[Definition]) -> Option<&TypeSystemDefinit
     None
 }
 
-fn put_mixed_in(
+fn add_mixed_in(
     file: usize,
     definitions: &[Definition],
-    items: &mut Vec<Item>,
+    faults: &mut Vec<Fault>,
 ) -> Result<(), NoMemory>
-    ensures { OnOk result (items.new.items ≡ items.old.items ++ mixed_in file (map def_view definitions.now)) }
+    ensures { OnOk result (faults.new.items ≡ faults.old.items ++ mixed_in file (map def_view definitions.now)) }
 {
     if !has_executable(definitions) {
         return Ok(());
     }
     if let Some(definition) = first_of_type_system(definitions) {
         let place = definition_place(definition);
-        items.push(Item {
+        faults.push(Fault {
             file,
             start: place.start,
             code: Code::MixedFile,
@@ -67,22 +67,22 @@ fn put_mixed_in(
     Ok(())
 }
 
-fn put_mixed_at(file: usize, reading: &Reading, items: &mut Vec<Item>) -> Result<(), NoMemory>
-    ensures { OnOk result (items.new.items ≡ items.old.items ++ mixed_at file reading.now) }
+fn add_mixed_at(file: usize, reading: &Parsed, faults: &mut Vec<Fault>) -> Result<(), NoMemory>
+    ensures { OnOk result (faults.new.items ≡ faults.old.items ++ mixed_at file reading.now) }
 {
     match reading {
-        Reading::Tree(document) => put_mixed_in(file, &document.definitions, items),
-        Reading::Syntax { .. } => Ok(()),
-        Reading::Limit { .. } => Ok(()),
+        Parsed::Tree(document) => add_mixed_in(file, &document.definitions, faults),
+        Parsed::Syntax { .. } => Ok(()),
+        Parsed::Limit { .. } => Ok(()),
     }
 }
 
-/// The items of the documents with definitions of both sorts (section 5.1.1).
-pub fn put_mixed(readings: &[Reading], items: &mut Vec<Item>) -> Result<(), NoMemory>
-    ensures { OnOk result (items.new.items ≡ items.old.items ++ each_from mixed_at 0 readings.now) }
+/// The faults of the documents with definitions of both sorts (section 5.1.1).
+pub fn add_mixed(readings: &[Parsed], faults: &mut Vec<Fault>) -> Result<(), NoMemory>
+    ensures { OnOk result (faults.new.items ≡ faults.old.items ++ each_from mixed_at 0 readings.now) }
 {
     for file in 0..readings.len() {
-        put_mixed_at(file, &readings[file], items)?;
+        add_mixed_at(file, &readings[file], faults)?;
     }
     Ok(())
 }

@@ -1,10 +1,10 @@
 //! What is told of a project.
 ghost use Rattle.std.specs.Prelude.{IfOk};
-ghost use Rattle.gq_rules.specs.Demanded.{AreDemanded};
+ghost use Rattle.gq_rules.specs.Helping.AllFaults.{AreFaultsOf};
 ghost use Rattle.gq_rules.specs.Validity.{IsReportOf};
 
 use crate::demands::{demanded, demanded_by_threads};
-use gq_found::{Found, Item, found_at};
+use gq_found::{Fault, Found, found_at};
 use gq_project::Project;
 use gq_text::NoMemory;
 use std::alloc::Global;
@@ -22,8 +22,8 @@ pub struct Report {
 pub fn validate(alloc: Global, project: &Project) -> Result<Report, NoMemory>
     ensures { IfOk result (λ report. IsReportOf project.now report.found.items) }
 {
-    let items = demanded(alloc, project.documents())?;
-    report_of(alloc, project, &items)
+    let faults = demanded(alloc, project.documents())?;
+    report_of(alloc, project, &faults)
 }
 
 /// The same, looked for by four threads.
@@ -34,19 +34,19 @@ pub fn validate_by_threads<R: Threads + Sync>(
 ) -> Result<Report, NoMemory>
     ensures { IfOk result (λ report. IsReportOf project.now report.found.items) }
 {
-    let items = demanded_by_threads(rt, alloc, project.documents())?;
-    report_of(alloc, project, &items)
+    let faults = demanded_by_threads(rt, alloc, project.documents())?;
+    report_of(alloc, project, &faults)
 }
 
-/// The report on a project of which these items are told.
+/// The report on a project of which these faults are told.
 pub(crate) fn report_of(
     alloc: Global,
     project: &Project,
-    items: &[Item],
+    faults: &[Fault],
 ) -> Result<Report, NoMemory>
-    requires { AreDemanded project.now items.now }
+    requires { AreFaultsOf project.now faults.now }
     ensures { IfOk result (λ report. IsReportOf project.now report.found.items) }
 {
-    let found = found_at(alloc, items, project.documents())?;
+    let found = found_at(alloc, faults, project.documents())?;
     Ok(Report { found })
 }

@@ -2,82 +2,82 @@
 ghost use Rattle.std.specs.Prelude.{[], IfOk, OnOk};
 ghost use Rattle.gq_document.specs.Executable.{executable_view};
 ghost use Rattle.gq_fields.specs.FieldFaults.{IsFieldFault};
-ghost use Rattle.gq_found.specs.Puts.{Puts};
+ghost use Rattle.gq_found.specs.Adds.{AddsExactly};
 ghost use Rattle.gq_rules.specs.RuleFaults.{IsRuleFault};
-ghost use Rattle.gq_rules.specs.RuleGroups.{IsDefinitionFault, IsReachFault};
+ghost use Rattle.gq_rules.specs.Helping.RuleGroups.{IsDefinitionFault, IsReachFault};
 
 use gq_document::Executable;
-use gq_fields::put_field_faults;
-use gq_found::Item;
-use gq_fragments::{put_fragment_faults, put_operation_faults};
-use gq_merging::put_merging_faults;
-use gq_spreads::{Spreads, put_spread_faults};
+use gq_fields::add_field_faults;
+use gq_found::Fault;
+use gq_fragments::{add_fragment_faults, add_operation_faults};
+use gq_merging::add_merging_faults;
+use gq_spreads::{Spreads, add_spread_faults};
 use gq_text::NoMemory;
-use gq_variables::put_variable_faults;
+use gq_variables::add_variable_faults;
 use std::alloc::Global;
 
 /// What all rules tell, one group after the other.
-pub fn rule_faults(alloc: Global, executable: &Executable<'_>) -> Result<Vec<Item>, NoMemory>
-    ensures { IfOk result (λ items. Puts (IsRuleFault (executable_view executable.now)) [] items.items) }
+pub fn rule_faults(alloc: Global, executable: &Executable<'_>) -> Result<Vec<Fault>, NoMemory>
+    ensures { IfOk result (λ faults. AddsExactly (IsRuleFault (executable_view executable.now)) [] faults.items) }
 {
-    let mut items = Vec::new(alloc);
-    put_definition_faults(alloc, executable, &mut items)?;
-    put_merging_faults(alloc, executable, &mut items)?;
-    put_field_faults(alloc, executable, &mut items)?;
-    put_reach_faults(alloc, executable, &mut items)?;
-    Ok(items)
+    let mut faults = Vec::new(alloc);
+    add_definition_faults(alloc, executable, &mut faults)?;
+    add_merging_faults(alloc, executable, &mut faults)?;
+    add_field_faults(alloc, executable, &mut faults)?;
+    add_reach_faults(alloc, executable, &mut faults)?;
+    Ok(faults)
 }
 
 /// What is wrong with fields, arguments, directives and values.
-pub fn field_faults(alloc: Global, executable: &Executable<'_>) -> Result<Vec<Item>, NoMemory>
-    ensures { IfOk result (λ items. Puts (IsFieldFault (executable_view executable.now)) [] items.items) }
+pub fn field_faults(alloc: Global, executable: &Executable<'_>) -> Result<Vec<Fault>, NoMemory>
+    ensures { IfOk result (λ faults. AddsExactly (IsFieldFault (executable_view executable.now)) [] faults.items) }
 {
-    let mut items = Vec::new(alloc);
-    put_field_faults(alloc, executable, &mut items)?;
-    Ok(items)
+    let mut faults = Vec::new(alloc);
+    add_field_faults(alloc, executable, &mut faults)?;
+    Ok(faults)
 }
 
 /// What is wrong with operations and fragments as such.
-pub fn definition_faults(alloc: Global, executable: &Executable<'_>) -> Result<Vec<Item>, NoMemory>
-    ensures { IfOk result (λ items. Puts (IsDefinitionFault (executable_view executable.now)) [] items.items) }
+pub fn definition_faults(alloc: Global, executable: &Executable<'_>) -> Result<Vec<Fault>, NoMemory>
+    ensures { IfOk result (λ faults. AddsExactly (IsDefinitionFault (executable_view executable.now)) [] faults.items) }
 {
-    let mut items = Vec::new(alloc);
-    put_definition_faults(alloc, executable, &mut items)?;
-    Ok(items)
+    let mut faults = Vec::new(alloc);
+    add_definition_faults(alloc, executable, &mut faults)?;
+    Ok(faults)
 }
 
 /// What is wrong with spreads, and with variables.
-pub fn reach_faults(alloc: Global, executable: &Executable<'_>) -> Result<Vec<Item>, NoMemory>
-    ensures { IfOk result (λ items. Puts (IsReachFault (executable_view executable.now)) [] items.items) }
+pub fn reach_faults(alloc: Global, executable: &Executable<'_>) -> Result<Vec<Fault>, NoMemory>
+    ensures { IfOk result (λ faults. AddsExactly (IsReachFault (executable_view executable.now)) [] faults.items) }
 {
-    let mut items = Vec::new(alloc);
-    put_reach_faults(alloc, executable, &mut items)?;
-    Ok(items)
+    let mut faults = Vec::new(alloc);
+    add_reach_faults(alloc, executable, &mut faults)?;
+    Ok(faults)
 }
 
 /// Puts what is wrong with operations and fragments as such.
-fn put_definition_faults(
+fn add_definition_faults(
     alloc: Global,
     executable: &Executable<'_>,
-    items: &mut Vec<Item>,
+    faults: &mut Vec<Fault>,
 ) -> Result<(), NoMemory>
-    ensures { OnOk result (Puts (IsDefinitionFault (executable_view executable.now)) items.old.items items.new.items) }
+    ensures { OnOk result (AddsExactly (IsDefinitionFault (executable_view executable.now)) faults.old.items faults.new.items) }
 {
-    put_operation_faults(alloc, executable, items)?;
-    put_fragment_faults(alloc, executable, items)?;
+    add_operation_faults(alloc, executable, faults)?;
+    add_fragment_faults(alloc, executable, faults)?;
     Ok(())
 }
 
 /// Puts what is wrong with spreads, and with variables, whose uses stand in the fragments that an operation reaches by them.
-fn put_reach_faults(
+fn add_reach_faults(
     alloc: Global,
     executable: &Executable<'_>,
-    items: &mut Vec<Item>,
+    faults: &mut Vec<Fault>,
 ) -> Result<(), NoMemory>
-    ensures { OnOk result (Puts (IsReachFault (executable_view executable.now)) items.old.items items.new.items) }
+    ensures { OnOk result (AddsExactly (IsReachFault (executable_view executable.now)) faults.old.items faults.new.items) }
 {
     let spreads = Spreads::of(alloc, executable)?;
-    put_spread_faults(alloc, executable, &spreads, items)?;
-    put_variable_faults(alloc, executable, &spreads, items)?;
+    add_spread_faults(alloc, executable, &spreads, faults)?;
+    add_variable_faults(alloc, executable, &spreads, faults)?;
     Ok(())
 }

@@ -1,21 +1,21 @@
 //! Documents without a tree.
 ghost use Rattle.std.specs.Prelude.{◌≡◌, ◌++◌, OnOk};
-ghost use Rattle.gq_rules.specs.Places.{unread_at, each_from};
+ghost use Rattle.gq_rules.specs.Helping.Places.{unread_at, each_from};
 
-use gq_found::{Code, Item};
-use gq_read::Reading;
+use gq_found::{Code, Fault};
+use gq_read::Parsed;
 use gq_text::NoMemory;
 
-/// The item of a document whose text has no tree: the place of the fault, which marks no text.
-fn put_unread_at(file: usize, reading: &Reading, items: &mut Vec<Item>) -> Result<(), NoMemory>
-    ensures { OnOk result (items.new.items ≡ items.old.items ++ unread_at file reading.now) }
+/// The fault of a document whose text has no tree: the place of the fault, which marks no text.
+fn add_unread_at(file: usize, reading: &Parsed, faults: &mut Vec<Fault>) -> Result<(), NoMemory>
+    ensures { OnOk result (faults.new.items ≡ faults.old.items ++ unread_at file reading.now) }
 {
     let (code, place) = match reading {
-        Reading::Tree(_) => return Ok(()),
-        Reading::Syntax { place } => (Code::Syntax, *place),
-        Reading::Limit { place } => (Code::OverLimit, *place),
+        Parsed::Tree(_) => return Ok(()),
+        Parsed::Syntax { place } => (Code::Syntax, *place),
+        Parsed::Limit { place } => (Code::OverLimit, *place),
     };
-    items.push(Item {
+    faults.push(Fault {
         file,
         start: place,
         code,
@@ -24,12 +24,12 @@ fn put_unread_at(file: usize, reading: &Reading, items: &mut Vec<Item>) -> Resul
     Ok(())
 }
 
-/// The items of the documents that have no tree (section 2.2).
-pub fn put_unread(readings: &[Reading], items: &mut Vec<Item>) -> Result<(), NoMemory>
-    ensures { OnOk result (items.new.items ≡ items.old.items ++ each_from unread_at 0 readings.now) }
+/// The faults of the documents that have no tree (section 2.2).
+pub fn add_unread(readings: &[Parsed], faults: &mut Vec<Fault>) -> Result<(), NoMemory>
+    ensures { OnOk result (faults.new.items ≡ faults.old.items ++ each_from unread_at 0 readings.now) }
 {
     for file in 0..readings.len() {
-        put_unread_at(file, &readings[file], items)?;
+        add_unread_at(file, &readings[file], faults)?;
     }
     Ok(())
 }

@@ -1,12 +1,12 @@
 //! Projects with which nothing is wrong.
 ghost use Rattle.std.specs.Prelude.{◌≡◌, IfOk, IfErr};
-ghost use Rattle.gq_rules.specs.Demanded.{AreDemanded};
+ghost use Rattle.gq_rules.specs.Helping.AllFaults.{AreFaultsOf};
 ghost use Rattle.gq_rules.specs.Reported.{IsReported};
 ghost use Rattle.gq_rules.specs.Validity.{IsValid};
 
 use crate::demands::{demanded, demanded_by_threads};
 use crate::report::{Report, report_of};
-use gq_found::Item;
+use gq_found::Fault;
 use gq_project::Project;
 use gq_text::NoMemory;
 use std::alloc::Global;
@@ -112,8 +112,8 @@ impl Valid {
 fn why_not(alloc: Global, project: &Project) -> Result<Option<Report>, NoMemory>
     ensures { IfOk result (λ report. IsReported project.now report) }
 {
-    let items = demanded(alloc, project.documents())?;
-    report_if_any(alloc, project, &items)
+    let faults = demanded(alloc, project.documents())?;
+    report_if_any(alloc, project, &faults)
 }
 
 /// The same, by threads.
@@ -124,22 +124,22 @@ fn why_not_by_threads<R: Threads + Sync>(
 ) -> Result<Option<Report>, NoMemory>
     ensures { IfOk result (λ report. IsReported project.now report) }
 {
-    let items = demanded_by_threads(rt, alloc, project.documents())?;
-    report_if_any(alloc, project, &items)
+    let faults = demanded_by_threads(rt, alloc, project.documents())?;
+    report_if_any(alloc, project, &faults)
 }
 
-/// The report on a project of which these items are told, if there are any.
+/// The report on a project of which these faults are told, if there are any.
 fn report_if_any(
     alloc: Global,
     project: &Project,
-    items: &[Item],
+    faults: &[Fault],
 ) -> Result<Option<Report>, NoMemory>
-    requires { AreDemanded project.now items.now }
+    requires { AreFaultsOf project.now faults.now }
     ensures { IfOk result (λ report. IsReported project.now report) }
 {
-    if items.is_empty() {
+    if faults.is_empty() {
         return Ok(None);
     }
-    let report = report_of(alloc, project, items)?;
+    let report = report_of(alloc, project, faults)?;
     Ok(Some(report))
 }

@@ -3,17 +3,18 @@ ghost use Rattle.std.specs.Prelude.{[], IfOk, OnOk};
 ghost use Rattle.std.specs.Thread.{IsSync};
 ghost use Rattle.gq_document.specs.Executable.{executable_view};
 ghost use Rattle.gq_fields.specs.FieldFaults.{IsFieldFault};
-ghost use Rattle.gq_found.specs.Puts.{Puts};
+ghost use Rattle.gq_found.specs.Adds.{AddsExactly};
 ghost use Rattle.gq_merging.specs.FieldsMerge.{IsMergingFault};
 ghost use Rattle.gq_rules.specs.Project.{defined_in};
-ghost use Rattle.gq_rules.specs.RuleGroups.{IsDefinitionOrMergingFault, IsDefinitionFault, IsReachFault, IsOtherFault};
-ghost use Rattle.gq_rules.specs.Wrongs.{IsWrong, PutsWrong};
+ghost use Rattle.gq_rules.specs.Helping.RuleGroups.{IsDefinitionOrMergingFault, IsDefinitionFault, IsReachFault, IsOtherFault};
+ghost use Rattle.gq_rules.specs.Helping.Wrongs.{IsWrong, PutsWrong};
 
 use crate::giving_back::give_back;
 use crate::rule_faults::{definition_faults, field_faults, reach_faults};
+use crate::wrong::add_wrong_in;
 use gq_document::{Definitions, Executable};
-use gq_found::Item;
-use gq_merging::put_merging_faults_by_threads;
+use gq_found::Fault;
+use gq_merging::add_merging_faults_by_threads;
 use gq_text::NoMemory;
 use gq_type_system::schema_faults;
 use gq_types::Types;
@@ -23,19 +24,19 @@ use std::thread::{Threads, join};
 /// What is wrong with a type system or, where nothing is, what some of the rules tell.
 #[derive(Drop)]
 enum Wrong {
-    TypeSystem(Vec<Item>),
-    Rules(Vec<Item>),
+    TypeSystem(Vec<Fault>),
+    Rules(Vec<Fault>),
 }
 
 /// Puts what is wrong with the type system that is defined and, where nothing is told by then, what the rules tell of the
 /// operations and fragments.
-pub fn put_wrong_by_threads<R: Threads + Sync>(
+pub fn add_wrong_by_threads<R: Threads + Sync>(
     rt: &R,
     alloc: Global,
     definitions: Definitions,
-    items: &mut Vec<Item>,
+    faults: &mut Vec<Fault>,
 ) -> Result<(), NoMemory>
-    ensures { OnOk result (PutsWrong (defined_in definitions.entries.items definitions.operations.items definitions.fragments.items) items.old.items items.new.items) }
+    ensures { OnOk result (PutsWrong (defined_in definitions.entries.items definitions.operations.items definitions.fragments.items) faults.old.items faults.new.items) }
 {
     let types = Types::of(alloc, definitions.entries)?;
     let executable = Executable {
@@ -43,28 +44,26 @@ pub fn put_wrong_by_threads<R: Threads + Sync>(
         operations: &definitions.operations,
         fragments: &definitions.fragments,
     };
-    put_wrong_in(rt, alloc, &executable, items)?;
+    add_wrong_in_by_threads(rt, alloc, &executable, faults)?;
     give_back(rt, definitions.operations, definitions.fragments);
     Ok(())
 }
 
-/// The same for the types that are looked up.
-fn put_wrong_in<R: Threads + Sync>(
+/// The same for the types that are looked up. Only where nothing is told by then is there work for threads.
+fn add_wrong_in_by_threads<R: Threads + Sync>(
     rt: &R,
     alloc: Global,
     executable: &Executable<'_>,
-    items: &mut Vec<Item>,
+    faults: &mut Vec<Fault>,
 ) -> Result<(), NoMemory>
-    ensures { OnOk result (PutsWrong (executable_view executable.now) items.old.items items.new.items) }
+    ensures { OnOk result (PutsWrong (executable_view executable.now) faults.old.items faults.new.items) }
 {
-    if items.is_empty() {
+    if faults.is_empty() {
         let mut wrong = first_wrong(rt, alloc, executable)?;
-        items.append(&mut wrong)?;
+        faults.append(&mut wrong)?;
         return Ok(());
     }
-    let mut wrong = schema_faults(alloc, executable.types)?;
-    items.append(&mut wrong)?;
-    Ok(())
+    add_wrong_in(alloc, executable, faults)
 }
 
 /// The same where nothing is told by then. It is looked at in four threads from the start: for nothing, but for one of them,
@@ -74,12 +73,12 @@ fn first_wrong<R: Threads + Sync>(
     rt: &R,
     alloc: Global,
     executable: &Executable<'_>,
-) -> Result<Vec<Item>, NoMemory>
-    ensures { IfOk result (λ items. PutsWrong (executable_view executable.now) [] items.items) }
+) -> Result<Vec<Fault>, NoMemory>
+    ensures { IfOk result (λ faults. PutsWrong (executable_view executable.now) [] faults.items) }
 {
-    let of_definitions = || -> Result<Vec<Item>, NoMemory>
+    let of_definitions = || -> Result<Vec<Fault>, NoMemory>
         requires { IsSync R.row }
-        ensures { IfOk result (λ items. Puts (IsDefinitionOrMergingFault (executable_view executable.entry.now)) [] items.items) }
+        ensures { IfOk result (λ faults. AddsExactly (IsDefinitionOrMergingFault (executable_view executable.entry.now)) [] faults.items) }
     { definition_and_merging_faults(rt, alloc, executable) };
     let of_others = || -> Result<Wrong, NoMemory>
         ensures { IfOk result (IsWrong IsOtherFault (executable_view executable.entry.now)) }
@@ -88,9 +87,9 @@ fn first_wrong<R: Threads + Sync>(
     match wrong? {
         Wrong::TypeSystem(wrong) => Ok(wrong),
         Wrong::Rules(mut others) => {
-            let mut items = definitions?;
-            items.append(&mut others)?;
-            Ok(items)
+            let mut faults = definitions?;
+            faults.append(&mut others)?;
+            Ok(faults)
         }
     }
 }
@@ -100,20 +99,20 @@ fn definition_and_merging_faults<R: Threads + Sync>(
     rt: &R,
     alloc: Global,
     executable: &Executable<'_>,
-) -> Result<Vec<Item>, NoMemory>
-    ensures { IfOk result (λ items. Puts (IsDefinitionOrMergingFault (executable_view executable.now)) [] items.items) }
+) -> Result<Vec<Fault>, NoMemory>
+    ensures { IfOk result (λ faults. AddsExactly (IsDefinitionOrMergingFault (executable_view executable.now)) [] faults.items) }
 {
-    let of_definitions = || -> Result<Vec<Item>, NoMemory>
-        ensures { IfOk result (λ items. Puts (IsDefinitionFault (executable_view executable.entry.now)) [] items.items) }
+    let of_definitions = || -> Result<Vec<Fault>, NoMemory>
+        ensures { IfOk result (λ faults. AddsExactly (IsDefinitionFault (executable_view executable.entry.now)) [] faults.items) }
     { definition_faults(alloc, executable) };
-    let of_merging = || -> Result<Vec<Item>, NoMemory>
+    let of_merging = || -> Result<Vec<Fault>, NoMemory>
         requires { IsSync R.row }
-        ensures { IfOk result (λ items. Puts (IsMergingFault (executable_view executable.entry.now)) [] items.items) }
+        ensures { IfOk result (λ faults. AddsExactly (IsMergingFault (executable_view executable.entry.now)) [] faults.items) }
     { merging_faults(rt, alloc, executable) };
     let (definitions, merging) = join(rt, of_definitions, of_merging);
-    let mut items = definitions?;
-    items.append(&mut merging?)?;
-    Ok(items)
+    let mut faults = definitions?;
+    faults.append(&mut merging?)?;
+    Ok(faults)
 }
 
 /// The fields that do not merge (section 5.3.2).
@@ -121,12 +120,12 @@ fn merging_faults<R: Threads + Sync>(
     rt: &R,
     alloc: Global,
     executable: &Executable<'_>,
-) -> Result<Vec<Item>, NoMemory>
-    ensures { IfOk result (λ items. Puts (IsMergingFault (executable_view executable.now)) [] items.items) }
+) -> Result<Vec<Fault>, NoMemory>
+    ensures { IfOk result (λ faults. AddsExactly (IsMergingFault (executable_view executable.now)) [] faults.items) }
 {
-    let mut items = Vec::new(alloc);
-    put_merging_faults_by_threads(rt, alloc, executable, &mut items)?;
-    Ok(items)
+    let mut faults = Vec::new(alloc);
+    add_merging_faults_by_threads(rt, alloc, executable, &mut faults)?;
+    Ok(faults)
 }
 
 /// What is wrong with the type system or, where nothing is, with fields, spreads and variables: these two are looked at in a
@@ -138,8 +137,8 @@ fn wrong_fields_and_reach<R: Threads>(
 ) -> Result<Wrong, NoMemory>
     ensures { IfOk result (IsWrong IsOtherFault (executable_view executable.now)) }
 {
-    let of_reach = || -> Result<Vec<Item>, NoMemory>
-        ensures { IfOk result (λ items. Puts (IsReachFault (executable_view executable.entry.now)) [] items.items) }
+    let of_reach = || -> Result<Vec<Fault>, NoMemory>
+        ensures { IfOk result (λ faults. AddsExactly (IsReachFault (executable_view executable.entry.now)) [] faults.items) }
     { reach_faults(alloc, executable) };
     let of_fields = || -> Result<Wrong, NoMemory>
         ensures { IfOk result (IsWrong IsFieldFault (executable_view executable.entry.now)) }
@@ -147,9 +146,9 @@ fn wrong_fields_and_reach<R: Threads>(
     let (reach, wrong) = join(rt, of_reach, of_fields);
     match wrong? {
         Wrong::TypeSystem(wrong) => Ok(Wrong::TypeSystem(wrong)),
-        Wrong::Rules(mut items) => {
-            items.append(&mut reach?)?;
-            Ok(Wrong::Rules(items))
+        Wrong::Rules(mut faults) => {
+            faults.append(&mut reach?)?;
+            Ok(Wrong::Rules(faults))
         }
     }
 }

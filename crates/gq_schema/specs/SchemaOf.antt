@@ -3,11 +3,11 @@ use Rattle.std.specs.Prelude.{◌≡◌, ◌↔◌, ◌++◌, List, Contains}
 use Rattle.std.specs.List.Sorted.{IsStrictlySortedBy}
 use Rattle.gq_project.specs.declared.document.Doc.{Doc}
 use Rattle.gq_found.specs.declared.found.Found.{Found}
-use Rattle.gq_found.specs.declared.item.Item.{Item}
-use Rattle.gq_found.specs.Order.{item_cmp}
+use Rattle.gq_found.specs.declared.fault.Fault.{Fault}
+use Rattle.gq_found.specs.Order.{fault_cmp}
 use Rattle.gq_found.specs.Tells.{told}
-use Rattle.gq_read.specs.declared.reader.Reading.{Reading}
-use Rattle.gq_read.specs.Readings.{AreReadings}
+use Rattle.gq_read.specs.declared.reader.Parsed.{Parsed}
+use Rattle.gq_read.specs.Parsed.{AreParsed}
 use Rattle.gq_types.specs.Entries.{EntryOf}
 use Rattle.gq_types.specs.BuiltIn.{built_in}
 use Rattle.gq_document.specs.Definitions.{entries_of}
@@ -16,25 +16,25 @@ use Rattle.gq_type_system.specs.SchemaFaults.{IsSchemaFault}
 -- The type system of documents: what is built in, and then the definitions and extensions of those that have a tree, in
 -- the order of documents and places.
 pub record IsTypeSystemOf (documents : List Doc) (es : List EntryOf) : Type 0 where
-  pub readings : List Reading
-  pub are_readings : AreReadings documents readings
+  pub readings : List Parsed
+  pub are_readings : AreParsed documents readings
   pub is : es ≡ built_in ++ entries_of readings
 
 -- no rule of section 3 is broken
 abbrev pub HasNoFault : List EntryOf → Type 0
-HasNoFault es = (item : Item) → IsSchemaFault es item → ⊥
+HasNoFault es = (fault : Fault) → IsSchemaFault es fault → ⊥
 
 -- All that is wrong with it, in the order of documents, places and codes, each place and code once. What stands in no
 -- document is not told: without documents that is the missing query root.
 pub record AreFaultsOf (documents : List Doc) (es : List EntryOf) (found : List Found) : Type 0 where
-  pub items : List Item
-  pub sorted : IsStrictlySortedBy item_cmp items
-  pub exact : (item : Item) → Contains items item ↔ IsSchemaFault es item
-  pub are_told : found ≡ told documents items
+  pub faults : List Fault
+  pub sorted : IsStrictlySortedBy fault_cmp faults
+  pub exact : (fault : Fault) → Contains faults fault ↔ IsSchemaFault es fault
+  pub are_told : found ≡ told documents faults
 
 -- The documents have a type system, something is wrong with it, and that is what is found.
 pub record IsFaulty (documents : List Doc) (found : List Found) : Type 0 where
   pub entries : List EntryOf
   pub of_documents : IsTypeSystemOf documents entries
   pub are_faults : AreFaultsOf documents entries found
-  pub some : (item : Item) × IsSchemaFault entries item
+  pub some : (fault : Fault) × IsSchemaFault entries fault

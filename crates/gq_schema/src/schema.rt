@@ -11,7 +11,7 @@ ghost use Rattle.gq_types.specs.Roots.{root_of};
 ghost use Rattle.gq_schema.specs.SchemaOf.{IsTypeSystemOf, HasNoFault};
 
 use gq_document::Definitions;
-use gq_found::{Found, Item, found_at};
+use gq_found::{Fault, Found, found_at};
 use gq_project::Project;
 use gq_read::read;
 use gq_text::NoMemory;
@@ -82,11 +82,11 @@ impl Schema {
         let readings = read(alloc, project.documents())?;
         let definitions = Definitions::of(alloc, readings)?;
         let types = Types::of(alloc, definitions.entries)?;
-        let items = schema_faults(alloc, &types)?;
-        if items.is_empty() {
+        let faults = schema_faults(alloc, &types)?;
+        if faults.is_empty() {
             return Ok(Schema { types });
         }
-        Err(SchemaFault::Faults(found_at(alloc, &items, project.documents())?))
+        Err(SchemaFault::Faults(found_at(alloc, &faults, project.documents())?))
     }
 
     /// The types, with all that is looked up in them.

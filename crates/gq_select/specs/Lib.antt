@@ -1,5 +1,4 @@
 pub mod Meant
 pub mod Runs
 pub mod Touched
-pub mod TouchedPlace
-pub mod Views
+pub mod Helping

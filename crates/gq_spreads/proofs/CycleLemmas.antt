@@ -8,8 +8,8 @@ use Rattle.gq_text.specs.declared.place.Span.{Span}
 use Rattle.gq_tree.specs.Names.{spread_names}
 use Rattle.gq_tree.specs.Plain.{NameOf}
 use Rattle.gq_found.specs.declared.code.Code.TheVariants.{FragmentCycle}
-use Rattle.gq_found.specs.declared.item.Item.{Item}
-use Rattle.gq_found.specs.Puts.{Puts}
+use Rattle.gq_found.specs.declared.fault.Fault.{Fault}
+use Rattle.gq_found.specs.Adds.{AddsExactly}
 use Rattle.gq_reach.specs.Reach.{Reach, start, step, LeadToEachOther, row}
 use Rattle.gq_reach.proofs.Ways.{contains_one, one_contains, way_of}
 use Rattle.gq_reach.proofs.Collecting.{way_then}
@@ -18,10 +18,10 @@ use Rattle.gq_types.proofs.Gathered.{nothing_in, first, only, from_flat, to_flat
 use Rattle.gq_document.specs.Definitions.{FragmentOf}
 use Rattle.gq_document.specs.Executable.{ExecutableOf}
 use Rattle.gq_document.specs.Reaches.{Reaches}
-use Rattle.gq_spreads.specs.Items.{item_at}
+use Rattle.gq_found.specs.FaultPlaces.{fault_at}
 use Rattle.gq_spreads.specs.FragmentSpreadsMustNotFormCycles.{IsFragmentCycle}
-use Rattle.gq_spreads.specs.FragmentSpreadsMustNotFormCyclesPlaces.{AreComponents, some_of, fragment_cycle, cycles_in, fragment_cycles}
-use Rattle.gq_spreads.specs.Rows.{texts}
+use Rattle.gq_spreads.specs.Helping.FragmentSpreadsMustNotFormCyclesPlaces.{AreComponents, some_of, fragment_cycle, cycles_in, fragment_cycles}
+use Rattle.gq_spreads.specs.Helping.Rows.{texts}
 use Rattle.gq_spreads.specs.Spreads.{places_from, ReachesNumber, AreSpreads}
 use Rattle.gq_spreads.specs.declared.spreads.Spreads.{Spreads}
 use Rattle.gq_spreads.proofs.PlaceLemmas.{from_place, to_place}
@@ -60,16 +60,16 @@ module _ (x : ExecutableOf) (s : Spreads) (are : AreSpreads x s) (components : L
       let way : Reach (next j) next n = from_reached x.fragments next are.of_fragment t.set (next j) (are.of_fragment j t at_target) f back n at in
       (exact j n (below j t at_target) (below n f at)).1 (way_of next j n way, step (start (one_contains n)) first)
 
-  from_cycles : (item : Item) → Contains (fragment_cycles (texts x.fragments) components x.fragments) item → IsFragmentCycle x item
-  from_cycles item found =
-      let r = from_flat (cycles_in (texts x.fragments) components) (enumerate_from 0 x.fragments) item found in
+  from_cycles : (fault : Fault) → Contains (fragment_cycles (texts x.fragments) components x.fragments) fault → IsFragmentCycle x fault
+  from_cycles fault found =
+      let r = from_flat (cycles_in (texts x.fragments) components) (enumerate_from 0 x.fragments) fault found in
       let at : slice_get x.fragments r.0.0 ≡ Some r.0.1 = enumerated x.fragments r.0 r.1 in
-      let q = from_flat (fragment_cycle (texts x.fragments) components (get_or components r.0.0 0) r.0.1.file) (spread_names r.0.1.set) item r.2 in
+      let q = from_flat (fragment_cycle (texts x.fragments) components (get_or components r.0.0 0) r.0.1.file) (spread_names r.0.1.set) fault r.2 in
       by_test r.0.0 r.0.1 at q.0 q.1 (some_of components (get_or components r.0.0 0) (places_from 0 q.0.text (texts x.fragments))) refl q.2
     where
       by_test : (n : ℕ) (f : FragmentOf) → slice_get x.fragments n ≡ Some f → (name : NameOf Span) → Contains (spread_names f.set) name → (b : Bool)
-          → some_of components (get_or components n 0) (places_from 0 name.text (texts x.fragments)) ≡ b → Contains (if b then item_at f.file FragmentCycle name ∷ [] else []) item → IsFragmentCycle x item
-      by_test n f at name there false is told = nothing_in item told
+          → some_of components (get_or components n 0) (places_from 0 name.text (texts x.fragments)) ≡ b → Contains (if b then fault_at f.file FragmentCycle name ∷ [] else []) fault → IsFragmentCycle x fault
+      by_test n f at name there false is told = nothing_in fault told
       by_test n f at name there true is told =
           let a = from_any (λ m. nat_eq (get_or components m 0) (get_or components n 0)) (places_from 0 name.text (texts x.fragments)) is in
           let p = from_place 0 name.text x.fragments a.0 a.1 in
@@ -84,11 +84,11 @@ module _ (x : ExecutableOf) (s : Spreads) (are : AreSpreads x s) (components : L
             target_stands = stands x.fragments a.0 p.1 at_target;
             is_named = p.4;
             leads_back = back_of_component n a.0 f p.1 at at_target (spread_step n a.0 f p.1 name at at_target there p.4) (eqb-true (get_or components a.0 0) (get_or components n 0) a.2);
-            is = only (item_at f.file FragmentCycle name) item told;
+            is = only (fault_at f.file FragmentCycle name) fault told;
           }
 
-  to_cycles : (item : Item) → IsFragmentCycle x item → Contains (fragment_cycles (texts x.fragments) components x.fragments) item
-  to_cycles item w =
+  to_cycles : (fault : Fault) → IsFragmentCycle x fault → Contains (fragment_cycles (texts x.fragments) components x.fragments) fault
+  to_cycles fault w =
       let n = number_of x.fragments w.fragment w.stands in
       let j = number_of x.fragments w.target w.target_stands in
       let same : get_or components j.0 0 ≡ get_or components n.0 0 =
@@ -98,14 +98,14 @@ module _ (x : ExecutableOf) (s : Spreads) (are : AreSpreads x s) (components : L
       subst (λ m. Contains (places_from 0 w.name.text (texts x.fragments)) m) here (to_place 0 w.name.text x.fragments j.0 w.target j.1 w.is_named) in
       let test : some_of components (get_or components n.0 0) (places_from 0 w.name.text (texts x.fragments)) ≡ true =
       to_any (λ m. nat_eq (get_or components m 0) (get_or components n.0 0)) (places_from 0 w.name.text (texts x.fragments)) j.0 place (eq-eqb (get_or components j.0 0) (get_or components n.0 0) same) in
-      to_flat (cycles_in (texts x.fragments) components) (enumerate_from 0 x.fragments) (n.0, w.fragment) item (in_enumerated x.fragments n.0 w.fragment n.1)
-      (to_flat (fragment_cycle (texts x.fragments) components (get_or components n.0 0) w.fragment.file) (spread_names w.fragment.set) w.name item w.is_spread
-      (subst (λ b. Contains (if b then item_at w.fragment.file FragmentCycle w.name ∷ [] else []) item) (sym test)
-      (first (item_at w.fragment.file FragmentCycle w.name) item [] (sym w.is))))
+      to_flat (cycles_in (texts x.fragments) components) (enumerate_from 0 x.fragments) (n.0, w.fragment) fault (in_enumerated x.fragments n.0 w.fragment n.1)
+      (to_flat (fragment_cycle (texts x.fragments) components (get_or components n.0 0) w.fragment.file) (spread_names w.fragment.set) w.name fault w.is_spread
+      (subst (λ b. Contains (if b then fault_at w.fragment.file FragmentCycle w.name ∷ [] else []) fault) (sym test)
+      (first (fault_at w.fragment.file FragmentCycle w.name) fault [] (sym w.is))))
 
-  pub puts_cycles : (ts : List Text) (old new : List Item) → ts ≡ texts x.fragments → new ≡ old ++ fragment_cycles ts components x.fragments → Puts (IsFragmentCycle x) old new
+  pub puts_cycles : (ts : List Text) (old new : List Fault) → ts ≡ texts x.fragments → new ≡ old ++ fragment_cycles ts components x.fragments → AddsExactly (IsFragmentCycle x) old new
   puts_cycles ts old new names is = record {
     added = fragment_cycles (texts x.fragments) components x.fragments;
     is = is ∙ ap (λ us. old ++ fragment_cycles us components x.fragments) names;
-    exactly = λ item. (from_cycles item, to_cycles item);
+    exactly = λ fault. (from_cycles fault, to_cycles fault);
   }

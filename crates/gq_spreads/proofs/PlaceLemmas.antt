@@ -11,7 +11,7 @@ use Rattle.gq_types.specs.Entries.{Text}
 use Rattle.gq_types.proofs.Gathered.{nothing_in, first, later, cases_cons}
 use Rattle.gq_document.specs.Definitions.{FragmentOf}
 use Rattle.gq_spreads.specs.Spreads.{places_from}
-use Rattle.gq_spreads.specs.Rows.{texts}
+use Rattle.gq_spreads.specs.Helping.Rows.{texts}
 
 -- one name more at the end of the list
 one_more : (b : Bool) (k n : ℕ) (old new : List ℕ) → new ≡ old ++ n ∷ [] → (if b then k ∷ new else new) ≡ (if b then k ∷ old else old) ++ n ∷ []

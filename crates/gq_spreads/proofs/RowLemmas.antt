@@ -12,7 +12,7 @@ use Rattle.gq_types.specs.Entries.{Text}
 use Rattle.gq_types.proofs.Gathered.{from_flat, to_flat}
 use Rattle.gq_document.specs.Definitions.{OperationOf, FragmentOf}
 use Rattle.gq_document.specs.Executable.{ExecutableOf}
-use Rattle.gq_spreads.specs.Rows.{texts, spread_numbers, operation_numbers, fragment_numbers, row_items}
+use Rattle.gq_spreads.specs.Helping.Rows.{texts, spread_numbers, operation_numbers, fragment_numbers, row_items}
 use Rattle.gq_spreads.specs.Spreads.{places_from, SpreadsNumber, AreSpreads}
 use Rattle.gq_spreads.specs.declared.spreads.Spreads.{Spreads}
 use Rattle.gq_reach.proofs.Searching.{row_at}

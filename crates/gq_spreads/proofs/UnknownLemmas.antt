@@ -10,16 +10,16 @@ use Rattle.gq_text.specs.declared.place.Span.{Span}
 use Rattle.gq_tree.specs.Names.{spread_names}
 use Rattle.gq_tree.specs.Plain.{NameOf, Sels}
 use Rattle.gq_found.specs.declared.code.Code.TheVariants.{UnknownFragment}
-use Rattle.gq_found.specs.declared.item.Item.{Item}
-use Rattle.gq_found.specs.Puts.{Puts}
+use Rattle.gq_found.specs.declared.fault.Fault.{Fault}
+use Rattle.gq_found.specs.Adds.{AddsExactly}
 use Rattle.gq_types.specs.Entries.{Text}
 use Rattle.gq_types.proofs.Gathered.{nothing_in, first, only, from_flat, to_flat, from_map, to_map, from_any, to_any}
 use Rattle.gq_document.specs.Definitions.{OperationOf, FragmentOf}
 use Rattle.gq_document.specs.Executable.{ExecutableOf}
-use Rattle.gq_spreads.specs.Items.{item_at}
+use Rattle.gq_found.specs.FaultPlaces.{fault_at}
 use Rattle.gq_spreads.specs.FragmentSpreadTargetDefined.{IsSpreadName, of_operation, of_fragment, IsUnknownFragment}
-use Rattle.gq_spreads.specs.FragmentSpreadTargetDefinedPlaces.{unknown_fragment, unknown_in, unknown_in_operations, unknown_in_fragments, unknown_fragments}
-use Rattle.gq_spreads.specs.Rows.{texts}
+use Rattle.gq_spreads.specs.Helping.FragmentSpreadTargetDefinedPlaces.{unknown_fragment, unknown_in, unknown_in_operations, unknown_in_fragments, unknown_fragments}
+use Rattle.gq_spreads.specs.Helping.Rows.{texts}
 
 -- a name that is found is that of a fragment
 known : (fs : List FragmentOf) (text : Text) (f : FragmentOf) → Contains fs f → text ≡ f.name.text → list_any (bytes_eq text) (texts fs) ≡ true
@@ -33,56 +33,56 @@ fragment_of fs text found =
     (m.0, m.1, (bytes_decides text a.0).0 a.2 ∙ sym m.2)
 
 module _ (x : ExecutableOf) where
-  from_set : (file : ℕ) (set : Sels Span) (item : Item) → ((name : NameOf Span) → Contains (spread_names set) name → IsSpreadName x file name) → Contains (unknown_in (texts x.fragments) file set) item → IsUnknownFragment x item
-  from_set file set item names found =
-      let r = from_flat (unknown_fragment (texts x.fragments) file) (spread_names set) item found in
+  from_set : (file : ℕ) (set : Sels Span) (fault : Fault) → ((name : NameOf Span) → Contains (spread_names set) name → IsSpreadName x file name) → Contains (unknown_in (texts x.fragments) file set) fault → IsUnknownFragment x fault
+  from_set file set fault names found =
+      let r = from_flat (unknown_fragment (texts x.fragments) file) (spread_names set) fault found in
       by_test r.0 (names r.0 r.1) (list_any (bytes_eq r.0.text) (texts x.fragments)) refl r.2
     where
-      by_test : (name : NameOf Span) → IsSpreadName x file name → (b : Bool) → list_any (bytes_eq name.text) (texts x.fragments) ≡ b → Contains (if b then [] else item_at file UnknownFragment name ∷ []) item → IsUnknownFragment x item
-      by_test name is_spread true is there = nothing_in item there
+      by_test : (name : NameOf Span) → IsSpreadName x file name → (b : Bool) → list_any (bytes_eq name.text) (texts x.fragments) ≡ b → Contains (if b then [] else fault_at file UnknownFragment name ∷ []) fault → IsUnknownFragment x fault
+      by_test name is_spread true is there = nothing_in fault there
       by_test name is_spread false is there = record {
         file = file;
         name = name;
         is_spread = is_spread;
         is_unknown = λ f c same. false≢true (sym is ∙ known x.fragments name.text f c same);
-        is = only (item_at file UnknownFragment name) item there;
+        is = only (fault_at file UnknownFragment name) fault there;
       }
 
-  to_set : (file : ℕ) (set : Sels Span) (item : Item) (name : NameOf Span) → Contains (spread_names set) name → ((f : FragmentOf) → Contains x.fragments f → name.text ≡ f.name.text → ⊥)
-      → item ≡ item_at file UnknownFragment name → Contains (unknown_in (texts x.fragments) file set) item
-  to_set file set item name there unknown is =
-      to_flat (unknown_fragment (texts x.fragments) file) (spread_names set) name item there (by_test (list_any (bytes_eq name.text) (texts x.fragments)) refl)
+  to_set : (file : ℕ) (set : Sels Span) (fault : Fault) (name : NameOf Span) → Contains (spread_names set) name → ((f : FragmentOf) → Contains x.fragments f → name.text ≡ f.name.text → ⊥)
+      → fault ≡ fault_at file UnknownFragment name → Contains (unknown_in (texts x.fragments) file set) fault
+  to_set file set fault name there unknown is =
+      to_flat (unknown_fragment (texts x.fragments) file) (spread_names set) name fault there (by_test (list_any (bytes_eq name.text) (texts x.fragments)) refl)
     where
-      by_test : (b : Bool) → list_any (bytes_eq name.text) (texts x.fragments) ≡ b → Contains (if b then [] else item_at file UnknownFragment name ∷ []) item
+      by_test : (b : Bool) → list_any (bytes_eq name.text) (texts x.fragments) ≡ b → Contains (if b then [] else fault_at file UnknownFragment name ∷ []) fault
       by_test true found = let f = fragment_of x.fragments name.text found in absurd (unknown f.0 f.1 f.2)
-      by_test false found = first (item_at file UnknownFragment name) item [] (sym is)
+      by_test false found = first (fault_at file UnknownFragment name) fault [] (sym is)
 
-  from_unknown : (item : Item) → Contains (unknown_fragments x) item → IsUnknownFragment x item
-  from_unknown item found = ⊎_elim
+  from_unknown : (fault : Fault) → Contains (unknown_fragments x) fault → IsUnknownFragment x fault
+  from_unknown fault found = ⊎_elim
       (λ a.
-      let r = from_flat (λ (o : OperationOf). unknown_in (texts x.fragments) o.file o.set) x.operations item a in
-      from_set r.0.file r.0.set item (λ name there. of_operation r.1 there refl) r.2)
+      let r = from_flat (λ (o : OperationOf). unknown_in (texts x.fragments) o.file o.set) x.operations fault a in
+      from_set r.0.file r.0.set fault (λ name there. of_operation r.1 there refl) r.2)
       (λ b.
-      let r = from_flat (λ (f : FragmentOf). unknown_in (texts x.fragments) f.file f.set) x.fragments item b in
-      from_set r.0.file r.0.set item (λ name there. of_fragment r.1 there refl) r.2)
-      (Contains-append_cases (unknown_in_operations (texts x.fragments) x.operations) (unknown_in_fragments (texts x.fragments) x.fragments) item found)
+      let r = from_flat (λ (f : FragmentOf). unknown_in (texts x.fragments) f.file f.set) x.fragments fault b in
+      from_set r.0.file r.0.set fault (λ name there. of_fragment r.1 there refl) r.2)
+      (Contains-append_cases (unknown_in_operations (texts x.fragments) x.operations) (unknown_in_fragments (texts x.fragments) x.fragments) fault found)
 
-  to_spread : (item : Item) (file : ℕ) (name : NameOf Span) → ((f : FragmentOf) → Contains x.fragments f → name.text ≡ f.name.text → ⊥) → item ≡ item_at file UnknownFragment name
-      → IsSpreadName x file name → Contains (unknown_fragments x) item
-  to_spread item file name unknown is (of_operation {o = o} stands there same) =
-      Contains-append_left (unknown_in_operations (texts x.fragments) x.operations) (unknown_in_fragments (texts x.fragments) x.fragments) item
-      (to_flat (λ (p : OperationOf). unknown_in (texts x.fragments) p.file p.set) x.operations o item stands
-      (to_set o.file o.set item name there unknown (is ∙ ap (λ n. item_at n UnknownFragment name) same)))
-  to_spread item file name unknown is (of_fragment {f = f} stands there same) =
-      Contains-append_right (unknown_in_operations (texts x.fragments) x.operations) (unknown_in_fragments (texts x.fragments) x.fragments) item
-      (to_flat (λ (g : FragmentOf). unknown_in (texts x.fragments) g.file g.set) x.fragments f item stands
-      (to_set f.file f.set item name there unknown (is ∙ ap (λ n. item_at n UnknownFragment name) same)))
+  to_spread : (fault : Fault) (file : ℕ) (name : NameOf Span) → ((f : FragmentOf) → Contains x.fragments f → name.text ≡ f.name.text → ⊥) → fault ≡ fault_at file UnknownFragment name
+      → IsSpreadName x file name → Contains (unknown_fragments x) fault
+  to_spread fault file name unknown is (of_operation {o = o} stands there same) =
+      Contains-append_left (unknown_in_operations (texts x.fragments) x.operations) (unknown_in_fragments (texts x.fragments) x.fragments) fault
+      (to_flat (λ (p : OperationOf). unknown_in (texts x.fragments) p.file p.set) x.operations o fault stands
+      (to_set o.file o.set fault name there unknown (is ∙ ap (λ n. fault_at n UnknownFragment name) same)))
+  to_spread fault file name unknown is (of_fragment {f = f} stands there same) =
+      Contains-append_right (unknown_in_operations (texts x.fragments) x.operations) (unknown_in_fragments (texts x.fragments) x.fragments) fault
+      (to_flat (λ (g : FragmentOf). unknown_in (texts x.fragments) g.file g.set) x.fragments f fault stands
+      (to_set f.file f.set fault name there unknown (is ∙ ap (λ n. fault_at n UnknownFragment name) same)))
 
-  pub puts_unknown : (ts : List Text) (old middle new : List Item) → ts ≡ texts x.fragments → middle ≡ old ++ unknown_in_operations ts x.operations → new ≡ middle ++ unknown_in_fragments ts x.fragments
-      → Puts (IsUnknownFragment x) old new
+  pub puts_unknown : (ts : List Text) (old middle new : List Fault) → ts ≡ texts x.fragments → middle ≡ old ++ unknown_in_operations ts x.operations → new ≡ middle ++ unknown_in_fragments ts x.fragments
+      → AddsExactly (IsUnknownFragment x) old new
   puts_unknown ts old middle new are first second = record {
     added = unknown_fragments x;
-    is = second ∙ ap (λ items. items ++ unknown_in_fragments ts x.fragments) first ∙ append_assoc old (unknown_in_operations ts x.operations) (unknown_in_fragments ts x.fragments)
+    is = second ∙ ap (λ faults. faults ++ unknown_in_fragments ts x.fragments) first ∙ append_assoc old (unknown_in_operations ts x.operations) (unknown_in_fragments ts x.fragments)
         ∙ ap (λ us. old ++ (unknown_in_operations us x.operations ++ unknown_in_fragments us x.fragments)) are;
-    exactly = λ item. (from_unknown item, λ w. to_spread item w.file w.name w.is_unknown w.is w.is_spread);
+    exactly = λ fault. (from_unknown fault, λ w. to_spread fault w.file w.name w.is_unknown w.is w.is_spread);
   }

@@ -5,16 +5,16 @@ use Rattle.std.specs.List.{enumerate_from}
 use Rattle.std.proofs.lemmas.Bool.{false≢true}
 use Rattle.std.proofs.lemmas.Option.{none-some, same_Some}
 use Rattle.gq_found.specs.declared.code.Code.TheVariants.{FragmentNotUsed}
-use Rattle.gq_found.specs.declared.item.Item.{Item}
-use Rattle.gq_found.specs.Puts.{Puts}
+use Rattle.gq_found.specs.declared.fault.Fault.{Fault}
+use Rattle.gq_found.specs.Adds.{AddsExactly}
 use Rattle.gq_reach.specs.Reach.{row}
 use Rattle.gq_types.proofs.Gathered.{nothing_in, first, later, cases_cons, only, from_flat, to_flat}
 use Rattle.gq_document.specs.Definitions.{OperationOf, FragmentOf}
 use Rattle.gq_document.specs.Executable.{ExecutableOf}
 use Rattle.gq_document.specs.Reaches.{IsSpreadIn}
-use Rattle.gq_spreads.specs.Items.{item_at}
+use Rattle.gq_found.specs.FaultPlaces.{fault_at}
 use Rattle.gq_spreads.specs.FragmentsMustBeUsed.{IsUnusedFragment}
-use Rattle.gq_spreads.specs.FragmentsMustBeUsedPlaces.{all_numbers, MarksRows, unused_if, unused_fragment, unused_fragments}
+use Rattle.gq_spreads.specs.Helping.FragmentsMustBeUsedPlaces.{all_numbers, MarksRows, unused_if, unused_fragment, unused_fragments}
 use Rattle.gq_spreads.specs.Spreads.{SpreadsNumber, AreSpreads}
 use Rattle.gq_spreads.specs.declared.spreads.Spreads.{Spreads}
 use Rattle.gq_spreads.proofs.RowLemmas.{stands, number_of, operation_at, fragment_at}
@@ -96,30 +96,30 @@ module _ (x : ExecutableOf) (s : Spreads) (are : AreSpreads x s) (marks : List B
       not_fragment g.0 (stands x.fragments r.0 g.0 g.1) (subst (λ h. IsSpreadIn g.0.set h) (same_Some k.fragment f (sym k.at ∙ at)) k.spread))
       (marked.only n mark)
 
-  from_unused : (item : Item) → Contains (unused_fragments marks x.fragments) item → IsUnusedFragment x item
-  from_unused item found =
-      let r = from_flat (unused_fragment marks) (enumerate_from 0 x.fragments) item found in
+  from_unused : (fault : Fault) → Contains (unused_fragments marks x.fragments) fault → IsUnusedFragment x fault
+  from_unused fault found =
+      let r = from_flat (unused_fragment marks) (enumerate_from 0 x.fragments) fault found in
       by_mark r.0.0 r.0.1 (enumerated x.fragments r.0 r.1) (get_or marks r.0.0 false) refl r.2
     where
-      by_mark : (n : ℕ) (f : FragmentOf) → slice_get x.fragments n ≡ Some f → (b : Bool) → get_or marks n false ≡ b → Contains (unused_if b f) item → IsUnusedFragment x item
-      by_mark n f at true is there = nothing_in item there
+      by_mark : (n : ℕ) (f : FragmentOf) → slice_get x.fragments n ≡ Some f → (b : Bool) → get_or marks n false ≡ b → Contains (unused_if b f) fault → IsUnusedFragment x fault
+      by_mark n f at true is there = nothing_in fault there
       by_mark n f at false is there = record {
         fragment = f;
         stands = stands x.fragments n f at;
         in_no_operation = λ o c spread. false≢true (sym is ∙ mark_of_operation n f at o c spread);
         in_no_fragment = λ g c spread. false≢true (sym is ∙ mark_of_fragment n f at g c spread);
-        is = only (item_at f.file FragmentNotUsed f.name) item there;
+        is = only (fault_at f.file FragmentNotUsed f.name) fault there;
       }
 
-  to_unused : (item : Item) → IsUnusedFragment x item → Contains (unused_fragments marks x.fragments) item
-  to_unused item w =
+  to_unused : (fault : Fault) → IsUnusedFragment x fault → Contains (unused_fragments marks x.fragments) fault
+  to_unused fault w =
       let n = number_of x.fragments w.fragment w.stands in
-      to_flat (unused_fragment marks) (enumerate_from 0 x.fragments) (n.0, w.fragment) item (in_enumerated x.fragments n.0 w.fragment n.1)
+      to_flat (unused_fragment marks) (enumerate_from 0 x.fragments) (n.0, w.fragment) fault (in_enumerated x.fragments n.0 w.fragment n.1)
       (by_mark (get_or marks n.0 false) (no_mark n.0 w.fragment n.1 w.in_no_operation w.in_no_fragment))
     where
-      by_mark : (b : Bool) → (b ≡ true → ⊥) → Contains (unused_if b w.fragment) item
+      by_mark : (b : Bool) → (b ≡ true → ⊥) → Contains (unused_if b w.fragment) fault
       by_mark true not_marked = absurd (not_marked refl)
-      by_mark false not_marked = first (item_at w.fragment.file FragmentNotUsed w.fragment.name) item [] (sym w.is)
+      by_mark false not_marked = first (fault_at w.fragment.file FragmentNotUsed w.fragment.name) fault [] (sym w.is)
 
-  pub puts_unused : (old new : List Item) → new ≡ old ++ unused_fragments marks x.fragments → Puts (IsUnusedFragment x) old new
-  puts_unused old new is = record { added = unused_fragments marks x.fragments; is = is; exactly = λ item. (from_unused item, to_unused item) }
+  pub puts_unused : (old new : List Fault) → new ≡ old ++ unused_fragments marks x.fragments → AddsExactly (IsUnusedFragment x) old new
+  puts_unused old new is = record { added = unused_fragments marks x.fragments; is = is; exactly = λ fault. (from_unused fault, to_unused fault) }

@@ -4,10 +4,10 @@ use Rattle.gq_text.specs.declared.place.Span.{Span}
 use Rattle.gq_tree.specs.Names.{spread_names}
 use Rattle.gq_tree.specs.Plain.{NameOf}
 use Rattle.gq_found.specs.declared.code.Code.TheVariants.{UnknownFragment}
-use Rattle.gq_found.specs.declared.item.Item.{Item}
+use Rattle.gq_found.specs.declared.fault.Fault.{Fault}
 use Rattle.gq_document.specs.Definitions.{OperationOf, FragmentOf}
 use Rattle.gq_document.specs.Executable.{ExecutableOf}
-use Rattle.gq_spreads.specs.Items.{item_at}
+use Rattle.gq_found.specs.FaultPlaces.{fault_at}
 
 -- a spread of that name stands in an operation or a fragment of the document with that number, at any depth
 pub data IsSpreadName (x : ExecutableOf) (file : ℕ) (name : NameOf Span) : Type 0 where
@@ -15,9 +15,9 @@ pub data IsSpreadName (x : ExecutableOf) (file : ℕ) (name : NameOf Span) : Typ
   of_fragment : {f : FragmentOf} → Contains x.fragments f → Contains (spread_names f.set) name → file ≡ f.file → IsSpreadName x file name
 
 -- the name of a spread that no fragment has
-pub record IsUnknownFragment (x : ExecutableOf) (item : Item) : Type 0 where
+pub record IsUnknownFragment (x : ExecutableOf) (fault : Fault) : Type 0 where
   pub file : ℕ
   pub name : NameOf Span
   pub is_spread : IsSpreadName x file name
   pub is_unknown : (f : FragmentOf) → Contains x.fragments f → name.text ≡ f.name.text → ⊥
-  pub is : item ≡ item_at file UnknownFragment name
+  pub is : fault ≡ fault_at file UnknownFragment name

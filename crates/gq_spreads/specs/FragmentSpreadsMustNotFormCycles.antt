@@ -4,15 +4,15 @@ use Rattle.gq_text.specs.declared.place.Span.{Span}
 use Rattle.gq_tree.specs.Names.{spread_names}
 use Rattle.gq_tree.specs.Plain.{NameOf}
 use Rattle.gq_found.specs.declared.code.Code.TheVariants.{FragmentCycle}
-use Rattle.gq_found.specs.declared.item.Item.{Item}
+use Rattle.gq_found.specs.declared.fault.Fault.{Fault}
 use Rattle.gq_document.specs.Definitions.{FragmentOf}
 use Rattle.gq_document.specs.Executable.{ExecutableOf}
 use Rattle.gq_document.specs.Reaches.{Reaches}
-use Rattle.gq_spreads.specs.Items.{item_at}
+use Rattle.gq_found.specs.FaultPlaces.{fault_at}
 
 -- The name of a spread in a fragment, where a fragment of that name reaches the one in which the spread stands. Where
 -- the fragment spreads itself, the two are one.
-pub record IsFragmentCycle (x : ExecutableOf) (item : Item) : Type 0 where
+pub record IsFragmentCycle (x : ExecutableOf) (fault : Fault) : Type 0 where
   pub fragment : FragmentOf
   pub stands : Contains x.fragments fragment
   pub name : NameOf Span
@@ -21,4 +21,4 @@ pub record IsFragmentCycle (x : ExecutableOf) (item : Item) : Type 0 where
   pub target_stands : Contains x.fragments target
   pub is_named : name.text ≡ target.name.text
   pub leads_back : Reaches x.fragments target.set fragment
-  pub is : item ≡ item_at fragment.file FragmentCycle name
+  pub is : fault ≡ fault_at fragment.file FragmentCycle name

@@ -1,10 +1,6 @@
 pub mod Spreads
-pub mod Rows
-pub mod Items
 pub mod FragmentsMustBeUsed
-pub mod FragmentsMustBeUsedPlaces
 pub mod FragmentSpreadTargetDefined
-pub mod FragmentSpreadTargetDefinedPlaces
 pub mod FragmentSpreadsMustNotFormCycles
-pub mod FragmentSpreadsMustNotFormCyclesPlaces
 pub mod SpreadFaults
+pub mod Helping

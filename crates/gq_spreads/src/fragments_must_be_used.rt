@@ -1,32 +1,32 @@
 //! Fragments must be used (section 5.5.1.4).
 ghost use Rattle.std.specs.Prelude.{◌≡◌, ◌<◌, ◌++◌, length, All, IfOk, OnOk};
-ghost use Rattle.gq_found.specs.Puts.{Puts};
+ghost use Rattle.gq_found.specs.Adds.{AddsExactly};
 ghost use Rattle.gq_reach.specs.Components.{Also};
 ghost use Rattle.gq_document.specs.Definitions.{fragment_view, fragments_view};
 ghost use Rattle.gq_document.specs.Executable.{executable_view};
 ghost use Rattle.gq_spreads.specs.FragmentsMustBeUsed.{IsUnusedFragment};
-ghost use Rattle.gq_spreads.specs.FragmentsMustBeUsedPlaces.{all_numbers, MarksRows, unused_if, unused_fragments};
+ghost use Rattle.gq_spreads.specs.Helping.FragmentsMustBeUsedPlaces.{all_numbers, MarksRows, unused_if, unused_fragments};
 ghost use Rattle.gq_spreads.specs.Spreads.{AreSpreads};
 
 use crate::spreads::Spreads;
 use gq_document::{Executable, FragmentEntry};
-use gq_found::{Code, Item};
+use gq_found::{Code, Fault};
 use gq_reach::mark_all;
 use gq_text::NoMemory;
 use std::alloc::Global;
 
-/// Puts an item at the name of each fragment that is spread nowhere.
-pub fn put_unused_fragments(
+/// Adds a fault at the name of each fragment that is spread nowhere.
+pub fn add_unused_fragments(
     alloc: Global,
     executable: &Executable<'_>,
     spreads: &Spreads,
-    items: &mut Vec<Item>,
+    faults: &mut Vec<Fault>,
 ) -> Result<(), NoMemory>
     requires spreads { AreSpreads (executable_view executable.now) spreads.now }
-    ensures { OnOk result (Puts (IsUnusedFragment (executable_view executable.now)) items.old.items items.new.items) }
+    ensures { OnOk result (AddsExactly (IsUnusedFragment (executable_view executable.now)) faults.old.items faults.new.items) }
 {
     let marks = spread_marks(alloc, spreads, executable.fragments.len())?;
-    put_unmarked(&marks, executable.fragments, items)
+    add_unmarked(&marks, executable.fragments, faults)
 }
 
 /// A mark at each number that is spread somewhere.
@@ -53,28 +53,32 @@ fn mark_rows(marks: &mut Vec<bool>, rows: &[Vec<usize>])
     }
 }
 
-/// Puts an item for each fragment whose number is not marked.
-fn put_unmarked(
+/// Adds a fault for each fragment whose number is not marked.
+fn add_unmarked(
     marks: &[bool],
     fragments: &[FragmentEntry],
-    items: &mut Vec<Item>,
+    faults: &mut Vec<Fault>,
 ) -> Result<(), NoMemory>
     requires count { length marks.now ≡ length fragments.now }
-    ensures { OnOk result (items.new.items ≡ items.old.items ++ unused_fragments marks.now (fragments_view fragments.now)) }
+    ensures { OnOk result (faults.new.items ≡ faults.old.items ++ unused_fragments marks.now (fragments_view fragments.now)) }
 {
     for (number, fragment) in fragments.iter().enumerate() {
-        put_unless(marks[number], fragment, items)?;
+        add_unless(marks[number], fragment, faults)?;
     }
     Ok(())
 }
 
-/// Puts the fragment's item, unless it is marked.
-fn put_unless(marked: bool, fragment: &FragmentEntry, items: &mut Vec<Item>) -> Result<(), NoMemory>
-    ensures { OnOk result (items.new.items ≡ items.old.items ++ unused_if marked (fragment_view fragment.now)) }
+/// Adds the fragment's fault, unless it is marked.
+fn add_unless(
+    marked: bool,
+    fragment: &FragmentEntry,
+    faults: &mut Vec<Fault>,
+) -> Result<(), NoMemory>
+    ensures { OnOk result (faults.new.items ≡ faults.old.items ++ unused_if marked (fragment_view fragment.now)) }
 {
     let name = &fragment.definition.name;
     if !marked {
-        items.push(Item {
+        faults.push(Fault {
             file: fragment.file,
             start: name.span.start,
             code: Code::FragmentNotUsed,

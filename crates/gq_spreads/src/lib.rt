@@ -6,9 +6,8 @@ pub mod fragment_names;
 mod fragment_spread_target_defined;
 mod fragment_spreads_must_not_form_cycles;
 mod fragments_must_be_used;
-pub mod spread_names;
 pub mod spreads;
 
-pub use faults::put_spread_faults;
+pub use faults::add_spread_faults;
 pub use fragment_names::FragmentNames;
 pub use spreads::{Spreads, reached_fragments};

@@ -5,15 +5,14 @@ ghost use Rattle.gq_tree.specs.Names.{names_at};
 ghost use Rattle.gq_tree.specs.Views.{sels_view};
 ghost use Rattle.gq_document.specs.Definitions.{operations_view, fragments_view};
 ghost use Rattle.gq_document.specs.Executable.{executable_view};
-ghost use Rattle.gq_spreads.specs.Rows.{numbers_of, spread_numbers, operation_numbers, fragment_numbers, row_items};
+ghost use Rattle.gq_spreads.specs.Helping.Rows.{numbers_of, spread_numbers, operation_numbers, fragment_numbers, row_items};
 ghost use Rattle.gq_spreads.specs.Spreads.{AreSpreads, AreReached};
 
 use crate::fragment_names::FragmentNames;
-use crate::spread_names::spread_names;
 use gq_document::{Executable, FragmentEntry, OperationEntry};
 use gq_reach::reach_rows;
 use gq_text::NoMemory;
-use gq_tree::{Name, Selection};
+use gq_tree::{Name, Selection, spread_names};
 use std::alloc::Global;
 
 /// For each operation and each fragment, the numbers of the fragments that are spread in it. A fragment's number is its

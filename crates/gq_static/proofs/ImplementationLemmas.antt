@@ -6,7 +6,7 @@ use Rattle.std.specs.Option.{option_map_or}
 use Rattle.std.specs.Str.{bytes_eq}
 use Rattle.gq_text.specs.declared.place.Span.{Span}
 use Rattle.gq_found.specs.declared.code.Code.TheVariants.{BadImplementation}
-use Rattle.gq_found.specs.declared.item.Item.{Item}
+use Rattle.gq_found.specs.declared.fault.Fault.{Fault}
 use Rattle.gq_tree.specs.Plain.{NameOf, DirectiveOf, TypeOf, FieldDefinitionOf, scalar_type, object_type, interface_type, union_type, enum_type, input_type, TypeSystemOf, schema, type_definition, directive_definition}
 use Rattle.gq_types.specs.declared.entry.TypeKind.TheVariants as kind
 use Rattle.gq_types.specs.BuiltIn.{defines_built_in}
@@ -20,8 +20,8 @@ use Rattle.gq_types.specs.SubtypesTests.{covers, may_be_subtype_name}
 use Rattle.gq_types.proofs.NameLaws.{numbers_define, types_have}
 use Rattle.gq_types.proofs.PartLemmas.{numbered_has}
 use Rattle.gq_types.proofs.SubtypeLemmas.{covers_decides, may_be_subtype_name_decides}
-use Rattle.gq_document.specs.Selections.{base_name}
-use Rattle.gq_type_system.specs.Items.{item_at}
+use Rattle.gq_tree.specs.NamedTypes.{base_name}
+use Rattle.gq_found.specs.FaultPlaces.{fault_at}
 use Rattle.gq_type_system.specs.Implementations.{Inherits, has_no_subtype, BreaksImplementation, lacks_interface, lacks_field, breaks_field, IsBadImplementation}
 use Rattle.gq_static.proofs.FieldLemmas.{named_by_number}
 use Rattle.gq_static.proofs.TypeLemmas.{is_judged}
@@ -82,9 +82,9 @@ covers_end (by_items c) = covers_end c
 covers_end (both_non_null c) = covers_end c
 covers_end (without_null c) = covers_end c
 
-module _ (es : List EntryOf) (no_bad : (item : Item) → IsBadImplementation es item → ⊥) (object : Text) (d : DefinesObject es object) where
+module _ (es : List EntryOf) (no_bad : (item : Fault) → IsBadImplementation es item → ⊥) (object : Text) (d : DefinesObject es object) where
   implements_well : BreaksImplementation es d.number d.name.text → ⊥
-  implements_well breaks = no_bad (item_at d.entry.file BadImplementation d.name) (record {
+  implements_well breaks = no_bad (fault_at d.entry.file BadImplementation d.name) (record {
     at = record { number = d.number; entry = d.entry };
     is_judged = is_judged es (record { number = d.number; entry = d.entry }) (numbered_has es d.number d.entry d.stands) (ap defines_built_in d.defines);
     description = d.description;

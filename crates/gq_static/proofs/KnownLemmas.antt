@@ -5,7 +5,7 @@ use Rattle.std.specs.Option.{option_map, option_map_or}
 use Rattle.std.proofs.lemmas.Option.{same_Some}
 use Rattle.gq_text.specs.declared.place.Span.{Span}
 use Rattle.gq_found.specs.declared.code.Code.TheVariants.{UnknownField, WrongSelections, UnknownTypeCondition, ConditionNotComposite, NoRootType, SubscriptionOperation}
-use Rattle.gq_found.specs.declared.item.Item.{Item}
+use Rattle.gq_found.specs.declared.fault.Fault.{Fault}
 use Rattle.gq_tree.specs.declared.tree.OperationKind.{OperationKind}
 use Rattle.gq_tree.specs.declared.tree.OperationKind.TheVariants.{Query, Mutation, Subscription}
 use Rattle.gq_tree.specs.Plain.{NameOf, FieldDefinitionOf, Head, field, spread, inline, Sel, Sels}
@@ -17,13 +17,13 @@ use Rattle.gq_types.specs.Joined.{kind_named}
 use Rattle.gq_types.specs.Names.{field_named}
 use Rattle.gq_types.specs.Roots.{root_of}
 use Rattle.gq_document.specs.Definitions.{OperationOf, FragmentOf}
-use Rattle.gq_document.specs.Selections.{FieldOf, typename, typename_field, is_composite_named, field_on, selected_field, base_name, parent_below, SelectedOf, StandsAmong, here, within, after, of_operation, of_fragment}
+use Rattle.gq_document.specs.Selections.{FieldOf, typename, typename_field, is_composite_named, field_on, selected_field, parent_below, SelectedOf, IsSelectionWithin, here, within, after, of_operation, of_fragment}
+use Rattle.gq_tree.specs.NamedTypes.{base_name}
 use Rattle.gq_document.specs.Executable.{ExecutableOf, Selects}
 use Rattle.gq_type_system.specs.SchemaFaults.{IsSchemaFault, unknown_type, no_object, no_query_root}
-use Rattle.gq_values.specs.Items as at_field
+use Rattle.gq_found.specs.FaultPlaces as places
 use Rattle.gq_fields.specs.SelectedFields.{SelectsField}
 use Rattle.gq_fields.specs.FieldFaults.{unknown_field, wrong_selections}
-use Rattle.gq_fragments.specs.Items as at_fragment
 use Rattle.gq_fragments.specs.OperationPlace.{operation_place}
 use Rattle.gq_fragments.specs.TypeConditions as condition
 use Rattle.gq_fragments.specs.TypeConditions.{IsTypeCondition}
@@ -37,7 +37,7 @@ use Rattle.gq_static.proofs.SubtypeLemmas.{field_by}
 use Rattle.gq_static.proofs.RootLemmas.{root_is_object, query_root}
 use Rattle.gq_static.proofs.BracesLemmas.{AreBraced}
 
-some_stand : {es : List EntryOf} {parent inner : Option Text} {ss : Sels Span} {selection : Sel Span} → StandsAmong es parent ss inner selection → holds_any ss ≡ true
+some_stand : {es : List EntryOf} {parent inner : Option Text} {ss : Sels Span} {selection : Sel Span} → IsSelectionWithin es parent ss inner selection → holds_any ss ≡ true
 some_stand here = refl
 some_stand (within s) = refl
 some_stand (after s) = refl
@@ -46,7 +46,7 @@ some_stand (after s) = refl
 composite_kind : (es : List EntryOf) (type_name : Text) → (k : TypeKind) → kind_named es type_name ≡ Some k → is_composite k ≡ true → is_composite_named es type_name ≡ true
 composite_kind es type_name k known composite = ap (λ (o : Option TypeKind). option_map_or is_composite o false) known ∙ composite
 
-module _ (x : ExecutableOf) (no_schema : (item : Item) → IsSchemaFault x.entries item → ⊥) (no_rule : (item : Item) → IsRuleFault x item → ⊥) where
+module _ (x : ExecutableOf) (no_schema : (item : Fault) → IsSchemaFault x.entries item → ⊥) (no_rule : (item : Fault) → IsRuleFault x item → ⊥) where
   -- operations
   abbrev Root : OperationOf → OperationKind → Type 0
   Root o operation = o.kind ≡ operation → (t : Text) × (root_of x.entries operation ≡ Some t)
@@ -55,13 +55,13 @@ module _ (x : ExecutableOf) (no_schema : (item : Item) → IsSchemaFault x.entri
   mutation_root o there is = by_root (root_of x.entries Mutation) refl
     where
       by_root : (r : Option Text) → root_of x.entries Mutation ≡ r → (t : Text) × (root_of x.entries Mutation ≡ Some t)
-      by_root None e = absurd (no_rule (at_fragment.item_over o.file NoRootType (operation_place o)) (of_operations (no_root_type (record { operation = o; stands = there; is_mutation = is; has_no_root = e; is = refl }))))
+      by_root None e = absurd (no_rule (places.fault_over o.file NoRootType (operation_place o)) (of_operations (no_root_type (record { operation = o; stands = there; is_mutation = is; has_no_root = e; is = refl }))))
       by_root (Some t) e = (t, e)
 
   some_root : (o : OperationOf) → Contains x.operations o → (operation : OperationKind) → Root o operation
   some_root o there Query is = query_root x.entries (λ item u. no_schema item (unknown_type u)) (λ item u. no_schema item (no_object u)) (λ item u. no_schema item (no_query_root u))
   some_root o there Mutation is = mutation_root o there is
-  some_root o there Subscription is = absurd (no_rule (at_fragment.item_over o.file SubscriptionOperation (operation_place o)) (of_operations (subscription (record { operation = o; stands = there; is_subscription = is; is = refl }))))
+  some_root o there Subscription is = absurd (no_rule (places.fault_over o.file SubscriptionOperation (operation_place o)) (of_operations (subscription (record { operation = o; stands = there; is_subscription = is; is = refl }))))
 
   pub have_roots : HaveRoots x
   have_roots o there =
@@ -77,10 +77,10 @@ module _ (x : ExecutableOf) (no_schema : (item : Item) → IsSchemaFault x.entri
     where
       by_composite : (k : TypeKind) → kind_named x.entries name.text ≡ Some k → (b : Bool) → is_composite k ≡ b → HasParent x.entries (Some name.text)
       by_composite k known true e = record { type_name = name.text; is = refl; of_kind = k; is_known = known; is_composite_kind = e }
-      by_composite k known false e = absurd (no_rule (at_fragment.item_at file ConditionNotComposite name) (of_fragments (condition_not_composite (record { file = file; name = name; is_condition = stands; kind = k; is_known = known; is_not_composite = e; is = refl }))))
+      by_composite k known false e = absurd (no_rule (places.fault_at file ConditionNotComposite name) (of_fragments (condition_not_composite (record { file = file; name = name; is_condition = stands; kind = k; is_known = known; is_not_composite = e; is = refl }))))
 
       by_kind : (o : Option TypeKind) → kind_named x.entries name.text ≡ o → HasParent x.entries (Some name.text)
-      by_kind None e = absurd (no_rule (at_fragment.item_at file UnknownTypeCondition name) (of_fragments (unknown_condition (record { file = file; name = name; is_condition = stands; is_unknown = e; is = refl }))))
+      by_kind None e = absurd (no_rule (places.fault_at file UnknownTypeCondition name) (of_fragments (unknown_condition (record { file = file; name = name; is_condition = stands; is_unknown = e; is = refl }))))
       by_kind (Some k) e = by_composite k e (is_composite k) refl
 
   -- a field of a parent that is known
@@ -110,7 +110,7 @@ module _ (x : ExecutableOf) (no_schema : (item : Item) → IsSchemaFault x.entri
     field_found one p = by_field (field_on x.entries p.type_name one.name.text) refl
       where
         by_field : (o : Option FieldOf) → field_on x.entries p.type_name one.name.text ≡ o → IsFound one.selected.parent one.name.text
-        by_field None e = absurd (no_rule (at_field.item_at one.selected.file UnknownField one.name) (of_fields (unknown_field (record {
+        by_field None e = absurd (no_rule (places.fault_at one.selected.file UnknownField one.name) (of_fields (unknown_field (record {
           one = one;
           type_name = p.type_name;
           is_parent = p.is;
@@ -138,7 +138,7 @@ module _ (x : ExecutableOf) (no_schema : (item : Item) → IsSchemaFault x.entri
         fits e = record { definition = found.definition; is_defined = found.is_defined; of_kind = found.of_kind; is_known = found.is_known; in_braces = e }
 
         differs : is_some one.braces ≢ is_composite found.of_kind → HasField x.entries one.selected.parent one.name.text one.braces
-        differs other = absurd (no_rule (at_field.item_at one.selected.file WrongSelections one.name) (of_fields (wrong_selections (record {
+        differs other = absurd (no_rule (places.fault_at one.selected.file WrongSelections one.name) (of_fields (wrong_selections (record {
           one = one;
           definition = found.definition;
           is_defined = found.is_defined;
@@ -185,8 +185,8 @@ module _ (x : ExecutableOf) (no_schema : (item : Item) → IsSchemaFault x.entri
       below_known parent (inline (Some name) directives braces place) below stands p braced some = condition_known file name (condition.of_inline_fragment stands refl)
 
       -- each selection that stands among these has a parent that is known
-      parent_known : {parent inner : Option Text} {ss : Sels Span} {selection : Sel Span} → StandsAmong x.entries parent ss inner selection → AreBraced ss →
-          ((other : Option Text) (s : Sel Span) → StandsAmong x.entries parent ss other s → Selects x (selected other s)) → HasParent x.entries parent → HasParent x.entries inner
+      parent_known : {parent inner : Option Text} {ss : Sels Span} {selection : Sel Span} → IsSelectionWithin x.entries parent ss inner selection → AreBraced ss →
+          ((other : Option Text) (s : Sel Span) → IsSelectionWithin x.entries parent ss other s → Selects x (selected other s)) → HasParent x.entries parent → HasParent x.entries inner
       parent_known here braced lifts p = p
       parent_known (within {parent = parent} {head = head} {below = below} s) braced lifts p =
           parent_known s braced.1 (λ other t inside. lifts other t (within inside)) (below_known parent head below (lifts parent (record { label = head; below = below }) here) p braced.0 (some_stand s))

@@ -5,7 +5,7 @@ use Rattle.std.specs.Option.{option_map}
 use Rattle.std.proofs.lemmas.Option.{same_Some}
 use Rattle.gq_text.specs.declared.place.Span.{Span}
 use Rattle.gq_found.specs.declared.code.Code.TheVariants.{UnknownType, WrongKindOfType}
-use Rattle.gq_found.specs.declared.item.Item.{Item}
+use Rattle.gq_found.specs.declared.fault.Fault.{Fault}
 use Rattle.gq_names.specs.Repeats.{StandsAt}
 use Rattle.gq_tree.specs.declared.tree.OperationKind.{OperationKind}
 use Rattle.gq_tree.specs.declared.tree.OperationKind.TheVariants.{Query}
@@ -21,11 +21,11 @@ use Rattle.gq_types.specs.Roots.{roots_in, roots_of, is_object, default_name, de
 use Rattle.gq_types.proofs.Gathered.{nothing_in, cases_cons, from_flat, from_map, to_map, from_filter}
 use Rattle.gq_types.proofs.KindLemmas.{kinds_decide, has_kind_decides}
 use Rattle.gq_types.proofs.Searches.{place_or_length, first_within}
-use Rattle.gq_type_system.specs.Items.{item_at}
+use Rattle.gq_found.specs.FaultPlaces.{fault_at}
 use Rattle.gq_type_system.specs.Uses.{root_use, used_types}
 use Rattle.gq_type_system.specs.UnknownType.{IsUnknownType}
 use Rattle.gq_type_system.specs.RootTypes.{HasRoot, has_default, has_entry, IsFirstRoot, IsNoObject}
-use Rattle.gq_type_system.specs.QueryRoot.{no_query_root_item, HasNoQueryRoot}
+use Rattle.gq_type_system.specs.QueryRoot.{no_query_root_fault, HasNoQueryRoot}
 use Rattle.gq_type_system.proofs.OperationLemmas.{same_operation, operation_same}
 use Rattle.gq_static.proofs.FieldLemmas.{chained, put_from}
 use Rattle.gq_static.proofs.TypeLemmas.{is_judged}
@@ -80,7 +80,7 @@ root_is_object es operation text h =
     by_test t true e h = subst (λ s. is_object es s ≡ true) (same_Some t text h) e
     by_test t false e h = absurd (cc)
 
-module _ (es : List EntryOf) (no_unknown : (item : Item) → IsUnknownType es item → ⊥) (no_other : (item : Item) → IsNoObject es item → ⊥) where
+module _ (es : List EntryOf) (no_unknown : (item : Fault) → IsUnknownType es item → ⊥) (no_other : (item : Fault) → IsNoObject es item → ⊥) where
   -- the type of a root operation is used where it is named
   root_used : (d : TypeSystemOf Span) (r : RootOf Span) → Contains (roots_in d) r → (defines_built_in d ≡ false) × Contains (used_types d) (root_use r)
   root_used (schema extends description directives roots place) r c = (refl, to_map root_use roots r c)
@@ -96,7 +96,7 @@ module _ (es : List EntryOf) (no_unknown : (item : Item) → IsUnknownType es it
           let kept = from_filter (λ (n : Numbered). nat_eq (owner es n) number) (numbered es) at.0 at.1 in
           let one = from_map (λ (x : RootOf Span). let q : In (RootOf Span) = record { file = at.0.entry.file; it = x } in q) (roots_in at.0.entry.definition) r at.2 in
           let used = root_used at.0.entry.definition r.it (put_from at.0.entry.file (roots_in at.0.entry.definition) one.0 r.it r one.1 one.2 refl) in
-          absurd (no_unknown (item_at at.0.entry.file UnknownType r.it.name) (record {
+          absurd (no_unknown (fault_at at.0.entry.file UnknownType r.it.name) (record {
             entry = at.0;
             is_judged = is_judged es at.0 kept.0 used.0;
             one = root_use r.it;
@@ -128,7 +128,7 @@ module _ (es : List EntryOf) (no_unknown : (item : Item) → IsUnknownType es it
 
       by_test : (k : TypeKind) → kind_named es r.it.name.text ≡ Some k → (b : Bool) → same_kind k kind.Object ≡ b → is_object es r.it.name.text ≡ true
       by_test k known true e = (has_kind_decides es kind.Object r.it.name.text).1 (known ∙ ap Some ((kinds_decide k kind.Object).0 e))
-      by_test k known false e = absurd (no_other (item_at r.file WrongKindOfType r.it.name) (record {
+      by_test k known false e = absurd (no_other (fault_at r.file WrongKindOfType r.it.name) (record {
         number = schema_number es;
         is_number = schema_within;
         place = s.place;
@@ -144,7 +144,7 @@ module _ (es : List EntryOf) (no_unknown : (item : Item) → IsUnknownType es it
       by_kind (k, known) = by_test k known (same_kind k kind.Object) refl
 
   -- there is a root for queries
-  module _ (no_missing : (item : Item) → HasNoQueryRoot es item → ⊥) where
+  module _ (no_missing : (item : Fault) → HasNoQueryRoot es item → ⊥) where
     from_named : (text : Text) → named_root es Query ≡ Some text → is_object es text ≡ true → (t : Text) × (root_of es Query ≡ Some t)
     from_named text e is = (text, ap (λ (o : Option Text). option_and_then (λ (t : Text). if is_object es t then Some t else None) o) e ∙ object_root es text is)
 
@@ -163,7 +163,7 @@ module _ (es : List EntryOf) (no_unknown : (item : Item) → IsUnknownType es it
     roots = roots_of es (schema_number es)
 
     by_entry : default_root es Query ≡ None → (o : Option (In (RootOf Span))) → find (λ (x : In (RootOf Span)). same_kinds Query x.it.kind) roots ≡ o → (t : Text) × (root_of es Query ≡ Some t)
-    by_entry none None e = absurd (no_missing no_query_root_item (record {
+    by_entry none None e = absurd (no_missing no_query_root_fault (record {
       no_default = none;
       no_entry = λ root stands is_query. none_passes (λ (x : In (RootOf Span)). same_kinds Query x.it.kind) roots e root stands (operation_same Query root.it.kind (sym is_query));
       is = refl;

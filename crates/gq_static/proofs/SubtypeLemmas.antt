@@ -4,7 +4,7 @@ use Rattle.std.specs.Prelude.{codes, bytes_eq, if◌then◌else◌}
 use Rattle.std.specs.Option.{option_map, option_map_or}
 use Rattle.std.proofs.lemmas.Option.{same_Some}
 use Rattle.gq_text.specs.declared.place.Span.{Span}
-use Rattle.gq_found.specs.declared.item.Item.{Item}
+use Rattle.gq_found.specs.declared.fault.Fault.{Fault}
 use Rattle.gq_tree.specs.Plain.{FieldDefinitionOf}
 use Rattle.gq_types.specs.declared.entry.TypeKind.{TypeKind}
 use Rattle.gq_types.specs.declared.entry.TypeKind.TheVariants as kind
@@ -16,7 +16,8 @@ use Rattle.gq_types.specs.Possible.{IsPossible, itself, member, declaring, IsSub
 use Rattle.gq_types.specs.Subtypes.{MayBeSubtypeName, unknown_sub, unknown_super, subtype}
 use Rattle.gq_types.specs.SubtypesTests.{is_possible}
 use Rattle.gq_types.proofs.SubtypeLemmas.{possible_decides}
-use Rattle.gq_document.specs.Selections.{FieldOf, typename, typename_field, is_composite_named, base_name}
+use Rattle.gq_document.specs.Selections.{FieldOf, typename, typename_field, is_composite_named}
+use Rattle.gq_tree.specs.NamedTypes.{base_name}
 use Rattle.gq_type_system.specs.Implementations.{IsBadImplementation}
 use Rattle.gq_type_system.specs.UnknownType.{IsUnknownType}
 use Rattle.gq_static.specs.Subtypes.{HasFewerObjects, HasSubfield, HasSubfields}
@@ -61,7 +62,7 @@ named_end : (c : Text) (o : Option (FieldDefinitionOf Span)) → option_map (λ 
 named_end c None h = absurd (cc)
 named_end c (Some f) h = (f, refl, same_Some (base_name f.type_ref) c h)
 
-module _ (es : List EntryOf) (no_bad : (item : Item) → IsBadImplementation es item → ⊥) where
+module _ (es : List EntryOf) (no_bad : (item : Fault) → IsBadImplementation es item → ⊥) where
   further_possible : (sub super object : Text) → IsSubtypeName es sub super → IsPossible es sub object → IsPossible es super object
   further_possible sub super object equal p = p
   further_possible sub super object (possible q) p = subst (λ t. IsPossible es super t) (only_itself p (object_kind q)) q
@@ -78,7 +79,7 @@ module _ (es : List EntryOf) (no_bad : (item : Item) → IsBadImplementation es 
   may_be_fewer sub super object k known (unknown_super e) h = absurd (cc)
   may_be_fewer sub super object k known (subtype s) h = fewer_objects sub super object s h
 
-  module _ (no_unknown : (item : Item) → IsUnknownType es item → ⊥) where
+  module _ (no_unknown : (item : Fault) → IsUnknownType es item → ⊥) where
     -- the field that the object has
     record HasNamed (object text super : Text) : Type 0 where
       field : FieldDefinitionOf Span

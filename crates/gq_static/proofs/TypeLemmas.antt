@@ -4,7 +4,7 @@ use Rattle.std.specs.Prelude.{not, map, flat_map}
 use Rattle.std.proofs.lemmas.List.Elements.{Contains-append_left, Contains-append_right}
 use Rattle.gq_text.specs.declared.place.Span.{Span}
 use Rattle.gq_found.specs.declared.code.Code.TheVariants.{UnknownType}
-use Rattle.gq_found.specs.declared.item.Item.{Item}
+use Rattle.gq_found.specs.declared.fault.Fault.{Fault}
 use Rattle.gq_tree.specs.Plain.{NameOf, TypeOf, named, list_of, non_null, FieldDefinitionOf, scalar_type, object_type, interface_type, union_type, enum_type, input_type, TypeSystemOf, schema, type_definition, directive_definition}
 use Rattle.gq_types.specs.declared.entry.TypeKind.{TypeKind}
 use Rattle.gq_types.specs.BuiltIn.{defines_built_in}
@@ -12,10 +12,10 @@ use Rattle.gq_types.specs.Entries.{Text, EntryOf, Numbered, numbered}
 use Rattle.gq_types.specs.Joined.{kind_named, judged, body_in, fields_in_body}
 use Rattle.gq_types.specs.Names.{field_named}
 use Rattle.gq_types.proofs.Gathered.{nothing_in, first, to_flat, to_filter, not_false}
-use Rattle.gq_document.specs.Selections.{base_name}
+use Rattle.gq_tree.specs.NamedTypes.{base_name, named_type}
 use Rattle.gq_type_system.specs.declared.uses.Wants.TheVariants.{OutputType, InterfaceType}
-use Rattle.gq_type_system.specs.Items.{item_at}
-use Rattle.gq_type_system.specs.Uses.{UseOf, named_type, input_use, field_uses, named_uses, used_types}
+use Rattle.gq_found.specs.FaultPlaces.{fault_at}
+use Rattle.gq_type_system.specs.Uses.{UseOf, input_use, field_uses, named_uses, used_types}
 use Rattle.gq_type_system.specs.UnknownType.{IsUnknownType}
 use Rattle.gq_static.proofs.FieldLemmas.{field_stands}
 
@@ -51,7 +51,7 @@ pub is_judged : (es : List EntryOf) (n : Numbered) → Contains (numbered es) n 
 is_judged es n c own = to_filter (λ (m : Numbered). not (defines_built_in m.entry.definition)) (numbered es) n c (not_false (defines_built_in n.entry.definition) own)
 
 -- where no type is unknown, that of a field is known
-pub type_is_known : (es : List EntryOf) → ((item : Item) → IsUnknownType es item → ⊥) → (type_name text : Text) (f : FieldDefinitionOf Span) → field_named es type_name text ≡ Some f →
+pub type_is_known : (es : List EntryOf) → ((item : Fault) → IsUnknownType es item → ⊥) → (type_name text : Text) (f : FieldDefinitionOf Span) → field_named es type_name text ≡ Some f →
     (k : TypeKind) × (kind_named es (base_name f.type_ref) ≡ Some k)
 type_is_known es no_unknown type_name text f h = by_kind (kind_named es (base_name f.type_ref)) refl
   where
@@ -59,7 +59,7 @@ type_is_known es no_unknown type_name text f h = by_kind (kind_named es (base_na
     by_kind None e =
         let s = field_stands es type_name text f h in
         let used = type_used s.at.entry.definition f s.has in
-        absurd (no_unknown (item_at s.at.entry.file UnknownType (named_type f.type_ref)) (record {
+        absurd (no_unknown (fault_at s.at.entry.file UnknownType (named_type f.type_ref)) (record {
           entry = s.at;
           is_judged = is_judged es s.at s.stands used.0;
           one = type_use f;

@@ -3,7 +3,7 @@ use Rattle.std.proofs.Common.{◌≡◌, ◌++◌, List, Some, refl}
 use Rattle.std.specs.Prelude.{codes}
 use Rattle.std.proofs.lemmas.Grind.{not_there}
 use Rattle.gq_project.specs.declared.document.Doc.{Doc}
-use Rattle.gq_found.specs.declared.item.Item.{Item}
+use Rattle.gq_found.specs.declared.fault.Fault.{Fault}
 use Rattle.gq_types.specs.declared.entry.TypeKind.TheVariants as kind
 use Rattle.gq_types.specs.BuiltIn.{built_in}
 use Rattle.gq_types.specs.Entries.{EntryOf}
@@ -11,7 +11,7 @@ use Rattle.gq_types.specs.Joined.{kind_named}
 use Rattle.gq_type_system.specs.SchemaFaults.{IsSchemaFault, unknown_type, bad_implementation}
 use Rattle.gq_document.specs.Definitions.{entries_of}
 use Rattle.gq_rules.specs.RuleFaults.{IsRuleFault}
-use Rattle.gq_rules.specs.Demands.{IsDemanded, type_system, first as told_first, rule}
+use Rattle.gq_rules.specs.Faults.{IsFaultOf, type_system, first as told_first, rule}
 use Rattle.gq_rules.specs.Project.{type_system_of, executable_of}
 use Rattle.gq_rules.specs.Validity.{IsValid, IsInvalid}
 use Rattle.gq_static.specs.Promised.{OfValidProjects}
@@ -30,13 +30,13 @@ string_is_scalar es = refl
 abbrev pub NoneIsBoth : Type 0
 NoneIsBoth = (documents : List Doc) → IsValid documents → IsInvalid documents → ⊥
 
-none_demanded : NoneIsBoth → OfValidProjects (λ readings. (item : Item) → IsDemanded readings item → ⊥)
+none_demanded : NoneIsBoth → OfValidProjects (λ readings. (item : Fault) → IsFaultOf readings item → ⊥)
 none_demanded apart documents valid readings are item demanded = not_there valid (λ v. apart documents v (record { readings = readings; are_readings = are; some = (item, demanded) }))
 
-no_schema : NoneIsBoth → OfValidProjects (λ readings. (item : Item) → IsSchemaFault (type_system_of readings) item → ⊥)
+no_schema : NoneIsBoth → OfValidProjects (λ readings. (item : Fault) → IsSchemaFault (type_system_of readings) item → ⊥)
 no_schema apart documents valid readings are item fault = none_demanded apart documents valid readings are item (told_first (type_system fault))
 
-no_rule : NoneIsBoth → OfValidProjects (λ readings. (item : Item) → IsRuleFault (executable_of readings) item → ⊥)
+no_rule : NoneIsBoth → OfValidProjects (λ readings. (item : Fault) → IsRuleFault (executable_of readings) item → ⊥)
 no_rule apart documents valid readings are item fault =
     let none = none_demanded apart documents valid readings are in
     none item (rule (λ other told. none other (told_first told)) fault)

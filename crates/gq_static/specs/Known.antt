@@ -8,7 +8,8 @@ use Rattle.gq_types.specs.Joined.{kind_named}
 use Rattle.gq_types.specs.Kinds.{is_composite}
 use Rattle.gq_types.specs.Roots.{root_of}
 use Rattle.gq_document.specs.Definitions.{OperationOf}
-use Rattle.gq_document.specs.Selections.{FieldOf, SelectedOf, selected_field, base_name}
+use Rattle.gq_document.specs.Selections.{FieldOf, SelectedOf, selected_field}
+use Rattle.gq_tree.specs.NamedTypes.{base_name}
 use Rattle.gq_document.specs.Executable.{ExecutableOf, Selects}
 use Rattle.gq_fields.specs.SelectedFields.{SelectsField}
 use Rattle.gq_rules.specs.Project.{executable_of}

@@ -1,10 +1,10 @@
 -- What is promised of projects that are valid.
 use Rattle.std.specs.Prelude.{List}
 use Rattle.gq_project.specs.declared.document.Doc.{Doc}
-use Rattle.gq_read.specs.declared.reader.Reading.{Reading}
-use Rattle.gq_read.specs.Readings.{AreReadings}
+use Rattle.gq_read.specs.declared.reader.Parsed.{Parsed}
+use Rattle.gq_read.specs.Parsed.{AreParsed}
 use Rattle.gq_rules.specs.Validity.{IsValid}
 
 -- it holds of each valid project, whatever reads its documents
-abbrev pub OfValidProjects : (List Reading → Type 0) → Type 0
-OfValidProjects Holds = (documents : List Doc) → ∥ IsValid documents ∥₁ → (readings : List Reading) → AreReadings documents readings → Holds readings
+abbrev pub OfValidProjects : (List Parsed → Type 0) → Type 0
+OfValidProjects Holds = (documents : List Doc) → ∥ IsValid documents ∥₁ → (readings : List Parsed) → AreParsed documents readings → Holds readings

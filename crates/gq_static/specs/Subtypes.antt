@@ -3,7 +3,8 @@ use Rattle.std.specs.Prelude.{◌≡◌, true, List, Some}
 use Rattle.gq_types.specs.Entries.{Text, EntryOf}
 use Rattle.gq_types.specs.Possible.{IsSubtypeName}
 use Rattle.gq_types.specs.SubtypesTests.{is_possible}
-use Rattle.gq_document.specs.Selections.{FieldOf, field_on, base_name}
+use Rattle.gq_document.specs.Selections.{FieldOf, field_on}
+use Rattle.gq_tree.specs.NamedTypes.{base_name}
 use Rattle.gq_meaning.specs.Values.{Values}
 use Rattle.gq_meaning.specs.Rewritten.{HasSubtypes}
 pub use Rattle.gq_restated.specs.Statics.{static_of}

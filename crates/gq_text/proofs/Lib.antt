@@ -4,3 +4,4 @@ pub mod Cuts
 pub mod Trips
 pub mod Further
 pub mod Rises
+pub mod Floors

@@ -31,8 +31,7 @@ use Rattle.gq_tree.specs.declared.value.Value.TheFolds.{fold-ObjectField, fold-r
 use Rattle.gq_tree.specs.declared.types.TypeRef.{TypeRef}
 use Rattle.gq_tree.specs.declared.types.TypeRef.TheOpen.{TypeRef-F}
 use Rattle.gq_tree.specs.declared.types.TypeRef.TheVariants as type_variant
-use Rattle.gq_tree.specs.declared.types.TypeRef.TheVariants.{rolls-Named, rolls-NonNull}
-use Rattle.gq_tree.specs.declared.types.TypeRef.TheVariants.{rolls-List as rolls_type_list}
+use Rattle.gq_tree.specs.declared.types.TypeRef.TheVariants.{rolls-Named, rolls-NonNull, rolls-List as rolls_type_list}
 use Rattle.gq_tree.specs.declared.types.TypeRef.TheFolds.{fold-roll-TypeRef}
 
 -- values

@@ -3,3 +3,4 @@ pub mod Plain
 pub mod Views
 pub mod Names
 pub mod Same
+pub mod NamedTypes

@@ -9,7 +9,7 @@ pub mod type_system;
 pub mod types;
 pub mod value;
 
-pub use names::fragment_names;
+pub use names::{fragment_names, spread_names};
 pub use same::are_same_arguments;
 pub use tree::{
     Definition, Document, Field, Fragment, InlineFragment, Name, Operation, OperationKind,
@@ -20,5 +20,5 @@ pub use type_system::{
     FieldsAndInterfaces, InputValueDefinition, RootOperationType, SchemaDefinition, TypeBody,
     TypeDefinition, TypeSystemDefinition,
 };
-pub use types::TypeRef;
+pub use types::{TypeRef, base_name, named_type};
 pub use value::{Argument, Directive, Literal, ObjectField, Value, Variable};

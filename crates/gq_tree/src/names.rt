@@ -20,6 +20,18 @@ pub fn fragment_names<'a>(alloc: Global, document: &'a Document) -> Result<Vec<&
     Ok(names)
 }
 
+/// The names of the spreads that stand in the selections, at any depth, in the order of the text (section 2.8).
+pub fn spread_names<'a>(
+    alloc: Global,
+    selections: &'a [Selection],
+) -> Result<Vec<&'a Name>, NoMemory>
+    ensures { IfOk result (λ names. names_at names.items ≡ spread_names (sels_view selections.now)) }
+{
+    let mut names = Vec::new(alloc);
+    gather_selections(selections, &mut names)?;
+    Ok(names)
+}
+
 fn gather_definition<'a>(
     definition: &'a Definition,
     names: &mut Vec<&'a Name>,

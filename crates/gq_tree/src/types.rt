@@ -1,4 +1,7 @@
 //! Type references (GraphQL, October 2021, section 2.11).
+ghost use Rattle.std.specs.Prelude.{◌≡◌};
+ghost use Rattle.gq_tree.specs.NamedTypes.{named_type, base_name};
+ghost use Rattle.gq_tree.specs.Views.{name_of, type_view};
 
 use crate::tree::Name;
 
@@ -8,4 +11,28 @@ pub enum TypeRef {
     Named(Name),
     List(Box<TypeRef>),
     NonNull(Box<TypeRef>),
+}
+
+/// The name inside lists and types without null (section 3.4.1).
+#[tactic(auto, using(crate::proofs::Trees::types))]
+pub fn named_type(type_ref: &TypeRef) -> &Name
+    ensures { name_of result.now ≡ named_type (type_view type_ref.now) }
+{
+    match type_ref {
+        TypeRef::Named(name) => name,
+        TypeRef::List(item) => named_type(item),
+        TypeRef::NonNull(inner) => named_type(inner),
+    }
+}
+
+/// What the name inside lists and types without null says (section 3.4.1).
+#[tactic(auto, using(crate::proofs::Trees::types))]
+pub fn base_name(type_ref: &TypeRef) -> &str
+    ensures { result.now ≡ base_name (type_view type_ref.now) }
+{
+    match type_ref {
+        TypeRef::Named(name) => name.text.as_str(),
+        TypeRef::List(item) => base_name(item),
+        TypeRef::NonNull(inner) => base_name(inner),
+    }
 }

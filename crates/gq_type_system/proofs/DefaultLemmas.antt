@@ -12,9 +12,10 @@ use Rattle.gq_types.specs.Entries.{Text, EntryOf}
 use Rattle.gq_types.specs.Names.{input_named}
 use Rattle.gq_values.specs.Literals.{at_type, is_object_literal, Holds, input_object_at}
 use Rattle.gq_type_system.specs.EndlessInputs.{InputField, has_key}
-use Rattle.gq_type_system.specs.DefaultValuesPlaces.{keys_in, has_default, absent_field, absent_number, numbers_of, absent_numbers, absent_at, gathered_of, default_leads, field_leads}
-use Rattle.gq_type_system.proofs.Gathered.{in_none, in_only, in_first, from_flat, to_flat}
+use Rattle.gq_type_system.specs.Helping.DefaultValuesPlaces.{keys_in, has_default, absent_field, absent_number, numbers_of, absent_numbers, absent_at, gathered_of, default_leads, field_leads}
+use Rattle.gq_type_system.proofs.Gathered.{in_only}
 use Rattle.gq_type_system.proofs.ReadingLemmas.{from_gathered, to_gathered}
+use Rattle.gq_types.proofs.Gathered.{nothing_in as in_none, first as in_first, from_flat, to_flat}
 
 -- a name is a key where it is among the keys
 key_first : (text : Text) (o : Option (NameOf Span)) (rest : Vals Span) (keys : List Text) → has_key text rest ≡ list_any (bytes_eq text) keys
@@ -120,7 +121,7 @@ module _ (es : List EntryOf) (fields : List InputField) (rows : List (List ℕ))
   to_absent t (enum name) below i a = absurd (let is = a.is_object in cc)
 
   -- what a field leads to, by the numbers
-  pub record Leads (from : InputField) (i : ℕ) : Type 0 where
+  pub record Graph (from : InputField) (i : ℕ) : Type 0 where
     pub field : InputOf Span
     pub default : Val Span
     pub is_field : input_named es from.type_name from.name ≡ Some field
@@ -131,7 +132,7 @@ module _ (es : List EntryOf) (fields : List InputField) (rows : List (List ℕ))
     pub absent : Absent es fields rows literal_type literal.label.says literal.below i
 
   from_default : (from : InputField) (i : ℕ) (field : InputOf Span) → input_named es from.type_name from.name ≡ Some field
-      → (d : Option (Val Span)) → field.default ≡ d → Contains (option_map_or (gathered_of es (absent_at es fields rows) (Some field.type_ref)) d []) i → Leads from i
+      → (d : Option (Val Span)) → field.default ≡ d → Contains (option_map_or (gathered_of es (absent_at es fields rows) (Some field.type_ref)) d []) i → Graph from i
   from_default from i field is_field None is found = absurd (in_none i found)
   from_default from i field is_field (Some default) is found =
       let inside = from_gathered es (absent_at es fields rows) (more default.label default.below none) (λ key. at_type field.type_ref) i
@@ -147,14 +148,14 @@ module _ (es : List EntryOf) (fields : List InputField) (rows : List (List ℕ))
         absent = from_absent inside.type_ref inside.value.label.says inside.value.below i inside.found;
       }
 
-  pub from_leads : (from : InputField) (i : ℕ) → Contains (field_leads es fields rows from) i → Leads from i
+  pub from_leads : (from : InputField) (i : ℕ) → Contains (field_leads es fields rows from) i → Graph from i
   from_leads from i found = by (input_named es from.type_name from.name) refl found
     where
-      by : (o : Option (InputOf Span)) → input_named es from.type_name from.name ≡ o → Contains (option_map_or (default_leads es fields rows) o []) i → Leads from i
+      by : (o : Option (InputOf Span)) → input_named es from.type_name from.name ≡ o → Contains (option_map_or (default_leads es fields rows) o []) i → Graph from i
       by None is found = absurd (in_none i found)
       by (Some field) is found = from_default from i field is field.default refl found
 
-  pub to_leads : (from : InputField) (i : ℕ) → Leads from i → Contains (field_leads es fields rows from) i
+  pub to_leads : (from : InputField) (i : ℕ) → Graph from i → Contains (field_leads es fields rows from) i
   to_leads from i l =
       let inside = to_gathered es (absent_at es fields rows) l.literal_type i l.holds refl (to_absent l.literal_type l.literal.label.says l.literal.below i l.absent) in
       let whole : Contains (gathered_of es (absent_at es fields rows) (Some l.field.type_ref) l.default) i =

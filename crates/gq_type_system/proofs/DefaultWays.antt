@@ -12,14 +12,14 @@ use Rattle.gq_types.specs.Joined.{type_number}
 use Rattle.gq_types.specs.Look.{joined_numbers}
 use Rattle.gq_types.specs.Names.{input_named}
 use Rattle.gq_type_system.specs.EndlessInputs.{InputField, Way, LeadsByDefault}
-use Rattle.gq_type_system.specs.EndlessInputsPlaces.{row_items, inputs_at, type_name_at, MarksByDefault}
-use Rattle.gq_type_system.specs.DefaultValuesPlaces.{has_default, numbers_of, field_leads, any_marked, named_field, named_fields_at, fields_at, all_fields, field_rows, field_numbers}
-use Rattle.gq_type_system.proofs.Gathered.{in_none, in_first, in_later, from_flat, to_flat, from_map, to_map}
+use Rattle.gq_type_system.specs.Helping.EndlessInputsPlaces.{row_items, inputs_at, type_name_at, MarksByDefault}
+use Rattle.gq_type_system.specs.Helping.DefaultValuesPlaces.{has_default, numbers_of, field_leads, any_marked, named_field, named_fields_at, fields_at, all_fields, field_rows, field_numbers}
 use Rattle.gq_type_system.proofs.Ways.{Next, ways_lead_back, first_step, carried, carried_back}
 use Rattle.gq_type_system.proofs.EntryRows.{row_is, in_range, rows_are}
 use Rattle.gq_type_system.proofs.RequiredLemmas.{number_below, from_inputs, input_of_name, type_name_is}
 use Rattle.gq_type_system.proofs.Numbering.{numbered_item, item_numbered}
-use Rattle.gq_type_system.proofs.DefaultLemmas.{Leads, from_leads, to_leads}
+use Rattle.gq_type_system.proofs.DefaultLemmas.{Graph, from_leads, to_leads}
+use Rattle.gq_types.proofs.Gathered.{nothing_in as in_none, first as in_first, later as in_later, from_flat, to_flat, from_map, to_map}
 
 module _ {A : Type 0} where
   get_inside : (xs : List A) (i : ℕ) (x : A) → slice_get xs i ≡ Some x → i < length xs
@@ -88,9 +88,9 @@ module _ (es : List EntryOf) where
   field_in_row : (text : Text) (number i : ℕ) → type_number es text ≡ Some number → Contains (get_or (field_numbers es) number []) i
       → (field : InputField) × (slice_get (all_fields es) i ≡ Some field) × (field.type_name ≡ text)
   field_in_row text number i meant found =
-      let item = numbered_item (field_rows es) number i found in
-      let of_type = subst (λ fs. Contains fs item.0) (fields_are number (number_below es text number meant)) item.2 in
-      (item.0, item.1, type_of_field es number item.0 of_type ∙ type_name_is es text number meant)
+      let fault = numbered_item (field_rows es) number i found in
+      let of_type = subst (λ fs. Contains fs fault.0) (fields_are number (number_below es text number meant)) fault.2 in
+      (fault.0, fault.1, type_of_field es number fault.0 of_type ∙ type_name_is es text number meant)
 
   -- the number is one of the field
   record Named (i : ℕ) (field : InputField) : Type 0 where
@@ -124,14 +124,14 @@ module _ (es : List EntryOf) where
       by None is found = absurd (in_none i found)
       by (Some number) is found = (number, is, found)
 
-  to_named : (f : InputField) (j : ℕ) → Leads es (all_fields es) (field_numbers es) f j → (g : InputField) × Named j g × LeadsByDefault es f g
+  to_named : (f : InputField) (j : ℕ) → Graph es (all_fields es) (field_numbers es) f j → (g : InputField) × Named j g × LeadsByDefault es f g
   to_named f j leads =
       let a = leads.absent in
       let row_in = in_numbers a.type_name j a.in_row in
-      let item = field_in_row a.type_name row_in.0 j row_in.1 row_in.2 in
-      let some : Some item.0 ≡ Some a.field = sym item.1 ∙ a.is_field in
-      let same : item.0 ≡ a.field = cc in
-      let type_is : a.type_name ≡ a.field.type_name = sym item.2 ∙ ap (λ (f : InputField). f.type_name) same in
+      let fault = field_in_row a.type_name row_in.0 j row_in.1 row_in.2 in
+      let some : Some fault.0 ≡ Some a.field = sym fault.1 ∙ a.is_field in
+      let same : fault.0 ≡ a.field = cc in
+      let type_is : a.type_name ≡ a.field.type_name = sym fault.2 ∙ ap (λ (f : InputField). f.type_name) same in
       let other = from_has_default a.field a.has_default_value in (
         a.field,
         record { number = row_in.0; meant = ap (type_number es) (sym type_is) ∙ row_in.1; at = a.is_field; in_row = row_in.2 },
@@ -152,7 +152,7 @@ module _ (es : List EntryOf) where
         },
       )
 
-  from_named : (f g : InputField) (j : ℕ) → Named j g → LeadsByDefault es f g → Leads es (all_fields es) (field_numbers es) f j
+  from_named : (f g : InputField) (j : ℕ) → Named j g → LeadsByDefault es f g → Graph es (all_fields es) (field_numbers es) f j
   from_named f g j named leads = record {
     field = leads.field;
     default = leads.default;
@@ -203,11 +203,11 @@ module _ (es : List EntryOf) where
         from : slice_index_or (map (any_marked marks) (field_numbers es)) number false ≡ true → (field : InputField) × (field.type_name ≡ text) × Way (LeadsByDefault es) field field
         from marked =
             let any = from_any (λ n. slice_index_or marks n false) (get_or (field_numbers es) number []) (sym mark_is ∙ marked) in
-            let item = field_in_row text number any.0 meant any.1 in
-            let named : Named any.0 item.0 = record { number = number; meant = ap (type_number es) item.2 ∙ meant; at = item.1; in_row = any.1 } in
-            let inside = get_inside (all_fields es) any.0 item.0 item.1 in
+            let fault = field_in_row text number any.0 meant any.1 in
+            let named : Named any.0 fault.0 = record { number = number; meant = ap (type_number es) fault.2 ∙ meant; at = fault.1; in_row = any.1 } in
+            let inside = get_inside (all_fields es) any.0 fault.0 fault.1 in
             let back = (exact any.0 (omega (arith, rows_length))).0 any.2 in
-            (item.0, item.2, carried (Next (row rows)) (LeadsByDefault es) Named (λ i j f. leads_by_name i j f) (λ i f g. one_field i f g) any.0 any.0 item.0 item.0 ((ways_lead_back (row rows) any.0).0 back) named named)
+            (fault.0, fault.2, carried (Next (row rows)) (LeadsByDefault es) Named (λ i j f. leads_by_name i j f) (λ i f g. one_field i f g) any.0 any.0 fault.0 fault.0 ((ways_lead_back (row rows) any.0).0 back) named named)
 
         to : (field : InputField) × (field.type_name ≡ text) × Way (LeadsByDefault es) field field → slice_index_or (map (any_marked marks) (field_numbers es)) number false ≡ true
         to (field, of_type, way) =

@@ -4,16 +4,16 @@ use Rattle.std.proofs.lemmas.Bool.{ltb-true}
 use Rattle.std.proofs.lemmas.Slice.Eq.{bytes_eq-Decides}
 use Rattle.gq_text.specs.declared.place.Span.{Span}
 use Rattle.gq_found.specs.declared.code.Code.TheVariants.{DefinedTwice}
-use Rattle.gq_found.specs.declared.item.Item.{Item}
+use Rattle.gq_found.specs.declared.fault.Fault.{Fault}
 use Rattle.gq_tree.specs.Plain.{TypeSystemOf, schema, type_definition, directive_definition}
 use Rattle.gq_types.specs.Entries.{EntryOf, Numbered, numbered}
 use Rattle.gq_types.specs.BuiltIn.{defines_built_in}
 use Rattle.gq_types.specs.Joined.{is_type_named, is_directive_named, is_schema, judged}
-use Rattle.gq_type_system.specs.Items.{item_in}
+use Rattle.gq_found.specs.FaultPlaces.{fault_over}
 use Rattle.gq_type_system.specs.DefinedTwice.{Defined, a_type, a_directive, the_schema, defined_by, definition_place, IsDefinedTwice}
-use Rattle.gq_type_system.specs.DefinedTwicePlaces.{is_before, is_defined_before, defined_twice_at, all_defined_twice}
-use Rattle.gq_type_system.proofs.Gather.{from_flat, to_flat, from_filter, from_test, to_test}
+use Rattle.gq_type_system.specs.Helping.DefinedTwicePlaces.{is_before, is_defined_before, defined_twice_at, all_defined_twice}
 use Rattle.gq_type_system.proofs.NumberLemmas.{from_before, to_before, stands_at_number}
+use Rattle.gq_types.proofs.Gathered.{from_flat, to_flat, from_filter, from_if as from_test, to_if as to_test}
 
 -- the test of what defines a thing
 abbrev defines : Defined → EntryOf → Bool
@@ -77,12 +77,12 @@ to_test_of es number (directive_definition description name arguments repeatable
     let is : what ≡ a_directive name.text = cc in
     subst (λ w. is_before (position (defines w) es) number ≡ true) is h
 
-pub all_defined_twice_are : (es : List EntryOf) (item : Item) → Contains (all_defined_twice es) item ↔ IsDefinedTwice es item
-all_defined_twice_are es item = (from, to)
+pub all_defined_twice_are : (es : List EntryOf) (fault : Fault) → Contains (all_defined_twice es) fault ↔ IsDefinedTwice es fault
+all_defined_twice_are es fault = (from, to)
   where
-    from_entry : (n : Numbered) → Contains (judged es) n → Contains (defined_twice_at es n) item → IsDefinedTwice es item
+    from_entry : (n : Numbered) → Contains (judged es) n → Contains (defined_twice_at es n) fault → IsDefinedTwice es fault
     from_entry n j c =
-        let t = from_test (is_defined_before es n.number n.entry.definition) (item_in n.entry.file DefinedTwice (definition_place n.entry.definition)) item c in
+        let t = from_test (is_defined_before es n.number n.entry.definition) (fault_over n.entry.file DefinedTwice (definition_place n.entry.definition)) fault c in
         let stands = stands_at_number es n (from_filter (λ m. not (defines_built_in m.entry.definition)) (numbered es) n j).0 in
         let what = from_test_of es n.number n.entry.definition (omega (arith, stands.0)) t.0 in
         let earlier = from_before (defines what.0) es n.number n.entry what.2 in
@@ -98,13 +98,13 @@ all_defined_twice_are es item = (from, to)
           is = t.1;
         }
 
-    from : Contains (all_defined_twice es) item → IsDefinedTwice es item
-    from c = let r = from_flat (defined_twice_at es) (judged es) item c in from_entry r.0 r.1 r.2
+    from : Contains (all_defined_twice es) fault → IsDefinedTwice es fault
+    from c = let r = from_flat (defined_twice_at es) (judged es) fault c in from_entry r.0 r.1 r.2
 
-    to : IsDefinedTwice es item → Contains (all_defined_twice es) item
+    to : IsDefinedTwice es fault → Contains (all_defined_twice es) fault
     to w =
         let passes = to_defines w.what w.earlier.entry.file w.earlier.entry.definition w.defines_the_same in
         let before = to_before (defines w.what) es w.entry.number w.earlier w.stands w.is_earlier passes in
         let test = to_test_of es w.entry.number w.entry.entry.definition w.what w.defines before in
-        to_flat (defined_twice_at es) (judged es) w.entry item w.is_judged
-        (to_test (is_defined_before es w.entry.number w.entry.entry.definition) (item_in w.entry.entry.file DefinedTwice (definition_place w.entry.entry.definition)) item test w.is)
+        to_flat (defined_twice_at es) (judged es) w.entry fault w.is_judged
+        (to_test (is_defined_before es w.entry.number w.entry.entry.definition) (fault_over w.entry.entry.file DefinedTwice (definition_place w.entry.entry.definition)) fault test w.is)

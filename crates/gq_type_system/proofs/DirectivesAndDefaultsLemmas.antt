@@ -6,7 +6,7 @@ use Rattle.std.proofs.lemmas.Bool.{ltb-true, ltb-false}
 use Rattle.std.proofs.lemmas.List.Elements.{Contains-append_left, Contains-append_right, Contains-append_cases}
 use Rattle.std.proofs.lemmas.List.Quantifiers.{position-Some}
 use Rattle.gq_text.specs.declared.place.Span.{Span}
-use Rattle.gq_found.specs.declared.item.Item.{Item}
+use Rattle.gq_found.specs.declared.fault.Fault.{Fault}
 use Rattle.gq_names.proofs.RepeatLemmas.{contains_none, contains_first, contains_later, contains_cases}
 use Rattle.gq_tree.specs.Plain.{Val, InputOf, TypeSystemOf, schema, type_definition, directive_definition}
 use Rattle.gq_types.specs.Entries.{Text, EntryOf, Numbered, numbered}
@@ -15,17 +15,17 @@ use Rattle.gq_types.specs.Kinds.{kind_of, same_kind}
 use Rattle.gq_types.specs.Joined.{is_schema, is_type_named, kind_named, type_number, owner_of, owner, joined, judged}
 use Rattle.gq_values.specs.Literals.{default_at}
 use Rattle.gq_values.specs.LiteralFaults.{IsLiteralFault}
-use Rattle.gq_values.specs.LiteralPlaces.{literal_faults}
+use Rattle.gq_values.specs.Helping.LiteralPlaces.{literal_faults}
 use Rattle.gq_values.specs.DirectiveFaults.{IsDirectiveFault}
-use Rattle.gq_values.specs.DirectivePlaces.{directive_faults}
+use Rattle.gq_values.specs.Helping.DirectivePlaces.{directive_faults}
 use Rattle.gq_values.proofs.LiteralRules.{literal_faults_are}
 use Rattle.gq_values.proofs.DirectiveRules.{directive_faults_are}
-use Rattle.gq_type_system.specs.Walk.{at_each_number}
+use Rattle.gq_type_system.specs.Helping.Walk.{at_each_number}
 use Rattle.gq_type_system.specs.DirectivesAndDefaults.{Site, sites_in, own_site, own_names, all_inputs, told, IsBadDirectiveOrDefault, in_site, in_entry, in_default}
-use Rattle.gq_type_system.specs.DirectivesAndDefaultsPlaces.{site_fault, site_faults, default_fault, default_faults, inner_faults_at, inner_faults, faults_at_own, own_faults, group_faults, itself, group_faults_of, outer_faults, all_faults, bad_directives_and_defaults}
-use Rattle.gq_type_system.proofs.Gather.{from_flat, to_flat, from_map, to_map, from_filter}
+use Rattle.gq_type_system.specs.Helping.DirectivesAndDefaultsPlaces.{site_fault, site_faults, default_fault, default_faults, inner_faults_at, inner_faults, faults_at_own, own_faults, group_faults, itself, group_faults_of, outer_faults, all_faults, bad_directives_and_defaults}
 use Rattle.gq_type_system.proofs.NumberLemmas.{stands_at_number}
 use Rattle.gq_type_system.proofs.WalkLemmas.{from_numbers, to_numbers}
+use Rattle.gq_types.proofs.Gathered.{from_flat, to_flat, from_map_as as from_map, to_map_as as to_map, from_filter}
 
 -- an element that passes is kept
 to_filter : {X : Type 0} (p : X → Bool) (xs : List X) (y : X) → Contains xs y → p y ≡ true → Contains (filter p xs) y
@@ -78,7 +78,7 @@ record Among (ns : List Numbered) : Type 0 where
 stands_among : (ns before : List Numbered) (n : Numbered) (after : List Numbered) → ns ≡ before ++ n ∷ after → Contains ns n
 stands_among ns before n after are = subst (λ xs. Contains xs n) (sym are) (Contains-append_right before (n ∷ after) n (contains_first n after n refl))
 
-module _ (es : List EntryOf) (fault : Item) where
+module _ (es : List EntryOf) (fault : Fault) where
   -- a fault in a group is one of an entry, behind the names of those before it
   from_group : (names : List Text) (ns : List Numbered) → Contains (group_faults es names (entries_of ns)) fault →
       (a : Among ns) × Contains (own_faults es (names ++ names_of a.before) a.one.entry) fault
@@ -143,7 +143,7 @@ module _ (es : List EntryOf) (fault : Item) where
           let same : number ≡ length es = omega (arith, last, le) in
           Contains-append_right (at_each_number (group_faults_of es) 0 es) (group_faults_of es (length es)) fault (subst (λ n. Contains (group_faults_of es n) fault) same c)
 
-  module _ (item : Item) (is : item ≡ told fault) where
+  module _ (item : Fault) (is : item ≡ told fault) where
     from_entry : (number : ℕ) → Contains (group_faults_of es number) fault → IsBadDirectiveOrDefault es item
     from_entry number c =
         let g = from_group [] (joined es number) c in
@@ -210,7 +210,7 @@ module _ (es : List EntryOf) (fault : Item) where
         let there = subst (λ ns. Contains (group_faults es [] (entries_of ns)) fault) (sym are) grouped in
         to_told (Contains-append_right (inner_faults es) (outer_faults es) fault (to_outer (owner es n) (owner_within es n.entry n.number inside n.entry.definition) there))
 
-pub bad_directives_and_defaults_are : (es : List EntryOf) (item : Item) → Contains (bad_directives_and_defaults es) item ↔ IsBadDirectiveOrDefault es item
+pub bad_directives_and_defaults_are : (es : List EntryOf) (item : Fault) → Contains (bad_directives_and_defaults es) item ↔ IsBadDirectiveOrDefault es item
 bad_directives_and_defaults_are es item = (from, to)
   where
     from : Contains (bad_directives_and_defaults es) item → IsBadDirectiveOrDefault es item

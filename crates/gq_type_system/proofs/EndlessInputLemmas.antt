@@ -3,16 +3,17 @@ use Rattle.std.proofs.Common.{◌≡◌, ℕ, Bool, true, false, ◌||◌, if◌
 use Rattle.std.specs.Prelude.{slice_index_or}
 use Rattle.gq_text.specs.declared.place.Span.{Span}
 use Rattle.gq_found.specs.declared.code.Code.TheVariants.{EndlessInput}
-use Rattle.gq_found.specs.declared.item.Item.{Item}
+use Rattle.gq_found.specs.declared.fault.Fault.{Fault}
 use Rattle.gq_tree.specs.Plain.{NameOf, scalar_type, object_type, interface_type, union_type, enum_type, input_type, TypeSystemOf, schema, type_definition, directive_definition}
 use Rattle.gq_types.specs.Entries.{Text, EntryOf, Numbered, numbered}
 use Rattle.gq_types.specs.BuiltIn.{defines_built_in}
 use Rattle.gq_types.specs.Joined.{type_number}
-use Rattle.gq_type_system.specs.Items.{item_at}
+use Rattle.gq_found.specs.FaultPlaces.{fault_at}
 use Rattle.gq_type_system.specs.EndlessInputs.{IsEndless, by_non_null, by_default, input_object_in, IsEndlessInput}
-use Rattle.gq_found.specs.Puts.{Puts}
-use Rattle.gq_type_system.specs.EndlessInputsPlaces.{MarksNonNull, MarksByDefault, item_if, is_number, endless_named, endless_input, endless_inputs}
-use Rattle.gq_type_system.proofs.Gathered.{in_none, in_only, in_first, from_flat, to_flat, from_filter, to_filter}
+use Rattle.gq_found.specs.Adds.{AddsExactly}
+use Rattle.gq_type_system.specs.Helping.EndlessInputsPlaces.{MarksNonNull, MarksByDefault, fault_if, is_number, endless_named, endless_input, endless_inputs}
+use Rattle.gq_type_system.proofs.Gathered.{in_only}
+use Rattle.gq_types.proofs.Gathered.{nothing_in as in_none, first as in_first, from_flat, to_flat, from_filter, to_filter}
 
 -- no input object is built in
 not_built_in : (d : TypeSystemOf Span) (name : NameOf Span) → input_object_in d ≡ Some name → not (defines_built_in d) ≡ true
@@ -50,11 +51,11 @@ module _ (es : List EntryOf) (marks others : List Bool) (non_null : MarksNonNull
       or_right true b is = refl
       or_right false b is = is
 
-  from_item : (n : Numbered) (name : NameOf Span) (item : Item) → Contains (numbered es) n → input_object_in n.entry.definition ≡ Some name
+  from_item : (n : Numbered) (name : NameOf Span) (fault : Fault) → Contains (numbered es) n → input_object_in n.entry.definition ≡ Some name
       → (slice_index_or marks n.number false || slice_index_or others n.number false) ≡ true
-      → (b : Bool) → is_number n.number (type_number es name.text) ≡ b → Contains (item_if b n.entry.file name) item → IsEndlessInput es item
-  from_item n name item stands defines marked false is found = absurd (in_none item found)
-  from_item n name item stands defines marked true is found =
+      → (b : Bool) → is_number n.number (type_number es name.text) ≡ b → Contains (fault_if b n.entry.file name) fault → IsEndlessInput es fault
+  from_item n name fault stands defines marked false is found = absurd (in_none fault found)
+  from_item n name fault stands defines marked true is found =
       let meant = from_number n.number (type_number es name.text) is in
       record {
         entry = n;
@@ -63,38 +64,38 @@ module _ (es : List EntryOf) (marks others : List Bool) (non_null : MarksNonNull
         defines = defines;
         is_meant = meant;
         is_endless = endless_of name.text n.number meant marked;
-        is = sym (in_only (item_at n.entry.file EndlessInput name) item found);
+        is = sym (in_only (fault_at n.entry.file EndlessInput name) fault found);
       }
 
-  from_named : (n : Numbered) (item : Item) → Contains (numbered es) n → (slice_index_or marks n.number false || slice_index_or others n.number false) ≡ true
-      → (o : Option (NameOf Span)) → input_object_in n.entry.definition ≡ o → Contains (endless_named es n.entry.file n.number o) item → IsEndlessInput es item
-  from_named n item stands marked None is found = absurd (in_none item found)
-  from_named n item stands marked (Some name) is found = from_item n name item stands is marked (is_number n.number (type_number es name.text)) refl found
+  from_named : (n : Numbered) (fault : Fault) → Contains (numbered es) n → (slice_index_or marks n.number false || slice_index_or others n.number false) ≡ true
+      → (o : Option (NameOf Span)) → input_object_in n.entry.definition ≡ o → Contains (endless_named es n.entry.file n.number o) fault → IsEndlessInput es fault
+  from_named n fault stands marked None is found = absurd (in_none fault found)
+  from_named n fault stands marked (Some name) is found = from_item n name fault stands is marked (is_number n.number (type_number es name.text)) refl found
 
-  from_mark : (n : Numbered) (item : Item) → Contains (numbered es) n → (b : Bool) → (slice_index_or marks n.number false || slice_index_or others n.number false) ≡ b
-      → Contains (if b then endless_named es n.entry.file n.number (input_object_in n.entry.definition) else []) item → IsEndlessInput es item
-  from_mark n item stands false is found = absurd (in_none item found)
-  from_mark n item stands true is found = from_named n item stands is (input_object_in n.entry.definition) refl found
+  from_mark : (n : Numbered) (fault : Fault) → Contains (numbered es) n → (b : Bool) → (slice_index_or marks n.number false || slice_index_or others n.number false) ≡ b
+      → Contains (if b then endless_named es n.entry.file n.number (input_object_in n.entry.definition) else []) fault → IsEndlessInput es fault
+  from_mark n fault stands false is found = absurd (in_none fault found)
+  from_mark n fault stands true is found = from_named n fault stands is (input_object_in n.entry.definition) refl found
 
-  from_places : (item : Item) → Contains (endless_inputs es marks others) item → IsEndlessInput es item
-  from_places item found =
-      let entry = from_flat (endless_input es marks others) (numbered es) item found in
-      from_mark entry.0 item entry.1 (slice_index_or marks entry.0.number false || slice_index_or others entry.0.number false) refl entry.2
+  from_places : (fault : Fault) → Contains (endless_inputs es marks others) fault → IsEndlessInput es fault
+  from_places fault found =
+      let entry = from_flat (endless_input es marks others) (numbered es) fault found in
+      from_mark entry.0 fault entry.1 (slice_index_or marks entry.0.number false || slice_index_or others entry.0.number false) refl entry.2
 
-  to_places : (item : Item) → IsEndlessInput es item → Contains (endless_inputs es marks others) item
-  to_places item w =
+  to_places : (fault : Fault) → IsEndlessInput es fault → Contains (endless_inputs es marks others) fault
+  to_places fault w =
       let marked = marked_of w.name.text w.entry.number w.is_meant w.is_endless in
-      let told : Contains (item_if true w.entry.entry.file w.name) item = in_first (item_at w.entry.entry.file EndlessInput w.name) item [] (sym w.is) in
+      let told : Contains (fault_if true w.entry.entry.file w.name) fault = in_first (fault_at w.entry.entry.file EndlessInput w.name) fault [] (sym w.is) in
       let meant : is_number w.entry.number (type_number es w.name.text) ≡ true = ap (is_number w.entry.number) w.is_meant ∙ same w.entry.number in
-      let named : Contains (endless_named es w.entry.entry.file w.entry.number (Some w.name)) item = subst (λ b. Contains (item_if b w.entry.entry.file w.name) item) (sym meant) told in
-      let defined : Contains (endless_named es w.entry.entry.file w.entry.number (input_object_in w.entry.entry.definition)) item =
-      subst (λ o. Contains (endless_named es w.entry.entry.file w.entry.number o) item) (sym w.defines) named in
-      to_flat (endless_input es marks others) (numbered es) w.entry item (from_filter (λ n. not (defines_built_in n.entry.definition)) (numbered es) w.entry w.is_judged).0
-      (subst (λ b. Contains (if b then endless_named es w.entry.entry.file w.entry.number (input_object_in w.entry.entry.definition) else []) item) (sym marked) defined)
+      let named : Contains (endless_named es w.entry.entry.file w.entry.number (Some w.name)) fault = subst (λ b. Contains (fault_if b w.entry.entry.file w.name) fault) (sym meant) told in
+      let defined : Contains (endless_named es w.entry.entry.file w.entry.number (input_object_in w.entry.entry.definition)) fault =
+      subst (λ o. Contains (endless_named es w.entry.entry.file w.entry.number o) fault) (sym w.defines) named in
+      to_flat (endless_input es marks others) (numbered es) w.entry fault (from_filter (λ n. not (defines_built_in n.entry.definition)) (numbered es) w.entry w.is_judged).0
+      (subst (λ b. Contains (if b then endless_named es w.entry.entry.file w.entry.number (input_object_in w.entry.entry.definition) else []) fault) (sym marked) defined)
     where
       same : (n : ℕ) → nat_eq n n ≡ true
       same n = eq-eqb n n refl
 
   -- exactly the endless input objects are told
-  pub puts_endless : (old : List Item) → Puts (IsEndlessInput es) old (old ++ endless_inputs es marks others)
-  puts_endless old = record { added = endless_inputs es marks others; is = refl; exactly = λ item. (from_places item, to_places item) }
+  pub puts_endless : (old : List Fault) → AddsExactly (IsEndlessInput es) old (old ++ endless_inputs es marks others)
+  puts_endless old = record { added = endless_inputs es marks others; is = refl; exactly = λ fault. (from_places fault, to_places fault) }

@@ -6,8 +6,8 @@ use Rattle.std.proofs.lemmas.List.Elements.{Contains-get_or}
 use Rattle.gq_reach.specs.Reach.{row, InRange}
 use Rattle.gq_types.specs.Entries.{EntryOf, Numbered, numbered_from, numbered, entry_view, entries_view}
 use Rattle.gq_types.specs.declared.entry.Entry.{Entry}
-use Rattle.gq_type_system.specs.EndlessInputsPlaces.{row_items}
-use Rattle.gq_type_system.proofs.Gathered.{in_none, in_cases}
+use Rattle.gq_type_system.specs.Helping.EndlessInputsPlaces.{row_items}
+use Rattle.gq_types.proofs.Gathered.{nothing_in as in_none, cases_cons as in_cases}
 
 pub row_is : (rows : List (Vec ℕ Global)) (n : ℕ) → row rows n ≡ get_or (row_items rows) n []
 row_is [] n = refl

@@ -9,16 +9,16 @@ use Rattle.gq_tree.specs.declared.value.ObjectField.{ObjectField}
 use Rattle.gq_tree.proofs.ValueLemmas.{value_key}
 use Rattle.gq_types.specs.Entries.{EntryOf}
 use Rattle.gq_values.specs.Literals.{items_of_type, at_field, input_object_at}
-use Rattle.gq_type_system.specs.DefaultValuesPlaces.{type_in, below_of, gathered, gathered_of}
+use Rattle.gq_type_system.specs.Helping.DefaultValuesPlaces.{type_in, below_of, gathered, gathered_of}
 
 module _ (es : List EntryOf) (at : TypeOf Span → Says Span → Vals Span → List ℕ) (t : TypeOf Span) where
   -- an item of a list literal
-  pub items_more : (items : List Value) (i : ℕ) (x : Value) → i < length items → x ≡ get_or items i x
-      → gathered es at (below_of es t) (values_view (drop i items)) ≡ gathered_of es at (type_in (items_of_type t)) (value_view x) ++ gathered es at (below_of es t) (values_view (drop (i + 1) items))
-  items_more items i x below is =
-      at_drop_more (λ rest. gathered es at (below_of es t) (values_view rest)) items i x below
-      ∙ ap (λ y. gathered_of es at (type_in (below_of es t (value_view y).label.key)) (value_view y) ++ gathered es at (below_of es t) (values_view (drop (i + 1) items))) (sym is)
-      ∙ ap (λ k. gathered_of es at (type_in (below_of es t k)) (value_view x) ++ gathered es at (below_of es t) (values_view (drop (i + 1) items))) (value_key x)
+  pub items_more : (faults : List Value) (i : ℕ) (x : Value) → i < length faults → x ≡ get_or faults i x
+      → gathered es at (below_of es t) (values_view (drop i faults)) ≡ gathered_of es at (type_in (items_of_type t)) (value_view x) ++ gathered es at (below_of es t) (values_view (drop (i + 1) faults))
+  items_more faults i x below is =
+      at_drop_more (λ rest. gathered es at (below_of es t) (values_view rest)) faults i x below
+      ∙ ap (λ y. gathered_of es at (type_in (below_of es t (value_view y).label.key)) (value_view y) ++ gathered es at (below_of es t) (values_view (drop (i + 1) faults))) (sym is)
+      ∙ ap (λ k. gathered_of es at (type_in (below_of es t k)) (value_view x) ++ gathered es at (below_of es t) (values_view (drop (i + 1) faults))) (value_key x)
 
   -- a field of an object literal
   pub fields_more : (given : List ObjectField) (i : ℕ) (x : ObjectField) → i < length given → x ≡ get_or given i x

@@ -9,9 +9,9 @@ use Rattle.gq_types.specs.declared.entry.Entry.{Entry}
 use Rattle.gq_types.specs.Entries.{EntryOf, Numbered, numbered, entry_view, entries_view}
 use Rattle.gq_types.specs.Joined.{joined, owner}
 use Rattle.gq_types.specs.Look.{joined_numbers}
-use Rattle.gq_type_system.specs.Groups.{at_number, at_numbers}
-use Rattle.gq_type_system.proofs.Gather.{from_filter}
+use Rattle.gq_type_system.specs.Helping.Groups.{at_number, at_numbers}
 use Rattle.gq_type_system.proofs.NumberLemmas.{stands_at_number}
+use Rattle.gq_types.proofs.Gathered.{from_filter}
 
 module _ {A : Type 0} (f : EntryOf → List A) where
   viewed : (o : Option Entry) → option_map_or f (option_map entry_view o) [] ≡ option_map_or (λ e. f (entry_view e)) o []

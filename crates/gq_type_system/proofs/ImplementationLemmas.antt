@@ -6,7 +6,7 @@ use Rattle.std.specs.Str.{bytes_eq}
 use Rattle.std.specs.Cmp.Lexicographic.{bytes_decides}
 use Rattle.gq_text.specs.declared.place.Span.{Span}
 use Rattle.gq_found.specs.declared.code.Code.TheVariants.{BadImplementation}
-use Rattle.gq_found.specs.declared.item.Item.{Item}
+use Rattle.gq_found.specs.declared.fault.Fault.{Fault}
 use Rattle.gq_tree.specs.Plain.{NameOf, DirectiveOf, InputOf, FieldDefinitionOf, BodyOf, scalar_type, object_type, interface_type, union_type, enum_type, input_type, TypeSystemOf, schema, type_definition, directive_definition}
 use Rattle.gq_tree.specs.Same.{same_types}
 use Rattle.gq_tree.proofs.Sameness.{types_decide}
@@ -14,8 +14,8 @@ use Rattle.gq_types.specs.declared.entry.TypeKind.TheVariants as kind
 use Rattle.gq_types.specs.BuiltIn.{defines_built_in}
 use Rattle.gq_types.specs.Entries.{Text, EntryOf, Numbered, numbered}
 use Rattle.gq_type_system.specs.Implementations.{Implements, Inherits, BreaksField, has_no_subtype, lacks_argument, has_other_type, requires_argument, BreaksImplementation, declares_itself, lacks_interface, lacks_field, breaks_field, IsBadImplementation}
-use Rattle.gq_type_system.specs.ImplementationsPlaces.{breaks_argument, breaks_argument_named, breaks_arguments, requires_named, requires_further, breaks_own_field, breaks_inherited, breaks_field_named, breaks_fields, lacks_further, lacks_interfaces, breaks_interface_at, breaks_interface, breaks_implementation, told_of, bad_implementation, bad_implementation_at, bad_implementations}
-use Rattle.gq_type_system.specs.Items.{item_at}
+use Rattle.gq_type_system.specs.Helping.ImplementationsPlaces.{breaks_argument, breaks_argument_named, breaks_arguments, requires_named, requires_further, breaks_own_field, breaks_inherited, breaks_field_named, breaks_fields, lacks_further, lacks_interfaces, breaks_interface_at, breaks_interface, breaks_implementation, told_of, bad_implementation, bad_implementation_at, bad_implementations}
+use Rattle.gq_found.specs.FaultPlaces.{fault_at}
 use Rattle.gq_types.specs.Joined.{In, type_number, judged, fields_in_body, interfaces_in_body, fields_of, interfaces_of}
 use Rattle.gq_types.specs.Kinds.{kind_of}
 use Rattle.gq_types.specs.LookUps.{has_kind, field_in, declares_in}
@@ -173,17 +173,17 @@ module _ (es : List EntryOf) (number : ℕ) (name : Text) where
   from_breaks (lacks_field text wanted r n) = from_inherited r (subst (λ o. breaks_inherited es (Some wanted) o ≡ true) (sym n) refl)
   from_breaks (breaks_field text wanted own r e b) = from_inherited r (subst (λ o. breaks_inherited es (Some wanted) o ≡ true) (sym e) (from_own_field es wanted own b))
 
--- items
-module _ (es : List EntryOf) (item : Item) where
+-- faults
+module _ (es : List EntryOf) (fault : Fault) where
   made : (n : Numbered) → Contains (numbered es) n → (description : Option (NameOf Span)) (name : NameOf Span) (directives : List (DirectiveOf Span)) (body : BodyOf Span) (place : Span) →
       n.entry.definition ≡ type_definition false description name directives body place → (kind_of body ≡ kind.Object) ⊎ (kind_of body ≡ kind.Interface) →
-      defines_built_in (type_definition false description name directives body place) ≡ false → Contains (told_of es n.number n.entry.file name) item → IsBadImplementation es item
+      defines_built_in (type_definition false description name directives body place) ≡ false → Contains (told_of es n.number n.entry.file name) fault → IsBadImplementation es fault
   made n c description name directives body place e k b d = by_test (breaks_implementation es n.number name.text) refl d
     where
       is_judged : Contains (judged es) n
       is_judged = to_filter (λ (m : Numbered). not (defines_built_in m.entry.definition)) (numbered es) n c (not_false (defines_built_in n.entry.definition) (ap defines_built_in e ∙ b))
 
-      by_test : (t : Bool) → breaks_implementation es n.number name.text ≡ t → Contains (if t then item_at n.entry.file BadImplementation name ∷ [] else []) item → IsBadImplementation es item
+      by_test : (t : Bool) → breaks_implementation es n.number name.text ≡ t → Contains (if t then fault_at n.entry.file BadImplementation name ∷ [] else []) fault → IsBadImplementation es fault
       by_test true h d = record {
         at = n;
         is_judged = is_judged;
@@ -195,31 +195,31 @@ module _ (es : List EntryOf) (item : Item) where
         defines = e;
         implements = k;
         breaks = to_breaks es n.number name.text h;
-        is = only (item_at n.entry.file BadImplementation name) item d;
+        is = only (fault_at n.entry.file BadImplementation name) fault d;
       }
-      by_test false h d = nothing_in item d
+      by_test false h d = nothing_in fault d
 
-  by_definition : (n : Numbered) → Contains (numbered es) n → (d : TypeSystemOf Span) → n.entry.definition ≡ d → Contains (bad_implementation es n.number n.entry.file d) item → IsBadImplementation es item
-  by_definition n c (schema extends description directives roots place) e h = nothing_in item h
-  by_definition n c (type_definition true description name directives body place) e h = nothing_in item h
-  by_definition n c (type_definition false description name directives scalar_type place) e h = nothing_in item h
+  by_definition : (n : Numbered) → Contains (numbered es) n → (d : TypeSystemOf Span) → n.entry.definition ≡ d → Contains (bad_implementation es n.number n.entry.file d) fault → IsBadImplementation es fault
+  by_definition n c (schema extends description directives roots place) e h = nothing_in fault h
+  by_definition n c (type_definition true description name directives body place) e h = nothing_in fault h
+  by_definition n c (type_definition false description name directives scalar_type place) e h = nothing_in fault h
   by_definition n c (type_definition false description name directives (object_type interfaces fields) place) e h = made n c description name directives (object_type interfaces fields) place e (inl refl) refl h
   by_definition n c (type_definition false description name directives (interface_type interfaces fields) place) e h = made n c description name directives (interface_type interfaces fields) place e (inr refl) refl h
-  by_definition n c (type_definition false description name directives (union_type members) place) e h = nothing_in item h
-  by_definition n c (type_definition false description name directives (enum_type values) place) e h = nothing_in item h
-  by_definition n c (type_definition false description name directives (input_type fields) place) e h = nothing_in item h
-  by_definition n c (directive_definition description name arguments repeatable locations place) e h = nothing_in item h
+  by_definition n c (type_definition false description name directives (union_type members) place) e h = nothing_in fault h
+  by_definition n c (type_definition false description name directives (enum_type values) place) e h = nothing_in fault h
+  by_definition n c (type_definition false description name directives (input_type fields) place) e h = nothing_in fault h
+  by_definition n c (directive_definition description name arguments repeatable locations place) e h = nothing_in fault h
 
-  to_relation : Contains (bad_implementations es) item → IsBadImplementation es item
+  to_relation : Contains (bad_implementations es) fault → IsBadImplementation es fault
   to_relation c =
-      let n = from_flat (bad_implementation_at es) (numbered es) item c in
+      let n = from_flat (bad_implementation_at es) (numbered es) fault c in
       by_definition n.0 n.1 n.0.entry.definition refl n.2
 
-  told : (number file : ℕ) (name : NameOf Span) → BreaksImplementation es number name.text → item ≡ item_at file BadImplementation name → Contains (told_of es number file name) item
-  told number file name b e = subst (λ t. Contains (if t then item_at file BadImplementation name ∷ [] else []) item) (sym (from_breaks es number name.text b)) (first (item_at file BadImplementation name) item [] (sym e))
+  told : (number file : ℕ) (name : NameOf Span) → BreaksImplementation es number name.text → fault ≡ fault_at file BadImplementation name → Contains (told_of es number file name) fault
+  told number file name b e = subst (λ t. Contains (if t then fault_at file BadImplementation name ∷ [] else []) fault) (sym (from_breaks es number name.text b)) (first (fault_at file BadImplementation name) fault [] (sym e))
 
   by_body : (number file : ℕ) (description : Option (NameOf Span)) (name : NameOf Span) (directives : List (DirectiveOf Span)) (body : BodyOf Span) (place : Span) →
-      (kind_of body ≡ kind.Object) ⊎ (kind_of body ≡ kind.Interface) → Contains (told_of es number file name) item → Contains (bad_implementation es number file (type_definition false description name directives body place)) item
+      (kind_of body ≡ kind.Object) ⊎ (kind_of body ≡ kind.Interface) → Contains (told_of es number file name) fault → Contains (bad_implementation es number file (type_definition false description name directives body place)) fault
   by_body number file description name directives scalar_type place k c = absurd (⊎_elim (λ e. cc) (λ e. cc) k)
   by_body number file description name directives (object_type interfaces fields) place k c = c
   by_body number file description name directives (interface_type interfaces fields) place k c = c
@@ -227,11 +227,11 @@ module _ (es : List EntryOf) (item : Item) where
   by_body number file description name directives (enum_type values) place k c = absurd (⊎_elim (λ e. cc) (λ e. cc) k)
   by_body number file description name directives (input_type fields) place k c = absurd (⊎_elim (λ e. cc) (λ e. cc) k)
 
-  from_relation : IsBadImplementation es item → Contains (bad_implementations es) item
+  from_relation : IsBadImplementation es fault → Contains (bad_implementations es) fault
   from_relation w =
       let there = from_filter (λ (m : Numbered). not (defines_built_in m.entry.definition)) (numbered es) w.at w.is_judged in
       let here = by_body w.at.number w.at.entry.file w.description w.name w.directives w.body w.place w.implements (told w.at.number w.at.entry.file w.name w.breaks w.is) in
-      to_flat (bad_implementation_at es) (numbered es) w.at item there.0 (subst (λ d. Contains (bad_implementation es w.at.number w.at.entry.file d) item) (sym w.defines) here)
+      to_flat (bad_implementation_at es) (numbered es) w.at fault there.0 (subst (λ d. Contains (bad_implementation es w.at.number w.at.entry.file d) fault) (sym w.defines) here)
 
-pub bad_implementations_are : (es : List EntryOf) (item : Item) → Contains (bad_implementations es) item ↔ IsBadImplementation es item
-bad_implementations_are es item = (to_relation es item, from_relation es item)
+pub bad_implementations_are : (es : List EntryOf) (fault : Fault) → Contains (bad_implementations es) fault ↔ IsBadImplementation es fault
+bad_implementations_are es fault = (to_relation es fault, from_relation es fault)

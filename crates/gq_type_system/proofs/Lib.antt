@@ -1,4 +1,3 @@
-pub mod Gather
 pub mod KindLemmas
 pub mod NumberLemmas
 pub mod BadExtensionLemmas

@@ -3,8 +3,8 @@ use Rattle.std.proofs.Common.{◌≡◌, ℕ, zero, suc, ◌+◌, ◌<◌, List,
 use Rattle.std.specs.Prelude.{slice_get}
 use Rattle.std.proofs.lemmas.List.{length-append, length-map, map-append}
 use Rattle.std.proofs.lemmas.Grind.{flat_map-append}
-use Rattle.gq_type_system.specs.DefaultValuesPlaces.{count_from, number_rows}
-use Rattle.gq_type_system.proofs.Gathered.{in_none, in_first, in_later, in_cases}
+use Rattle.gq_type_system.specs.Helping.DefaultValuesPlaces.{count_from, number_rows}
+use Rattle.gq_types.proofs.Gathered.{nothing_in as in_none, first as in_first, later as in_later, cases_cons as in_cases}
 
 pub count-append : {A : Type 0} (k : ℕ) (xs ys : List A) → count_from k (xs ++ ys) ≡ count_from k xs ++ count_from (k + length xs) ys
 count-append k [] ys = ap (λ n. count_from n ys) (omega arith)

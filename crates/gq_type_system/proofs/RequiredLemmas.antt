@@ -13,10 +13,10 @@ use Rattle.gq_types.specs.Entries.{Text, EntryOf, numbered}
 use Rattle.gq_types.specs.Joined.{In, type_number, is_type_named, inputs_of, parts_in, inputs_in_body, body_in, joined, owner}
 use Rattle.gq_types.specs.Look.{joined_numbers}
 use Rattle.gq_types.specs.Names.{input_named}
-use Rattle.gq_types.proofs.Gathered.{found, mapped}
+use Rattle.gq_types.proofs.Gathered.{found, mapped, nothing_in as in_none, first as in_first, from_flat, to_flat, from_map, to_map, from_filter}
 use Rattle.gq_type_system.specs.EndlessInputs.{LeadsByNonNull}
-use Rattle.gq_type_system.specs.EndlessInputsPlaces.{required_name, one, required_number, required_named, inputs_at, type_name_in, type_name_at, required_at, required_of, required_rows, row_items, MarksNonNull}
-use Rattle.gq_type_system.proofs.Gathered.{in_none, in_only, in_first, from_flat, to_flat, from_map, to_map, from_filter}
+use Rattle.gq_type_system.specs.Helping.EndlessInputsPlaces.{required_name, one, required_number, required_named, inputs_at, type_name_in, type_name_at, required_at, required_of, required_rows, row_items, MarksNonNull}
+use Rattle.gq_type_system.proofs.Gathered.{in_only}
 use Rattle.gq_type_system.proofs.Ways.{Next, ways_lead_back, carried, carried_back}
 use Rattle.gq_type_system.proofs.EntryRows.{row_is, in_range, rows_are, length_numbered, stands}
 

@@ -1,25 +1,25 @@
 -- What the rules put is what is wrong.
 use Rattle.std.proofs.Common.{◌≡◌, List, ◌++◌, Contains, subst, sym, ap, ◌∙◌, ⊎_elim, inl, inr, ◌↔◌, ◌⊎◌}
 use Rattle.std.proofs.lemmas.List.Elements.{Contains-append_left, Contains-append_right, Contains-append_cases}
-use Rattle.gq_found.specs.declared.item.Item.{Item}
+use Rattle.gq_found.specs.declared.fault.Fault.{Fault}
 use Rattle.gq_types.specs.Entries.{EntryOf}
-use Rattle.gq_found.specs.Puts.{Puts}
-use Rattle.gq_type_system.specs.DefinedTwicePlaces.{all_defined_twice}
-use Rattle.gq_type_system.specs.BadExtensionPlaces.{bad_extensions}
-use Rattle.gq_type_system.specs.ReservedNamePlaces.{reserved_names}
-use Rattle.gq_type_system.specs.UnknownTypePlaces.{unknown_types}
-use Rattle.gq_type_system.specs.WrongKindPlaces.{wrong_kinds}
-use Rattle.gq_type_system.specs.RootTypesPlaces.{wrong_roots}
+use Rattle.gq_found.specs.Adds.{AddsExactly}
+use Rattle.gq_type_system.specs.Helping.DefinedTwicePlaces.{all_defined_twice}
+use Rattle.gq_type_system.specs.Helping.BadExtensionPlaces.{bad_extensions}
+use Rattle.gq_type_system.specs.Helping.ReservedNamePlaces.{reserved_names}
+use Rattle.gq_type_system.specs.Helping.UnknownTypePlaces.{unknown_types}
+use Rattle.gq_type_system.specs.Helping.WrongKindPlaces.{wrong_kinds}
+use Rattle.gq_type_system.specs.Helping.RootTypesPlaces.{wrong_roots}
 use Rattle.gq_type_system.specs.RootTypes.{IsRepeatedRoot, IsNoObject, IsSharedRoot}
-use Rattle.gq_type_system.specs.DirectivesAndDefaultsPlaces.{bad_directives_and_defaults}
-use Rattle.gq_type_system.specs.EmptyOrRepeatedPlaces.{empty_or_repeated}
+use Rattle.gq_type_system.specs.Helping.DirectivesAndDefaultsPlaces.{bad_directives_and_defaults}
+use Rattle.gq_type_system.specs.Helping.EmptyOrRepeatedPlaces.{empty_or_repeated}
 use Rattle.gq_type_system.specs.EmptyOrRepeated.{IsEmptyType, IsRepeatedPart, IsRepeatedArgument}
-use Rattle.gq_type_system.specs.ImplementationsPlaces.{bad_implementations}
-use Rattle.gq_type_system.specs.QueryRootPlaces.{no_query_root}
+use Rattle.gq_type_system.specs.Helping.ImplementationsPlaces.{bad_implementations}
+use Rattle.gq_type_system.specs.Helping.QueryRootPlaces.{no_query_root}
 use Rattle.gq_type_system.specs.EndlessInputs.{IsEndlessInput}
 use Rattle.gq_type_system.specs.SchemaFaults.{IsSchemaFault, defined_twice, bad_extension, reserved_name, unknown_type, wrong_kind, repeated_root, no_object, shared_root, empty_type, repeated_part, repeated_argument, bad_implementation, endless_input, bad_directive_or_default}
 use Rattle.gq_type_system.specs.SchemaFaults as fault
-use Rattle.gq_type_system.specs.SchemaFaultsPlaces.{name_faults, part_faults}
+use Rattle.gq_type_system.specs.Helping.SchemaFaultsPlaces.{name_faults, part_faults}
 use Rattle.gq_type_system.proofs.DefinedTwiceLemmas.{all_defined_twice_are}
 use Rattle.gq_type_system.proofs.BadExtensionLemmas.{bad_extensions_are}
 use Rattle.gq_type_system.proofs.ReservedNameLemmas.{reserved_names_are}
@@ -31,7 +31,7 @@ use Rattle.gq_type_system.proofs.EmptyOrRepeatedLemmas.{empty_or_repeated_are}
 use Rattle.gq_type_system.proofs.ImplementationLemmas.{bad_implementations_are}
 use Rattle.gq_type_system.proofs.QueryRootLemmas.{no_query_root_is}
 
-module _ (es : List EntryOf) (item : Item) where
+module _ (es : List EntryOf) (item : Fault) where
   root_fault : IsRepeatedRoot es item ⊎ (IsNoObject es item ⊎ IsSharedRoot es item) → IsSchemaFault es item
   root_fault w = ⊎_elim repeated_root (λ v. ⊎_elim no_object shared_root v) w
 
@@ -93,7 +93,7 @@ module _ (es : List EntryOf) (item : Item) where
   in_parts_bad_directives_and_defaults : Contains (bad_directives_and_defaults es) item → Contains (part_faults es) item
   in_parts_bad_directives_and_defaults c = (Contains-append_right (wrong_roots es) (empty_or_repeated es ++ (bad_implementations es ++ (no_query_root es ++ bad_directives_and_defaults es))) item (Contains-append_right (empty_or_repeated es) (bad_implementations es ++ (no_query_root es ++ bad_directives_and_defaults es)) item (Contains-append_right (bad_implementations es) (no_query_root es ++ bad_directives_and_defaults es) item (Contains-append_right (no_query_root es) (bad_directives_and_defaults es) item c))))
 
-  module _ (added : List Item) (exactly : Contains added item ↔ IsEndlessInput es item) where
+  module _ (added : List Fault) (exactly : Contains added item ↔ IsEndlessInput es item) where
     of_names : Contains (name_faults es) item → Contains ((name_faults es ++ part_faults es) ++ added) item
     of_names c = Contains-append_left (name_faults es ++ part_faults es) added item (Contains-append_left (name_faults es) (part_faults es) item c)
 
@@ -124,8 +124,8 @@ module _ (es : List EntryOf) (item : Item) where
     to_all (fault.no_query_root w) = of_parts (in_parts_no_query_root ((no_query_root_is es item).1 w))
 
 -- what was put behind the lists is exactly what is wrong
-pub faults_are : (es : List EntryOf) (old new : List Item) → old ≡ name_faults es ++ part_faults es → Puts (IsEndlessInput es) old new →
-    (item : Item) → Contains new item ↔ IsSchemaFault es item
+pub faults_are : (es : List EntryOf) (old new : List Fault) → old ≡ name_faults es ++ part_faults es → AddsExactly (IsEndlessInput es) old new →
+    (item : Fault) → Contains new item ↔ IsSchemaFault es item
 faults_are es old new lists puts item =
     let whole : new ≡ (name_faults es ++ part_faults es) ++ puts.added = puts.is ∙ ap (λ xs. xs ++ puts.added) lists in
     subst (λ xs. Contains xs item ↔ IsSchemaFault es item) (sym whole) (from_all es item puts.added (puts.exactly item), to_all es item puts.added (puts.exactly item))

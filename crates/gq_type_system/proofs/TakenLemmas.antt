@@ -17,7 +17,7 @@ use Rattle.gq_types.specs.Entries.{Text, EntryOf}
 use Rattle.gq_types.specs.Joined.{In}
 use Rattle.gq_types.specs.Roots.{default_root}
 use Rattle.gq_type_system.specs.RootTypes.{HasRoot, has_default, has_entry, IsFirstRoot, IsRoot, is_default, is_entry}
-use Rattle.gq_type_system.specs.RootTypesPlaces.{TakenOf, has_kind, has_text, taken_default, defaults, taken_after}
+use Rattle.gq_type_system.specs.Helping.RootTypesPlaces.{TakenOf, has_kind, has_text, taken_default, defaults, taken_after}
 use Rattle.gq_type_system.proofs.OperationLemmas.{same_operation, operation_same}
 
 any_from : {X : Type 0} (p : X → Bool) (xs : List X) → list_any p xs ≡ true → (x : X) × Contains xs x × (p x ≡ true)

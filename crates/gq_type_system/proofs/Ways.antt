@@ -1,16 +1,15 @@
 -- Ways of one step or more, carried from one naming of what they lead over to another.
 use Rattle.std.proofs.Common.{◌≡◌, ℕ, List, Contains, subst, ◌↔◌}
-use Rattle.gq_reach.specs.Reach.{Reach, LeadsBack, start}
-use Rattle.gq_reach.specs.Reach.{step as reach_step}
+use Rattle.gq_reach.specs.Reach.{Reach, LeadsBack, start, step as reach_step}
 use Rattle.gq_type_system.specs.EndlessInputs.{Way, step, further}
 
-module _ {V : Type 0} (Leads : V → V → Type 0) where
-  one_more : {x y z : V} → Way Leads x y → Leads y z → Way Leads x z
+module _ {V : Type 0} (Graph : V → V → Type 0) where
+  one_more : {x y z : V} → Way Graph x y → Graph y z → Way Graph x z
   one_more (step first) last = further first (step last)
   one_more (further first rest) last = further first (one_more rest last)
 
   -- the step that a way begins with
-  pub first_step : {x y : V} → Way Leads x y → (z : V) × Leads x z
+  pub first_step : {x y : V} → Way Graph x y → (z : V) × Graph x z
   first_step {x} {y} (step first) = (y, first)
   first_step (further {y = z} first rest) = (z, first)
 

@@ -2,15 +2,15 @@
 use Rattle.std.specs.Prelude.{◌≡◌, ◌≢◌, true, List, Option, Some, Contains}
 use Rattle.gq_text.specs.declared.place.Span.{Span}
 use Rattle.gq_found.specs.declared.code.Code.TheVariants.{BadExtension}
-use Rattle.gq_found.specs.declared.item.Item.{Item}
+use Rattle.gq_found.specs.declared.fault.Fault.{Fault}
 use Rattle.gq_tree.specs.Plain.{NameOf, DirectiveOf, BodyOf, type_definition}
 use Rattle.gq_types.specs.Entries.{EntryOf, Numbered}
 use Rattle.gq_types.specs.Kinds.{kind_of}
 use Rattle.gq_types.specs.Joined.{kind_named, judged}
-use Rattle.gq_type_system.specs.Items.{item_at}
+use Rattle.gq_found.specs.FaultPlaces.{fault_at}
 
 -- an extension of a type, where no type of its kind has that name
-pub record IsBadExtension (es : List EntryOf) (item : Item) : Type 0 where
+pub record IsBadExtension (es : List EntryOf) (fault : Fault) : Type 0 where
   pub entry : Numbered
   pub is_judged : Contains (judged es) entry
   pub description : Option (NameOf Span)
@@ -20,4 +20,4 @@ pub record IsBadExtension (es : List EntryOf) (item : Item) : Type 0 where
   pub place : Span
   pub extends : entry.entry.definition ≡ type_definition true description name directives body place
   pub is_not_of_that_kind : kind_named es name.text ≢ Some (kind_of body)
-  pub is : item ≡ item_at entry.entry.file BadExtension name
+  pub is : fault ≡ fault_at entry.entry.file BadExtension name

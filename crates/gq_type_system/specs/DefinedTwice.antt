@@ -2,11 +2,11 @@
 use Rattle.std.specs.Prelude.{◌≡◌, ◌+◌, ◌<◌, List, true, false, Option, Some, None, Contains, min}
 use Rattle.gq_text.specs.declared.place.Span.{Span}
 use Rattle.gq_found.specs.declared.code.Code.TheVariants.{DefinedTwice}
-use Rattle.gq_found.specs.declared.item.Item.{Item}
+use Rattle.gq_found.specs.declared.fault.Fault.{Fault}
 use Rattle.gq_tree.specs.Plain.{TypeSystemOf, schema, type_definition, directive_definition}
 use Rattle.gq_types.specs.Entries.{Text, EntryOf, Numbered, numbered}
 use Rattle.gq_types.specs.Joined.{judged}
-use Rattle.gq_type_system.specs.Items.{item_in}
+use Rattle.gq_found.specs.FaultPlaces.{fault_over}
 
 pub data Defined : Type 0 where
   a_type : Text → Defined
@@ -30,7 +30,7 @@ definition_place (type_definition extends description name directives body place
 definition_place (directive_definition description name arguments repeatable locations place) = name.place
 
 -- a definition of what an earlier entry defines
-pub record IsDefinedTwice (es : List EntryOf) (item : Item) : Type 0 where
+pub record IsDefinedTwice (es : List EntryOf) (fault : Fault) : Type 0 where
   pub entry : Numbered
   pub is_judged : Contains (judged es) entry
   pub what : Defined
@@ -39,4 +39,4 @@ pub record IsDefinedTwice (es : List EntryOf) (item : Item) : Type 0 where
   pub stands : Contains (numbered es) earlier
   pub is_earlier : earlier.number < entry.number
   pub defines_the_same : defined_by earlier.entry.definition ≡ Some what
-  pub is : item ≡ item_in entry.entry.file DefinedTwice (definition_place entry.entry.definition)
+  pub is : fault ≡ fault_over entry.entry.file DefinedTwice (definition_place entry.entry.definition)

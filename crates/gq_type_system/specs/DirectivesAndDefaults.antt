@@ -5,7 +5,7 @@ use Rattle.std.specs.Prelude.{◌≡◌, List, [], ◌∷◌, ◌++◌, Option, 
 use Rattle.std.specs.Option.{option_map_or}
 use Rattle.gq_text.specs.declared.place.Span.{Span}
 use Rattle.gq_found.specs.declared.code.Code.TheVariants.{BadDirectiveOrDefault}
-use Rattle.gq_found.specs.declared.item.Item.{Item}
+use Rattle.gq_found.specs.declared.fault.Fault.{Fault}
 use Rattle.gq_tree.specs.declared.type_system.DirectiveLocation.{DirectiveLocation}
 use Rattle.gq_tree.specs.declared.type_system.DirectiveLocation.TheVariants as location
 use Rattle.gq_tree.specs.Plain.{Val, DirectiveOf, InputOf, FieldDefinitionOf, EnumValueOf, BodyOf, scalar_type, object_type, interface_type, union_type, enum_type, input_type, TypeSystemOf, schema, type_definition, directive_definition}
@@ -71,23 +71,23 @@ all_inputs (type_definition extends description name directives body place) = fl
 all_inputs (directive_definition description name arguments repeatable locations place) = arguments
 
 -- what is wrong is told where it is, under one code
-abbrev pub told : Item → Item
+abbrev pub told : Fault → Fault
 told item = record { file = item.file; start = item.start; code = BadDirectiveOrDefault; end = item.end }
 
-pub data IsBadDirectiveOrDefault (es : List EntryOf) (item : Item) : Type 0 where
+pub data IsBadDirectiveOrDefault (es : List EntryOf) (item : Fault) : Type 0 where
   -- of the directives at a place in a definition or extension
-  in_site : {n : Numbered} {site : Site} {fault : Item} →
+  in_site : {n : Numbered} {site : Site} {fault : Fault} →
       Contains (judged es) n → Contains (sites_in n.entry.definition) site →
       IsDirectiveFault es n.entry.file site.location [] site.directives fault →
       item ≡ told fault → IsBadDirectiveOrDefault es item
   -- Of the directives on a definition or extension itself. A type and its extensions count together, in order: the
   -- directives on those that stand before it stand before its own. So for the schema.
-  in_entry : (before : List Numbered) (n : Numbered) (after : List Numbered) {site : Site} {fault : Item} →
+  in_entry : (before : List Numbered) (n : Numbered) (after : List Numbered) {site : Site} {fault : Fault} →
       Contains (judged es) n → joined es (owner es n) ≡ before ++ n ∷ after → own_site n.entry.definition ≡ Some site →
       IsDirectiveFault es n.entry.file site.location (flat_map (λ m. own_names m.entry) before) site.directives fault →
       item ≡ told fault → IsBadDirectiveOrDefault es item
   -- of the default value of an argument or of an input field
-  in_default : {n : Numbered} {input : InputOf Span} {default : Val Span} {fault : Item} →
+  in_default : {n : Numbered} {input : InputOf Span} {default : Val Span} {fault : Fault} →
       Contains (judged es) n → Contains (all_inputs n.entry.definition) input → input.default ≡ Some default →
       IsLiteralFault es n.entry.file (default_at es input.type_ref) default fault →
       item ≡ told fault → IsBadDirectiveOrDefault es item

@@ -4,19 +4,19 @@ use Rattle.std.specs.Option.{option_map_or}
 use Rattle.std.specs.Str.{bytes_eq}
 use Rattle.gq_text.specs.declared.place.Span.{Span}
 use Rattle.gq_found.specs.declared.code.Code.TheVariants.{EndlessInput}
-use Rattle.gq_found.specs.declared.item.Item.{Item}
+use Rattle.gq_found.specs.declared.fault.Fault.{Fault}
 use Rattle.gq_tree.specs.Forest.{none, more}
 use Rattle.gq_tree.specs.Plain.{NameOf, Val, Vals, TypeOf, named, non_null, InputOf, BodyOf, scalar_type, object_type, interface_type, union_type, enum_type, input_type, TypeSystemOf, schema, type_definition, directive_definition}
 use Rattle.gq_types.specs.Entries.{Text, EntryOf, Numbered}
 use Rattle.gq_types.specs.Joined.{type_number, judged}
 use Rattle.gq_types.specs.Names.{input_named}
 use Rattle.gq_values.specs.Literals.{at_type, is_object_literal, Holds, input_object_at}
-use Rattle.gq_type_system.specs.Items.{item_at}
+use Rattle.gq_found.specs.FaultPlaces.{fault_at}
 
 -- a way of one step or more
-pub data Way {V : Type 0} (Leads : V → V → Type 0) : V → V → Type 0 where
-  step : {x y : V} → Leads x y → Way Leads x y
-  further : {x y z : V} → Leads x y → Way Leads y z → Way Leads x z
+pub data Way {V : Type 0} (Graph : V → V → Type 0) : V → V → Type 0 where
+  step : {x y : V} → Graph x y → Way Graph x y
+  further : {x y z : V} → Graph x y → Way Graph y z → Way Graph x z
 
 -- A type leads to another by an input field that it has itself or by an extension, the type of which is the other type
 -- without null, and no list. Only input objects have input fields.
@@ -77,11 +77,11 @@ input_object_in (type_definition false description name directives body place) =
 input_object_in (directive_definition description name arguments repeatable locations place) = None
 
 -- The definition of an input object that is endless, where it is the one that its name means.
-pub record IsEndlessInput (es : List EntryOf) (item : Item) : Type 0 where
+pub record IsEndlessInput (es : List EntryOf) (fault : Fault) : Type 0 where
   pub entry : Numbered
   pub is_judged : Contains (judged es) entry
   pub name : NameOf Span
   pub defines : input_object_in entry.entry.definition ≡ Some name
   pub is_meant : type_number es name.text ≡ Some entry.number
   pub is_endless : IsEndless es name.text
-  pub is : item ≡ item_at entry.entry.file EndlessInput name
+  pub is : fault ≡ fault_at entry.entry.file EndlessInput name

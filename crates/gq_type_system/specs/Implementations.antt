@@ -2,11 +2,11 @@
 use Rattle.std.specs.Prelude.{◌≡◌, ◌≢◌, ◌⊎◌, ℕ, true, false, List, Option, Some, None, Contains}
 use Rattle.gq_text.specs.declared.place.Span.{Span}
 use Rattle.gq_found.specs.declared.code.Code.TheVariants.{BadImplementation}
-use Rattle.gq_found.specs.declared.item.Item.{Item}
+use Rattle.gq_found.specs.declared.fault.Fault.{Fault}
 use Rattle.gq_tree.specs.Plain.{NameOf, DirectiveOf, InputOf, FieldDefinitionOf, BodyOf, type_definition, place_type, no_place}
 use Rattle.gq_types.specs.declared.entry.TypeKind.TheVariants as kind
 use Rattle.gq_types.specs.Entries.{Text, EntryOf, Numbered}
-use Rattle.gq_type_system.specs.Items.{item_at}
+use Rattle.gq_found.specs.FaultPlaces.{fault_at}
 use Rattle.gq_types.specs.Joined.{kind_named, judged}
 use Rattle.gq_types.specs.Kinds.{kind_of}
 use Rattle.gq_types.specs.LookUps.{field_in, declares_in}
@@ -48,7 +48,7 @@ pub data BreaksImplementation (es : List EntryOf) (number : ℕ) (name : Text) :
 
 -- an object type or interface that does not implement an interface as it must; a second definition of a name is judged
 -- with its own parts
-pub record IsBadImplementation (es : List EntryOf) (item : Item) : Type 0 where
+pub record IsBadImplementation (es : List EntryOf) (fault : Fault) : Type 0 where
   pub at : Numbered
   pub is_judged : Contains (judged es) at
   pub description : Option (NameOf Span)
@@ -59,4 +59,4 @@ pub record IsBadImplementation (es : List EntryOf) (item : Item) : Type 0 where
   pub defines : at.entry.definition ≡ type_definition false description name directives body place
   pub implements : (kind_of body ≡ kind.Object) ⊎ (kind_of body ≡ kind.Interface)
   pub breaks : BreaksImplementation es at.number name.text
-  pub is : item ≡ item_at at.entry.file BadImplementation name
+  pub is : fault ≡ fault_at at.entry.file BadImplementation name

@@ -2,7 +2,7 @@
 use Rattle.std.specs.Prelude.{◌≡◌, ◌≢◌, List, None, Contains}
 use Rattle.gq_text.specs.declared.place.Span.{Span}
 use Rattle.gq_found.specs.declared.code.Code.TheVariants.{NoQueryRoot}
-use Rattle.gq_found.specs.declared.item.Item.{Item}
+use Rattle.gq_found.specs.declared.fault.Fault.{Fault}
 use Rattle.gq_tree.specs.declared.tree.OperationKind.TheVariants.{Query}
 use Rattle.gq_tree.specs.Plain.{RootOf}
 use Rattle.gq_types.specs.Entries.{EntryOf}
@@ -10,11 +10,11 @@ use Rattle.gq_types.specs.Joined.{In, schema_number}
 use Rattle.gq_types.specs.Roots.{roots_of, default_root}
 
 -- it is told at the beginning of the first document
-abbrev pub no_query_root_item : Item
-no_query_root_item = record { file = 0; start = 0; code = NoQueryRoot; end = 0 }
+abbrev pub no_query_root_fault : Fault
+no_query_root_fault = record { file = 0; start = 0; code = NoQueryRoot; end = 0 }
 
 -- neither a default root nor an entry of the schema or of its extensions is for queries
-pub record HasNoQueryRoot (es : List EntryOf) (item : Item) : Type 0 where
+pub record HasNoQueryRoot (es : List EntryOf) (fault : Fault) : Type 0 where
   pub no_default : default_root es Query ≡ None
   pub no_entry : (root : In (RootOf Span)) → Contains (roots_of es (schema_number es)) root → root.it.kind ≢ Query
-  pub is : item ≡ no_query_root_item
+  pub is : fault ≡ no_query_root_fault

@@ -2,19 +2,19 @@
 use Rattle.std.specs.Prelude.{◌≡◌, List, ◌++◌, Contains, codes}
 use Rattle.gq_text.specs.declared.place.Span.{Span}
 use Rattle.gq_found.specs.declared.code.Code.TheVariants.{ReservedName}
-use Rattle.gq_found.specs.declared.item.Item.{Item}
+use Rattle.gq_found.specs.declared.fault.Fault.{Fault}
 use Rattle.gq_tree.specs.Plain.{NameOf}
 use Rattle.gq_types.specs.Entries.{Text, EntryOf, Numbered}
 use Rattle.gq_types.specs.Joined.{judged}
-use Rattle.gq_type_system.specs.Items.{item_at}
+use Rattle.gq_found.specs.FaultPlaces.{fault_at}
 use Rattle.gq_type_system.specs.Uses.{defined_names}
 
 -- a name that is defined and begins so
-pub record IsReservedName (es : List EntryOf) (item : Item) : Type 0 where
+pub record IsReservedName (es : List EntryOf) (fault : Fault) : Type 0 where
   pub entry : Numbered
   pub is_judged : Contains (judged es) entry
   pub name : NameOf Span
   pub is_defined : Contains (defined_names entry.entry.definition) name
   pub rest : Text
   pub is_reserved : name.text ≡ codes "__" ++ rest
-  pub is : item ≡ item_at entry.entry.file ReservedName name
+  pub is : fault ≡ fault_at entry.entry.file ReservedName name

@@ -4,7 +4,7 @@
 use Rattle.std.specs.Prelude.{◌≡◌, ◌≢◌, ℕ, ◌<◌, ◌≤◌, List, Some, length}
 use Rattle.gq_text.specs.declared.place.Span.{Span}
 use Rattle.gq_found.specs.declared.code.Code.TheVariants.{EmptyOrRepeated, WrongKindOfType}
-use Rattle.gq_found.specs.declared.item.Item.{Item}
+use Rattle.gq_found.specs.declared.fault.Fault.{Fault}
 use Rattle.gq_names.specs.Repeats.{StandsAt}
 use Rattle.gq_tree.specs.declared.tree.OperationKind.{OperationKind}
 use Rattle.gq_tree.specs.Plain.{RootOf}
@@ -12,7 +12,7 @@ use Rattle.gq_types.specs.declared.entry.TypeKind.{TypeKind}
 use Rattle.gq_types.specs.declared.entry.TypeKind.TheVariants as kind
 use Rattle.gq_types.specs.Entries.{Text, EntryOf}
 use Rattle.gq_types.specs.Joined.{In, kind_named}
-use Rattle.gq_type_system.specs.Items.{item_at}
+use Rattle.gq_found.specs.FaultPlaces.{fault_at}
 use Rattle.gq_types.specs.Roots.{roots_of, default_root}
 
 -- a kind of operation has a root before a place: a default root, or an earlier entry
@@ -32,17 +32,17 @@ pub data IsRoot (es : List EntryOf) (roots : List (In (RootOf Span))) (place : �
 
 -- An entry whose kind of operation has a root before it. The number is that of an entry, or the number after the last,
 -- to which schema extensions belong where there is no schema definition.
-pub record IsRepeatedRoot (es : List EntryOf) (item : Item) : Type 0 where
+pub record IsRepeatedRoot (es : List EntryOf) (fault : Fault) : Type 0 where
   pub number : ℕ
   pub is_number : number ≤ length es
   pub place : ℕ
   pub root : In (RootOf Span)
   pub stands : StandsAt (roots_of es number) place root
   pub has_root : HasRoot es (roots_of es number) place root.it.kind
-  pub is : item ≡ item_at root.file EmptyOrRepeated root.it.name
+  pub is : fault ≡ fault_at root.file EmptyOrRepeated root.it.name
 
 -- an entry whose type is no object type
-pub record IsNoObject (es : List EntryOf) (item : Item) : Type 0 where
+pub record IsNoObject (es : List EntryOf) (fault : Fault) : Type 0 where
   pub number : ℕ
   pub is_number : number ≤ length es
   pub place : ℕ
@@ -51,10 +51,10 @@ pub record IsNoObject (es : List EntryOf) (item : Item) : Type 0 where
   pub of_kind : TypeKind
   pub is_known : kind_named es root.it.name.text ≡ Some of_kind
   pub is_no_object : of_kind ≢ kind.Object
-  pub is : item ≡ item_at root.file WrongKindOfType root.it.name
+  pub is : fault ≡ fault_at root.file WrongKindOfType root.it.name
 
 -- an entry whose type is a root before it
-pub record IsSharedRoot (es : List EntryOf) (item : Item) : Type 0 where
+pub record IsSharedRoot (es : List EntryOf) (fault : Fault) : Type 0 where
   pub number : ℕ
   pub is_number : number ≤ length es
   pub place : ℕ
@@ -63,4 +63,4 @@ pub record IsSharedRoot (es : List EntryOf) (item : Item) : Type 0 where
   pub of_kind : TypeKind
   pub is_known : kind_named es root.it.name.text ≡ Some of_kind
   pub is_shared : IsRoot es (roots_of es number) place root.it.name.text
-  pub is : item ≡ item_at root.file WrongKindOfType root.it.name
+  pub is : fault ≡ fault_at root.file WrongKindOfType root.it.name

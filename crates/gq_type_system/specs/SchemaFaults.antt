@@ -1,6 +1,6 @@
--- What is wrong with a type system: each item that a rule demands, one case a rule (section 3).
+-- What is wrong with a type system: each fault that a rule demands, one case a rule (section 3).
 use Rattle.std.specs.Prelude.{List}
-use Rattle.gq_found.specs.declared.item.Item.{Item}
+use Rattle.gq_found.specs.declared.fault.Fault.{Fault}
 use Rattle.gq_types.specs.Entries.{EntryOf}
 use Rattle.gq_type_system.specs.DefinedTwice.{IsDefinedTwice}
 use Rattle.gq_type_system.specs.BadExtension.{IsBadExtension}
@@ -14,19 +14,19 @@ use Rattle.gq_type_system.specs.Implementations.{IsBadImplementation}
 use Rattle.gq_type_system.specs.EndlessInputs.{IsEndlessInput}
 use Rattle.gq_type_system.specs.QueryRoot.{HasNoQueryRoot}
 
-pub data IsSchemaFault (es : List EntryOf) (item : Item) : Type 0 where
-  defined_twice : IsDefinedTwice es item → IsSchemaFault es item
-  bad_extension : IsBadExtension es item → IsSchemaFault es item
-  reserved_name : IsReservedName es item → IsSchemaFault es item
-  unknown_type : IsUnknownType es item → IsSchemaFault es item
-  wrong_kind : IsWrongKind es item → IsSchemaFault es item
-  repeated_root : IsRepeatedRoot es item → IsSchemaFault es item
-  no_object : IsNoObject es item → IsSchemaFault es item
-  shared_root : IsSharedRoot es item → IsSchemaFault es item
-  empty_type : IsEmptyType es item → IsSchemaFault es item
-  repeated_part : IsRepeatedPart es item → IsSchemaFault es item
-  repeated_argument : IsRepeatedArgument es item → IsSchemaFault es item
-  bad_implementation : IsBadImplementation es item → IsSchemaFault es item
-  endless_input : IsEndlessInput es item → IsSchemaFault es item
-  no_query_root : HasNoQueryRoot es item → IsSchemaFault es item
-  bad_directive_or_default : IsBadDirectiveOrDefault es item → IsSchemaFault es item
+pub data IsSchemaFault (es : List EntryOf) (fault : Fault) : Type 0 where
+  defined_twice : IsDefinedTwice es fault → IsSchemaFault es fault
+  bad_extension : IsBadExtension es fault → IsSchemaFault es fault
+  reserved_name : IsReservedName es fault → IsSchemaFault es fault
+  unknown_type : IsUnknownType es fault → IsSchemaFault es fault
+  wrong_kind : IsWrongKind es fault → IsSchemaFault es fault
+  repeated_root : IsRepeatedRoot es fault → IsSchemaFault es fault
+  no_object : IsNoObject es fault → IsSchemaFault es fault
+  shared_root : IsSharedRoot es fault → IsSchemaFault es fault
+  empty_type : IsEmptyType es fault → IsSchemaFault es fault
+  repeated_part : IsRepeatedPart es fault → IsSchemaFault es fault
+  repeated_argument : IsRepeatedArgument es fault → IsSchemaFault es fault
+  bad_implementation : IsBadImplementation es fault → IsSchemaFault es fault
+  endless_input : IsEndlessInput es fault → IsSchemaFault es fault
+  no_query_root : HasNoQueryRoot es fault → IsSchemaFault es fault
+  bad_directive_or_default : IsBadDirectiveOrDefault es fault → IsSchemaFault es fault

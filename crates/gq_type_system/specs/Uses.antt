@@ -1,7 +1,8 @@
 -- The names that a definition or extension defines, and the names of types that it uses (sections 3.3 to 3.13).
+use Rattle.gq_tree.specs.NamedTypes.{named_type}
 use Rattle.std.specs.Prelude.{true, false, List, [], ◌∷◌, ◌++◌, map, flat_map}
 use Rattle.gq_text.specs.declared.place.Span.{Span}
-use Rattle.gq_tree.specs.Plain.{NameOf, TypeOf, named, list_of, non_null, InputOf, FieldDefinitionOf, RootOf, BodyOf, TypeSystemOf, schema, type_definition, directive_definition}
+use Rattle.gq_tree.specs.Plain.{NameOf, InputOf, FieldDefinitionOf, RootOf, BodyOf, TypeSystemOf, schema, type_definition, directive_definition}
 use Rattle.gq_type_system.specs.declared.uses.Wants.{Wants}
 use Rattle.gq_type_system.specs.declared.uses.Wants.TheVariants.{OutputType, InputType, ObjectMember, InterfaceType, RootOperationType}
 use Rattle.gq_types.specs.Joined.{fields_in_body, interfaces_in_body, members_in_body, values_in_body, inputs_in_body}
@@ -22,11 +23,6 @@ defined_names (type_definition false description name directives body place) = n
 defined_names (directive_definition description name arguments repeatable locations place) = name ∷ map (λ a. a.name) arguments
 
 -- the name inside lists and types without null (section 3.4.1)
-abbrev pub named_type : TypeOf Span → NameOf Span
-named_type (named name) = name
-named_type (list_of item) = named_type item
-named_type (non_null inner) = named_type inner
-
 -- the name of a type that is used, and what has to stand there
 pub record UseOf : Type 0 where
   pub name : NameOf Span

@@ -3,7 +3,7 @@
 -- interface (sections 3.6 and 3.7).
 use Rattle.std.specs.Prelude.{◌≡◌, Bool, true, false, List, Some, Contains}
 use Rattle.gq_found.specs.declared.code.Code.TheVariants.{WrongKindOfType}
-use Rattle.gq_found.specs.declared.item.Item.{Item}
+use Rattle.gq_found.specs.declared.fault.Fault.{Fault}
 use Rattle.gq_types.specs.declared.entry.TypeKind.{TypeKind}
 use Rattle.gq_types.specs.declared.entry.TypeKind.TheVariants as kind
 use Rattle.gq_type_system.specs.declared.uses.Wants.{Wants}
@@ -11,7 +11,7 @@ use Rattle.gq_type_system.specs.declared.uses.Wants.TheVariants.{OutputType, Inp
 use Rattle.gq_types.specs.Entries.{EntryOf, Numbered}
 use Rattle.gq_types.specs.Kinds.{is_input, is_output, same_kind}
 use Rattle.gq_types.specs.Joined.{kind_named, judged}
-use Rattle.gq_type_system.specs.Items.{item_at}
+use Rattle.gq_found.specs.FaultPlaces.{fault_at}
 use Rattle.gq_type_system.specs.Uses.{UseOf, used_types}
 
 -- The types of root operations are judged by a rule of their own.
@@ -23,7 +23,7 @@ suits InterfaceType k = same_kind kind.Interface k
 suits RootOperationType k = true
 
 -- a name of a type of another kind
-pub record IsWrongKind (es : List EntryOf) (item : Item) : Type 0 where
+pub record IsWrongKind (es : List EntryOf) (fault : Fault) : Type 0 where
   pub entry : Numbered
   pub is_judged : Contains (judged es) entry
   pub one : UseOf
@@ -31,4 +31,4 @@ pub record IsWrongKind (es : List EntryOf) (item : Item) : Type 0 where
   pub of_kind : TypeKind
   pub is_known : kind_named es one.name.text ≡ Some of_kind
   pub is_wrong : suits one.wants of_kind ≡ false
-  pub is : item ≡ item_at entry.entry.file WrongKindOfType one.name
+  pub is : fault ≡ fault_at entry.entry.file WrongKindOfType one.name

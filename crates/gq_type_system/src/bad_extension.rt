@@ -1,24 +1,24 @@
 //! Type extensions: what is extended must be defined, and must be of the extension's kind.
 ghost use Rattle.std.specs.Prelude.{◌≡◌, ◌++◌, OnOk};
 ghost use Rattle.gq_tree.specs.Views.{type_system_view};
-ghost use Rattle.gq_type_system.specs.BadExtensionPlaces.{bad_extension, bad_extensions};
+ghost use Rattle.gq_type_system.specs.Helping.BadExtensionPlaces.{bad_extension, bad_extensions};
 ghost use Rattle.gq_types.specs.Look.{types_view};
 
 use crate::judged::is_judged;
-use gq_found::{Code, Item};
+use gq_found::{Code, Fault};
 use gq_text::NoMemory;
 use gq_tree::TypeSystemDefinition;
 use gq_types::{Entry, TypeKind, Types};
 
-/// The item of the entry, if it extends a type where no type of its kind has that name.
-fn put_bad_extension(types: &Types, entry: &Entry, items: &mut Vec<Item>) -> Result<(), NoMemory>
-    ensures { OnOk result (items.new.items ≡ items.old.items ++ bad_extension (types_view types.now) entry.now.file (type_system_view entry.now.definition)) }
+/// The fault of the entry, if it extends a type where no type of its kind has that name.
+fn add_bad_extension(types: &Types, entry: &Entry, faults: &mut Vec<Fault>) -> Result<(), NoMemory>
+    ensures { OnOk result (faults.new.items ≡ faults.old.items ++ bad_extension (types_view types.now) entry.now.file (type_system_view entry.now.definition)) }
 {
     let TypeSystemDefinition::Type(one) = &entry.definition else {
         return Ok(());
     };
     if one.extends && types.kind(one.name.text.as_str()) != Some(TypeKind::of(&one.body)) {
-        items.push(Item {
+        faults.push(Fault {
             file: entry.file,
             start: one.name.span.start,
             code: Code::BadExtension,
@@ -29,13 +29,13 @@ fn put_bad_extension(types: &Types, entry: &Entry, items: &mut Vec<Item>) -> Res
 }
 
 /// Each extension of a type where no type of its kind has that name (section 3.4.3).
-pub fn put_bad_extensions(types: &Types, items: &mut Vec<Item>) -> Result<(), NoMemory>
-    ensures { OnOk result (items.new.items ≡ items.old.items ++ bad_extensions (types_view types.now)) }
+pub fn add_bad_extensions(types: &Types, faults: &mut Vec<Fault>) -> Result<(), NoMemory>
+    ensures { OnOk result (faults.new.items ≡ faults.old.items ++ bad_extensions (types_view types.now)) }
 {
     let entries = types.entries();
     for number in 0..entries.len() {
         if is_judged(&entries[number].definition) {
-            put_bad_extension(types, &entries[number], items)?;
+            add_bad_extension(types, &entries[number], faults)?;
         }
     }
     Ok(())

@@ -2,8 +2,8 @@
 ghost use Rattle.std.specs.Prelude.{◌≡◌, ◌++◌, map, flat_map, IfOk, OnOk};
 ghost use Rattle.gq_tree.specs.Views.{type_view, value_view, values_view, entries_view};
 ghost use Rattle.gq_values.specs.Literals.{items_of_type};
-ghost use Rattle.gq_type_system.specs.DefaultValuesPlaces.{field_view, fields_view, type_in, type_at, field_type, keys_in, has_default, numbers_of, absent_number, absent_numbers, absent_in, below_of, gathered, gathered_of, field_leads, any_marked};
-ghost use Rattle.gq_type_system.specs.EndlessInputsPlaces.{MarksByDefault, row_items};
+ghost use Rattle.gq_type_system.specs.Helping.DefaultValuesPlaces.{field_view, fields_view, type_in, type_at, field_type, keys_in, has_default, numbers_of, absent_number, absent_numbers, absent_in, below_of, gathered, gathered_of, field_leads, any_marked};
+ghost use Rattle.gq_type_system.specs.Helping.EndlessInputsPlaces.{MarksByDefault, row_items};
 ghost use Rattle.gq_types.specs.Look.{types_view, text_of};
 
 use crate::input_fields::{Field, InputFields, input_fields};
@@ -13,7 +13,7 @@ use gq_reach::on_cycles;
 use gq_text::NoMemory;
 use gq_tree::{ObjectField, TypeRef, Value};
 use gq_types::Types;
-use gq_values::reading::input_object_at;
+use gq_values::expected_type::input_object_at;
 use std::alloc::Global;
 
 /// The type of the items of a list literal at that type.

@@ -2,12 +2,12 @@
 ghost use Rattle.std.specs.Prelude.{◌≡◌, ◌++◌, OnOk};
 ghost use Rattle.gq_tree.specs.Views.{type_system_view};
 ghost use Rattle.gq_type_system.specs.DefinedTwice.{definition_place};
-ghost use Rattle.gq_type_system.specs.DefinedTwicePlaces.{is_before, is_defined_before, defined_twice, all_defined_twice};
+ghost use Rattle.gq_type_system.specs.Helping.DefinedTwicePlaces.{is_before, is_defined_before, defined_twice, all_defined_twice};
 ghost use Rattle.gq_types.specs.Entries.{entry_view};
 ghost use Rattle.gq_types.specs.Look.{types_view};
 
 use crate::judged::is_judged;
-use gq_found::{Code, Item};
+use gq_found::{Code, Fault};
 use gq_text::{NoMemory, Span};
 use gq_tree::TypeSystemDefinition;
 use gq_types::{Entry, Types};
@@ -55,18 +55,18 @@ pub fn definition_place(definition: &TypeSystemDefinition) -> Span
     }
 }
 
-/// The item of the entry with that number, if an earlier entry defines the same.
-fn put_if_defined_twice(
+/// The fault of the entry with that number, if an earlier entry defines the same.
+fn add_if_defined_twice(
     types: &Types,
     number: usize,
     entry: &Entry,
-    items: &mut Vec<Item>,
+    faults: &mut Vec<Fault>,
 ) -> Result<(), NoMemory>
-    ensures { OnOk result (items.new.items ≡ items.old.items ++ defined_twice (types_view types.now) number (entry_view entry.now)) }
+    ensures { OnOk result (faults.new.items ≡ faults.old.items ++ defined_twice (types_view types.now) number (entry_view entry.now)) }
 {
     if is_defined_before(types, number, &entry.definition) {
         let place = definition_place(&entry.definition);
-        items.push(Item {
+        faults.push(Fault {
             file: entry.file,
             start: place.start,
             code: Code::DefinedTwice,
@@ -77,13 +77,13 @@ fn put_if_defined_twice(
 }
 
 /// Each definition of a type, a directive or a schema that an earlier entry defines (section 3.3).
-pub fn put_defined_twice(types: &Types, items: &mut Vec<Item>) -> Result<(), NoMemory>
-    ensures { OnOk result (items.new.items ≡ items.old.items ++ all_defined_twice (types_view types.now)) }
+pub fn add_defined_twice(types: &Types, faults: &mut Vec<Fault>) -> Result<(), NoMemory>
+    ensures { OnOk result (faults.new.items ≡ faults.old.items ++ all_defined_twice (types_view types.now)) }
 {
     let entries = types.entries();
     for number in 0..entries.len() {
         if is_judged(&entries[number].definition) {
-            put_if_defined_twice(types, number, &entries[number], items)?;
+            add_if_defined_twice(types, number, &entries[number], faults)?;
         }
     }
     Ok(())

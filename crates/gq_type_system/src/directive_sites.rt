@@ -3,7 +3,7 @@ ghost use Rattle.std.specs.Prelude.{◌≡◌, ◌++◌, OnOk, flat_map, map};
 ghost use Rattle.std.specs.Option.{option_map};
 ghost use Rattle.gq_tree.specs.Views.{input_view, field_definition_view, enum_value_view, body_view, type_system_view};
 ghost use Rattle.gq_type_system.specs.DirectivesAndDefaults.{argument_site, field_sites, value_site, input_field_site, sites_in_body, sites_in, type_location, own_site, all_inputs};
-ghost use Rattle.gq_type_system.specs.DirectivesAndDefaultsPlaces.{site_view, sites_view, inputs_view};
+ghost use Rattle.gq_type_system.specs.Helping.DirectivesAndDefaultsPlaces.{site_view, sites_view, inputs_view};
 
 use gq_text::NoMemory;
 use gq_tree::{

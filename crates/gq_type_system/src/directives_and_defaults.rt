@@ -3,33 +3,33 @@ ghost use Rattle.std.specs.Prelude.{◌≡◌, ◌++◌, OnOk, IfOk, map};
 ghost use Rattle.gq_tree.specs.Views.{directive_view, input_view, type_system_view};
 ghost use Rattle.gq_types.specs.Entries.{entry_view, entries_view};
 ghost use Rattle.gq_types.specs.Look.{types_view};
-ghost use Rattle.gq_values.specs.DirectivePlaces.{directive_texts};
-ghost use Rattle.gq_type_system.specs.Groups.{at_number};
+ghost use Rattle.gq_values.specs.Helping.DirectivePlaces.{directive_texts};
+ghost use Rattle.gq_type_system.specs.Helping.Groups.{at_number};
 ghost use Rattle.gq_type_system.specs.DirectivesAndDefaults.{sites_in, own_names, all_inputs, told};
-ghost use Rattle.gq_type_system.specs.DirectivesAndDefaultsPlaces.{site_view, sites_view, inputs_view, group_view, site_fault, site_faults, default_fault, default_faults, inner_faults, own_faults, group_faults, itself, group_of, group_faults_of, outer_faults, all_faults, bad_directives_and_defaults};
+ghost use Rattle.gq_type_system.specs.Helping.DirectivesAndDefaultsPlaces.{site_view, sites_view, inputs_view, group_view, site_fault, site_faults, default_fault, default_faults, inner_faults, own_faults, group_faults, itself, group_of, group_faults_of, outer_faults, all_faults, bad_directives_and_defaults};
 
 use crate::directive_sites::{DirectiveSite, own_site, put_inputs, put_sites};
 use crate::judged::is_judged;
-use gq_found::{Code, Item};
+use gq_found::{Code, Fault};
 use gq_names::NameList;
 use gq_text::NoMemory;
 use gq_tree::{Directive, InputValueDefinition};
 use gq_types::{Entry, Types};
-use gq_values::reading::default_at;
-use gq_values::{put_directive_faults, put_literal_faults};
+use gq_values::expected_type::default_at;
+use gq_values::{add_directive_faults, add_literal_faults};
 use std::alloc::Global;
 
-fn put_site_fault(
+fn add_site_fault(
     alloc: Global,
     types: &Types,
     file: usize,
     site: &DirectiveSite<'_>,
-    faults: &mut Vec<Item>,
+    faults: &mut Vec<Fault>,
 ) -> Result<(), NoMemory>
     ensures { OnOk result (faults.new.items ≡ faults.old.items ++ site_fault (types_view types.now) file (site_view site.now)) }
 {
     let mut before = NameList::new(alloc);
-    put_directive_faults(
+    add_directive_faults(
         alloc,
         types,
         file,
@@ -40,80 +40,80 @@ fn put_site_fault(
     )
 }
 
-fn put_site_faults(
+fn add_site_faults(
     alloc: Global,
     types: &Types,
     file: usize,
     sites: &[DirectiveSite<'_>],
-    faults: &mut Vec<Item>,
+    faults: &mut Vec<Fault>,
 ) -> Result<(), NoMemory>
     ensures { OnOk result (faults.new.items ≡ faults.old.items ++ site_faults (types_view types.now) file (sites_view sites.now)) }
 {
     for site in sites {
-        put_site_fault(alloc, types, file, site, faults)?;
+        add_site_fault(alloc, types, file, site, faults)?;
     }
     Ok(())
 }
 
 #[tactic(auto, using(gq_tree::proofs::Trees::gathers))]
-fn put_default_fault(
+fn add_default_fault(
     alloc: Global,
     types: &Types,
     file: usize,
     input: &InputValueDefinition,
-    faults: &mut Vec<Item>,
+    faults: &mut Vec<Fault>,
 ) -> Result<(), NoMemory>
     ensures { OnOk result (faults.new.items ≡ faults.old.items ++ default_fault (types_view types.now) file (input_view input.now)) }
 {
     match &input.default {
         Some(value) => {
             let reading = default_at(types, &input.type_ref);
-            put_literal_faults(alloc, types, file, reading, value, faults)
+            add_literal_faults(alloc, types, file, reading, value, faults)
         }
         None => Ok(()),
     }
 }
 
-fn put_default_faults(
+fn add_default_faults(
     alloc: Global,
     types: &Types,
     file: usize,
     inputs: &[&InputValueDefinition],
-    faults: &mut Vec<Item>,
+    faults: &mut Vec<Fault>,
 ) -> Result<(), NoMemory>
     ensures { OnOk result (faults.new.items ≡ faults.old.items ++ default_faults (types_view types.now) file (inputs_view inputs.now)) }
 {
     for input in inputs {
-        put_default_fault(alloc, types, file, input, faults)?;
+        add_default_fault(alloc, types, file, input, faults)?;
     }
     Ok(())
 }
 
 /// The faults of the directives in an entry, and of its default values.
 #[tactic(auto, using(gq_tree::proofs::Trees::gathers))]
-fn put_inner_faults_of(
+fn add_inner_faults_of(
     alloc: Global,
     types: &Types,
     entry: &Entry,
-    faults: &mut Vec<Item>,
+    faults: &mut Vec<Fault>,
 ) -> Result<(), NoMemory>
     ensures { OnOk result (faults.new.items ≡ faults.old.items ++ (site_faults (types_view types.now) entry.now.file (sites_in (type_system_view entry.now.definition)) ++ default_faults (types_view types.now) entry.now.file (all_inputs (type_system_view entry.now.definition)))) }
 {
     let mut sites = Vec::new(alloc);
     put_sites(&entry.definition, &mut sites)?;
-    put_site_faults(alloc, types, entry.file, &sites, faults)?;
+    add_site_faults(alloc, types, entry.file, &sites, faults)?;
     let mut inputs = Vec::new(alloc);
     put_inputs(&entry.definition, &mut inputs)?;
-    put_default_faults(alloc, types, entry.file, &inputs, faults)
+    add_default_faults(alloc, types, entry.file, &inputs, faults)
 }
 
-fn put_inner_faults(alloc: Global, types: &Types, faults: &mut Vec<Item>) -> Result<(), NoMemory>
+fn add_inner_faults(alloc: Global, types: &Types, faults: &mut Vec<Fault>) -> Result<(), NoMemory>
     ensures { OnOk result (faults.new.items ≡ faults.old.items ++ inner_faults (types_view types.now)) }
 {
     let entries = types.entries();
     for number in 0..entries.len() {
         if is_judged(&entries[number].definition) {
-            put_inner_faults_of(alloc, types, &entries[number], faults)?;
+            add_inner_faults_of(alloc, types, &entries[number], faults)?;
         }
     }
     Ok(())
@@ -131,12 +131,12 @@ fn put_names(directives: &[Directive], names: &mut NameList) -> Result<(), NoMem
 /// The faults of the directives on an entry itself, behind directives of the names `before`. Afterwards `before` has their
 /// names too.
 #[tactic(auto, using(gq_tree::proofs::Trees::gathers))]
-fn put_own_faults(
+fn add_own_faults(
     alloc: Global,
     types: &Types,
     before: &mut NameList,
     entry: &Entry,
-    faults: &mut Vec<Item>,
+    faults: &mut Vec<Fault>,
 ) -> Result<(), NoMemory>
     ensures found { OnOk result (faults.new.items ≡ faults.old.items ++ own_faults (types_view types.now) before.old (entry_view entry.now)) }
     ensures names { OnOk result (before.new ≡ before.old ++ own_names (entry_view entry.now)) }
@@ -147,7 +147,7 @@ fn put_own_faults(
     if !is_judged(&entry.definition) {
         return put_names(site.directives, before);
     }
-    put_directive_faults(
+    add_directive_faults(
         alloc,
         types,
         entry.file,
@@ -159,17 +159,17 @@ fn put_own_faults(
 }
 
 #[tactic(auto, using(gq_tree::proofs::Trees::gathers))]
-fn put_group_faults(
+fn add_group_faults(
     alloc: Global,
     types: &Types,
     before: &mut NameList,
     group: &[&Entry],
-    faults: &mut Vec<Item>,
+    faults: &mut Vec<Fault>,
 ) -> Result<(), NoMemory>
     ensures { OnOk result (faults.new.items ≡ faults.old.items ++ group_faults (types_view types.now) before.old (group_view group.now)) }
 {
     for entry in group {
-        put_own_faults(alloc, types, before, entry, faults)?;
+        add_own_faults(alloc, types, before, entry, faults)?;
     }
     Ok(())
 }
@@ -210,36 +210,36 @@ fn group_of<'a>(alloc: Global, types: &'a Types, number: usize) -> Result<Vec<&'
 }
 
 /// The faults of the directives on the entries themselves that belong to that number.
-fn put_group_faults_of(
+fn add_group_faults_of(
     alloc: Global,
     types: &Types,
     number: usize,
-    faults: &mut Vec<Item>,
+    faults: &mut Vec<Fault>,
 ) -> Result<(), NoMemory>
     ensures { OnOk result (faults.new.items ≡ faults.old.items ++ group_faults_of (types_view types.now) number) }
 {
     let group = group_of(alloc, types, number)?;
     let mut before = NameList::new(alloc);
-    put_group_faults(alloc, types, &mut before, &group, faults)
+    add_group_faults(alloc, types, &mut before, &group, faults)
 }
 
 #[tactic(auto, using(gq_tree::proofs::Trees::gathers))]
-fn put_outer_faults(alloc: Global, types: &Types, faults: &mut Vec<Item>) -> Result<(), NoMemory>
+fn add_outer_faults(alloc: Global, types: &Types, faults: &mut Vec<Fault>) -> Result<(), NoMemory>
     ensures { OnOk result (faults.new.items ≡ faults.old.items ++ outer_faults (types_view types.now)) }
 {
     let entries = types.entries();
     for number in 0..entries.len() {
-        put_group_faults_of(alloc, types, number, faults)?;
+        add_group_faults_of(alloc, types, number, faults)?;
     }
-    put_group_faults_of(alloc, types, entries.len(), faults)
+    add_group_faults_of(alloc, types, entries.len(), faults)
 }
 
-/// Puts these faults behind the items, each under the code of this rule.
-fn put_told(faults: &[Item], items: &mut Vec<Item>) -> Result<(), NoMemory>
+/// Adds these faults behind the others, each under the code of this rule.
+fn put_told(faults: &[Fault], items: &mut Vec<Fault>) -> Result<(), NoMemory>
     ensures { OnOk result (items.new.items ≡ items.old.items ++ map told faults.now) }
 {
     for fault in faults {
-        items.push(Item {
+        items.push(Fault {
             file: fault.file,
             start: fault.start,
             code: Code::BadDirectiveOrDefault,
@@ -252,15 +252,15 @@ fn put_told(faults: &[Item], items: &mut Vec<Item>) -> Result<(), NoMemory>
 /// Each fault of the directives in a type system and of the default values of arguments and input fields
 /// (sections 3.3 to 3.13, 5.4, 5.6 and 5.7).
 #[tactic(auto, using(gq_tree::proofs::Trees::gathers))]
-pub fn put_bad_directives_and_defaults(
+pub fn add_bad_directives_and_defaults(
     alloc: Global,
     types: &Types,
-    items: &mut Vec<Item>,
+    items: &mut Vec<Fault>,
 ) -> Result<(), NoMemory>
     ensures { OnOk result (items.new.items ≡ items.old.items ++ bad_directives_and_defaults (types_view types.now)) }
 {
     let mut faults = Vec::new(alloc);
-    put_inner_faults(alloc, types, &mut faults)?;
-    put_outer_faults(alloc, types, &mut faults)?;
+    add_inner_faults(alloc, types, &mut faults)?;
+    add_outer_faults(alloc, types, &mut faults)?;
     put_told(&faults, items)
 }

@@ -3,15 +3,15 @@
 ghost use Rattle.std.specs.Prelude.{◌≡◌, ◌++◌, OnOk};
 ghost use Rattle.gq_tree.specs.Views.{type_system_view};
 ghost use Rattle.gq_type_system.specs.EndlessInputs.{input_object_in, IsEndlessInput};
-ghost use Rattle.gq_found.specs.Puts.{Puts};
-ghost use Rattle.gq_type_system.specs.EndlessInputsPlaces.{name_at, endless_named, endless_input, endless_inputs};
+ghost use Rattle.gq_found.specs.Adds.{AddsExactly};
+ghost use Rattle.gq_type_system.specs.Helping.EndlessInputsPlaces.{name_at, endless_named, endless_input, endless_inputs};
 ghost use Rattle.gq_types.specs.Entries.{entry_view};
 ghost use Rattle.gq_types.specs.Look.{types_view};
 
 use crate::default_values::marked_by_default;
 use crate::marks::is_marked;
 use crate::required_inputs::marked_non_null;
-use gq_found::{Code, Item};
+use gq_found::{Code, Fault};
 use gq_text::NoMemory;
 use gq_tree::{Name, TypeBody, TypeSystemDefinition};
 use gq_types::{Entry, Types};
@@ -30,18 +30,18 @@ fn input_object_in(definition: &TypeSystemDefinition) -> Option<&Name>
     }
 }
 
-/// Puts the item of the entry of that number, if it defines an input object, and is what its name means.
-fn put_endless_input(
+/// Adds the fault of the entry of that number, if it defines an input object, and is what its name means.
+fn add_endless_input(
     types: &Types,
     entry: &Entry,
     number: usize,
-    items: &mut Vec<Item>,
+    faults: &mut Vec<Fault>,
 ) -> Result<(), NoMemory>
-    ensures { OnOk result (items.new.items ≡ items.old.items ++ endless_named (types_view types.now) entry.now.file number (input_object_in (type_system_view entry.now.definition))) }
+    ensures { OnOk result (faults.new.items ≡ faults.old.items ++ endless_named (types_view types.now) entry.now.file number (input_object_in (type_system_view entry.now.definition))) }
 {
     if let Some(name) = input_object_in(&entry.definition) {
         if types.type_number(name.text.as_str()) == Some(number) {
-            items.push(Item {
+            faults.push(Fault {
                 file: entry.file,
                 start: name.span.start,
                 code: Code::EndlessInput,
@@ -52,55 +52,55 @@ fn put_endless_input(
     Ok(())
 }
 
-/// Puts the item of the entry of that number, if it is marked.
-fn put_if_marked(
+/// Adds the fault of the entry of that number, if it is marked.
+fn add_if_marked(
     types: &Types,
     by_non_null: &[bool],
     by_default: &[bool],
     entry: &Entry,
     number: usize,
-    items: &mut Vec<Item>,
+    faults: &mut Vec<Fault>,
 ) -> Result<(), NoMemory>
-    ensures { OnOk result (items.new.items ≡ items.old.items ++ endless_input (types_view types.now) by_non_null.now by_default.now (record { number = number; entry = entry_view entry.now })) }
+    ensures { OnOk result (faults.new.items ≡ faults.old.items ++ endless_input (types_view types.now) by_non_null.now by_default.now (record { number = number; entry = entry_view entry.now })) }
 {
     if is_marked(by_non_null, number) || is_marked(by_default, number) {
-        put_endless_input(types, entry, number, items)?;
+        add_endless_input(types, entry, number, faults)?;
     }
     Ok(())
 }
 
-/// Puts an item for each input object that is marked.
-fn put_marked(
+/// Adds a fault for each input object that is marked.
+fn add_marked(
     types: &Types,
     by_non_null: &[bool],
     by_default: &[bool],
-    items: &mut Vec<Item>,
+    faults: &mut Vec<Fault>,
 ) -> Result<(), NoMemory>
-    ensures { OnOk result (items.new.items ≡ items.old.items ++ endless_inputs (types_view types.now) by_non_null.now by_default.now) }
+    ensures { OnOk result (faults.new.items ≡ faults.old.items ++ endless_inputs (types_view types.now) by_non_null.now by_default.now) }
 {
     let entries = types.entries();
     for number in 0..entries.len() {
-        put_if_marked(
+        add_if_marked(
             types,
             by_non_null,
             by_default,
             &entries[number],
             number,
-            items,
+            faults,
         )?;
     }
     Ok(())
 }
 
-/// Puts an item at the name of each input object that leads back to itself (section 3.10, Circular References).
-pub fn put_endless_inputs(
+/// Adds a fault at the name of each input object that leads back to itself (section 3.10, Circular References).
+pub fn add_endless_inputs(
     alloc: Global,
     types: &Types,
-    items: &mut Vec<Item>,
+    faults: &mut Vec<Fault>,
 ) -> Result<(), NoMemory>
-    ensures { OnOk result (Puts (IsEndlessInput (types_view types.now)) items.old.items items.new.items) }
+    ensures { OnOk result (AddsExactly (IsEndlessInput (types_view types.now)) faults.old.items faults.new.items) }
 {
     let by_non_null = marked_non_null(alloc, types)?;
     let by_default = marked_by_default(alloc, types)?;
-    put_marked(types, &by_non_null, &by_default, items)
+    add_marked(types, &by_non_null, &by_default, faults)
 }

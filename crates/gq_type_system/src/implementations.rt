@@ -4,35 +4,35 @@ ghost use Rattle.std.specs.List.{list_any};
 ghost use Rattle.std.specs.Option.{option_map};
 ghost use Rattle.gq_tree.specs.Same.{same_types};
 ghost use Rattle.gq_tree.specs.Views.{name_of, type_view, input_view, field_definition_view, type_system_view};
-ghost use Rattle.gq_type_system.specs.ImplementationsPlaces.{breaks_argument_named, breaks_arguments, requires_named, requires_further, breaks_own_field, breaks_field_named, breaks_fields, lacks_further, lacks_interfaces, breaks_interface, breaks_implementation, told_of, bad_implementation, bad_implementations};
+ghost use Rattle.gq_type_system.specs.Helping.ImplementationsPlaces.{breaks_argument_named, breaks_arguments, requires_named, requires_further, breaks_own_field, breaks_field_named, breaks_fields, lacks_further, lacks_interfaces, breaks_interface, breaks_implementation, told_of, bad_implementation, bad_implementations};
 ghost use Rattle.gq_types.specs.Look.{types_view};
 ghost use Rattle.gq_types.specs.Names.{field_named};
 ghost use Rattle.gq_types.specs.SubtypesTests.{covers, may_be_subtype_name};
 
-use gq_found::{Code, Item};
+use gq_found::{Code, Fault};
 use gq_text::NoMemory;
 use gq_tree::{FieldDefinition, Name, TypeBody, TypeRef, TypeSystemDefinition};
 use gq_types::{Arguments, DefinedField, Entry, TypeKind, Types, is_required};
 
 /// Each object type and interface that does not implement an interface as it must. The work for a type is the sum over
 /// its interfaces of their fields and interfaces.
-pub fn put_bad_implementations(types: &Types, items: &mut Vec<Item>) -> Result<(), NoMemory>
-    ensures { OnOk result (items.new.items ≡ items.old.items ++ bad_implementations (types_view types.now)) }
+pub fn add_bad_implementations(types: &Types, faults: &mut Vec<Fault>) -> Result<(), NoMemory>
+    ensures { OnOk result (faults.new.items ≡ faults.old.items ++ bad_implementations (types_view types.now)) }
 {
     let entries = types.entries();
     for number in 0..entries.len() {
-        put_bad_implementation(types, number, &entries[number], items)?;
+        add_bad_implementation(types, number, &entries[number], faults)?;
     }
     Ok(())
 }
 
-fn put_bad_implementation(
+fn add_bad_implementation(
     types: &Types,
     number: usize,
     entry: &Entry,
-    items: &mut Vec<Item>,
+    faults: &mut Vec<Fault>,
 ) -> Result<(), NoMemory>
-    ensures { OnOk result (items.new.items ≡ items.old.items ++ bad_implementation (types_view types.now) number entry.now.file (type_system_view entry.now.definition)) }
+    ensures { OnOk result (faults.new.items ≡ faults.old.items ++ bad_implementation (types_view types.now) number entry.now.file (type_system_view entry.now.definition)) }
 {
     let TypeSystemDefinition::Type(one) = &entry.definition else {
         return Ok(());
@@ -42,7 +42,7 @@ fn put_bad_implementation(
     }
     match one.body {
         TypeBody::Object(_) | TypeBody::Interface(_) => {
-            put_if_broken(types, number, entry.file, &one.name, items)
+            add_if_broken(types, number, entry.file, &one.name, faults)
         }
         TypeBody::Scalar | TypeBody::Union(_) | TypeBody::Enum(_) | TypeBody::InputObject(_) => {
             Ok(())
@@ -50,17 +50,17 @@ fn put_bad_implementation(
     }
 }
 
-fn put_if_broken(
+fn add_if_broken(
     types: &Types,
     number: usize,
     file: usize,
     name: &Name,
-    items: &mut Vec<Item>,
+    faults: &mut Vec<Fault>,
 ) -> Result<(), NoMemory>
-    ensures { OnOk result (items.new.items ≡ items.old.items ++ told_of (types_view types.now) number file (name_of name.now)) }
+    ensures { OnOk result (faults.new.items ≡ faults.old.items ++ told_of (types_view types.now) number file (name_of name.now)) }
 {
     if breaks_implementation(types, number, name.text.as_str()) {
-        items.push(Item {
+        faults.push(Fault {
             file,
             start: name.span.start,
             code: Code::BadImplementation,

@@ -1,8 +1,8 @@
 //! The input fields of a type system, numbered.
 ghost use Rattle.std.specs.Prelude.{◌≡◌, ◌++◌, ◌∷◌, [], map, length, IfOk, OnOk};
 ghost use Rattle.gq_tree.specs.Views.{input_view};
-ghost use Rattle.gq_type_system.specs.DefaultValuesPlaces.{fields_view, named_field, named_fields, fields_at, count_from, all_fields, field_numbers};
-ghost use Rattle.gq_type_system.specs.EndlessInputsPlaces.{inputs_at, type_name_at, row_items};
+ghost use Rattle.gq_type_system.specs.Helping.DefaultValuesPlaces.{fields_view, named_field, named_fields, fields_at, count_from, all_fields, field_numbers};
+ghost use Rattle.gq_type_system.specs.Helping.EndlessInputsPlaces.{inputs_at, type_name_at, row_items};
 ghost use Rattle.gq_types.specs.Look.{types_view};
 
 use gq_text::NoMemory;

@@ -2,7 +2,7 @@
 ghost use Rattle.std.specs.Prelude.{◌≡◌, ◌++◌, OnOk, IfOk, map};
 ghost use Rattle.gq_tree.specs.Views.{name_of, input_view, field_definition_view, enum_value_view, body_view};
 ghost use Rattle.gq_types.specs.Entries.{entry_view, entries_view};
-ghost use Rattle.gq_type_system.specs.Groups.{at_number, part_names_in, names_in};
+ghost use Rattle.gq_type_system.specs.Helping.Groups.{at_number, part_names_in, names_in};
 ghost use Rattle.gq_types.specs.Joined.{fields_in_body, interfaces_in_body, members_in_body, values_in_body, inputs_in_body, put_in};
 ghost use Rattle.gq_types.specs.Look.{types_view};
 ghost use Rattle.gq_type_system.specs.Parts.{part_names, names_of_part, required_part};

@@ -1,12 +1,12 @@
 //! The root type for queries.
 ghost use Rattle.std.specs.Prelude.{◌≡◌, ◌++◌, OnOk};
 ghost use Rattle.std.specs.List.{list_any};
-ghost use Rattle.gq_type_system.specs.Groups.{roots_in_view};
+ghost use Rattle.gq_type_system.specs.Helping.Groups.{roots_in_view};
 ghost use Rattle.gq_types.specs.Look.{types_view};
-ghost use Rattle.gq_type_system.specs.QueryRootPlaces.{is_for_queries, no_query_root};
+ghost use Rattle.gq_type_system.specs.Helping.QueryRootPlaces.{is_for_queries, no_query_root};
 
 use crate::root_entries::{RootIn, roots_of};
-use gq_found::{Code, Item};
+use gq_found::{Code, Fault};
 use gq_text::NoMemory;
 use gq_tree::OperationKind;
 use gq_types::Types;
@@ -25,19 +25,19 @@ fn has_query(roots: &[RootIn<'_>]) -> bool
 }
 
 /// Tells, at the beginning of the first document, that the schema has no root type for queries (section 3.3.1).
-pub fn put_no_query_root(
+pub fn add_no_query_root(
     alloc: Global,
     types: &Types,
-    items: &mut Vec<Item>,
+    faults: &mut Vec<Fault>,
 ) -> Result<(), NoMemory>
-    ensures { OnOk result (items.new.items ≡ items.old.items ++ no_query_root (types_view types.now)) }
+    ensures { OnOk result (faults.new.items ≡ faults.old.items ++ no_query_root (types_view types.now)) }
 {
     let None = types.default_root(OperationKind::Query) else {
         return Ok(());
     };
     let roots = roots_of(alloc, types, types.schema_number())?;
     if !has_query(&roots) {
-        items.push(Item {
+        faults.push(Fault {
             file: 0,
             start: 0,
             code: Code::NoQueryRoot,

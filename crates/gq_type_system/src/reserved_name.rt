@@ -4,13 +4,13 @@ ghost use Rattle.std.specs.List.{starts_with};
 ghost use Rattle.gq_tree.specs.Views.{name_of, type_system_view};
 ghost use Rattle.gq_types.specs.Entries.{entry_view};
 ghost use Rattle.gq_types.specs.Look.{types_view};
-ghost use Rattle.gq_type_system.specs.ReservedNamePlaces.{reserved_name, reserved_names_in, reserved_names};
+ghost use Rattle.gq_type_system.specs.Helping.ReservedNamePlaces.{reserved_name, reserved_names_in, reserved_names};
 ghost use Rattle.gq_type_system.specs.Uses.{defined_names};
 ghost use Rattle.gq_type_system.specs.UsesViews.{names_view};
 
 use crate::judged::is_judged;
 use crate::uses::put_defined_names;
-use gq_found::{Code, Item};
+use gq_found::{Code, Fault};
 use gq_text::NoMemory;
 use gq_tree::Name;
 use gq_types::{Entry, Types};
@@ -23,12 +23,12 @@ fn is_reserved(text: &str) -> bool
     text.starts_with("__")
 }
 
-/// The item of a name that is defined in that document, if it is reserved.
-fn put_reserved_name(file: usize, name: &Name, items: &mut Vec<Item>) -> Result<(), NoMemory>
-    ensures { OnOk result (items.new.items ≡ items.old.items ++ reserved_name file (name_of name.now)) }
+/// The fault of a name that is defined in that document, if it is reserved.
+fn add_reserved_name(file: usize, name: &Name, faults: &mut Vec<Fault>) -> Result<(), NoMemory>
+    ensures { OnOk result (faults.new.items ≡ faults.old.items ++ reserved_name file (name_of name.now)) }
 {
     if is_reserved(name.text.as_str()) {
-        items.push(Item {
+        faults.push(Fault {
             file,
             start: name.span.start,
             code: Code::ReservedName,
@@ -38,45 +38,45 @@ fn put_reserved_name(file: usize, name: &Name, items: &mut Vec<Item>) -> Result<
     Ok(())
 }
 
-/// The items of those names that are reserved.
-fn put_reserved_names_in(
+/// The faults of those names that are reserved.
+fn add_reserved_names_in(
     file: usize,
     names: &[&Name],
-    items: &mut Vec<Item>,
+    faults: &mut Vec<Fault>,
 ) -> Result<(), NoMemory>
-    ensures { OnOk result (items.new.items ≡ items.old.items ++ reserved_names_in file (names_view names.now)) }
+    ensures { OnOk result (faults.new.items ≡ faults.old.items ++ reserved_names_in file (names_view names.now)) }
 {
     for name in names {
-        put_reserved_name(file, name, items)?;
+        add_reserved_name(file, name, faults)?;
     }
     Ok(())
 }
 
-/// The items of the names that an entry defines and that are reserved.
-fn put_reserved_names_of(
+/// The faults of the names that an entry defines and that are reserved.
+fn add_reserved_names_of(
     alloc: Global,
     entry: &Entry,
-    items: &mut Vec<Item>,
+    faults: &mut Vec<Fault>,
 ) -> Result<(), NoMemory>
-    ensures { OnOk result (items.new.items ≡ items.old.items ++ reserved_names_in entry.now.file (defined_names (type_system_view entry.now.definition))) }
+    ensures { OnOk result (faults.new.items ≡ faults.old.items ++ reserved_names_in entry.now.file (defined_names (type_system_view entry.now.definition))) }
 {
     let mut names = Vec::new(alloc);
     put_defined_names(&entry.definition, &mut names)?;
-    put_reserved_names_in(entry.file, &names, items)
+    add_reserved_names_in(entry.file, &names, faults)
 }
 
 /// Each name that is defined and begins with two underscores (section 3.3, "Reserved names").
-pub fn put_reserved_names(
+pub fn add_reserved_names(
     alloc: Global,
     types: &Types,
-    items: &mut Vec<Item>,
+    faults: &mut Vec<Fault>,
 ) -> Result<(), NoMemory>
-    ensures { OnOk result (items.new.items ≡ items.old.items ++ reserved_names (types_view types.now)) }
+    ensures { OnOk result (faults.new.items ≡ faults.old.items ++ reserved_names (types_view types.now)) }
 {
     let entries = types.entries();
     for number in 0..entries.len() {
         if is_judged(&entries[number].definition) {
-            put_reserved_names_of(alloc, &entries[number], items)?;
+            add_reserved_names_of(alloc, &entries[number], faults)?;
         }
     }
     Ok(())

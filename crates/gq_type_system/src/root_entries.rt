@@ -2,7 +2,7 @@
 ghost use Rattle.std.specs.Prelude.{◌≡◌, ◌++◌, OnOk, IfOk, map};
 ghost use Rattle.gq_tree.specs.Views.{root_view};
 ghost use Rattle.gq_types.specs.Entries.{entry_view, entries_view};
-ghost use Rattle.gq_type_system.specs.Groups.{at_number, roots_in_entry, roots_in_view};
+ghost use Rattle.gq_type_system.specs.Helping.Groups.{at_number, roots_in_entry, roots_in_view};
 ghost use Rattle.gq_types.specs.Joined.{put_in};
 ghost use Rattle.gq_types.specs.Look.{types_view};
 ghost use Rattle.gq_types.specs.Roots.{roots_of};

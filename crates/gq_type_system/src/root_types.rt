@@ -1,13 +1,13 @@
 //! Root operation types: each kind of operation has at most one, it is an object type, and all are different types.
 ghost use Rattle.std.specs.Prelude.{◌≡◌, ◌++◌, OnOk, IfOk};
-ghost use Rattle.gq_type_system.specs.Groups.{root_in, roots_in_view};
+ghost use Rattle.gq_type_system.specs.Helping.Groups.{root_in, roots_in_view};
 ghost use Rattle.gq_types.specs.Joined.{kind_named};
 ghost use Rattle.gq_types.specs.Look.{types_view};
 ghost use Rattle.gq_types.specs.Roots.{default_root};
-ghost use Rattle.gq_type_system.specs.RootTypesPlaces.{taken_view, has_kind, has_text, taken_default, defaults, is_wrong_kind, root_code, root_told, roots_told, taken_after, wrong_roots_of, wrong_roots};
+ghost use Rattle.gq_type_system.specs.Helping.RootTypesPlaces.{taken_view, has_kind, has_text, taken_default, defaults, is_wrong_kind, root_code, root_told, roots_told, taken_after, wrong_roots_of, wrong_roots};
 
 use crate::root_entries::{RootIn, roots_of};
-use gq_found::{Code, Item};
+use gq_found::{Code, Fault};
 use gq_text::NoMemory;
 use gq_tree::OperationKind;
 use gq_types::{TypeKind, Types};
@@ -95,18 +95,18 @@ fn root_code(types: &Types, taken: &[Taken<'_>], root: &RootIn<'_>) -> Option<Co
     }
 }
 
-/// The item of an entry behind roots that are taken, if something is wrong with it.
-fn put_wrong_root(
+/// The fault of an entry behind roots that are taken, if something is wrong with it.
+fn add_wrong_root(
     types: &Types,
     taken: &[Taken<'_>],
     root: &RootIn<'_>,
-    items: &mut Vec<Item>,
+    faults: &mut Vec<Fault>,
 ) -> Result<(), NoMemory>
-    ensures { OnOk result (items.new.items ≡ items.old.items ++ root_told (types_view types.now) (taken_view taken.now) (root_in root.now)) }
+    ensures { OnOk result (faults.new.items ≡ faults.old.items ++ root_told (types_view types.now) (taken_view taken.now) (root_in root.now)) }
 {
     match root_code(types, taken, root) {
         Some(code) => {
-            items.push(Item {
+            faults.push(Fault {
                 file: root.file,
                 start: root.root.name.span.start,
                 code,
@@ -132,46 +132,50 @@ fn take<'a>(root: &RootIn<'a>, taken: &mut Vec<Taken<'a>>) -> Result<(), NoMemor
     Ok(())
 }
 
-/// The items of some entries behind roots that are taken.
+/// The faults of some entries behind roots that are taken.
 #[tactic(auto, using(gq_tree::proofs::Trees::gathers))]
-fn put_wrong_roots_in<'a>(
+fn add_wrong_roots_in<'a>(
     types: &Types,
     roots: &[RootIn<'a>],
     taken: &mut Vec<Taken<'a>>,
-    items: &mut Vec<Item>,
+    faults: &mut Vec<Fault>,
 ) -> Result<(), NoMemory>
-    ensures { OnOk result (items.new.items ≡ items.old.items ++ roots_told (types_view types.now) (taken_view taken.old.items) (roots_in_view roots.now)) }
+    ensures { OnOk result (faults.new.items ≡ faults.old.items ++ roots_told (types_view types.now) (taken_view taken.old.items) (roots_in_view roots.now)) }
 {
     for root in roots {
-        put_wrong_root(types, taken, root, items)?;
+        add_wrong_root(types, taken, root, faults)?;
         take(root, taken)?;
     }
     Ok(())
 }
 
-/// The items of the entries of a schema with its extensions.
-fn put_wrong_roots_of(
+/// The faults of the entries of a schema with its extensions.
+fn add_wrong_roots_of(
     alloc: Global,
     types: &Types,
     number: usize,
-    items: &mut Vec<Item>,
+    faults: &mut Vec<Fault>,
 ) -> Result<(), NoMemory>
-    ensures { OnOk result (items.new.items ≡ items.old.items ++ wrong_roots_of (types_view types.now) number) }
+    ensures { OnOk result (faults.new.items ≡ faults.old.items ++ wrong_roots_of (types_view types.now) number) }
 {
     let roots = roots_of(alloc, types, number)?;
     let mut taken = defaults(alloc, types)?;
-    put_wrong_roots_in(types, &roots, &mut taken, items)
+    add_wrong_roots_in(types, &roots, &mut taken, faults)
 }
 
 /// Each type of a root operation whose kind has a root already, and each that is no object type or is a root already
 /// (section 3.3.1).
 #[tactic(auto, using(gq_tree::proofs::Trees::gathers))]
-pub fn put_wrong_roots(alloc: Global, types: &Types, items: &mut Vec<Item>) -> Result<(), NoMemory>
-    ensures { OnOk result (items.new.items ≡ items.old.items ++ wrong_roots (types_view types.now)) }
+pub fn add_wrong_roots(
+    alloc: Global,
+    types: &Types,
+    faults: &mut Vec<Fault>,
+) -> Result<(), NoMemory>
+    ensures { OnOk result (faults.new.items ≡ faults.old.items ++ wrong_roots (types_view types.now)) }
 {
     let entries = types.entries();
     for number in 0..entries.len() {
-        put_wrong_roots_of(alloc, types, number, items)?;
+        add_wrong_roots_of(alloc, types, number, faults)?;
     }
-    put_wrong_roots_of(alloc, types, entries.len(), items)
+    add_wrong_roots_of(alloc, types, entries.len(), faults)
 }

@@ -1,14 +1,15 @@
 //! The names that a definition or extension defines, and the names of types that it uses.
 ghost use Rattle.std.specs.Prelude.{◌≡◌, ◌++◌, OnOk, flat_map, map};
-ghost use Rattle.gq_tree.specs.Views.{name_of, input_view, field_definition_view, enum_value_view, root_view, type_view, body_view, type_system_view};
-ghost use Rattle.gq_type_system.specs.Uses.{field_names, names_in_body, defined_names, named_type, input_use, field_uses, uses_in_body, used_types, named_uses, root_use};
+ghost use Rattle.gq_tree.specs.Views.{name_of, input_view, field_definition_view, enum_value_view, root_view, body_view, type_system_view};
+ghost use Rattle.gq_type_system.specs.Uses.{field_names, names_in_body, defined_names, input_use, field_uses, uses_in_body, used_types, named_uses, root_use};
+ghost use Rattle.gq_tree.specs.NamedTypes.{named_type};
 ghost use Rattle.gq_type_system.specs.declared.uses.Wants.TheVariants.{InterfaceType};
 ghost use Rattle.gq_type_system.specs.UsesViews.{names_view, use_view, uses_view};
 
 use gq_text::NoMemory;
 use gq_tree::{
     EnumValueDefinition, FieldDefinition, FieldsAndInterfaces, InputValueDefinition, Name,
-    RootOperationType, TypeBody, TypeRef, TypeSystemDefinition,
+    RootOperationType, TypeBody, TypeRef, TypeSystemDefinition, named_type,
 };
 
 /// What has to stand where a type is named.
@@ -104,18 +105,6 @@ pub fn put_defined_names<'a>(
             names.push(&one.name)?;
             put_input_names(&one.arguments, names)
         }
-    }
-}
-
-/// The name inside lists and types without null.
-#[tactic(auto, using(gq_tree::proofs::Trees::types))]
-pub fn named_type(type_ref: &TypeRef) -> &Name
-    ensures { name_of result.now ≡ named_type (type_view type_ref.now) }
-{
-    match type_ref {
-        TypeRef::Named(name) => name,
-        TypeRef::List(item) => named_type(item),
-        TypeRef::NonNull(inner) => named_type(inner),
     }
 }
 

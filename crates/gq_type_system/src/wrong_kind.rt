@@ -7,11 +7,11 @@ ghost use Rattle.gq_types.specs.Look.{types_view};
 ghost use Rattle.gq_type_system.specs.Uses.{used_types};
 ghost use Rattle.gq_type_system.specs.UsesViews.{use_view, uses_view};
 ghost use Rattle.gq_type_system.specs.WrongKind.{suits};
-ghost use Rattle.gq_type_system.specs.WrongKindPlaces.{wrong_kind, wrong_kinds_in, wrong_kinds};
+ghost use Rattle.gq_type_system.specs.Helping.WrongKindPlaces.{wrong_kind, wrong_kinds_in, wrong_kinds};
 
 use crate::judged::is_judged;
 use crate::uses::{Use, Wants, put_used_types};
-use gq_found::{Code, Item};
+use gq_found::{Code, Fault};
 use gq_text::NoMemory;
 use gq_types::{Entry, TypeKind, Types};
 use std::alloc::Global;
@@ -39,17 +39,17 @@ fn is_right(types: &Types, one: &Use<'_>) -> bool
     }
 }
 
-/// The item of the name of a type that is used in that document, if the type is of another kind than what is wanted.
-fn put_wrong_kind(
+/// The fault of the name of a type that is used in that document, if the type is of another kind than what is wanted.
+fn add_wrong_kind(
     types: &Types,
     file: usize,
     one: &Use<'_>,
-    items: &mut Vec<Item>,
+    faults: &mut Vec<Fault>,
 ) -> Result<(), NoMemory>
-    ensures { OnOk result (items.new.items ≡ items.old.items ++ wrong_kind (types_view types.now) file (use_view one.now)) }
+    ensures { OnOk result (faults.new.items ≡ faults.old.items ++ wrong_kind (types_view types.now) file (use_view one.now)) }
 {
     if !is_right(types, one) {
-        items.push(Item {
+        faults.push(Fault {
             file,
             start: one.name.span.start,
             code: Code::WrongKindOfType,
@@ -59,43 +59,47 @@ fn put_wrong_kind(
     Ok(())
 }
 
-/// The items of those uses whose types are of another kind.
-fn put_wrong_kinds_in(
+/// The faults of those uses whose types are of another kind.
+fn add_wrong_kinds_in(
     types: &Types,
     file: usize,
     uses: &[Use<'_>],
-    items: &mut Vec<Item>,
+    faults: &mut Vec<Fault>,
 ) -> Result<(), NoMemory>
-    ensures { OnOk result (items.new.items ≡ items.old.items ++ wrong_kinds_in (types_view types.now) file (uses_view uses.now)) }
+    ensures { OnOk result (faults.new.items ≡ faults.old.items ++ wrong_kinds_in (types_view types.now) file (uses_view uses.now)) }
 {
     for one in uses {
-        put_wrong_kind(types, file, one, items)?;
+        add_wrong_kind(types, file, one, faults)?;
     }
     Ok(())
 }
 
-/// The items of the types that an entry uses and that are of another kind.
-fn put_wrong_kinds_of(
+/// The faults of the types that an entry uses and that are of another kind.
+fn add_wrong_kinds_of(
     alloc: Global,
     types: &Types,
     entry: &Entry,
-    items: &mut Vec<Item>,
+    faults: &mut Vec<Fault>,
 ) -> Result<(), NoMemory>
-    ensures { OnOk result (items.new.items ≡ items.old.items ++ wrong_kinds_in (types_view types.now) entry.now.file (used_types (type_system_view entry.now.definition))) }
+    ensures { OnOk result (faults.new.items ≡ faults.old.items ++ wrong_kinds_in (types_view types.now) entry.now.file (used_types (type_system_view entry.now.definition))) }
 {
     let mut uses = Vec::new(alloc);
     put_used_types(&entry.definition, &mut uses)?;
-    put_wrong_kinds_in(types, entry.file, &uses, items)
+    add_wrong_kinds_in(types, entry.file, &uses, faults)
 }
 
 /// Each name of a type where a type of another kind has to stand (sections 3.4.2, 3.6, 3.7 and 3.8).
-pub fn put_wrong_kinds(alloc: Global, types: &Types, items: &mut Vec<Item>) -> Result<(), NoMemory>
-    ensures { OnOk result (items.new.items ≡ items.old.items ++ wrong_kinds (types_view types.now)) }
+pub fn add_wrong_kinds(
+    alloc: Global,
+    types: &Types,
+    faults: &mut Vec<Fault>,
+) -> Result<(), NoMemory>
+    ensures { OnOk result (faults.new.items ≡ faults.old.items ++ wrong_kinds (types_view types.now)) }
 {
     let entries = types.entries();
     for number in 0..entries.len() {
         if is_judged(&entries[number].definition) {
-            put_wrong_kinds_of(alloc, types, &entries[number], items)?;
+            add_wrong_kinds_of(alloc, types, &entries[number], faults)?;
         }
     }
     Ok(())

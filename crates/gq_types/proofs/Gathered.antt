@@ -129,3 +129,27 @@ mapped f (Some x) y h = (x, refl, cc)
 pub tested : {X : Type 0} (p : X → Bool) (o : Option X) → option_map_or p o false ≡ true → (x : X) × (o ≡ Some x) × (p x ≡ true)
 tested p None h = absurd (cc)
 tested p (Some x) h = (x, refl, h)
+
+-- what stands in a list that was mapped, with the equation the other way round
+pub from_map_as : {X A : Type 0} (f : X → A) (xs : List X) (y : A) → Contains (map f xs) y → (x : X) × Contains xs x × (y ≡ f x)
+from_map_as f xs y c = let r = from_map f xs y c in (r.0, r.1, sym r.2)
+
+pub to_map_as : {X A : Type 0} (f : X → A) (xs : List X) (x : X) (y : A) → Contains xs x → y ≡ f x → Contains (map f xs) y
+to_map_as f xs x y c e = subst (λ z. Contains (map f xs) z) (sym e) (to_map f xs x c)
+
+-- what is told where a test holds, and where it does not
+pub from_if : {X : Type 0} (b : Bool) (x z : X) → Contains (if b then x ∷ [] else []) z → (b ≡ true) × (z ≡ x)
+from_if true x z c = (refl, only x z c)
+from_if false x z c = nothing_in z c
+
+pub to_if : {X : Type 0} (b : Bool) (x z : X) → b ≡ true → z ≡ x → Contains (if b then x ∷ [] else []) z
+to_if true x z h e = first x z [] (sym e)
+to_if false x z h e = absurd (cc)
+
+pub from_not : {X : Type 0} (b : Bool) (x z : X) → Contains (if b then [] else x ∷ []) z → (b ≡ false) × (z ≡ x)
+from_not true x z c = nothing_in z c
+from_not false x z c = (refl, only x z c)
+
+pub to_not : {X : Type 0} (b : Bool) (x z : X) → b ≡ false → z ≡ x → Contains (if b then [] else x ∷ []) z
+to_not true x z h e = absurd (cc)
+to_not false x z h e = first x z [] (sym e)

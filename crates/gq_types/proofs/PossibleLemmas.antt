@@ -21,7 +21,7 @@ use Rattle.gq_types.specs.Joined.{In, is_type_named, kind_in, kind_named, type_n
 use Rattle.gq_types.specs.Look.{joined_numbers}
 use Rattle.gq_types.specs.LookUps.{has_kind, declares_in, object_name, is_first, is_implementer, implementers, parts_of_entry}
 use Rattle.gq_types.specs.Possible.{IsPossible, itself, member, declaring}
-use Rattle.gq_types.specs.PossiblePlaces.{object_at, name_in, objects_at, object_after, objects_after, name_texts, member_texts, object_itself, object_members, possible_of, possible_texts}
+use Rattle.gq_types.specs.Helping.PossiblePlaces.{object_at, name_in, objects_at, object_after, objects_after, name_texts, member_texts, object_itself, object_members, possible_of, possible_texts}
 use Rattle.gq_types.proofs.Gathered.{and_parts, and_both, not_true, not_false, nothing_in, first, later, cases_cons, only, from_flat, to_flat, from_map, to_map, from_filter, to_filter, from_any, to_any, found, tested}
 use Rattle.gq_types.proofs.KindLemmas.{has_kind_decides}
 use Rattle.gq_types.proofs.PartLemmas.{numbered_at, numbered_has, from_parts, to_parts}

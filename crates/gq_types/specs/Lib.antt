@@ -12,10 +12,10 @@ pub mod Declarers
 pub mod Laws
 pub mod LookUps
 pub mod Subtypes
-pub mod SubtypesTests
-pub mod PossiblePlaces
 pub mod Arguments
 pub mod Required
 pub mod RequiredNames
 pub mod Index
 pub mod Directives
+pub mod Helping
+pub mod SubtypesTests

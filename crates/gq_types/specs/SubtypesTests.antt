@@ -1,4 +1,4 @@
--- Tests of possible types and of subtypes, which the code computes; nothing here must be believed.
+-- Possible types (section 5.5.2.3) and subtypes (sections 3.6 to 3.8), as tests.
 use Rattle.std.specs.Prelude.{Bool, true, false, List, Option, Some, None, is_none, ◌||◌, ◌&&◌}
 use Rattle.std.specs.Str.{bytes_eq}
 use Rattle.gq_tree.specs.Plain.{TypeOf, named, list_of, non_null}

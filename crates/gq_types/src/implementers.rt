@@ -3,7 +3,7 @@ ghost use Rattle.std.specs.Prelude.{◌≡◌, false, IfOk, ◌&&◌};
 ghost use Rattle.std.specs.Option.{option_map_or};
 ghost use Rattle.gq_types.specs.Look.{types_view};
 ghost use Rattle.gq_types.specs.LookUps.{is_first, declares_in, implementers};
-ghost use Rattle.gq_types.specs.PossiblePlaces.{object_at};
+ghost use Rattle.gq_types.specs.Helping.PossiblePlaces.{object_at};
 
 use crate::possible::object_at;
 use crate::types::Types;

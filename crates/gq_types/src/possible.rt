@@ -6,7 +6,7 @@ ghost use Rattle.gq_types.specs.Entries.{Text};
 ghost use Rattle.gq_types.specs.Look.{types_view, text_of};
 ghost use Rattle.gq_types.specs.LookUps.{has_kind, object_name, texts_of};
 ghost use Rattle.gq_types.specs.Possible.{IsPossible};
-ghost use Rattle.gq_types.specs.PossiblePlaces.{object_at, name_in, objects_at, object_after, objects_after, name_texts, member_texts, object_itself, object_members, possible_texts};
+ghost use Rattle.gq_types.specs.Helping.PossiblePlaces.{object_at, name_in, objects_at, object_after, objects_after, name_texts, member_texts, object_itself, object_members, possible_texts};
 ghost use Rattle.gq_types.specs.SubtypesTests.{is_possible};
 
 use crate::entry::TypeKind;

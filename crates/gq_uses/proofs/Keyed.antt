@@ -5,7 +5,7 @@ use Rattle.gq_text.specs.declared.place.Span.{Span}
 use Rattle.gq_lex.specs.declared.token.Kind.{Kind}
 use Rattle.gq_tree.specs.Forest.{labels}
 use Rattle.gq_tree.specs.Plain.{NameOf, Val, DirectiveOf, VariableOf, Head, Sels, Def, field, spread, inline, operation, fragment, type_system}
-use Rattle.gq_parse.specs.Grammar.{Tokens, Closed, closed, another, Enclosed, absent, enclosed, IsArgument, an_argument, IsDirectives, no_directive, a_directive, IsVariableDefinition, a_variable_definition, IsSelection, a_field, a_spread, an_inline, IsOptionalSet, no_set, a_set, IsSelectionSet, braces, IsSelections, set_closed, selection, IsOperationDefinition, bare, typed, IsFragmentDefinition, fragment_on}
+use Rattle.gq_parse.specs.Grammar.{Tokens, ManyUntil, closed, another, OptionalMany, absent, enclosed, IsArgument, an_argument, IsDirectives, no_directive, a_directive, IsVariableDefinition, a_variable_definition, IsSelection, a_field, a_spread, an_inline, IsOptionalSet, no_set, a_set, IsSelectionSet, braces, IsSelections, set_closed, selection, IsOperationDefinition, bare, typed, IsFragmentDefinition, fragment_on}
 use Rattle.gq_parse.specs.Documents.{IsDefinition, an_operation, a_fragment, a_type_system_definition, IsDocument, at_end, definition}
 
 pub record HasKey (v : Val Span) : Type 0 where
@@ -34,11 +34,11 @@ KeyedDef (operation kind name variables directives set span place) = KeyedVariab
 KeyedDef (fragment name on directives set span place) = KeyedDirectives directives × KeyedSelections set
 KeyedDef (type_system one) = Unit {0}
 
-closed_all : {A : Type 0} {X : A → Tokens → Tokens → Type 0} (P : A → Type 0) {k : Kind} {xs : List A} {tokens rest : Tokens} → ((x : A) (t r : Tokens) → X x t r → P x) → Closed X k xs tokens rest → AllByRecursion P xs
+closed_all : {A : Type 0} {X : A → Tokens → Tokens → Type 0} (P : A → Type 0) {k : Kind} {xs : List A} {tokens rest : Tokens} → ((x : A) (t r : Tokens) → X x t r → P x) → ManyUntil X k xs tokens rest → AllByRecursion P xs
 closed_all P each (closed m) = tt
 closed_all P {tokens = tokens} each (another {x = x} a one others) = (each x tokens a one, closed_all P each others)
 
-enclosed_all : {A : Type 0} {X : A → Tokens → Tokens → Type 0} (P : A → Type 0) {k j : Kind} {xs : List A} {tokens rest : Tokens} → ((x : A) (t r : Tokens) → X x t r → P x) → Enclosed X k j xs tokens rest → AllByRecursion P xs
+enclosed_all : {A : Type 0} {X : A → Tokens → Tokens → Type 0} (P : A → Type 0) {k j : Kind} {xs : List A} {tokens rest : Tokens} → ((x : A) (t r : Tokens) → X x t r → P x) → OptionalMany X k j xs tokens rest → AllByRecursion P xs
 enclosed_all P each (absent free) = tt
 enclosed_all P each (enclosed a m c) = closed_all P each c
 

@@ -6,16 +6,16 @@ use Rattle.gq_text.specs.declared.place.Span.{Span}
 use Rattle.gq_tree.specs.Forest.{none, more, labels, labels_in}
 use Rattle.gq_tree.specs.Plain.{NameOf, Says, Part, Val, Vals, DirectiveOf, VariableOf, InputOf, Head, Sels, Def, variable, int, float, string, boolean, null, enum, list, object, field, spread, inline, operation, fragment, type_system}
 use Rattle.gq_project.specs.declared.document.Doc.{Doc}
-use Rattle.gq_read.specs.declared.reader.Reading.{Reading}
-use Rattle.gq_read.specs.declared.reader.Reading.TheVariants as reading
-use Rattle.gq_read.specs.Readings.{IsReading, AreReadings}
-use Rattle.gq_read.specs.Readings as readings
+use Rattle.gq_read.specs.declared.reader.Parsed.{Parsed}
+use Rattle.gq_read.specs.declared.reader.Parsed.TheVariants as reading
+use Rattle.gq_read.specs.Parsed.{IsParsed, AreParsed}
+use Rattle.gq_read.specs.Parsed as readings
 use Rattle.gq_types.specs.Entries.{Text, EntryOf}
 use Rattle.gq_types.specs.Arguments.{directive_arguments}
 use Rattle.gq_types.specs.Roots.{root_of}
 use Rattle.gq_types.proofs.Gathered.{nothing_in, first, later, only, cases_cons, from_flat, to_flat}
 use Rattle.gq_document.specs.Definitions.{OperationOf, FragmentOf, operation_in, fragment_in, definitions_read, in_document}
-use Rattle.gq_document.specs.Selections.{SelectedOf, parent_below, StandsAmong, IsOfOperation, IsOfFragment}
+use Rattle.gq_document.specs.Selections.{SelectedOf, parent_below, IsSelectionWithin, IsOfOperation, IsOfFragment}
 use Rattle.gq_document.specs.Selections as selections
 use Rattle.gq_index.specs.VariableNames.{says_variable, part_variable, value_variables, argument_variables, directive_variables, head_variables, selection_variables, used_variables}
 use Rattle.gq_index.specs.Occurrences.{DefinitionOf, executable_in}
@@ -130,7 +130,7 @@ module _ (es : List EntryOf) where
   record Stands (parent : Option Text) (ss : Sels Span) (h : Head Span) : Type 0 where
     inner : Option Text
     one : Rattle.gq_tree.specs.Plain.Sel Span
-    stands : StandsAmong es parent ss inner one
+    stands : IsSelectionWithin es parent ss inner one
     is : one.label ≡ h
 
   stands_among : (parent : Option Text) (ss : Sels Span) (h : Head Span) → Contains (labels ss) h → Stands parent ss h
@@ -145,7 +145,7 @@ module _ (es : List EntryOf) where
       (Contains-append_cases (labels below) (labels rest) h others))
       (cases_cons head h (labels below ++ labels rest) c)
 
-  from_among : {parent : Option Text} {ss : Sels Span} {inner : Option Text} {one : Rattle.gq_tree.specs.Plain.Sel Span} → StandsAmong es parent ss inner one → Contains (labels ss) one.label
+  from_among : {parent : Option Text} {ss : Sels Span} {inner : Option Text} {one : Rattle.gq_tree.specs.Plain.Sel Span} → IsSelectionWithin es parent ss inner one → Contains (labels ss) one.label
   from_among (selections.here {head = head} {below = below} {rest = rest}) = first head head (labels below ++ labels rest) refl
   from_among (selections.within {head = head} {below = below} {rest = rest} {selection = one} s) = later head one.label (labels below ++ labels rest) (Contains-append_left (labels below) (labels rest) one.label (from_among s))
   from_among (selections.after {head = head} {below = below} {rest = rest} {selection = one} s) = later head one.label (labels below ++ labels rest) (Contains-append_right (labels below) (labels rest) one.label (from_among s))
@@ -153,7 +153,7 @@ module _ (es : List EntryOf) where
   record Selected (parent : Option Text) (ss : Sels Span) (name : NameOf Span) : Type 0 where
     inner : Option Text
     one : Rattle.gq_tree.specs.Plain.Sel Span
-    stands : StandsAmong es parent ss inner one
+    stands : IsSelectionWithin es parent ss inner one
     place : PlaceOf
     used : StandsInSelection es inner one.label name place
 
@@ -164,7 +164,7 @@ module _ (es : List EntryOf) where
       let w = head_stands s.inner h.0 name (of_all KeyedHead (labels ss) h.0 keyed h.1) h.2 in
       record { inner = s.inner; one = s.one; stands = s.stands; place = w.0; used = subst (λ (x : Head Span). StandsInSelection es s.inner x name w.0) (sym s.is) w.1 }
 
-  from_selected : {parent : Option Text} {ss : Sels Span} {inner : Option Text} {one : Rattle.gq_tree.specs.Plain.Sel Span} {name : NameOf Span} {place : PlaceOf} → StandsAmong es parent ss inner one → StandsInSelection es inner one.label name place → Contains (selection_variables ss) name
+  from_selected : {parent : Option Text} {ss : Sels Span} {inner : Option Text} {one : Rattle.gq_tree.specs.Plain.Sel Span} {name : NameOf Span} {place : PlaceOf} → IsSelectionWithin es parent ss inner one → StandsInSelection es inner one.label name place → Contains (selection_variables ss) name
   from_selected {ss = ss} {inner = inner} {one = one} {name = name} {place = place} s used = to_flat head_variables (labels ss) one.label name (from_among s) (from_head inner one.label name place used)
 
   abbrev InVariable : VariableOf Span → List (NameOf Span)
@@ -256,12 +256,12 @@ tree_keyed : (file : ℕ) (tree : List (Def Span)) → AllByRecursion KeyedDef t
 tree_keyed file [] h = tt
 tree_keyed file (d ∷ ds) h = all_append (λ e. KeyedDef e.definition) (executable_in file d) (flat_map (executable_in file) ds) (keyed_one file d h.0) (tree_keyed file ds h.1)
 
-reading_keyed : (text : List ℕ) (r : Reading) → IsReading text r → AllByRecursion KeyedDef (definitions_read r)
+reading_keyed : (text : List ℕ) (r : Parsed) → IsParsed text r → AllByRecursion KeyedDef (definitions_read r)
 reading_keyed text (reading.Tree d) p = document_keyed p.derived
 reading_keyed text (reading.Syntax place) p = tt
 reading_keyed text (reading.Limit place) p = tt
 
-project_keyed : (file : ℕ) (documents : List Doc) (rs : List Reading) → AreReadings documents rs → AllByRecursion (λ e. KeyedDef e.definition) (flat_map (λ r. in_document executable_in r.0 r.1) (enumerate_from file rs))
+project_keyed : (file : ℕ) (documents : List Doc) (rs : List Parsed) → AreParsed documents rs → AllByRecursion (λ e. KeyedDef e.definition) (flat_map (λ r. in_document executable_in r.0 r.1) (enumerate_from file rs))
 project_keyed file documents [] p = tt
 project_keyed file [] (r ∷ rs) p = elim p [ ]
 project_keyed file (document ∷ documents) (r ∷ rs) (readings.more p ps) =

@@ -1,6 +1,5 @@
 pub mod DigitLemmas
 pub mod Steps
-pub mod FoundLemmas
 pub mod LiteralLemmas
 pub mod LiteralRules
 pub mod ArgumentRules

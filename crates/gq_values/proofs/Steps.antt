@@ -1,4 +1,4 @@
--- Steps of loops that put items, and calls that put them one after another.
+-- Steps of loops that put faults, and calls that put them one after another.
 use Rattle.std.proofs.Common.{◌≡◌, ℕ, suc, ◌+◌, ◌<◌, List, ◌++◌, length, get_or, drop, map, sym, ap, ◌∙◌, append_assoc, arith}
 use Rattle.std.proofs.Math.Seq.{drop-cons}
 use Rattle.std.specs.List.{flat_map}

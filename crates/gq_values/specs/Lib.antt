@@ -1,9 +1,6 @@
 pub mod Literals
-pub mod Items
-pub mod Readings
+pub mod ExpectedTypes
 pub mod LiteralFaults
-pub mod LiteralPlaces
 pub mod ArgumentFaults
-pub mod ArgumentPlaces
 pub mod DirectiveFaults
-pub mod DirectivePlaces
+pub mod Helping

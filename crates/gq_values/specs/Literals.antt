@@ -85,9 +85,9 @@ fits es (non_null inner) says = if is_null says then false else fits es inner sa
 
 -- What a literal is read at: a type, or any. It is read at any type where none is known, and inside the literal of a custom
 -- scalar or one that does not fit: then nothing that needs a type is asked of it.
-pub data Reading : Type 0 where
-  at_type : TypeOf Span → Reading
-  at_any : Reading
+pub data Expected : Type 0 where
+  at_type : TypeOf Span → Expected
+  at_any : Expected
 
 -- IsInputType (section 3.4.2); not of what is not known
 abbrev pub is_input_type : List EntryOf → TypeOf Span → Bool
@@ -96,16 +96,16 @@ is_input_type es (list_of item) = is_input_type es item
 is_input_type es (non_null inner) = is_input_type es inner
 
 -- a default value of that type
-abbrev pub default_at : List EntryOf → TypeOf Span → Reading
+abbrev pub default_at : List EntryOf → TypeOf Span → Expected
 default_at es t = if is_input_type es t then at_type t else at_any
 
 -- the items of a list literal
-abbrev pub items_of_type : TypeOf Span → Reading
+abbrev pub items_of_type : TypeOf Span → Expected
 items_of_type (named name) = at_any
 items_of_type (list_of item) = at_type item
 items_of_type (non_null inner) = items_of_type inner
 
-abbrev pub items_at : Reading → Reading
+abbrev pub items_at : Expected → Expected
 items_at (at_type t) = items_of_type t
 items_at at_any = at_any
 
@@ -120,33 +120,33 @@ input_object_at es (list_of item) = input_object_at es item
 input_object_at es (non_null inner) = input_object_at es inner
 
 -- the type of an input field; what is in an unknown one is read at any type
-abbrev pub at_input : Option (InputOf Span) → Reading
+abbrev pub at_input : Option (InputOf Span) → Expected
 at_input (Some i) = at_type i.type_ref
 at_input None = at_any
 
 -- the value of the field of that name in an object literal, by the input object at whose fields it is read
-abbrev pub at_field : List EntryOf → (type_name : Option Text) → Text → Reading
+abbrev pub at_field : List EntryOf → (type_name : Option Text) → Text → Expected
 at_field es (Some type_name) text = at_input (input_named es type_name text)
 at_field es None text = at_any
 
-abbrev pub field_at : List EntryOf → Reading → Text → Reading
+abbrev pub field_at : List EntryOf → Expected → Text → Expected
 field_at es (at_type t) text = at_field es (input_object_at es t) text
 field_at es at_any text = at_any
 
 -- what stands at a place in the braces or brackets of a literal
-abbrev pub part_at : {P : Type 0} → List EntryOf → Reading → Option (NameOf P) → Reading
+abbrev pub part_at : {P : Type 0} → List EntryOf → Expected → Option (NameOf P) → Expected
 part_at es reading None = items_at reading
 part_at es reading (Some key) = field_at es reading key.text
 
 -- A literal that stands in literals in a row, at any depth, and what it is read at, where those in the row are read as given.
-pub data StandsIn (es : List EntryOf) : (Option (NameOf Span) → Reading) → Vals Span → Reading → Val Span → Type 0 where
-  here : {read : Option (NameOf Span) → Reading} {part : Part Span} {below rest : Vals Span} →
+pub data StandsIn (es : List EntryOf) : (Option (NameOf Span) → Expected) → Vals Span → Expected → Val Span → Type 0 where
+  here : {read : Option (NameOf Span) → Expected} {part : Part Span} {below rest : Vals Span} →
       StandsIn es read (more part below rest) (read part.key) (record { label = part; below = below })
-  within : {read : Option (NameOf Span) → Reading} {part : Part Span} {below rest : Vals Span} {reading : Reading} {value : Val Span} →
+  within : {read : Option (NameOf Span) → Expected} {part : Part Span} {below rest : Vals Span} {reading : Expected} {value : Val Span} →
       StandsIn es (part_at es (read part.key)) below reading value → StandsIn es read (more part below rest) reading value
-  after : {read : Option (NameOf Span) → Reading} {part : Part Span} {below rest : Vals Span} {reading : Reading} {value : Val Span} →
+  after : {read : Option (NameOf Span) → Expected} {part : Part Span} {below rest : Vals Span} {reading : Expected} {value : Val Span} →
       StandsIn es read rest reading value → StandsIn es read (more part below rest) reading value
 
 -- a literal, or one that stands in it, and what it is read at
-abbrev pub Holds : List EntryOf → Reading → Val Span → Reading → Val Span → Type 0
+abbrev pub Holds : List EntryOf → Expected → Val Span → Expected → Val Span → Type 0
 Holds es reading value inner part = StandsIn es (λ key. reading) (more value.label value.below none) inner part

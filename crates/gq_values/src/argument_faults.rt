@@ -2,14 +2,13 @@
 ghost use Rattle.std.specs.Prelude.{◌≡◌, ◌++◌, OnOk, map, Some, None};
 ghost use Rattle.gq_tree.specs.Views.{name_of, input_view, argument_view};
 ghost use Rattle.gq_types.specs.Look.{types_view};
-ghost use Rattle.gq_values.specs.LiteralPlaces.{texts};
+ghost use Rattle.gq_values.specs.Helping.LiteralPlaces.{texts};
 ghost use Rattle.gq_values.specs.ArgumentFaults.{argument_names};
-ghost use Rattle.gq_values.specs.ArgumentPlaces.{definitions_view, repeated_arguments, unknown_arguments, missing_among, known_faults, value_faults_of, argument_value_faults, argument_faults};
+ghost use Rattle.gq_values.specs.Helping.ArgumentPlaces.{definitions_view, repeated_arguments, unknown_arguments, missing_among, known_faults, value_faults_of, argument_value_faults, argument_faults};
 
-use crate::items::{item_at, put};
-use crate::literal_faults::put_literal_faults;
-use crate::reading::Read;
-use gq_found::{Code, Item};
+use crate::expected_type::ExpectedType;
+use crate::literal_faults::add_literal_faults;
+use gq_found::{Code, Fault, add_fault, fault_at};
 use gq_names::NameList;
 use gq_text::NoMemory;
 use gq_tree::{Argument, Name};
@@ -17,20 +16,20 @@ use gq_types::{Arguments, Types};
 use std::alloc::Global;
 
 #[tactic(auto, using(gq_tree::proofs::Trees::gathers))]
-fn put_repeated_arguments(
+fn add_repeated_arguments(
     file: usize,
     arguments: &[Argument],
     names: &mut NameList,
-    items: &mut Vec<Item>,
+    faults: &mut Vec<Fault>,
 ) -> Result<(), NoMemory>
-    ensures found { OnOk result (items.new.items ≡ items.old.items ++ repeated_arguments file names.old (argument_names (map argument_view arguments.now))) }
+    ensures found { OnOk result (faults.new.items ≡ faults.old.items ++ repeated_arguments file names.old (argument_names (map argument_view arguments.now))) }
     ensures names { OnOk result (names.new ≡ names.old ++ texts (argument_names (map argument_view arguments.now))) }
 {
     for argument in arguments {
         if !names.push(argument.name.text.as_str())? {
-            put(
-                item_at(file, Code::ArgumentNotUnique, &argument.name),
-                items,
+            add_fault(
+                fault_at(file, Code::ArgumentNotUnique, &argument.name),
+                faults,
             )?;
         }
     }
@@ -38,74 +37,77 @@ fn put_repeated_arguments(
 }
 
 #[tactic(auto, using(gq_tree::proofs::Trees::gathers))]
-fn put_unknown_arguments(
+fn add_unknown_arguments(
     file: usize,
     known: Arguments<'_>,
     arguments: &[Argument],
-    items: &mut Vec<Item>,
+    faults: &mut Vec<Fault>,
 ) -> Result<(), NoMemory>
-    ensures { OnOk result (items.new.items ≡ items.old.items ++ unknown_arguments file (map input_view known.entry.all.now) (argument_names (map argument_view arguments.now))) }
+    ensures { OnOk result (faults.new.items ≡ faults.old.items ++ unknown_arguments file (map input_view known.entry.all.now) (argument_names (map argument_view arguments.now))) }
 {
     for argument in arguments {
         if known.named(argument.name.text.as_str()).is_none() {
-            put(item_at(file, Code::UnknownArgument, &argument.name), items)?;
+            add_fault(
+                fault_at(file, Code::UnknownArgument, &argument.name),
+                faults,
+            )?;
         }
     }
     Ok(())
 }
 
-/// Puts an item at the name of a field or directive, if an argument is missing.
-fn put_missing_arguments(
+/// Adds a fault at the name of a field or directive, if an argument is missing.
+fn add_missing_arguments(
     file: usize,
     known: Arguments<'_>,
     given: &NameList,
     name: &Name,
-    items: &mut Vec<Item>,
+    faults: &mut Vec<Fault>,
 ) -> Result<(), NoMemory>
-    ensures { OnOk result (items.new.items ≡ items.old.items ++ missing_among file (map input_view known.entry.all.now) given.now (name_of name.now)) }
+    ensures { OnOk result (faults.new.items ≡ faults.old.items ++ missing_among file (map input_view known.entry.all.now) given.now (name_of name.now)) }
 {
     if known.is_any_missing(given) {
-        put(item_at(file, Code::ArgumentMissing, name), items)?;
+        add_fault(fault_at(file, Code::ArgumentMissing, name), faults)?;
     }
     Ok(())
 }
 
-fn put_faults_of_known_value(
+fn add_faults_of_known_value(
     alloc: Global,
     types: &Types,
     file: usize,
     known: Arguments<'_>,
     argument: &Argument,
-    items: &mut Vec<Item>,
+    faults: &mut Vec<Fault>,
 ) -> Result<(), NoMemory>
-    ensures { OnOk result (items.new.items ≡ items.old.items ++ value_faults_of (types_view types.now) file (Some (map input_view known.entry.all.now)) (argument_view argument.now)) }
+    ensures { OnOk result (faults.new.items ≡ faults.old.items ++ value_faults_of (types_view types.now) file (Some (map input_view known.entry.all.now)) (argument_view argument.now)) }
 {
     let reading = match known.named(argument.name.text.as_str()) {
-        Some(definition) => Read::AtType(&definition.type_ref),
-        None => Read::AtAny,
+        Some(definition) => ExpectedType::AtType(&definition.type_ref),
+        None => ExpectedType::AtAny,
     };
-    put_literal_faults(alloc, types, file, reading, &argument.value, items)
+    add_literal_faults(alloc, types, file, reading, &argument.value, faults)
 }
 
 #[tactic(auto, using(gq_tree::proofs::Trees::gathers))]
-fn put_faults_of_known_values(
+fn add_faults_of_known_values(
     alloc: Global,
     types: &Types,
     file: usize,
     known: Arguments<'_>,
     arguments: &[Argument],
-    items: &mut Vec<Item>,
+    faults: &mut Vec<Fault>,
 ) -> Result<(), NoMemory>
-    ensures { OnOk result (items.new.items ≡ items.old.items ++ argument_value_faults (types_view types.now) file (Some (map input_view known.entry.all.now)) (map argument_view arguments.now)) }
+    ensures { OnOk result (faults.new.items ≡ faults.old.items ++ argument_value_faults (types_view types.now) file (Some (map input_view known.entry.all.now)) (map argument_view arguments.now)) }
 {
     for argument in arguments {
-        put_faults_of_known_value(alloc, types, file, known, argument, items)?;
+        add_faults_of_known_value(alloc, types, file, known, argument, faults)?;
     }
     Ok(())
 }
 
 /// Puts what is wrong with arguments whose definitions are known.
-fn put_known_faults(
+fn add_known_faults(
     alloc: Global,
     types: &Types,
     file: usize,
@@ -113,66 +115,73 @@ fn put_known_faults(
     given: &NameList,
     name: &Name,
     arguments: &[Argument],
-    items: &mut Vec<Item>,
+    faults: &mut Vec<Fault>,
 ) -> Result<(), NoMemory>
     requires { given.now ≡ texts (argument_names (map argument_view arguments.now)) }
-    ensures { OnOk result (items.new.items ≡ items.old.items ++ (known_faults file (Some (map input_view known.entry.all.now)) (name_of name.now) (argument_names (map argument_view arguments.now))
+    ensures { OnOk result (faults.new.items ≡ faults.old.items ++ (known_faults file (Some (map input_view known.entry.all.now)) (name_of name.now) (argument_names (map argument_view arguments.now))
         ++ argument_value_faults (types_view types.now) file (Some (map input_view known.entry.all.now)) (map argument_view arguments.now))) }
 {
-    put_unknown_arguments(file, known, arguments, items)?;
-    put_missing_arguments(file, known, given, name, items)?;
-    put_faults_of_known_values(alloc, types, file, known, arguments, items)
+    add_unknown_arguments(file, known, arguments, faults)?;
+    add_missing_arguments(file, known, given, name, faults)?;
+    add_faults_of_known_values(alloc, types, file, known, arguments, faults)
 }
 
-fn put_faults_of_value(
+fn add_faults_of_value(
     alloc: Global,
     types: &Types,
     file: usize,
     argument: &Argument,
-    items: &mut Vec<Item>,
+    faults: &mut Vec<Fault>,
 ) -> Result<(), NoMemory>
-    ensures { OnOk result (items.new.items ≡ items.old.items ++ value_faults_of (types_view types.now) file None (argument_view argument.now)) }
+    ensures { OnOk result (faults.new.items ≡ faults.old.items ++ value_faults_of (types_view types.now) file None (argument_view argument.now)) }
 {
-    put_literal_faults(alloc, types, file, Read::AtAny, &argument.value, items)
+    add_literal_faults(
+        alloc,
+        types,
+        file,
+        ExpectedType::AtAny,
+        &argument.value,
+        faults,
+    )
 }
 
 #[tactic(auto, using(gq_tree::proofs::Trees::gathers))]
-fn put_faults_of_values(
+fn add_faults_of_values(
     alloc: Global,
     types: &Types,
     file: usize,
     arguments: &[Argument],
-    items: &mut Vec<Item>,
+    faults: &mut Vec<Fault>,
 ) -> Result<(), NoMemory>
-    ensures { OnOk result (items.new.items ≡ items.old.items ++ argument_value_faults (types_view types.now) file None (map argument_view arguments.now)) }
+    ensures { OnOk result (faults.new.items ≡ faults.old.items ++ argument_value_faults (types_view types.now) file None (map argument_view arguments.now)) }
 {
     for argument in arguments {
-        put_faults_of_value(alloc, types, file, argument, items)?;
+        add_faults_of_value(alloc, types, file, argument, faults)?;
     }
     Ok(())
 }
 
-/// Puts an item for each fault of the arguments of a field or directive of that name: an argument that is unknown or
+/// Adds each fault of the arguments of a field or directive of that name: an argument that is unknown or
 /// given twice or missing, and the faults of their values. The definitions are those of the field's or directive's
 /// arguments, `None` where it is not known. `file` is the number of the document that they stand in.
 #[tactic(auto, using(gq_tree::proofs::Trees::gathers))]
-pub fn put_argument_faults(
+pub fn add_argument_faults(
     alloc: Global,
     types: &Types,
     file: usize,
     definitions: Option<Arguments<'_>>,
     name: &Name,
     arguments: &[Argument],
-    items: &mut Vec<Item>,
+    faults: &mut Vec<Fault>,
 ) -> Result<(), NoMemory>
-    ensures { OnOk result (items.new.items ≡ items.old.items ++ argument_faults (types_view types.now) file (definitions_view definitions.entry) (name_of name.now) (map argument_view arguments.now)) }
+    ensures { OnOk result (faults.new.items ≡ faults.old.items ++ argument_faults (types_view types.now) file (definitions_view definitions.entry) (name_of name.now) (map argument_view arguments.now)) }
 {
     let mut given = NameList::new(alloc);
-    put_repeated_arguments(file, arguments, &mut given, items)?;
+    add_repeated_arguments(file, arguments, &mut given, faults)?;
     match definitions {
         Some(known) => {
-            put_known_faults(alloc, types, file, known, &given, name, arguments, items)
+            add_known_faults(alloc, types, file, known, &given, name, arguments, faults)
         }
-        None => put_faults_of_values(alloc, types, file, arguments, items),
+        None => add_faults_of_values(alloc, types, file, arguments, faults),
     }
 }

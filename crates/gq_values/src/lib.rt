@@ -4,14 +4,13 @@
 
 pub mod argument_faults;
 pub mod directive_faults;
+pub mod expected_type;
 pub mod fitting;
-mod items;
 pub mod laws;
 pub mod literal_faults;
-pub mod reading;
 
-pub use argument_faults::put_argument_faults;
-pub use directive_faults::put_directive_faults;
+pub use argument_faults::add_argument_faults;
+pub use directive_faults::add_directive_faults;
+pub use expected_type::ExpectedType;
 pub use fitting::fits;
-pub use literal_faults::put_literal_faults;
-pub use reading::Read;
+pub use literal_faults::add_literal_faults;

@@ -5,8 +5,8 @@ use Rattle.std.specs.Option.{option_map}
 use Rattle.std.proofs.lemmas.List.{length-map}
 use Rattle.std.proofs.lemmas.List.Elements.{Contains-append_left, Contains-append_right, Contains-append_cases}
 use Rattle.std.proofs.lemmas.Option.{same_Some, slice_get-map, slice_get-get_or, slice_get_within, get_or_from_slice_get}
-use Rattle.gq_found.specs.declared.item.Item.{Item}
-use Rattle.gq_found.specs.Puts.{Puts}
+use Rattle.gq_found.specs.declared.fault.Fault.{Fault}
+use Rattle.gq_found.specs.Adds.{AddsExactly}
 use Rattle.gq_found.proofs.PutLemmas.{puts_both, puts_as, puts_list}
 use Rattle.gq_text.specs.declared.place.Span.{Span}
 use Rattle.gq_tree.specs.Plain.{VariableOf}
@@ -18,27 +18,27 @@ use Rattle.gq_document.specs.Executable.{ExecutableOf}
 use Rattle.gq_spreads.specs.Spreads.{ReachesNumber}
 use Rattle.gq_variables.specs.Uses.{UseOf}
 use Rattle.gq_variables.specs.ReachedUses.{ReachesUse}
-use Rattle.gq_variables.specs.UsesPlaces.{fragment_uses, reached_uses}
+use Rattle.gq_variables.specs.Helping.UsesPlaces.{fragment_uses, reached_uses}
 use Rattle.gq_variables.specs.VariableFaults.{IsFaultOfOperation, IsVariableFault}
 use Rattle.gq_variables.specs.VariableFaults as rule
-use Rattle.gq_variables.specs.VariablePlaces.{variable_texts, use_texts, repeated_variables, not_unique, not_of_input_type, not_defined, not_used, not_allowed, definition_faults, use_faults, operation_faults, IsFaultAt, IsFaultBefore}
+use Rattle.gq_variables.specs.Helping.VariablePlaces.{variable_texts, use_texts, repeated_variables, not_unique, not_of_input_type, not_defined, not_used, not_allowed, definition_faults, use_faults, operation_faults, IsFaultAt, IsFaultBefore}
 use Rattle.gq_variables.proofs.UseLemmas.{reached_are}
 use Rattle.gq_variables.proofs.RuleLemmas.{not_unique_are, not_of_input_type_are, not_defined_are, not_used_are, not_allowed_are}
 
-module _ (x : ExecutableOf) (o : OperationOf) (uses : List UseOf) (are : (u : UseOf) → Contains uses u ↔ ReachesUse x o u) (item : Item) where
-  abbrev Unique : List Item
+module _ (x : ExecutableOf) (o : OperationOf) (uses : List UseOf) (are : (u : UseOf) → Contains uses u ↔ ReachesUse x o u) (item : Fault) where
+  abbrev Unique : List Fault
   Unique = not_unique o.file (repeated_variables [] o.variables)
 
-  abbrev Input : List Item
+  abbrev Input : List Fault
   Input = not_of_input_type x.entries o.file o.variables
 
-  abbrev Defined : List Item
+  abbrev Defined : List Fault
   Defined = not_defined (variable_texts o.variables) uses
 
-  abbrev Used : List Item
+  abbrev Used : List Fault
   Used = not_used o.file (use_texts uses) o.variables
 
-  abbrev Allowed : List Item
+  abbrev Allowed : List Fault
   Allowed = not_allowed x.entries o.variables (repeated_variables [] o.variables) uses
 
   from_definitions : Contains (Unique ++ Input) item → IsFaultOfOperation x o item
@@ -76,7 +76,7 @@ module _ (x : ExecutableOf) (o : OperationOf) (uses : List UseOf) (are : (u : Us
   faults_are = (from_all, to_all)
 
 -- what is put for an operation
-pub operation_put : (es : List EntryOf) (o : OperationOf) (uses given : List UseOf) (one two first second : List (VariableOf Span)) (old middle new : List Item) →
+pub operation_put : (es : List EntryOf) (o : OperationOf) (uses given : List UseOf) (one two first second : List (VariableOf Span)) (old middle new : List Fault) →
     one ≡ o.variables → first ≡ repeated_variables [] o.variables → two ≡ o.variables → second ≡ repeated_variables [] o.variables → given ≡ uses →
     middle ≡ old ++ definition_faults es o.file one first → new ≡ middle ++ use_faults es o.file two second given → new ≡ old ++ operation_faults es o uses
 operation_put es o uses given one two first second old middle new e f g h k put then =
@@ -100,15 +100,15 @@ below_or_at (suc k) (suc n) h = elim (below_or_at k n (omega (arith, h))) [ inl 
 
 module _ (x : ExecutableOf) where
   -- the faults of one operation
-  pub puts_at : (number : ℕ) (o : OperationOf) (numbers : List ℕ) (old new : List Item) → slice_get x.operations number ≡ Some o → ((k : ℕ) → Contains numbers k → ReachesNumber x.fragments o.set k) →
+  pub puts_at : (number : ℕ) (o : OperationOf) (numbers : List ℕ) (old new : List Fault) → slice_get x.operations number ≡ Some o → ((k : ℕ) → Contains numbers k → ReachesNumber x.fragments o.set k) →
       ((k : ℕ) (f : FragmentOf) (u : UseOf) → slice_get x.fragments k ≡ Some f → Contains (fragment_uses x.entries f) u → ReachesNumber x.fragments o.set k → Contains numbers k) →
-      new ≡ old ++ operation_faults x.entries o (reached_uses x.entries x.fragments o numbers) → Puts (IsFaultAt x number) old new
+      new ≡ old ++ operation_faults x.entries o (reached_uses x.entries x.fragments o numbers) → AddsExactly (IsFaultAt x number) old new
   puts_at number o numbers old new at sound complete is = puts_list (IsFaultAt x number) old new (operation_faults x.entries o uses) is exactly
     where
       uses : List UseOf
       uses = reached_uses x.entries x.fragments o numbers
 
-      exactly : (item : Item) → Contains (operation_faults x.entries o uses) item ↔ IsFaultAt x number item
+      exactly : (item : Fault) → Contains (operation_faults x.entries o uses) item ↔ IsFaultAt x number item
       exactly item =
           let are = faults_are x o uses (reached_are x o numbers sound complete) item in (
             λ c. record { operation = o; at = at; fault = are.0 c },
@@ -116,16 +116,16 @@ module _ (x : ExecutableOf) where
           )
 
   -- one more
-  pub puts_more : (number : ℕ) (old middle new : List Item) → Puts (IsFaultBefore x number) old middle → Puts (IsFaultAt x number) middle new → Puts (IsFaultBefore x (number + 1)) old new
+  pub puts_more : (number : ℕ) (old middle new : List Fault) → AddsExactly (IsFaultBefore x number) old middle → AddsExactly (IsFaultAt x number) middle new → AddsExactly (IsFaultBefore x (number + 1)) old new
   puts_more number old middle new before now =
       puts_as (λ item. IsFaultBefore x number item ⊎ IsFaultAt x number item) (IsFaultBefore x (number + 1)) old new same
       (puts_both (IsFaultBefore x number) (IsFaultAt x number) old middle new before now)
     where
-      by_place : (item : Item) (w : IsFaultBefore x (number + 1) item) → (w.earlier < number) ⊎ (w.earlier ≡ number) → IsFaultBefore x number item ⊎ IsFaultAt x number item
+      by_place : (item : Fault) (w : IsFaultBefore x (number + 1) item) → (w.earlier < number) ⊎ (w.earlier ≡ number) → IsFaultBefore x number item ⊎ IsFaultAt x number item
       by_place item w (inl less) = inl (record { earlier = w.earlier; is_earlier = less; fault = w.fault })
       by_place item w (inr is) = inr (subst (λ n. IsFaultAt x n item) is w.fault)
 
-      same : (item : Item) → (IsFaultBefore x number item ⊎ IsFaultAt x number item) ↔ IsFaultBefore x (number + 1) item
+      same : (item : Fault) → (IsFaultBefore x number item ⊎ IsFaultAt x number item) ↔ IsFaultBefore x (number + 1) item
       same item = (
         λ s. elim s [
           | inl w ↦ record { earlier = w.earlier; is_earlier = omega (arith, w.is_earlier); fault = w.fault }
@@ -135,10 +135,10 @@ module _ (x : ExecutableOf) where
       )
 
   -- those of all operations
-  pub puts_all : (number : ℕ) (old new : List Item) → length x.operations ≤ number → Puts (IsFaultBefore x number) old new → Puts (IsVariableFault x) old new
+  pub puts_all : (number : ℕ) (old new : List Fault) → length x.operations ≤ number → AddsExactly (IsFaultBefore x number) old new → AddsExactly (IsVariableFault x) old new
   puts_all number old new end before = puts_as (IsFaultBefore x number) (IsVariableFault x) old new same before
     where
-      same : (item : Item) → IsFaultBefore x number item ↔ IsVariableFault x item
+      same : (item : Fault) → IsFaultBefore x number item ↔ IsVariableFault x item
       same item = (
         λ w. record {
           operation = w.fault.operation;

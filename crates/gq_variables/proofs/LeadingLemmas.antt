@@ -9,7 +9,7 @@ use Rattle.std.proofs.lemmas.List.{length-map, get_or-replicate, get_or_past, le
 use Rattle.std.proofs.lemmas.List.Elements.{All-nil, All-cons, All-append, All-weaker, All-contains, Contains-get_or, Contains-append_left, Contains-append_right}
 use Rattle.gq_names.specs.UnderNames.{one_if}
 use Rattle.gq_reach.specs.Reach.{Reach, start, step, row}
-use Rattle.gq_reach.specs.Turned.{Turned}
+use Rattle.gq_reach.specs.Transposed.{Transposed}
 use Rattle.gq_reach.specs.Components.{Also}
 use Rattle.gq_reach.proofs.Searching.{row_at as row_read_at}
 use Rattle.gq_reach.proofs.Walking.{row_below_all}
@@ -21,7 +21,7 @@ use Rattle.gq_spreads.specs.declared.spreads.Spreads.{Spreads}
 use Rattle.gq_spreads.proofs.RowLemmas.{operation_rows_below, fragment_rows_below}
 use Rattle.gq_spreads.proofs.ReachLemmas.{to_reached, from_reached}
 use Rattle.gq_variables.specs.Uses.{UseOf}
-use Rattle.gq_variables.specs.UsesPlaces.{fragment_uses, row_at}
+use Rattle.gq_variables.specs.Helping.UsesPlaces.{fragment_uses, row_at}
 use Rattle.gq_variables.specs.Leading.{numbers_with_uses, LeadToUses, AreLeading}
 
 -- a row with a use has its number
@@ -58,7 +58,7 @@ unmarked n i h = ⊎_elim
     (λ q. false≢true (sym (get_or_past (replicate n false) i false (subst (λ l. l ≤ i) (sym (length-replicate n false)) q)) ∙ h))
     (cases_lt i n)
 
-pub lead_to_uses : (rows : List (List UseOf)) (spreads back : List (Vec ℕ Global)) (numbers leading : List ℕ) (count : ℕ) (marks : List Bool) → numbers ≡ numbers_with_uses 0 rows → Turned spreads back
+pub lead_to_uses : (rows : List (List UseOf)) (spreads back : List (Vec ℕ Global)) (numbers leading : List ℕ) (count : ℕ) (marks : List Bool) → numbers ≡ numbers_with_uses 0 rows → Transposed spreads back
     → All (λ n. Reach numbers (row back) n) leading → ((n : ℕ) → Reach numbers (row back) n → Contains leading n) → Also leading (replicate count false) marks → LeadToUses (row spreads) rows marks
 lead_to_uses rows spreads back numbers leading count marks are turned sound complete also = record {
   used = λ k u there.

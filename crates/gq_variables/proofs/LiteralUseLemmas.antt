@@ -11,7 +11,7 @@ use Rattle.gq_tree.proofs.Trees.{view_list, view_object}
 use Rattle.gq_tree.proofs.ValueLemmas.{value_key}
 use Rattle.gq_types.specs.Entries.{EntryOf}
 use Rattle.gq_variables.specs.Uses.{PlaceOf, UseOf, part_place, items_place, field_place}
-use Rattle.gq_variables.specs.UsesPlaces.{own_uses, uses_among, value_uses, item_uses, field_uses}
+use Rattle.gq_variables.specs.Helping.UsesPlaces.{own_uses, uses_among, value_uses, item_uses, field_uses}
 
 -- an item of a list literal has no key
 at_item : (es : List EntryOf) (file : ℕ) (place : PlaceOf) (v : Value) → (key : Option (NameOf Span)) → key ≡ None →

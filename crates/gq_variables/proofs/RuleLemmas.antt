@@ -1,4 +1,4 @@
--- The items of each rule are those that its relation tells.
+-- The faults of each rule are those that its relation tells.
 use Rattle.std.proofs.Common.{◌≡◌, ◌↔◌, suc, Bool, true, false, if◌then◌else◌, List, [], ◌∷◌, Option, Some, None, ◌⊎◌, inl, inr, refl, sym, ap, subst, ◌∙◌, Contains, map, arith}
 use Rattle.std.specs.Prelude.{find, not, ◌&&◌}
 use Rattle.std.specs.Option.{option_map_or}
@@ -11,17 +11,16 @@ use Rattle.gq_tree.specs.Plain.{TypeOf, VariableOf}
 use Rattle.gq_names.specs.Repeats.{IsRepeated}
 use Rattle.gq_names.proofs.RepeatLemmas.{contains_none, contains_first, contains_cases, repeated_is}
 use Rattle.gq_found.specs.declared.code.Code.TheVariants.{VariableNotUnique, VariableNotOfInputType, VariableNotDefined, VariableNotUsed, VariableNotAllowedHere}
-use Rattle.gq_found.specs.declared.item.Item.{Item}
+use Rattle.gq_found.specs.declared.fault.Fault.{Fault}
 use Rattle.gq_types.specs.declared.entry.TypeKind.{TypeKind}
 use Rattle.gq_types.specs.Entries.{Text, EntryOf}
 use Rattle.gq_types.specs.Joined.{kind_named}
 use Rattle.gq_types.specs.Kinds.{is_input}
-use Rattle.gq_types.proofs.Gathered.{or_cases, or_left, or_right, and_parts, and_both, not_true, not_false, from_any, to_any, found, tested}
-use Rattle.gq_values.specs.Literals.{Reading, at_type, at_any}
-use Rattle.gq_values.specs.Items.{item_at}
-use Rattle.gq_values.proofs.FoundLemmas.{only, from_if, to_if, from_flat, to_flat, from_map, to_map}
+use Rattle.gq_types.proofs.Gathered.{or_cases, or_left, or_right, and_parts, and_both, not_true, not_false, from_any, to_any, found, tested, only, from_if, to_if, from_flat, to_flat, from_map_as as from_map, to_map_as as to_map}
+use Rattle.gq_values.specs.Literals.{Expected, at_type, at_any}
+use Rattle.gq_found.specs.FaultPlaces.{fault_at}
 use Rattle.gq_document.specs.Definitions.{OperationOf}
-use Rattle.gq_document.specs.Selections.{base_name}
+use Rattle.gq_tree.specs.NamedTypes.{base_name}
 use Rattle.gq_document.specs.Executable.{ExecutableOf}
 use Rattle.gq_variables.specs.Uses.{UseOf}
 use Rattle.gq_variables.specs.ReachedUses.{ReachesUse}
@@ -30,10 +29,10 @@ use Rattle.gq_variables.specs.VariablesAreInputTypes.{NamesNoInputType, unknown,
 use Rattle.gq_variables.specs.AllVariableUsesDefined.{IsNotDefined}
 use Rattle.gq_variables.specs.AllVariablesUsed.{IsNotUsed}
 use Rattle.gq_variables.specs.AllVariableUsagesAreAllowed.{is_known, IsAllowed, IsNotAllowed}
-use Rattle.gq_variables.specs.VariablePlaces.{variable_texts, use_texts, repeated_variables, not_unique, names_input_type, not_of_input_type_at, not_of_input_type, not_defined_at, not_defined, not_used_at, not_used, is_allowed, is_wrong_type, is_wrong_reading, is_wrong_at, is_wrong_for, first_is_wrong, is_misused, not_allowed_at, not_allowed}
+use Rattle.gq_variables.specs.Helping.VariablePlaces.{variable_texts, use_texts, repeated_variables, not_unique, names_input_type, not_of_input_type_at, not_of_input_type, not_defined_at, not_defined, not_used_at, not_used, is_allowed, is_wrong_type, is_wrong_reading, is_wrong_at, is_wrong_for, first_is_wrong, is_misused, not_allowed_at, not_allowed}
 use Rattle.gq_variables.proofs.CompatibleLemmas.{to_allowed, from_allowed}
 
--- an item where a test does not hold
+-- a fault where a test does not hold
 module _ {A : Type 0} (x z : A) where
   from_unless : (b : Bool) → Contains (if b then [] else x ∷ []) z → (b ≡ false) × (z ≡ x)
   from_unless true c = absurd (contains_none z c)
@@ -59,16 +58,16 @@ module _ {A : Type 0} (text : A → Text) (xs : List A) (q : Text) where
           absurd (absent given.0 given.1 (sym given.2))
 
 -- section 5.8.1
-pub not_unique_are : (o : OperationOf) (item : Item) → Contains (not_unique o.file (repeated_variables [] o.variables)) item ↔ IsNotUnique o item
-not_unique_are o item = (from, to)
+pub not_unique_are : (o : OperationOf) (fault : Fault) → Contains (not_unique o.file (repeated_variables [] o.variables)) fault ↔ IsNotUnique o fault
+not_unique_are o fault = (from, to)
   where
-    from : Contains (not_unique o.file (repeated_variables [] o.variables)) item → IsNotUnique o item
+    from : Contains (not_unique o.file (repeated_variables [] o.variables)) fault → IsNotUnique o fault
     from c =
-        let r = from_map (λ (v : VariableOf Span). item_at o.file VariableNotUnique v.name) (repeated_variables [] o.variables) item c in
+        let r = from_map (λ (v : VariableOf Span). fault_at o.file VariableNotUnique v.name) (repeated_variables [] o.variables) fault c in
         record { variable = r.0; repeated = (repeated_is (λ (v : VariableOf Span). v.name.text) o.variables r.0).0 r.1; is = r.2 }
 
-    to : IsNotUnique o item → Contains (not_unique o.file (repeated_variables [] o.variables)) item
-    to w = to_map (λ (v : VariableOf Span). item_at o.file VariableNotUnique v.name) (repeated_variables [] o.variables) w.variable item
+    to : IsNotUnique o fault → Contains (not_unique o.file (repeated_variables [] o.variables)) fault
+    to w = to_map (λ (v : VariableOf Span). fault_at o.file VariableNotUnique v.name) (repeated_variables [] o.variables) w.variable fault
         ((repeated_is (λ (v : VariableOf Span). v.name.text) o.variables w.variable).1 w.repeated) w.is
 
 -- section 5.8.2
@@ -81,49 +80,49 @@ module _ (es : List EntryOf) (text : Text) where
   to_kind (unknown e) = ap (λ (k : Option TypeKind). option_map_or is_input k false) e
   to_kind (of_output e h) = ap (λ (k : Option TypeKind). option_map_or is_input k false) e ∙ h
 
-pub not_of_input_type_are : (es : List EntryOf) (o : OperationOf) (item : Item) → Contains (not_of_input_type es o.file o.variables) item ↔ IsNotOfInputType es o item
-not_of_input_type_are es o item = (from, to)
+pub not_of_input_type_are : (es : List EntryOf) (o : OperationOf) (fault : Fault) → Contains (not_of_input_type es o.file o.variables) fault ↔ IsNotOfInputType es o fault
+not_of_input_type_are es o fault = (from, to)
   where
-    from : Contains (not_of_input_type es o.file o.variables) item → IsNotOfInputType es o item
+    from : Contains (not_of_input_type es o.file o.variables) fault → IsNotOfInputType es o fault
     from c =
-        let r = from_flat (not_of_input_type_at es o.file) o.variables item c in
-        let t = from_unless (item_at o.file VariableNotOfInputType r.0.name) item (names_input_type es (base_name r.0.type_ref)) r.2 in
+        let r = from_flat (not_of_input_type_at es o.file) o.variables fault c in
+        let t = from_unless (fault_at o.file VariableNotOfInputType r.0.name) fault (names_input_type es (base_name r.0.type_ref)) r.2 in
         record { variable = r.0; defined = r.1; no_input = from_kind es (base_name r.0.type_ref) (kind_named es (base_name r.0.type_ref)) refl t.0; is = t.1 }
 
-    to : IsNotOfInputType es o item → Contains (not_of_input_type es o.file o.variables) item
-    to w = to_flat (not_of_input_type_at es o.file) o.variables w.variable item w.defined
-        (to_unless (item_at o.file VariableNotOfInputType w.variable.name) item (names_input_type es (base_name w.variable.type_ref)) (to_kind es (base_name w.variable.type_ref) w.no_input) w.is)
+    to : IsNotOfInputType es o fault → Contains (not_of_input_type es o.file o.variables) fault
+    to w = to_flat (not_of_input_type_at es o.file) o.variables w.variable fault w.defined
+        (to_unless (fault_at o.file VariableNotOfInputType w.variable.name) fault (names_input_type es (base_name w.variable.type_ref)) (to_kind es (base_name w.variable.type_ref) w.no_input) w.is)
 
 -- the rules about uses, where these are the uses that the operation reaches
-module _ (x : ExecutableOf) (o : OperationOf) (uses : List UseOf) (are : (u : UseOf) → Contains uses u ↔ ReachesUse x o u) (item : Item) where
+module _ (x : ExecutableOf) (o : OperationOf) (uses : List UseOf) (are : (u : UseOf) → Contains uses u ↔ ReachesUse x o u) (fault : Fault) where
   -- section 5.8.3
-  pub not_defined_are : Contains (not_defined (variable_texts o.variables) uses) item ↔ IsNotDefined x o item
+  pub not_defined_are : Contains (not_defined (variable_texts o.variables) uses) fault ↔ IsNotDefined x o fault
   not_defined_are = (from, to)
     where
-      from : Contains (not_defined (variable_texts o.variables) uses) item → IsNotDefined x o item
+      from : Contains (not_defined (variable_texts o.variables) uses) fault → IsNotDefined x o fault
       from c =
-          let r = from_flat (not_defined_at (variable_texts o.variables)) uses item c in
-          let t = from_unless (item_at r.0.file VariableNotDefined r.0.name) item (list_any (bytes_eq r.0.name.text) (variable_texts o.variables)) r.2 in
+          let r = from_flat (not_defined_at (variable_texts o.variables)) uses fault c in
+          let t = from_unless (fault_at r.0.file VariableNotDefined r.0.name) fault (list_any (bytes_eq r.0.name.text) (variable_texts o.variables)) r.2 in
           record { one = r.0; reached = (are r.0).0 r.1; undefined = none_has (λ (v : VariableOf Span). v.name.text) o.variables r.0.name.text t.0; is = t.1 }
 
-      to : IsNotDefined x o item → Contains (not_defined (variable_texts o.variables) uses) item
-      to w = to_flat (not_defined_at (variable_texts o.variables)) uses w.one item ((are w.one).1 w.reached)
-          (to_unless (item_at w.one.file VariableNotDefined w.one.name) item (list_any (bytes_eq w.one.name.text) (variable_texts o.variables))
+      to : IsNotDefined x o fault → Contains (not_defined (variable_texts o.variables) uses) fault
+      to w = to_flat (not_defined_at (variable_texts o.variables)) uses w.one fault ((are w.one).1 w.reached)
+          (to_unless (fault_at w.one.file VariableNotDefined w.one.name) fault (list_any (bytes_eq w.one.name.text) (variable_texts o.variables))
           (has_none (λ (v : VariableOf Span). v.name.text) o.variables w.one.name.text w.undefined) w.is)
 
   -- section 5.8.4
-  pub not_used_are : Contains (not_used o.file (use_texts uses) o.variables) item ↔ IsNotUsed x o item
+  pub not_used_are : Contains (not_used o.file (use_texts uses) o.variables) fault ↔ IsNotUsed x o fault
   not_used_are = (from, to)
     where
-      from : Contains (not_used o.file (use_texts uses) o.variables) item → IsNotUsed x o item
+      from : Contains (not_used o.file (use_texts uses) o.variables) fault → IsNotUsed x o fault
       from c =
-          let r = from_flat (not_used_at o.file (use_texts uses)) o.variables item c in
-          let t = from_unless (item_at o.file VariableNotUsed r.0.name) item (list_any (bytes_eq r.0.name.text) (use_texts uses)) r.2 in
+          let r = from_flat (not_used_at o.file (use_texts uses)) o.variables fault c in
+          let t = from_unless (fault_at o.file VariableNotUsed r.0.name) fault (list_any (bytes_eq r.0.name.text) (use_texts uses)) r.2 in
           record { variable = r.0; defined = r.1; unused = λ u reached. none_has (λ (u : UseOf). u.name.text) uses r.0.name.text t.0 u ((are u).1 reached); is = t.1 }
 
-      to : IsNotUsed x o item → Contains (not_used o.file (use_texts uses) o.variables) item
-      to w = to_flat (not_used_at o.file (use_texts uses)) o.variables w.variable item w.defined
-          (to_unless (item_at o.file VariableNotUsed w.variable.name) item (list_any (bytes_eq w.variable.name.text) (use_texts uses))
+      to : IsNotUsed x o fault → Contains (not_used o.file (use_texts uses) o.variables) fault
+      to w = to_flat (not_used_at o.file (use_texts uses)) o.variables w.variable fault w.defined
+          (to_unless (fault_at o.file VariableNotUsed w.variable.name) fault (list_any (bytes_eq w.variable.name.text) (use_texts uses))
           (has_none (λ (u : UseOf). u.name.text) uses w.variable.name.text (λ u stands. w.unused u ((are u).0 stands))) w.is)
 
 -- the first of a text, or one that comes again
@@ -204,11 +203,11 @@ module _ (es : List EntryOf) where
         (and_both (bytes_eq u.name.text w.variable.name.text) (is_wrong_at es u.place w.variable) ((bytes_decides u.name.text w.variable.name.text).1 (sym w.names_it)) w.wrong))
   ]
 
-module _ (x : ExecutableOf) (o : OperationOf) (uses : List UseOf) (are : (u : UseOf) → Contains uses u ↔ ReachesUse x o u) (item : Item) where
-  from_wrong : (u : UseOf) → ReachesUse x o u → IsWrong x.entries o.variables u → item ≡ item_at u.file VariableNotAllowedHere u.name → IsNotAllowed x o item
+module _ (x : ExecutableOf) (o : OperationOf) (uses : List UseOf) (are : (u : UseOf) → Contains uses u ↔ ReachesUse x o u) (fault : Fault) where
+  from_wrong : (u : UseOf) → ReachesUse x o u → IsWrong x.entries o.variables u → fault ≡ fault_at u.file VariableNotAllowedHere u.name → IsNotAllowed x o fault
   from_wrong u reached w is = by_reading u.place.reading refl
     where
-      by_reading : (r : Reading) → u.place.reading ≡ r → IsNotAllowed x o item
+      by_reading : (r : Expected) → u.place.reading ≡ r → IsNotAllowed x o fault
       by_reading (at_type t) e =
           let wrong = wrong_type x.entries w.variable u.place.has_default t (subst (λ r. is_wrong_reading x.entries w.variable u.place.has_default r ≡ true) e w.wrong) in
           record {
@@ -226,19 +225,19 @@ module _ (x : ExecutableOf) (o : OperationOf) (uses : List UseOf) (are : (u : Us
           }
       by_reading at_any e = (let h = subst (λ r. is_wrong_reading x.entries w.variable u.place.has_default r ≡ true) e w.wrong in absurd (cc))
 
-  pub not_allowed_are : Contains (not_allowed x.entries o.variables (repeated_variables [] o.variables) uses) item ↔ IsNotAllowed x o item
+  pub not_allowed_are : Contains (not_allowed x.entries o.variables (repeated_variables [] o.variables) uses) fault ↔ IsNotAllowed x o fault
   not_allowed_are = (from, to)
     where
-      from : Contains (not_allowed x.entries o.variables (repeated_variables [] o.variables) uses) item → IsNotAllowed x o item
+      from : Contains (not_allowed x.entries o.variables (repeated_variables [] o.variables) uses) fault → IsNotAllowed x o fault
       from c =
-          let r = from_flat (not_allowed_at x.entries o.variables (repeated_variables [] o.variables)) uses item c in
-          let t = from_if (is_misused x.entries o.variables (repeated_variables [] o.variables) r.0) (item_at r.0.file VariableNotAllowedHere r.0.name) item r.2 in
+          let r = from_flat (not_allowed_at x.entries o.variables (repeated_variables [] o.variables)) uses fault c in
+          let t = from_if (is_misused x.entries o.variables (repeated_variables [] o.variables) r.0) (fault_at r.0.file VariableNotAllowedHere r.0.name) fault r.2 in
           from_wrong r.0 ((are r.0).0 r.1) (from_misused x.entries o.variables r.0 t.0) t.1
 
-      to : IsNotAllowed x o item → Contains (not_allowed x.entries o.variables (repeated_variables [] o.variables) uses) item
+      to : IsNotAllowed x o fault → Contains (not_allowed x.entries o.variables (repeated_variables [] o.variables) uses) fault
       to w =
           let wrong = subst (λ r. is_wrong_reading x.entries w.variable w.one.place.has_default r ≡ true) (sym w.read_at)
           (type_wrong x.entries w.variable w.one.place.has_default w.location w.variable_known w.location_known w.not_allowed) in
-          to_flat (not_allowed_at x.entries o.variables (repeated_variables [] o.variables)) uses w.one item ((are w.one).1 w.reached)
-          (to_if (is_misused x.entries o.variables (repeated_variables [] o.variables) w.one) (item_at w.one.file VariableNotAllowedHere w.one.name) item
+          to_flat (not_allowed_at x.entries o.variables (repeated_variables [] o.variables)) uses w.one fault ((are w.one).1 w.reached)
+          (to_if (is_misused x.entries o.variables (repeated_variables [] o.variables) w.one) (fault_at w.one.file VariableNotAllowedHere w.one.name) fault
           (to_misused x.entries o.variables w.one (record { variable = w.variable; defined = w.defined; names_it = w.names_it; wrong = wrong })) w.is)

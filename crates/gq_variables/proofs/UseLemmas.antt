@@ -10,7 +10,6 @@ use Rattle.gq_tree.specs.Plain.{NameOf, Says, Val, Vals, InputOf, DirectiveOf, V
 use Rattle.gq_names.proofs.RepeatLemmas.{contains_none, contains_first}
 use Rattle.gq_types.specs.Entries.{Text, EntryOf}
 use Rattle.gq_types.specs.Arguments.{directive_arguments}
-use Rattle.gq_values.proofs.FoundLemmas.{only, from_flat, to_flat}
 use Rattle.gq_document.specs.Definitions.{OperationOf, FragmentOf}
 use Rattle.gq_document.specs.Selections.{SelectedOf, operation_selections, fragment_selections}
 use Rattle.gq_document.specs.Reaches.{Reaches, at_once, through}
@@ -19,7 +18,8 @@ use Rattle.gq_document.proofs.SelectionLemmas.{operation_holds, fragment_holds}
 use Rattle.gq_spreads.specs.Spreads.{ReachesNumber}
 use Rattle.gq_variables.specs.Uses.{PlaceOf, UseOf, part_place, argument_place, field_arguments, directives_of, StandsIn, here, within, after, StandsInValue, StandsInArguments, StandsInDirectives, StandsInSelection, in_arguments, in_directives, IsUsedInOperation, in_selection, in_directive, in_variable, IsUsedInFragment, within_selection, within_directive}
 use Rattle.gq_variables.specs.ReachedUses.{ReachesUse, of_itself, of_fragment}
-use Rattle.gq_variables.specs.UsesPlaces.{own_uses, uses_among, value_uses, uses_under, uses_of_argument, argument_uses, uses_of_directive, directive_uses, head_uses, uses_of_selection, selection_uses, variable_uses, operation_uses, fragment_uses, row_at, reached_uses}
+use Rattle.gq_variables.specs.Helping.UsesPlaces.{own_uses, uses_among, value_uses, uses_under, uses_of_argument, argument_uses, uses_of_directive, directive_uses, head_uses, uses_of_selection, selection_uses, variable_uses, operation_uses, fragment_uses, row_at, reached_uses}
+use Rattle.gq_types.proofs.Gathered.{only, from_flat, to_flat}
 
 abbrev use_of : ℕ → NameOf Span → PlaceOf → UseOf
 use_of file name place = record { file = file; name = name; place = place }

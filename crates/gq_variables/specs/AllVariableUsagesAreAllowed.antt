@@ -3,14 +3,14 @@ use Rattle.std.specs.Prelude.{◌≡◌, Bool, true, false, List, Option, Some, 
 use Rattle.gq_text.specs.declared.place.Span.{Span}
 use Rattle.gq_tree.specs.Plain.{NameOf, Val, TypeOf, named, list_of, non_null, VariableOf}
 use Rattle.gq_found.specs.declared.code.Code.TheVariants.{VariableNotAllowedHere}
-use Rattle.gq_found.specs.declared.item.Item.{Item}
+use Rattle.gq_found.specs.declared.fault.Fault.{Fault}
 use Rattle.gq_types.specs.Entries.{EntryOf}
 use Rattle.gq_types.specs.Joined.{kind_named}
 use Rattle.gq_values.specs.Literals.{at_type, is_null}
 use Rattle.gq_types.specs.Required.{is_non_null}
-use Rattle.gq_values.specs.Items.{item_at}
+use Rattle.gq_found.specs.FaultPlaces.{fault_at}
 use Rattle.gq_document.specs.Definitions.{OperationOf}
-use Rattle.gq_document.specs.Selections.{base_name}
+use Rattle.gq_tree.specs.NamedTypes.{base_name}
 use Rattle.gq_document.specs.Executable.{ExecutableOf}
 use Rattle.gq_variables.specs.Uses.{UseOf}
 use Rattle.gq_variables.specs.ReachedUses.{ReachesUse}
@@ -41,7 +41,7 @@ abbrev pub is_known : List EntryOf → TypeOf Span → Bool
 is_known es t = is_some (kind_named es (base_name t))
 
 -- a use at a type that does not allow a variable of its name; where one of the types is not known nothing is told
-pub record IsNotAllowed (x : ExecutableOf) (o : OperationOf) (item : Item) : Type 0 where
+pub record IsNotAllowed (x : ExecutableOf) (o : OperationOf) (fault : Fault) : Type 0 where
   pub one : UseOf
   pub reached : ReachesUse x o one
   pub variable : VariableOf Span
@@ -52,4 +52,4 @@ pub record IsNotAllowed (x : ExecutableOf) (o : OperationOf) (item : Item) : Typ
   pub variable_known : is_known x.entries variable.type_ref ≡ true
   pub location_known : is_known x.entries location ≡ true
   pub not_allowed : IsAllowed variable one.place.has_default location → ⊥
-  pub is : item ≡ item_at one.file VariableNotAllowedHere one.name
+  pub is : fault ≡ fault_at one.file VariableNotAllowedHere one.name

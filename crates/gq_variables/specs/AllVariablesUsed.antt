@@ -3,16 +3,16 @@ use Rattle.std.specs.Prelude.{◌≡◌, ◌≢◌, Contains}
 use Rattle.gq_text.specs.declared.place.Span.{Span}
 use Rattle.gq_tree.specs.Plain.{VariableOf}
 use Rattle.gq_found.specs.declared.code.Code.TheVariants.{VariableNotUsed}
-use Rattle.gq_found.specs.declared.item.Item.{Item}
-use Rattle.gq_values.specs.Items.{item_at}
+use Rattle.gq_found.specs.declared.fault.Fault.{Fault}
+use Rattle.gq_found.specs.FaultPlaces.{fault_at}
 use Rattle.gq_document.specs.Definitions.{OperationOf}
 use Rattle.gq_document.specs.Executable.{ExecutableOf}
 use Rattle.gq_variables.specs.Uses.{UseOf}
 use Rattle.gq_variables.specs.ReachedUses.{ReachesUse}
 
 -- a variable whose name no use has
-pub record IsNotUsed (x : ExecutableOf) (o : OperationOf) (item : Item) : Type 0 where
+pub record IsNotUsed (x : ExecutableOf) (o : OperationOf) (fault : Fault) : Type 0 where
   pub variable : VariableOf Span
   pub defined : Contains o.variables variable
   pub unused : (u : UseOf) → ReachesUse x o u → u.name.text ≢ variable.name.text
-  pub is : item ≡ item_at o.file VariableNotUsed variable.name
+  pub is : fault ≡ fault_at o.file VariableNotUsed variable.name

@@ -7,7 +7,7 @@ use Rattle.gq_document.specs.Executable.{ExecutableOf}
 use Rattle.gq_spreads.specs.Spreads.{ReachesNumber}
 use Rattle.gq_spreads.specs.declared.spreads.Spreads.{Spreads}
 use Rattle.gq_variables.specs.Uses.{UseOf}
-use Rattle.gq_variables.specs.UsesPlaces.{fragment_uses, row_at}
+use Rattle.gq_variables.specs.Helping.UsesPlaces.{fragment_uses, row_at}
 
 -- the numbers of the rows that are not empty, the first of which has the given number
 abbrev pub numbers_with_uses : ℕ → List (List UseOf) → List ℕ

@@ -7,6 +7,5 @@ pub mod AllVariablesUsed
 pub mod AllVariableUsagesAreAllowed
 pub mod VariableFaults
 pub mod Views
-pub mod UsesPlaces
-pub mod VariablePlaces
 pub mod Leading
+pub mod Helping

@@ -6,7 +6,7 @@ use Rattle.gq_tree.specs.Forest.{none, more}
 use Rattle.gq_tree.specs.Plain.{NameOf, Part, Val, Vals, InputOf, DirectiveOf, VariableOf, Head, field, spread, inline, variable}
 use Rattle.gq_types.specs.Entries.{Text, EntryOf}
 use Rattle.gq_types.specs.Names.{input_named, argument_named}
-use Rattle.gq_values.specs.Literals.{Reading, at_type, at_any, items_at, field_at, input_object_at}
+use Rattle.gq_values.specs.Literals.{Expected, at_type, at_any, items_at, field_at, input_object_at}
 use Rattle.gq_values.specs.ArgumentFaults.{argument_at}
 use Rattle.gq_types.specs.Arguments.{directive_arguments}
 use Rattle.gq_document.specs.Definitions.{OperationOf, FragmentOf}
@@ -14,7 +14,7 @@ use Rattle.gq_document.specs.Selections.{selected_field, SelectedOf, IsOfOperati
 
 -- A place in arguments or in a literal: what the value there is read at, and whether the place has a default value.
 pub record PlaceOf : Type 0 where
-  pub reading : Reading
+  pub reading : Expected
   pub has_default : Bool
 
 -- whether the definition of an argument or of an input field has a default value (sections 3.6.1 and 3.10)
@@ -22,7 +22,7 @@ abbrev pub is_defaulted : Option (InputOf Span) → Bool
 is_defaulted input = option_map_or (λ i. is_some i.default) input false
 
 -- The input field of that name in an object literal, where the literal is read at an input object.
-abbrev pub input_field_at : List EntryOf → Reading → Text → Option (InputOf Span)
+abbrev pub input_field_at : List EntryOf → Expected → Text → Option (InputOf Span)
 input_field_at es (at_type t) text = option_and_then (λ type_name. input_named es type_name text) (input_object_at es t)
 input_field_at es at_any text = None
 

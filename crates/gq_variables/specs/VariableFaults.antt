@@ -1,6 +1,6 @@
--- What is wrong with variables: each item that a rule demands, one case a rule (section 5.8).
+-- What is wrong with variables: each fault that a rule demands, one case a rule (section 5.8).
 use Rattle.std.specs.Prelude.{Contains}
-use Rattle.gq_found.specs.declared.item.Item.{Item}
+use Rattle.gq_found.specs.declared.fault.Fault.{Fault}
 use Rattle.gq_document.specs.Definitions.{OperationOf}
 use Rattle.gq_document.specs.Executable.{ExecutableOf}
 use Rattle.gq_variables.specs.VariableUniqueness.{IsNotUnique}
@@ -10,7 +10,7 @@ use Rattle.gq_variables.specs.AllVariablesUsed.{IsNotUsed}
 use Rattle.gq_variables.specs.AllVariableUsagesAreAllowed.{IsNotAllowed}
 
 -- in an operation and in the fragments that it reaches
-pub data IsFaultOfOperation (x : ExecutableOf) (o : OperationOf) (item : Item) : Type 0 where
+pub data IsFaultOfOperation (x : ExecutableOf) (o : OperationOf) (item : Fault) : Type 0 where
   not_unique : IsNotUnique o item → IsFaultOfOperation x o item
   not_of_input_type : IsNotOfInputType x.entries o item → IsFaultOfOperation x o item
   not_defined : IsNotDefined x o item → IsFaultOfOperation x o item
@@ -18,7 +18,7 @@ pub data IsFaultOfOperation (x : ExecutableOf) (o : OperationOf) (item : Item) :
   not_allowed : IsNotAllowed x o item → IsFaultOfOperation x o item
 
 -- in some operation
-pub record IsVariableFault (x : ExecutableOf) (item : Item) : Type 0 where
+pub record IsVariableFault (x : ExecutableOf) (item : Fault) : Type 0 where
   pub operation : OperationOf
   pub stands : Contains x.operations operation
   pub fault : IsFaultOfOperation x operation item

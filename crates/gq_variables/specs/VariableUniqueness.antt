@@ -4,12 +4,12 @@ use Rattle.gq_text.specs.declared.place.Span.{Span}
 use Rattle.gq_tree.specs.Plain.{VariableOf}
 use Rattle.gq_names.specs.Repeats.{IsRepeated}
 use Rattle.gq_found.specs.declared.code.Code.TheVariants.{VariableNotUnique}
-use Rattle.gq_found.specs.declared.item.Item.{Item}
-use Rattle.gq_values.specs.Items.{item_at}
+use Rattle.gq_found.specs.declared.fault.Fault.{Fault}
+use Rattle.gq_found.specs.FaultPlaces.{fault_at}
 use Rattle.gq_document.specs.Definitions.{OperationOf}
 
 -- a variable whose name an earlier one has
-pub record IsNotUnique (o : OperationOf) (item : Item) : Type 0 where
+pub record IsNotUnique (o : OperationOf) (fault : Fault) : Type 0 where
   pub variable : VariableOf Span
   pub repeated : IsRepeated (λ v. v.name.text) o.variables variable
-  pub is : item ≡ item_at o.file VariableNotUnique variable.name
+  pub is : fault ≡ fault_at o.file VariableNotUnique variable.name

@@ -7,13 +7,13 @@ use Rattle.gq_text.specs.declared.place.Span.{Span}
 use Rattle.gq_tree.specs.declared.tree.VariableDefinition.{VariableDefinition}
 use Rattle.gq_tree.specs.Plain.{VariableOf}
 use Rattle.gq_tree.specs.Views.{name_of, variable_view}
-use Rattle.gq_values.specs.Readings.{reading_view}
+use Rattle.gq_values.specs.ExpectedTypes.{expected_view}
 use Rattle.gq_variables.specs.Uses.{PlaceOf, UseOf}
 use Rattle.gq_variables.specs.declared.uses.Place.{Place}
 use Rattle.gq_variables.specs.declared.uses.Use.{Use}
 
 abbrev pub place_view : Place → PlaceOf
-place_view p = record { reading = reading_view p.reading; has_default = p.has_default }
+place_view p = record { reading = expected_view p.reading; has_default = p.has_default }
 
 abbrev pub use_view : Use → UseOf
 use_view u = record { file = u.file; name = name_of u.name.now; place = place_view u.place }

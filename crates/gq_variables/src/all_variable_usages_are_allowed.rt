@@ -4,19 +4,17 @@ ghost use Rattle.std.specs.List.{list_any};
 ghost use Rattle.gq_tree.specs.Views.{type_view, variable_view};
 ghost use Rattle.gq_types.specs.Look.{types_view};
 ghost use Rattle.gq_variables.specs.AllVariableUsagesAreAllowed.{is_known};
-ghost use Rattle.gq_variables.specs.VariablePlaces.{is_wrong_at, is_wrong_for, first_is_wrong, is_misused, not_allowed_at, not_allowed};
+ghost use Rattle.gq_variables.specs.Helping.VariablePlaces.{is_wrong_at, is_wrong_for, first_is_wrong, is_misused, not_allowed_at, not_allowed};
 ghost use Rattle.gq_variables.specs.Views.{place_view, use_view, uses_view, variables_view};
 
 use crate::compatible::is_allowed;
-use crate::items::put_at;
 use crate::uses::{Place, Use};
 use crate::variables::Variables;
-use gq_document::base_name;
-use gq_found::{Code, Item};
+use gq_found::{Code, Fault, add_fault_at};
 use gq_text::NoMemory;
-use gq_tree::{TypeRef, VariableDefinition};
+use gq_tree::{TypeRef, VariableDefinition, base_name};
 use gq_types::Types;
-use gq_values::Read;
+use gq_values::ExpectedType;
 
 fn is_known(types: &Types, type_ref: &TypeRef) -> bool
     ensures { result ≡ is_known (types_view types.now) (type_view type_ref.now) }
@@ -29,12 +27,12 @@ fn is_wrong_at(types: &Types, place: Place<'_>, variable: &VariableDefinition) -
     ensures { result ≡ is_wrong_at (types_view types.now) (place_view place.entry) (variable_view variable.now) }
 {
     match place.reading {
-        Read::AtType(location) => {
+        ExpectedType::AtType(location) => {
             is_known(types, &variable.type_ref)
                 && is_known(types, location)
                 && !is_allowed(variable, place.has_default, location)
         }
-        Read::AtAny => false,
+        ExpectedType::AtAny => false,
     }
 }
 
@@ -66,34 +64,34 @@ fn any_is_wrong(types: &Types, one: &Use<'_>, variables: &[&VariableDefinition])
     false
 }
 
-fn put_if_not_allowed(
+fn add_if_not_allowed(
     types: &Types,
     variables: &Variables<'_>,
     repeated: &[&VariableDefinition],
     one: &Use<'_>,
-    items: &mut Vec<Item>,
+    faults: &mut Vec<Fault>,
 ) -> Result<(), NoMemory>
-    ensures { OnOk result (items.new.items ≡ items.old.items ++ not_allowed_at (types_view types.now) (map variable_view variables.now.all.now) (variables_view repeated.now) (use_view one.now)) }
+    ensures { OnOk result (faults.new.items ≡ faults.old.items ++ not_allowed_at (types_view types.now) (map variable_view variables.now.all.now) (variables_view repeated.now) (use_view one.now)) }
 {
     if first_is_wrong(types, variables, one) || any_is_wrong(types, one, repeated) {
-        put_at(one.file, Code::VariableNotAllowedHere, one.name, items)?;
+        add_fault_at(one.file, Code::VariableNotAllowedHere, one.name, faults)?;
     }
     Ok(())
 }
 
-/// Puts an item at each use at a type that does not allow a variable of its name.
+/// Adds a fault at each use at a type that does not allow a variable of its name.
 #[tactic(auto, using(gq_tree::proofs::Trees::gathers))]
-pub(crate) fn put_not_allowed(
+pub(crate) fn add_not_allowed(
     types: &Types,
     variables: &Variables<'_>,
     repeated: &[&VariableDefinition],
     uses: &[Use<'_>],
-    items: &mut Vec<Item>,
+    faults: &mut Vec<Fault>,
 ) -> Result<(), NoMemory>
-    ensures { OnOk result (items.new.items ≡ items.old.items ++ not_allowed (types_view types.now) (map variable_view variables.now.all.now) (variables_view repeated.now) (uses_view uses.now)) }
+    ensures { OnOk result (faults.new.items ≡ faults.old.items ++ not_allowed (types_view types.now) (map variable_view variables.now.all.now) (variables_view repeated.now) (uses_view uses.now)) }
 {
     for one in uses {
-        put_if_not_allowed(types, variables, repeated, one, items)?;
+        add_if_not_allowed(types, variables, repeated, one, faults)?;
     }
     Ok(())
 }

@@ -1,12 +1,11 @@
 //! Variables that an operation does not use (GraphQL, October 2021, section 5.8.4).
 ghost use Rattle.std.specs.Prelude.{◌≡◌, ◌++◌, IfOk, OnOk, map};
 ghost use Rattle.gq_tree.specs.Views.{variable_view};
-ghost use Rattle.gq_variables.specs.VariablePlaces.{use_texts, not_used_at, not_used};
+ghost use Rattle.gq_variables.specs.Helping.VariablePlaces.{use_texts, not_used_at, not_used};
 ghost use Rattle.gq_variables.specs.Views.{uses_view};
 
-use crate::items::put_at;
 use crate::uses::Use;
-use gq_found::{Code, Item};
+use gq_found::{Code, Fault, add_fault_at};
 use gq_names::NameList;
 use gq_text::NoMemory;
 use gq_tree::VariableDefinition;
@@ -24,46 +23,46 @@ fn used_names(alloc: Global, uses: &[Use<'_>]) -> Result<NameList, NoMemory>
     Ok(names)
 }
 
-fn put_if_not_used(
+fn add_if_not_used(
     file: usize,
     used: &NameList,
     one: &VariableDefinition,
-    items: &mut Vec<Item>,
+    faults: &mut Vec<Fault>,
 ) -> Result<(), NoMemory>
-    ensures { OnOk result (items.new.items ≡ items.old.items ++ not_used_at file used.now (variable_view one.now)) }
+    ensures { OnOk result (faults.new.items ≡ faults.old.items ++ not_used_at file used.now (variable_view one.now)) }
 {
     let name = &one.variable.name;
     if !used.contains(name.text.as_str()) {
-        put_at(file, Code::VariableNotUsed, name, items)?;
+        add_fault_at(file, Code::VariableNotUsed, name, faults)?;
     }
     Ok(())
 }
 
 #[tactic(auto, using(gq_tree::proofs::Trees::gathers))]
-fn put_each_not_used(
+fn add_each_not_used(
     file: usize,
     used: &NameList,
     variables: &[VariableDefinition],
-    items: &mut Vec<Item>,
+    faults: &mut Vec<Fault>,
 ) -> Result<(), NoMemory>
-    ensures { OnOk result (items.new.items ≡ items.old.items ++ not_used file used.now (map variable_view variables.now)) }
+    ensures { OnOk result (faults.new.items ≡ faults.old.items ++ not_used file used.now (map variable_view variables.now)) }
 {
     for one in variables {
-        put_if_not_used(file, used, one, items)?;
+        add_if_not_used(file, used, one, faults)?;
     }
     Ok(())
 }
 
-/// Puts an item at the name of each variable whose name none of the uses has.
-pub(crate) fn put_not_used(
+/// Adds a fault at the name of each variable whose name none of the uses has.
+pub(crate) fn add_not_used(
     alloc: Global,
     file: usize,
     variables: &[VariableDefinition],
     uses: &[Use<'_>],
-    items: &mut Vec<Item>,
+    faults: &mut Vec<Fault>,
 ) -> Result<(), NoMemory>
-    ensures { OnOk result (items.new.items ≡ items.old.items ++ not_used file (use_texts (uses_view uses.now)) (map variable_view variables.now)) }
+    ensures { OnOk result (faults.new.items ≡ faults.old.items ++ not_used file (use_texts (uses_view uses.now)) (map variable_view variables.now)) }
 {
     let used = used_names(alloc, uses)?;
-    put_each_not_used(file, &used, variables, items)
+    add_each_not_used(file, &used, variables, faults)
 }

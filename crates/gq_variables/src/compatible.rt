@@ -4,7 +4,7 @@ ghost use Rattle.std.specs.Option.{option_map};
 ghost use Rattle.gq_tree.specs.Views.{type_view, value_view, variable_view};
 ghost use Rattle.gq_types.specs.Required.{is_non_null};
 ghost use Rattle.gq_variables.specs.AllVariableUsagesAreAllowed.{is_value};
-ghost use Rattle.gq_variables.specs.VariablePlaces.{are_compatible, defaults, is_allowed};
+ghost use Rattle.gq_variables.specs.Helping.VariablePlaces.{are_compatible, defaults, is_allowed};
 
 use gq_tree::{TypeRef, Value, VariableDefinition};
 

@@ -7,12 +7,12 @@ ghost use Rattle.gq_document.specs.Definitions.{fragments_view};
 ghost use Rattle.gq_document.specs.Executable.{executable_view};
 ghost use Rattle.gq_spreads.specs.Spreads.{AreSpreads};
 ghost use Rattle.gq_variables.specs.Leading.{numbers_with_uses, LeadToUses, AreLeading};
-ghost use Rattle.gq_variables.specs.UsesPlaces.{fragment_uses};
+ghost use Rattle.gq_variables.specs.Helping.UsesPlaces.{fragment_uses};
 ghost use Rattle.gq_variables.specs.Views.{rows_view};
 
 use crate::uses::Use;
 use gq_document::Executable;
-use gq_reach::turned::turned;
+use gq_reach::transposed::transposed;
 use gq_reach::{mark_all, reach_rows};
 use gq_spreads::Spreads;
 use gq_text::NoMemory;
@@ -43,7 +43,7 @@ fn marks_of(
     ensures marks { IfOk result (λ marks. LeadToUses (row spreads.now) (rows_view rows.now) marks.items) }
 {
     let numbers = numbers_with_uses(alloc, rows)?;
-    let back = turned(alloc, spreads)?;
+    let back = transposed(alloc, spreads)?;
     let leading = reach_rows(alloc, &back, &numbers)?;
     let mut marks = vec![in alloc; false; spreads.len()]?;
     mark_all(&mut marks, &leading);

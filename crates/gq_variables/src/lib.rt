@@ -6,7 +6,6 @@ mod all_variable_uses_defined;
 mod all_variables_used;
 mod compatible;
 pub mod faults;
-mod items;
 mod leading;
 mod places;
 mod reached;
@@ -17,4 +16,4 @@ mod variable_uniqueness;
 mod variables;
 mod variables_are_input_types;
 
-pub use faults::put_variable_faults;
+pub use faults::add_variable_faults;

@@ -1,16 +1,16 @@
 //! The places in arguments and in literals (GraphQL, October 2021, sections 5.6 and 5.8.5).
 ghost use Rattle.std.specs.Prelude.{◌≡◌};
 ghost use Rattle.gq_types.specs.Look.{types_view, input_of};
-ghost use Rattle.gq_values.specs.ArgumentPlaces.{definitions_view};
-ghost use Rattle.gq_values.specs.Readings.{reading_view};
+ghost use Rattle.gq_values.specs.Helping.ArgumentPlaces.{definitions_view};
+ghost use Rattle.gq_values.specs.ExpectedTypes.{expected_view};
 ghost use Rattle.gq_variables.specs.Uses.{is_defaulted, input_field_at, items_place, field_place, argument_place};
 ghost use Rattle.gq_variables.specs.Views.{place_view};
 
 use crate::uses::Place;
 use gq_tree::InputValueDefinition;
 use gq_types::{Arguments, Types};
-use gq_values::Read;
-use gq_values::reading::{field_at, input_object_at, items_at};
+use gq_values::ExpectedType;
+use gq_values::expected_type::{field_at, input_object_at, items_at};
 
 fn is_defaulted(input: Option<&InputValueDefinition>) -> bool
     ensures { result ≡ is_defaulted (input_of input.entry) }
@@ -24,17 +24,17 @@ fn is_defaulted(input: Option<&InputValueDefinition>) -> bool
 /// The input field of that name, where an object literal is read at an input object.
 fn input_field_at<'a>(
     types: &'a Types,
-    reading: Read<'_>,
+    reading: ExpectedType<'_>,
     name: &str,
 ) -> Option<&'a InputValueDefinition>
-    ensures { input_of result ≡ input_field_at (types_view types.now) (reading_view reading.entry) name.now }
+    ensures { input_of result ≡ input_field_at (types_view types.now) (expected_view reading.entry) name.now }
 {
     match reading {
-        Read::AtType(type_ref) => match input_object_at(types, type_ref) {
+        ExpectedType::AtType(type_ref) => match input_object_at(types, type_ref) {
             Some(type_name) => types.input_field(type_name, name),
             None => None,
         },
-        Read::AtAny => None,
+        ExpectedType::AtAny => None,
     }
 }
 
@@ -64,17 +64,17 @@ pub(crate) fn argument_place<'a>(known: Option<Arguments<'a>>, name: &str) -> Pl
 {
     let Some(known) = known else {
         return Place {
-            reading: Read::AtAny,
+            reading: ExpectedType::AtAny,
             has_default: false,
         };
     };
     match known.named(name) {
         Some(definition) => Place {
-            reading: Read::AtType(&definition.type_ref),
+            reading: ExpectedType::AtType(&definition.type_ref),
             has_default: definition.default.is_some(),
         },
         None => Place {
-            reading: Read::AtAny,
+            reading: ExpectedType::AtAny,
             has_default: false,
         },
     }

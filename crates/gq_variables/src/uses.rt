@@ -1,12 +1,12 @@
 //! Uses of variables, and the places at which they stand.
 
 use gq_tree::Name;
-use gq_values::Read;
+use gq_values::ExpectedType;
 
 /// A place in arguments or in a literal: what the value there is read at, and whether the place has a default value.
 #[derive(Clone, Copy)]
 pub struct Place<'a> {
-    pub reading: Read<'a>,
+    pub reading: ExpectedType<'a>,
     pub has_default: bool,
 }
 

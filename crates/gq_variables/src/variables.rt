@@ -4,7 +4,7 @@ ghost use Rattle.std.specs.Option.{option_map};
 ghost use Rattle.std.specs.List.{list_any};
 ghost use Rattle.std.specs.Str.{bytes_eq};
 ghost use Rattle.gq_tree.specs.Views.{variable_view};
-ghost use Rattle.gq_variables.specs.VariablePlaces.{variable_texts, repeated_variables};
+ghost use Rattle.gq_variables.specs.Helping.VariablePlaces.{variable_texts, repeated_variables};
 ghost use Rattle.gq_variables.specs.Views.{variables_view};
 
 use gq_names::NameList;

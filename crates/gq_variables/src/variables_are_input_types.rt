@@ -2,13 +2,11 @@
 ghost use Rattle.std.specs.Prelude.{◌≡◌, ◌++◌, OnOk, map};
 ghost use Rattle.gq_tree.specs.Views.{variable_view};
 ghost use Rattle.gq_types.specs.Look.{types_view};
-ghost use Rattle.gq_variables.specs.VariablePlaces.{names_input_type, not_of_input_type_at, not_of_input_type};
+ghost use Rattle.gq_variables.specs.Helping.VariablePlaces.{names_input_type, not_of_input_type_at, not_of_input_type};
 
-use crate::items::put_at;
-use gq_document::base_name;
-use gq_found::{Code, Item};
+use gq_found::{Code, Fault, add_fault_at};
 use gq_text::NoMemory;
-use gq_tree::VariableDefinition;
+use gq_tree::{VariableDefinition, base_name};
 use gq_types::Types;
 
 fn names_input_type(types: &Types, name: &str) -> bool
@@ -20,37 +18,37 @@ fn names_input_type(types: &Types, name: &str) -> bool
     }
 }
 
-fn put_if_no_input_type(
+fn add_if_no_input_type(
     types: &Types,
     file: usize,
     one: &VariableDefinition,
-    items: &mut Vec<Item>,
+    faults: &mut Vec<Fault>,
 ) -> Result<(), NoMemory>
-    ensures { OnOk result (items.new.items ≡ items.old.items ++ not_of_input_type_at (types_view types.now) file (variable_view one.now)) }
+    ensures { OnOk result (faults.new.items ≡ faults.old.items ++ not_of_input_type_at (types_view types.now) file (variable_view one.now)) }
 {
     if !names_input_type(types, base_name(&one.type_ref)) {
-        put_at(
+        add_fault_at(
             file,
             Code::VariableNotOfInputType,
             &one.variable.name,
-            items,
+            faults,
         )?;
     }
     Ok(())
 }
 
-/// Puts an item at the name of each variable whose type is not known, or is no input type.
+/// Adds a fault at the name of each variable whose type is not known, or is no input type.
 #[tactic(auto, using(gq_tree::proofs::Trees::gathers))]
-pub(crate) fn put_not_of_input_type(
+pub(crate) fn add_not_of_input_type(
     types: &Types,
     file: usize,
     variables: &[VariableDefinition],
-    items: &mut Vec<Item>,
+    faults: &mut Vec<Fault>,
 ) -> Result<(), NoMemory>
-    ensures { OnOk result (items.new.items ≡ items.old.items ++ not_of_input_type (types_view types.now) file (map variable_view variables.now)) }
+    ensures { OnOk result (faults.new.items ≡ faults.old.items ++ not_of_input_type (types_view types.now) file (map variable_view variables.now)) }
 {
     for one in variables {
-        put_if_no_input_type(types, file, one, items)?;
+        add_if_no_input_type(types, file, one, faults)?;
     }
     Ok(())
 }

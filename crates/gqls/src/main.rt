@@ -13,7 +13,7 @@ use gq_rpc::Flagged;
 use gq_text::text::TEXT_MAX;
 use gq_text::{NoMemory, OwnedText};
 use std::alloc::{AllocError, Global};
-use std::collections::HashSet;
+use std::collections::BTreeSet;
 use std::fs::OpenFile;
 use std::io::Read;
 use std::process::ExitCode;
@@ -224,7 +224,7 @@ fn read_variables(rt: &HostRuntime, name: Option<&str>) -> Result<Option<Vec<u8>
 
 /// Whether there are more names than may be given.
 fn are_too_many(alloc: Global, names: &[&str]) -> Result<bool, NoMemory> {
-    let mut seen = HashSet::new(alloc);
+    let mut seen = BTreeSet::new(alloc);
     for name in names {
         seen.insert(*name)?;
     }
@@ -236,7 +236,7 @@ fn are_too_many(alloc: Global, names: &[&str]) -> Result<bool, NoMemory> {
 fn read_files(rt: &HostRuntime, names: &[&str]) -> Result<Vec<File>, NoMemory> {
     let alloc = rt.alloc();
     let mut goes_on = !are_too_many(alloc, names)?;
-    let mut seen = HashSet::new(alloc);
+    let mut seen = BTreeSet::new(alloc);
     let mut files = Vec::new(alloc);
     for name in names {
         let mut bytes = None;

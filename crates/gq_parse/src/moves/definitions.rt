@@ -1,7 +1,7 @@
 //! What a token does where a definition is expected (section 2.2).
 
 ghost use Rattle.std.specs.Prelude.{◌≡◌};
-ghost use Rattle.gq_parse.specs.Expected.{definition_move, definition_word_move, described_move, extension_move, implements_move, members_move, optional_implements_move, repeatable_move, type_parts_move};
+ghost use Rattle.gq_parse.specs.Helping.Expected.{definition_move, definition_word_move, described_move, extension_move, implements_move, members_move, optional_implements_move, repeatable_move, type_parts_move};
 
 use super::rows::{parts_move, row_move};
 use crate::expected::{Move, Row, Series, Symbol, Word};
@@ -12,8 +12,8 @@ pub(super) fn definition_move(kind: Kind, word: Word) -> Move
 {
     match kind {
         Kind::Name => definition_word_move(word),
-        Kind::BraceOpen => Move::Takes1(Symbol::FirstSelection),
-        Kind::String | Kind::BlockString => Move::Takes1(Symbol::Described),
+        Kind::BraceOpen => Move::TakesThen(Symbol::FirstSelection),
+        Kind::String | Kind::BlockString => Move::TakesThen(Symbol::Described),
         _ => Move::Stops,
     }
 }
@@ -23,20 +23,20 @@ fn definition_word_move(word: Word) -> Move
     ensures { result ≡ definition_word_move word }
 {
     match word {
-        Word::Query | Word::Mutation | Word::Subscription => Move::Takes4(
+        Word::Query | Word::Mutation | Word::Subscription => Move::TakesThenFour(
             Symbol::OptionalName,
             Symbol::OptionalRow(Row::Variables),
             Symbol::Directives { constant: false },
             Symbol::Set,
         ),
-        Word::Fragment => Move::Takes5(
+        Word::Fragment => Move::TakesThenFive(
             Symbol::FragmentName,
             Symbol::OnWord,
             Symbol::AnyName,
             Symbol::Directives { constant: false },
             Symbol::Set,
         ),
-        Word::Extend => Move::Takes1(Symbol::Extension),
+        Word::Extend => Move::TakesThen(Symbol::Extension),
         _ => described_move(word),
     }
 }
@@ -47,26 +47,26 @@ pub(super) fn described_move(word: Word) -> Move
 {
     let directives = Symbol::Directives { constant: true };
     match word {
-        Word::Schema => Move::Takes2(directives, Symbol::WholeRow(Row::Roots)),
-        Word::Scalar => Move::Takes2(Symbol::AnyName, directives),
-        Word::Object | Word::Interface => Move::Takes4(
+        Word::Schema => Move::TakesThenTwo(directives, Symbol::WholeRow(Row::Roots)),
+        Word::Scalar => Move::TakesThenTwo(Symbol::AnyName, directives),
+        Word::Object | Word::Interface => Move::TakesThenFour(
             Symbol::AnyName,
             Symbol::OptionalImplements,
             directives,
             Symbol::OptionalRow(Row::Fields),
         ),
-        Word::Union => Move::Takes3(Symbol::AnyName, directives, Symbol::OptionalMembers),
-        Word::Enum => Move::Takes3(
+        Word::Union => Move::TakesThenThree(Symbol::AnyName, directives, Symbol::OptionalMembers),
+        Word::Enum => Move::TakesThenThree(
             Symbol::AnyName,
             directives,
             Symbol::OptionalRow(Row::EnumValues),
         ),
-        Word::Input => Move::Takes3(
+        Word::Input => Move::TakesThenThree(
             Symbol::AnyName,
             directives,
             Symbol::OptionalRow(Row::InputFields),
         ),
-        Word::Directive => Move::Takes5(
+        Word::Directive => Move::TakesThenFive(
             Symbol::AtSign,
             Symbol::AnyName,
             Symbol::OptionalRow(Row::ArgumentDefinitions),
@@ -82,12 +82,12 @@ pub(super) fn extension_move(word: Word) -> Move
     ensures { result ≡ extension_move word }
 {
     match word {
-        Word::Schema => Move::Takes1(Symbol::PartsWith(Row::Roots)),
-        Word::Scalar => Move::Takes1(Symbol::ExtendedScalar),
-        Word::Object | Word::Interface => Move::Takes2(Symbol::AnyName, Symbol::TypeParts),
-        Word::Union => Move::Takes2(Symbol::AnyName, Symbol::UnionParts),
-        Word::Enum => Move::Takes2(Symbol::AnyName, Symbol::PartsWith(Row::EnumValues)),
-        Word::Input => Move::Takes2(Symbol::AnyName, Symbol::PartsWith(Row::InputFields)),
+        Word::Schema => Move::TakesThen(Symbol::PartsWith(Row::Roots)),
+        Word::Scalar => Move::TakesThen(Symbol::ExtendedScalar),
+        Word::Object | Word::Interface => Move::TakesThenTwo(Symbol::AnyName, Symbol::TypeParts),
+        Word::Union => Move::TakesThenTwo(Symbol::AnyName, Symbol::UnionParts),
+        Word::Enum => Move::TakesThenTwo(Symbol::AnyName, Symbol::PartsWith(Row::EnumValues)),
+        Word::Input => Move::TakesThenTwo(Symbol::AnyName, Symbol::PartsWith(Row::InputFields)),
         _ => Move::Stops,
     }
 }
@@ -108,7 +108,7 @@ pub(super) fn optional_implements_move(kind: Kind, word: Word) -> Move
     match kind {
         Kind::Name => implements_move(
             word,
-            Move::Takes1(Symbol::LedSeries(Series::Interfaces)),
+            Move::TakesThen(Symbol::LedSeries(Series::Interfaces)),
             Move::Skips,
         ),
         _ => Move::Skips,
@@ -120,7 +120,7 @@ pub(super) fn members_move(kind: Kind, otherwise: Move) -> Move
     ensures { result ≡ members_move kind otherwise }
 {
     match kind {
-        Kind::Equals => Move::Takes1(Symbol::LedSeries(Series::Members)),
+        Kind::Equals => Move::TakesThen(Symbol::LedSeries(Series::Members)),
         _ => otherwise,
     }
 }
@@ -130,8 +130,8 @@ pub(super) fn repeatable_move(word: Word) -> Move
     ensures { result ≡ repeatable_move word }
 {
     match word {
-        Word::On => Move::Takes0,
-        Word::Repeatable => Move::Takes1(Symbol::OnWord),
+        Word::On => Move::Takes,
+        Word::Repeatable => Move::TakesThen(Symbol::OnWord),
         _ => Move::Stops,
     }
 }
@@ -143,7 +143,7 @@ pub(super) fn type_parts_move(kind: Kind, word: Word) -> Move
     match kind {
         Kind::Name => implements_move(
             word,
-            Move::Takes3(
+            Move::TakesThenThree(
                 Symbol::LedSeries(Series::Interfaces),
                 Symbol::Directives { constant: true },
                 Symbol::OptionalRow(Row::Fields),

@@ -1,7 +1,7 @@
 //! What a token does where one token is expected.
 
 ghost use Rattle.std.specs.Prelude.{◌≡◌};
-ghost use Rattle.gq_parse.specs.Expected.{at_move, bracket_move, colon_move, not_on_move, on_word_move, optional_name_move, value_word_stops};
+ghost use Rattle.gq_parse.specs.Helping.Expected.{at_move, bracket_move, colon_move, not_on_move, on_word_move, optional_name_move, value_word_stops};
 
 use crate::expected::{Move, Word};
 use gq_lex::Kind;
@@ -19,7 +19,7 @@ pub(super) fn on_word_move(word: Word) -> Move
     ensures { result ≡ on_word_move word }
 {
     match word {
-        Word::On => Move::Takes0,
+        Word::On => Move::Takes,
         _ => Move::Stops,
     }
 }
@@ -37,7 +37,7 @@ pub(super) fn colon_move(kind: Kind) -> Move
     ensures { result ≡ colon_move kind }
 {
     match kind {
-        Kind::Colon => Move::Takes0,
+        Kind::Colon => Move::Takes,
         _ => Move::Stops,
     }
 }
@@ -46,7 +46,7 @@ pub(super) fn at_move(kind: Kind) -> Move
     ensures { result ≡ at_move kind }
 {
     match kind {
-        Kind::At => Move::Takes0,
+        Kind::At => Move::Takes,
         _ => Move::Stops,
     }
 }
@@ -55,7 +55,7 @@ pub(super) fn bracket_move(kind: Kind) -> Move
     ensures { result ≡ bracket_move kind }
 {
     match kind {
-        Kind::BracketClose => Move::Takes0,
+        Kind::BracketClose => Move::Takes,
         _ => Move::Stops,
     }
 }
@@ -64,7 +64,7 @@ pub(super) fn optional_name_move(kind: Kind) -> Move
     ensures { result ≡ optional_name_move kind }
 {
     match kind {
-        Kind::Name => Move::Takes0,
+        Kind::Name => Move::Takes,
         _ => Move::Skips,
     }
 }

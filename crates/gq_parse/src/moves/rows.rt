@@ -1,7 +1,7 @@
 //! What a token does where a row of parts is expected, or a part of one.
 
 ghost use Rattle.std.specs.Prelude.{◌≡◌};
-ghost use Rattle.gq_parse.specs.Expected.{argument_move, closes, enum_value_move, field_move, in_parens, input_move, more_move, opens, part_move, parts_move, root_word_move, row_move, variable_move};
+ghost use Rattle.gq_parse.specs.Helping.Expected.{argument_move, closes, enum_value_move, field_move, in_parens, input_move, more_move, opens, part_move, parts_move, root_word_move, row_move, variable_move};
 
 use super::names::value_word_stops;
 use super::{behind, name_move};
@@ -13,7 +13,7 @@ fn argument_move(constant: bool, kind: Kind) -> Move
     ensures { result ≡ argument_move constant kind }
 {
     match kind {
-        Kind::Name => Move::Takes2(Symbol::Colon, Symbol::Value { constant }),
+        Kind::Name => Move::TakesThenTwo(Symbol::Colon, Symbol::Value { constant }),
         _ => Move::Stops,
     }
 }
@@ -23,7 +23,7 @@ fn variable_move(kind: Kind) -> Move
     ensures { result ≡ variable_move kind }
 {
     match kind {
-        Kind::Dollar => Move::Takes5(
+        Kind::Dollar => Move::TakesThenFive(
             Symbol::AnyName,
             Symbol::Colon,
             Symbol::AnyType,
@@ -39,13 +39,13 @@ fn input_move(kind: Kind) -> Move
     ensures { result ≡ input_move kind }
 {
     match kind {
-        Kind::Name => Move::Takes4(
+        Kind::Name => Move::TakesThenFour(
             Symbol::Colon,
             Symbol::AnyType,
             Symbol::OptionalDefault,
             Symbol::Directives { constant: true },
         ),
-        Kind::String | Kind::BlockString => Move::Takes5(
+        Kind::String | Kind::BlockString => Move::TakesThenFive(
             Symbol::AnyName,
             Symbol::Colon,
             Symbol::AnyType,
@@ -61,13 +61,13 @@ fn field_move(kind: Kind) -> Move
     ensures { result ≡ field_move kind }
 {
     match kind {
-        Kind::Name => Move::Takes4(
+        Kind::Name => Move::TakesThenFour(
             Symbol::OptionalRow(Row::ArgumentDefinitions),
             Symbol::Colon,
             Symbol::AnyType,
             Symbol::Directives { constant: true },
         ),
-        Kind::String | Kind::BlockString => Move::Takes5(
+        Kind::String | Kind::BlockString => Move::TakesThenFive(
             Symbol::AnyName,
             Symbol::OptionalRow(Row::ArgumentDefinitions),
             Symbol::Colon,
@@ -83,8 +83,11 @@ fn enum_value_move(kind: Kind, word: Word) -> Move
     ensures { result ≡ enum_value_move kind word }
 {
     match kind {
-        Kind::Name => value_word_stops(word, Move::Takes1(Symbol::Directives { constant: true })),
-        Kind::String | Kind::BlockString => Move::Takes2(
+        Kind::Name => value_word_stops(
+            word,
+            Move::TakesThen(Symbol::Directives { constant: true }),
+        ),
+        Kind::String | Kind::BlockString => Move::TakesThenTwo(
             Symbol::EnumValueName,
             Symbol::Directives { constant: true },
         ),
@@ -98,7 +101,7 @@ fn root_word_move(word: Word) -> Move
 {
     match word {
         Word::Query | Word::Mutation | Word::Subscription => {
-            Move::Takes2(Symbol::Colon, Symbol::AnyName)
+            Move::TakesThenTwo(Symbol::Colon, Symbol::AnyName)
         }
         _ => Move::Stops,
     }
@@ -150,7 +153,7 @@ pub(super) fn row_move(row: Row, kind: Kind, otherwise: Move) -> Move
     ensures { result ≡ row_move row kind otherwise }
 {
     if opens(in_parens(row), kind) {
-        Move::Takes1(Symbol::FirstOf(row))
+        Move::TakesThen(Symbol::FirstOf(row))
     } else {
         otherwise
     }
@@ -160,7 +163,7 @@ pub(super) fn more_move(row: Row, kind: Kind, word: Word) -> Move
     ensures { result ≡ more_move row kind word }
 {
     if closes(in_parens(row), kind) {
-        Move::Takes0
+        Move::Takes
     } else {
         behind(part_move(row, kind, word), Symbol::MoreOf(row))
     }
@@ -171,7 +174,7 @@ pub(super) fn parts_move(kind: Kind, part: Symbol, otherwise: Move) -> Move
     ensures { result ≡ parts_move kind part otherwise }
 {
     match kind {
-        Kind::At => Move::Takes4(
+        Kind::At => Move::TakesThenFour(
             Symbol::AnyName,
             Symbol::OptionalRow(Row::Arguments { constant: true }),
             Symbol::Directives { constant: true },

@@ -1,7 +1,7 @@
 //! What a token does where selections are expected (section 2.4).
 
 ghost use Rattle.std.specs.Prelude.{◌≡◌};
-ghost use Rattle.gq_parse.specs.Expected.{alias_move, dots_move, dots_word_move, selection_move, selections_move, set_move};
+ghost use Rattle.gq_parse.specs.Helping.Expected.{alias_move, dots_move, dots_word_move, selection_move, selections_move, set_move};
 
 use super::behind;
 use crate::expected::{Move, Row, Symbol, Word};
@@ -12,7 +12,7 @@ pub(super) fn alias_move(kind: Kind) -> Move
     ensures { result ≡ alias_move kind }
 {
     match kind {
-        Kind::Colon => Move::Takes1(Symbol::AnyName),
+        Kind::Colon => Move::TakesThen(Symbol::AnyName),
         _ => Move::Skips,
     }
 }
@@ -22,7 +22,7 @@ pub(super) fn set_move(kind: Kind, otherwise: Move) -> Move
     ensures { result ≡ set_move kind otherwise }
 {
     match kind {
-        Kind::BraceOpen => Move::Takes1(Symbol::FirstSelection),
+        Kind::BraceOpen => Move::TakesThen(Symbol::FirstSelection),
         _ => otherwise,
     }
 }
@@ -31,13 +31,13 @@ pub(super) fn selection_move(kind: Kind) -> Move
     ensures { result ≡ selection_move kind }
 {
     match kind {
-        Kind::Name => Move::Takes4(
+        Kind::Name => Move::TakesThenFour(
             Symbol::OptionalAlias,
             Symbol::OptionalRow(Row::Arguments { constant: false }),
             Symbol::Directives { constant: false },
             Symbol::OptionalSet,
         ),
-        Kind::Spread => Move::Takes1(Symbol::AfterDots),
+        Kind::Spread => Move::TakesThen(Symbol::AfterDots),
         _ => Move::Stops,
     }
 }
@@ -46,7 +46,7 @@ pub(super) fn selections_move(kind: Kind) -> Move
     ensures { result ≡ selections_move kind }
 {
     match kind {
-        Kind::BraceClose => Move::Takes0,
+        Kind::BraceClose => Move::Takes,
         _ => behind(selection_move(kind), Symbol::MoreSelections),
     }
 }
@@ -57,13 +57,13 @@ pub(super) fn dots_move(kind: Kind, word: Word) -> Move
 {
     match kind {
         Kind::Name => dots_word_move(word),
-        Kind::At => Move::Takes4(
+        Kind::At => Move::TakesThenFour(
             Symbol::AnyName,
             Symbol::OptionalRow(Row::Arguments { constant: false }),
             Symbol::Directives { constant: false },
             Symbol::Set,
         ),
-        Kind::BraceOpen => Move::Takes1(Symbol::FirstSelection),
+        Kind::BraceOpen => Move::TakesThen(Symbol::FirstSelection),
         _ => Move::Stops,
     }
 }
@@ -72,11 +72,11 @@ fn dots_word_move(word: Word) -> Move
     ensures { result ≡ dots_word_move word }
 {
     match word {
-        Word::On => Move::Takes3(
+        Word::On => Move::TakesThenThree(
             Symbol::AnyName,
             Symbol::Directives { constant: false },
             Symbol::Set,
         ),
-        _ => Move::Takes1(Symbol::Directives { constant: false }),
+        _ => Move::TakesThen(Symbol::Directives { constant: false }),
     }
 }

@@ -1,7 +1,7 @@
 //! What a token does where a series of parts is expected.
 
 ghost use Rattle.std.specs.Prelude.{◌≡◌};
-ghost use Rattle.gq_parse.specs.Expected.{location_move, separates, separator_move, series_word_move};
+ghost use Rattle.gq_parse.specs.Helping.Expected.{location_move, separates, separator_move, series_word_move};
 
 use crate::expected::{Move, Series, Symbol, Word};
 use gq_lex::Kind;
@@ -19,7 +19,7 @@ pub(super) fn separator_move(series: Series, kind: Kind, otherwise: Move) -> Mov
     ensures { result ≡ separator_move series kind otherwise }
 {
     if separates(series, kind) {
-        Move::Takes1(Symbol::SeriesPart(series))
+        Move::TakesThen(Symbol::SeriesPart(series))
     } else {
         otherwise
     }
@@ -29,7 +29,7 @@ pub(super) fn series_word_move(series: Series, word: Word) -> Move
     ensures { result ≡ series_word_move series word }
 {
     match series {
-        Series::Interfaces | Series::Members => Move::Takes1(Symbol::MoreParts(series)),
+        Series::Interfaces | Series::Members => Move::TakesThen(Symbol::MoreParts(series)),
         Series::Locations => location_move(word),
     }
 }
@@ -38,7 +38,7 @@ fn location_move(word: Word) -> Move
     ensures { result ≡ location_move word }
 {
     match word {
-        Word::Location => Move::Takes1(Symbol::MoreParts(Series::Locations)),
+        Word::Location => Move::TakesThen(Symbol::MoreParts(Series::Locations)),
         _ => Move::Stops,
     }
 }

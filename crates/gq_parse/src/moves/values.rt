@@ -1,7 +1,7 @@
 //! What a token does where values, directives (section 2.12) and types (section 2.11) are expected.
 
 ghost use Rattle.std.specs.Prelude.{◌≡◌};
-ghost use Rattle.gq_parse.specs.Expected.{bang_move, default_move, directives_move, object_fields_move, some_directives_move, type_move, value_move, values_move};
+ghost use Rattle.gq_parse.specs.Helping.Expected.{bang_move, default_move, directives_move, object_fields_move, some_directives_move, type_move, value_move, values_move};
 
 use super::behind;
 use crate::expected::{Move, Row, Symbol};
@@ -13,10 +13,10 @@ pub(super) fn value_move(constant: bool, kind: Kind) -> Move
 {
     match kind {
         Kind::Dollar if constant => Move::Stops,
-        Kind::Dollar => Move::Takes1(Symbol::AnyName),
-        Kind::Int | Kind::Float | Kind::String | Kind::BlockString | Kind::Name => Move::Takes0,
-        Kind::BracketOpen => Move::Takes1(Symbol::MoreValues { constant }),
-        Kind::BraceOpen => Move::Takes1(Symbol::MoreObjectFields { constant }),
+        Kind::Dollar => Move::TakesThen(Symbol::AnyName),
+        Kind::Int | Kind::Float | Kind::String | Kind::BlockString | Kind::Name => Move::Takes,
+        Kind::BracketOpen => Move::TakesThen(Symbol::MoreValues { constant }),
+        Kind::BraceOpen => Move::TakesThen(Symbol::MoreObjectFields { constant }),
         _ => Move::Stops,
     }
 }
@@ -25,7 +25,7 @@ pub(super) fn values_move(constant: bool, kind: Kind) -> Move
     ensures { result ≡ values_move constant kind }
 {
     match kind {
-        Kind::BracketClose => Move::Takes0,
+        Kind::BracketClose => Move::Takes,
         _ => behind(value_move(constant, kind), Symbol::MoreValues { constant }),
     }
 }
@@ -34,8 +34,8 @@ pub(super) fn object_fields_move(constant: bool, kind: Kind) -> Move
     ensures { result ≡ object_fields_move constant kind }
 {
     match kind {
-        Kind::BraceClose => Move::Takes0,
-        Kind::Name => Move::Takes3(
+        Kind::BraceClose => Move::Takes,
+        Kind::Name => Move::TakesThenThree(
             Symbol::Colon,
             Symbol::Value { constant },
             Symbol::MoreObjectFields { constant },
@@ -49,7 +49,7 @@ pub(super) fn default_move(kind: Kind) -> Move
     ensures { result ≡ default_move kind }
 {
     match kind {
-        Kind::Equals => Move::Takes1(Symbol::Value { constant: true }),
+        Kind::Equals => Move::TakesThen(Symbol::Value { constant: true }),
         _ => Move::Skips,
     }
 }
@@ -59,7 +59,7 @@ pub(super) fn directives_move(constant: bool, kind: Kind) -> Move
     ensures { result ≡ directives_move constant kind }
 {
     match kind {
-        Kind::At => Move::Takes3(
+        Kind::At => Move::TakesThenThree(
             Symbol::AnyName,
             Symbol::OptionalRow(Row::Arguments { constant }),
             Symbol::Directives { constant },
@@ -72,7 +72,7 @@ pub(super) fn some_directives_move(kind: Kind) -> Move
     ensures { result ≡ some_directives_move kind }
 {
     match kind {
-        Kind::At => Move::Takes3(
+        Kind::At => Move::TakesThenThree(
             Symbol::AnyName,
             Symbol::OptionalRow(Row::Arguments { constant: true }),
             Symbol::Directives { constant: true },
@@ -86,9 +86,9 @@ pub(super) fn type_move(kind: Kind) -> Move
     ensures { result ≡ type_move kind }
 {
     match kind {
-        Kind::Name => Move::Takes1(Symbol::OptionalBang),
+        Kind::Name => Move::TakesThen(Symbol::OptionalBang),
         Kind::BracketOpen => {
-            Move::Takes3(Symbol::AnyType, Symbol::CloseBracket, Symbol::OptionalBang)
+            Move::TakesThenThree(Symbol::AnyType, Symbol::CloseBracket, Symbol::OptionalBang)
         }
         _ => Move::Stops,
     }
@@ -98,7 +98,7 @@ pub(super) fn bang_move(kind: Kind) -> Move
     ensures { result ≡ bang_move kind }
 {
     match kind {
-        Kind::Bang => Move::Takes0,
+        Kind::Bang => Move::Takes,
         _ => Move::Skips,
     }
 }

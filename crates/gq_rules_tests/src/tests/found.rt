@@ -1,5 +1,6 @@
 //! Codes of rules, and what is found.
-use gq_found::{Code, Found, Item, found_at, put_in_order};
+use gq_check::words;
+use gq_found::{Code, Fault, Found, found_at, put_in_order};
 use gq_project::Doc;
 use gq_text::{NoMemory, OwnedText, Span};
 use std::alloc::Global;
@@ -59,7 +60,7 @@ fn assert_codes(alloc: Global, rt: &impl Abort, rows: &str) -> Result<(), Fail> 
     let mut rows = rows.trim().lines();
     for code in codes() {
         let row = rows.next().unwrap_or("no row");
-        let (number, text, words) = (code.number(), code.as_str(), code.words());
+        let (number, text, words) = (code.number(), code.as_str(), words(code));
         let told = format!(in alloc; "{code:?} {number} {text} {words}")?;
         assert_eq!(rt; told.as_str(), row.trim());
     }
@@ -124,8 +125,8 @@ fn codes_have_texts_words_and_an_order(rt: HostRuntime) -> Result<(), Fail> {
     Ok(())
 }
 
-fn item(file: usize, start: usize, code: Code, end: usize) -> Item {
-    Item {
+fn item(file: usize, start: usize, code: Code, end: usize) -> Fault {
+    Fault {
         file,
         start,
         code,
@@ -134,17 +135,17 @@ fn item(file: usize, start: usize, code: Code, end: usize) -> Item {
 }
 
 #[test]
-fn items_are_put_in_order_each_once(rt: HostRuntime) -> Result<(), Fail> {
+fn faults_are_put_in_order_each_once(rt: HostRuntime) -> Result<(), Fail> {
     let alloc = rt.alloc();
     let first = item(0, 7, Code::WrongValue, 9);
     let second = item(0, 8, Code::UnknownField, 9);
     let third = item(0, 8, Code::WrongValue, 9);
     let longer = item(0, 8, Code::WrongValue, 10);
     let other = item(1, 0, Code::Syntax, 1);
-    let mut items = vec![in alloc; other, third, first, third, longer, second, other]?;
-    put_in_order(&mut items);
+    let mut faults = vec![in alloc; other, third, first, third, longer, second, other]?;
+    put_in_order(&mut faults);
     assert_eq!(rt;
-        items.as_slice(),
+        faults.as_slice(),
         [first, second, third, longer, other].as_slice()
     );
     Ok(())
@@ -164,21 +165,21 @@ fn told(alloc: Global, found: &[Found]) -> Result<String, Fail> {
     let mut all = String::new(alloc);
     for one in found {
         let (key, code, Span { start, end }) = (one.key.as_str(), one.code, one.span);
-        write!(all, "{key} {code:?} {start}-{end} {}; ", one.words())?;
+        write!(all, "{key} {code:?} {start}-{end} {}; ", words(code))?;
     }
     Ok(all)
 }
 
 #[test]
-fn items_are_told_with_the_keys_of_their_documents(rt: HostRuntime) -> Result<(), Fail> {
+fn faults_are_told_with_the_keys_of_their_documents(rt: HostRuntime) -> Result<(), Fail> {
     let alloc = rt.alloc();
     let documents = vec![in alloc; document(alloc, "a")?, document(alloc, "b")?]?;
-    let items = [
+    let faults = [
         item(1, 1, Code::UnknownField, 2),
         item(0, 0, Code::MixedFile, 3),
         item(2, 0, Code::NoQueryRoot, 0),
     ];
-    let found = found_at(alloc, &items, documents.as_slice())?;
+    let found = found_at(alloc, &faults, documents.as_slice())?;
     assert_eq!(rt;
         told(alloc, &found)?.as_str(),
         "b UnknownField 1-2 unknown field; a MixedFile 0-3 mixed file; "

@@ -1,8 +1,8 @@
 //! What numbers lead to.
 ghost use Rattle.std.specs.Prelude.{◌/◌, ◌∷◌, []};
 
-use gq_reach::turned::turned;
-use gq_reach::{Leads, are_below, components, is_in_range, mark_all, on_cycles, reach, reach_rows};
+use gq_reach::transposed::transposed;
+use gq_reach::{Graph, are_below, components, is_in_range, mark_all, on_cycles, reach, reach_rows};
 use gq_text::NoMemory;
 use std::alloc::Global;
 use std::process::Abort;
@@ -187,7 +187,7 @@ struct Halves {
     count: usize,
 }
 
-impl Leads for Halves {
+impl Graph for Halves {
     ghost count = { λ graph. graph.count };
 
     ghost leads = { λ graph n. n / 2 ∷ [] };
@@ -213,19 +213,19 @@ fn a_graph_is_searched_from_the_starts(rt: HostRuntime) -> Result<(), Fail> {
 }
 
 /// What leads to each number, a row behind the other.
-fn turned_round(alloc: Global, text: &str) -> Result<String, Fail> {
+fn transposed_table(alloc: Global, text: &str) -> Result<String, Fail> {
     let rows = table(alloc, text)?;
     if !is_in_range(&rows) {
         return Err("a number without a row")?;
     }
-    let back = turned(alloc, &rows)?;
+    let back = transposed(alloc, &rows)?;
     Ok(format!(in alloc; "{back:?}")?)
 }
 
 #[test]
-fn a_table_is_turned_round(rt: HostRuntime) -> Result<(), Fail> {
+fn a_table_is_transposed(rt: HostRuntime) -> Result<(), Fail> {
     let alloc = rt.alloc();
-    let told = turned_round(alloc, "4: 0-1 0-2 2-1 1-1 3-0")?;
+    let told = transposed_table(alloc, "4: 0-1 0-2 2-1 1-1 3-0")?;
     assert_eq!(rt; told.as_str(), "[[3], [0, 1, 2], [0], []]");
     Ok(())
 }

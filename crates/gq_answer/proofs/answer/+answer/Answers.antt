@@ -2,11 +2,10 @@ use Rattle.std.proofs.Common.{◌≡◌, ℕ, ◌+◌, ◌*◌, ◌<◌, ◌≤�
 use Rattle.std.specs.Prelude.{IfOk, ◌&&◌}
 use Rattle.std.specs.Option.{option_map}
 use Rattle.std.proofs.lemmas.Result.{IfOk-weaker}
-use Rattle.std.proofs.lemmas.List.{map-append}
+use Rattle.std.proofs.lemmas.List.{map-append, length-map}
 use Rattle.gq_tree.specs.Forest.{none}
 use Rattle.gq_table.specs.Views.{leaf_view, answer_view, answers_view}
 use Rattle.gq_table.proofs.Trees.{view_nothing, view_failed, view_leaf_result, view_object_result, view_list_result}
-use Rattle.std.proofs.lemmas.List.{length-map}
 use Rattle.gq_meaning.specs.Values.{Text, text}
 use Rattle.gq_meaning.specs.Shown as shown
 use Rattle.gq_meaning.specs.Thin.{IsIn}

@@ -1,5 +1,5 @@
 use Rattle.std.proofs.Common.{◌∙◌}
-use Rattle.gq_answers.proofs.Floors.{pos-floor}
+use Rattle.gq_text.proofs.Floors.{pos-floor}
 use Rattle.gq_answers.proofs.ranges.position_at.Goals as goal
 
 pub returns : goal.returns

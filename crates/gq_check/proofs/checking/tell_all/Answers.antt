@@ -1,7 +1,7 @@
 use Rattle.std.proofs.Common.{IfOk, IfErr, ◌∙◌, subst}
 use Rattle.gq_check.specs.Faults.{IsFaultOr}
 use Rattle.gq_check.specs.Files.{files_fault}
-use Rattle.gq_check.specs.Verdicts.{IsVerdict}
+use Rattle.gq_check.specs.Helping.Verdicts.{IsVerdict}
 use Rattle.gq_check.proofs.VerdictLemmas.{told_ends, untold_ends, refused_ends}
 use Rattle.gq_check.proofs.WriteLemmas.{wrote, wrote_in_part}
 use Rattle.gq_check.proofs.checking.tell_all.Goals as goal

@@ -1,8 +1,8 @@
 use Rattle.std.proofs.Common.{◌∙◌, ◌+◌, [], ◌∷◌, rules, subst, sym, ap, append-nil, drop, arith}
 use Rattle.std.proofs.lemmas.List.{drop_more}
 use Rattle.gq_found.specs.declared.found.Found.{Found}
-use Rattle.gq_check.specs.Starts.{StartsAt, AreStarts, first_key}
-use Rattle.gq_check.proofs.Floors.{pos-floor}
+use Rattle.gq_check.specs.Helping.Starts.{StartsAt, AreStarts, first_key}
+use Rattle.gq_text.proofs.Floors.{pos-floor}
 use Rattle.gq_check.proofs.LineLemmas.{starts-more, first_key-is, same_text}
 use Rattle.gq_check.proofs.lines.front_starts.Goals as goal
 

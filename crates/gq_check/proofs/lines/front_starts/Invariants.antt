@@ -1,5 +1,5 @@
 use Rattle.std.proofs.Common.{◌≡◌, ◌++◌, drop, length, List, ℕ}
-use Rattle.gq_check.specs.Starts.{AreStarts, first_key}
+use Rattle.gq_check.specs.Helping.Starts.{AreStarts, first_key}
 use Rattle.gq_check.proofs.lines.front_starts.Given as goal
 
 -- what starts behind those so far goes on with them

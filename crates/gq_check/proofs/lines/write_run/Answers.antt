@@ -1,7 +1,7 @@
 use Rattle.std.proofs.Common.{◌<◌, ◌≤◌, ◌^◌, ◌∙◌, length, map, rules, ap, arith}
 use Rattle.gq_text.specs.Place.{pos}
 use Rattle.gq_check.specs.Lines.{text_at}
-use Rattle.gq_check.specs.Starts.{first_key}
+use Rattle.gq_check.specs.Helping.Starts.{first_key}
 use Rattle.gq_check.proofs.LineLemmas.{starts-boundaries, starts-ascend, first_key-is, fits-text_at, lines-more, position-at, positions-fit}
 use Rattle.gq_check.proofs.lines.write_run.Goals as goal
 

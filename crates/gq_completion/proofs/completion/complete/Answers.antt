@@ -1,7 +1,7 @@
 use Rattle.std.proofs.Common.{sym, ap, ◌∙◌, subst}
 use Rattle.std.specs.Option.{option_copied}
 use Rattle.std.proofs.lemmas.Result.{IfOk-weaker}
-use Rattle.gq_completion.specs.Completed.{AreCompleted}
+use Rattle.gq_completion.specs.Helping.Completed.{AreCompleted}
 use Rattle.gq_completion.proofs.CompletionLemmas.{at_key, no_key}
 use Rattle.gq_completion.proofs.completion.complete.Goals as goal
 

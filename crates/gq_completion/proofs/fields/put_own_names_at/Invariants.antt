@@ -1,6 +1,6 @@
 use Rattle.std.proofs.Common.{◌≡◌, ◌++◌, drop, map, flat_map}
 use Rattle.gq_tree.specs.Views.{field_definition_view}
-use Rattle.gq_completion.specs.FieldNames.{own_name}
+use Rattle.gq_completion.specs.Helping.FieldNames.{own_name}
 use Rattle.gq_completion.proofs.fields.put_own_names_at.Given as goal
 
 abbrev pub invariant-loop-field : goal.invariant-loop-field

@@ -1,7 +1,7 @@
 use Rattle.std.proofs.Common.{ℕ, List, ◌≡◌, ◌↔◌, Contains, subst, take}
 use Rattle.std.proofs.lemmas.List.{take_all}
 use Rattle.gq_completion.specs.Completions.{IsFragmentName}
-use Rattle.gq_completion.specs.Fragments.{AddsFragments}
+use Rattle.gq_completion.specs.Helping.Fragments.{AddsFragments}
 use Rattle.gq_completion.proofs.FragmentLemmas.{one_more_at}
 use Rattle.gq_completion.proofs.fragments.fragment_names.Goals as goal
 

@@ -1,5 +1,5 @@
 use Rattle.std.proofs.Common.{◌≡◌, map}
-use Rattle.gq_completion.specs.Labels.{labelled}
+use Rattle.gq_completion.specs.Helping.Labels.{labelled}
 use Rattle.gq_completion.proofs.labels.labelled.Given as goal
 
 abbrev pub invariant-loop-label : goal.invariant-loop-label

@@ -1,6 +1,6 @@
 use Rattle.std.proofs.Common.{◌≡◌, ◌++◌, false, drop, map}
 use Rattle.gq_lex.specs.Tokens.{lexeme_of}
-use Rattle.gq_completion.specs.Variables.{names_behind}
+use Rattle.gq_completion.specs.Helping.Variables.{names_behind}
 use Rattle.gq_completion.proofs.variables.names_behind.Given as goal
 
 abbrev pub invariant-loop-token : goal.invariant-loop-token

@@ -1,5 +1,5 @@
 use Rattle.std.proofs.Common.{◌≡◌, ◌++◌, drop}
-use Rattle.gq_cut.specs.Runs.{edits_at, AreApart}
+use Rattle.gq_cut.specs.Helping.Runs.{edits_at, AreApart}
 use Rattle.gq_cut.proofs.edits.edits_at.Given as goal
 
 abbrev pub invariant-loop-file : goal.invariant-loop-file

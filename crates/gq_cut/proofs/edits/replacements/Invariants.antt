@@ -1,5 +1,5 @@
 use Rattle.std.proofs.Common.{◌≡◌, ◌++◌, drop}
-use Rattle.gq_cut.specs.Runs.{replacements_at}
+use Rattle.gq_cut.specs.Helping.Runs.{replacements_at}
 use Rattle.gq_cut.proofs.edits.replacements.Given as goal
 
 abbrev pub invariant-loop-place : goal.invariant-loop-place

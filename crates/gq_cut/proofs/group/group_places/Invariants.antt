@@ -1,7 +1,7 @@
 use Rattle.std.proofs.Common.{◌≡◌, ◌++◌, List, drop}
 use Rattle.gq_index.specs.Indexed.{IsIndexOf}
 use Rattle.gq_index.specs.Occurrences.{DefinitionOf}
-use Rattle.gq_cut.specs.Runs.{group_occurrences}
+use Rattle.gq_cut.specs.Helping.Runs.{group_occurrences}
 use Rattle.gq_cut.proofs.group.group_places.Given as goal
 
 abbrev pub invariant-loop-number : goal.invariant-loop-number

@@ -1,5 +1,5 @@
 use Rattle.std.proofs.Common.{◌≡◌, ◌++◌, drop}
-use Rattle.gq_cut.specs.Runs.{occurrences_in_file}
+use Rattle.gq_cut.specs.Helping.Runs.{occurrences_in_file}
 use Rattle.gq_cut.proofs.group.put_spans.Given as goal
 
 abbrev pub invariant-loop-span : goal.invariant-loop-span

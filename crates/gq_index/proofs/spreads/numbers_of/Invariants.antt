@@ -1,7 +1,7 @@
 use Rattle.std.proofs.Common.{◌≡◌, ◌++◌, drop}
 use Rattle.gq_names.specs.UnderNames.{items_under}
 use Rattle.gq_tree.specs.Names.{names_at}
-use Rattle.gq_index.specs.SpreadNumbers.{spread_numbers}
+use Rattle.gq_index.specs.Helping.SpreadNumbers.{spread_numbers}
 use Rattle.gq_index.proofs.spreads.numbers_of.Given as goal
 
 abbrev pub invariant-loop-name : goal.invariant-loop-name

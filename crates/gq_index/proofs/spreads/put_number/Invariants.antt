@@ -2,7 +2,7 @@ use Rattle.std.proofs.Common.{◌≡◌, ◌++◌, drop}
 use Rattle.gq_names.specs.UnderNames.{items_under}
 use Rattle.gq_tree.specs.Names.{names_at}
 use Rattle.gq_types.specs.Entries.{Text}
-use Rattle.gq_index.specs.SpreadNumbers.{numbers_under}
+use Rattle.gq_index.specs.Helping.SpreadNumbers.{numbers_under}
 use Rattle.gq_index.proofs.spreads.put_number.Given as goal
 
 abbrev pub invariant-loop-name : goal.invariant-loop-name

@@ -1,9 +1,9 @@
 use Rattle.std.proofs.Common.{map, take}
-use Rattle.gq_merging.specs.SearchTables.{AreMetInOne, Searched}
+use Rattle.gq_merging.specs.Helping.SearchTables.{AreMetInOne, Searched}
 use Rattle.gq_merging.specs.GroupViews.{groups_view}
 use Rattle.gq_merging.specs.Views.{members_view, look_view}
 use Rattle.gq_merging.proofs.cliques.look_at_classes.Given as goal
 
 abbrev pub invariant-loop-list : goal.invariant-loop-list
 invariant-loop-list l =
-    Searched (look_view l.look) (AreMetInOne (map (λ list. members_view list.items) (take l.list-index l.lists))) l.initial.items.items l.items.items (groups_view l.initial.groups.items) (groups_view l.groups.items)
+    Searched (look_view l.look) (AreMetInOne (map (λ list. members_view list.items) (take l.list-index l.lists))) l.initial.faults.items l.faults.items (groups_view l.initial.groups.items) (groups_view l.groups.items)

@@ -5,5 +5,5 @@ use Rattle.gq_merging.proofs.cliques.look_at_clique.Goals as goal
 
 pub returns : goal.returns
 returns c = λ t.
-    searched_clique (look_view c.args.look) (members_view c.args.members.now) c.requires.clique c.args.items.now.items c.put_faults_among.new.items.items
-    (groups_view c.args.groups.now.items) (groups_view c.put_group.new.groups.items) c.in_ok-put_faults_among.ensures c.in_ok-put_group.ensures
+    searched_clique (look_view c.args.look) (members_view c.args.members.now) c.requires.clique c.args.faults.now.items c.add_faults_among.new.faults.items
+    (groups_view c.args.groups.now.items) (groups_view c.put_group.new.groups.items) c.in_ok-add_faults_among.ensures c.in_ok-put_group.ensures

@@ -1,6 +1,6 @@
 use Rattle.std.proofs.Common.{map}
-use Rattle.gq_merging.specs.PairTables.{AreMet}
-use Rattle.gq_merging.specs.SearchTables.{AreMetInOne}
+use Rattle.gq_merging.specs.Helping.PairTables.{AreMet}
+use Rattle.gq_merging.specs.Helping.SearchTables.{AreMetInOne}
 use Rattle.gq_merging.specs.SearchViews.{list_with}
 use Rattle.gq_merging.specs.GroupViews.{groups_view}
 use Rattle.gq_merging.specs.Views.{members_view, look_view}
@@ -11,6 +11,6 @@ pub returns : goal.returns
 returns c = λ t.
     let others = members_view c.args.others.now in
     searched_both (look_view c.args.look) (AreMet others others) (AreMetInOne (map (list_with c.args.others.now) c.args.lists.now))
-    c.args.items.now.items c.look_at_clique.new.items.items c.look_at_lists.new.items.items
+    c.args.faults.now.items c.look_at_clique.new.faults.items c.look_at_lists.new.faults.items
     (groups_view c.args.groups.now.items) (groups_view c.look_at_clique.new.groups.items) (groups_view c.look_at_lists.new.groups.items)
     (c.in_ok-look_at_clique.ensures c.if-not-branch.false) (c.in_ok-done.ensures t)

@@ -1,8 +1,8 @@
 use Rattle.std.proofs.Common.{◌≡◌, map, ap, sym, subst}
 use Rattle.gq_types.specs.Look.{types_view}
-use Rattle.gq_merging.specs.NameTables.{by_name_view}
-use Rattle.gq_merging.specs.ParentTables.{AreByParent}
-use Rattle.gq_merging.specs.SearchTables.{IsClique}
+use Rattle.gq_merging.specs.Helping.NameTables.{by_name_view}
+use Rattle.gq_merging.specs.Helping.ParentTables.{AreByParent}
+use Rattle.gq_merging.specs.Helping.SearchTables.{IsClique}
 use Rattle.gq_merging.specs.SearchViews.{AreCliquesWith}
 use Rattle.gq_merging.specs.GroupViews.{groups_view}
 use Rattle.gq_merging.specs.Views.{members_view, look_view}
@@ -29,4 +29,4 @@ returns c = λ t.
     let lists : (by_name_view table.of_objects).lists ≡ map seen c.deref.result.now = ap (map seen) (sym c.deref.ensures.value) in
     met_with (look_view c.args.look) c.requires.purpose c.deref.result.now c.deref-2.result.now (by_name_view table.of_objects) lists (members_view c.args.members.now)
     (subst (λ xs. AreByParent (types_view c.args.look.types.now) (by_name_view table.of_objects) (members_view xs) (members_view c.args.members.now)) (sym c.deref-2.ensures.value) c.in_ok-by_parent.ensures)
-    c.requires.one_key c.args.items.now.items c.look_at_others.new.items.items (groups_view c.args.groups.now.items) (groups_view c.look_at_others.new.groups.items) (c.in_ok-done.ensures t)
+    c.requires.one_key c.args.faults.now.items c.look_at_others.new.faults.items (groups_view c.args.groups.now.items) (groups_view c.look_at_others.new.groups.items) (c.in_ok-done.ensures t)

@@ -1,8 +1,7 @@
-use Rattle.std.proofs.Common.{rules, ◌≡◌, ◌++◌, ◌∷◌, [], ap, ◌∙◌}
+use Rattle.std.proofs.Common.{rules, ◌≡◌, ◌++◌, ◌∷◌, [], ap, ◌∙◌, arith}
 use Rattle.std.proofs.lemmas.Bool.Decides.{nat_tests}
 use Rattle.std.proofs.lemmas.List.{map-append, nil_from_length}
-use Rattle.std.proofs.Common.{arith}
-use Rattle.gq_merging.specs.SearchTables.{AreBelowThese}
+use Rattle.gq_merging.specs.Helping.SearchTables.{AreBelowThese}
 use Rattle.gq_merging.specs.GroupViews.{groups_view}
 use Rattle.gq_merging.specs.Views.{members_view, rows_view}
 use Rattle.gq_merging.proofs.GrowLemmas.{grows_one, grows_not, in_group_below, nothing_below}

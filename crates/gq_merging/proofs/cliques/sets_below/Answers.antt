@@ -1,9 +1,9 @@
 use Rattle.std.proofs.Common.{rules, ◌≡◌, ◌↔◌, ◌<◌, ◌≤◌, [], All, length, take, get_or, subst, sym}
 use Rattle.std.proofs.lemmas.List.{take_all}
 use Rattle.std.proofs.lemmas.List.Elements.{All-nil}
-use Rattle.gq_merging.specs.SetTables.{MemberOf}
-use Rattle.gq_merging.specs.GroupTables.{IsOfGroup}
-use Rattle.gq_merging.specs.SearchTables.{IsBelowOne}
+use Rattle.gq_merging.specs.Helping.SetTables.{MemberOf}
+use Rattle.gq_merging.specs.Helping.GroupTables.{IsOfGroup}
+use Rattle.gq_merging.specs.Helping.SearchTables.{IsBelowOne}
 use Rattle.gq_merging.specs.Views.{members_view, rows_view}
 use Rattle.gq_merging.proofs.ClassLemmas.{members_more}
 use Rattle.gq_merging.proofs.GrowLemmas.{below_none}

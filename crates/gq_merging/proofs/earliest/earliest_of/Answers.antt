@@ -1,6 +1,6 @@
 use Rattle.std.proofs.Common.{rules, ◌≡◌, ◌<◌, true, length, get_or, sym, ◌∙◌}
 use Rattle.gq_types.specs.Look.{types_view}
-use Rattle.gq_merging.specs.Comparisons.{may_differ}
+use Rattle.gq_merging.specs.Helping.Comparisons.{may_differ}
 use Rattle.gq_merging.proofs.EarliestLemmas.{earliest_more}
 use Rattle.gq_merging.proofs.earliest.earliest_of.Goals as goal
 

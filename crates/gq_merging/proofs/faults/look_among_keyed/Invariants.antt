@@ -1,9 +1,9 @@
 use Rattle.std.proofs.Common.{take}
-use Rattle.gq_merging.specs.NameTables.{AreMetByKey, by_name_view}
-use Rattle.gq_merging.specs.PairTables.{Looked}
+use Rattle.gq_merging.specs.Helping.NameTables.{AreMetByKey, by_name_view}
+use Rattle.gq_merging.specs.Helping.PairTables.{Looked}
 use Rattle.gq_merging.specs.Views.{members_view, look_view}
 use Rattle.gq_merging.proofs.faults.look_among_keyed.Given as goal
 
 abbrev pub invariant-loop-member : goal.invariant-loop-member
 invariant-loop-member l =
-    Looked (look_view l.look) (AreMetByKey (members_view (take l.member-index l.left)) (by_name_view l.right)) l.initial.items.items l.items.items l.initial.found.keys l.found.keys
+    Looked (look_view l.look) (AreMetByKey (members_view (take l.member-index l.left)) (by_name_view l.right)) l.initial.faults.items l.faults.items l.initial.found.keys l.found.keys

@@ -1,5 +1,5 @@
 use Rattle.std.proofs.Common.{rules, ◌/◌, ◌%◌, Contains, length, subst}
-use Rattle.gq_merging.specs.PairTables.{IsGiven, IsNumber, Gains}
+use Rattle.gq_merging.specs.Helping.PairTables.{IsGiven, IsNumber, Gains}
 use Rattle.gq_merging.specs.Views.{look_view}
 use Rattle.gq_merging.proofs.LookLemmas.{gains_after}
 use Rattle.gq_merging.proofs.PairNumbers.{right_below}
@@ -10,7 +10,7 @@ returns-clause-gains c =
     let count = length c.args.look.rows.now in
     let left = c.args.number / count in
     let right = c.args.number % count in
-    gains_after (look_view c.args.look) c.args.number c.args.items.now.items c.look_at_sets.new.items.items
+    gains_after (look_view c.args.look) c.args.number c.args.faults.now.items c.look_at_sets.new.faults.items
     c.args.found.now.keys c.look_at_sets.new.found.keys c.put_lefts.new.found.keys c.put_rights.new.found.keys
     c.in_ok-look_at_sets.ensures
     (subst (λ ns. Gains (IsGiven (Contains ns) (λ l. IsNumber count c.args.look.size l right)) c.look_at_sets.new.found.keys c.put_lefts.new.found.keys) c.own_spreads.ensures c.in_ok-put_lefts.ensures)

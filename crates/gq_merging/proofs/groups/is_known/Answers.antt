@@ -1,7 +1,7 @@
 use Rattle.std.proofs.Common.{◌≡◌, ◌∙◌, Some, [], ap, arith, sym}
 use Rattle.std.proofs.lemmas.Bool.Decides.{nat_tests}
 use Rattle.std.proofs.lemmas.List.{nil_from_length}
-use Rattle.gq_merging.specs.GroupTables.{IsMarkedOne, as_empty, as_before, as_marked}
+use Rattle.gq_merging.specs.Helping.GroupTables.{IsMarkedOne, as_empty, as_before, as_marked}
 use Rattle.gq_merging.proofs.ClassLemmas.{group_at}
 use Rattle.gq_merging.proofs.groups.is_known.Goals as goal
 

@@ -2,8 +2,8 @@ use Rattle.std.proofs.Common.{◌≡◌, ◌<◌, ◌∙◌, Some, All, length, 
 use Rattle.std.specs.List.{flat_map}
 use Rattle.std.proofs.lemmas.Option.{same_Some}
 use Rattle.gq_reach.specs.Reach.{row}
-use Rattle.gq_merging.specs.GroupTables.{AreReached}
-use Rattle.gq_merging.specs.SetTables.{members_at}
+use Rattle.gq_merging.specs.Helping.GroupTables.{AreReached}
+use Rattle.gq_merging.specs.Helping.SetTables.{members_at}
 use Rattle.gq_merging.specs.Views.{rows_view}
 use Rattle.gq_merging.proofs.ClassLemmas.{group_at, group_in_range}
 use Rattle.gq_merging.proofs.MemberSteps.{count_alike, lone_members}

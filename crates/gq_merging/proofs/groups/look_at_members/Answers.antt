@@ -1,7 +1,7 @@
 use Rattle.std.proofs.Common.{rules, ◌≡◌, ◌++◌, ◌<◌, length, arith, ap, ◌∙◌}
 use Rattle.std.proofs.lemmas.List.{map-append, length-map}
 use Rattle.gq_types.specs.Look.{types_view}
-use Rattle.gq_merging.specs.GroupTables.{AreBelow, AreSettled}
+use Rattle.gq_merging.specs.Helping.GroupTables.{AreBelow, AreSettled}
 use Rattle.gq_merging.specs.Views.{members_view, rows_view}
 use Rattle.gq_merging.specs.GroupViews.{groups_view}
 use Rattle.gq_merging.proofs.MemberLemmas.{get_below}

@@ -1,5 +1,5 @@
 use Rattle.std.proofs.Common.{◌≡◌, take, length}
-use Rattle.gq_merging.specs.GroupTables.{AreMarked}
+use Rattle.gq_merging.specs.Helping.GroupTables.{AreMarked}
 use Rattle.gq_merging.proofs.groups.mark_all.Given as goal
 
 abbrev pub invariant-loop-number : goal.invariant-loop-number

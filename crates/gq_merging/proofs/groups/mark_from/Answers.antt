@@ -1,6 +1,6 @@
 use Rattle.std.proofs.Common.{rules, ◌≡◌, false}
 use Rattle.gq_types.specs.Look.{types_view}
-use Rattle.gq_merging.specs.GroupTables.{IsThroughMarked}
+use Rattle.gq_merging.specs.Helping.GroupTables.{IsThroughMarked}
 use Rattle.gq_merging.specs.Views.{rows_view}
 use Rattle.gq_merging.proofs.GroupLemmas.{nothing_is_tested, through_is_tested, one_more_tested}
 use Rattle.gq_merging.proofs.groups.mark_from.Goals as goal

@@ -2,7 +2,7 @@ use Rattle.std.proofs.Common.{sym, subst, IfOk}
 use denote.Param.Send.{sendable}
 use Rattle.std.proofs.Crossing.{crosses}
 use Rattle.gq_types.specs.Look.{types_view}
-use Rattle.gq_merging.specs.GroupTables.{AreTested}
+use Rattle.gq_merging.specs.Helping.GroupTables.{AreTested}
 use Rattle.gq_merging.specs.Views.{rows_view}
 use Rattle.gq_merging.proofs.Crossing.{Tables-sync}
 use Rattle.gq_merging.proofs.ThreadLemmas.{both_tested}

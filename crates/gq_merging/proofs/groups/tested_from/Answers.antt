@@ -1,7 +1,7 @@
 use Rattle.std.proofs.Common.{rules, ◌≡◌, ◌<◌, ◌≤◌, ◌∷◌, [], ◌++◌, All, length, arith, ap, sym, ◌∙◌, subst}
 use Rattle.std.proofs.lemmas.List.{length-map, map-append}
 use Rattle.gq_types.specs.Look.{types_view}
-use Rattle.gq_merging.specs.GroupTables.{IsTest, ArePassed}
+use Rattle.gq_merging.specs.Helping.GroupTables.{IsTest, ArePassed}
 use Rattle.gq_merging.specs.Views.{row_view, rows_view}
 use Rattle.gq_merging.specs.GroupViews.{groups_view}
 use Rattle.gq_merging.proofs.GroupLemmas.{test_begins, test_passed, test_ends}

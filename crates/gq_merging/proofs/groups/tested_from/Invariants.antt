@@ -1,5 +1,5 @@
 use Rattle.gq_types.specs.Look.{types_view}
-use Rattle.gq_merging.specs.GroupTables.{IsTest}
+use Rattle.gq_merging.specs.Helping.GroupTables.{IsTest}
 use Rattle.gq_merging.specs.Views.{rows_view}
 use Rattle.gq_merging.specs.GroupViews.{groups_view}
 use Rattle.gq_merging.proofs.groups.tested_from.Given as goal

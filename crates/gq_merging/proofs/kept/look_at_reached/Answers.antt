@@ -1,7 +1,7 @@
 use Rattle.std.proofs.Common.{◌≡◌, ap, sym, ◌∙◌, map}
 use Rattle.std.specs.List.{flat_map}
-use Rattle.gq_merging.specs.NameTables.{by_name_view}
-use Rattle.gq_merging.specs.SetTables.{members_at}
+use Rattle.gq_merging.specs.Helping.NameTables.{by_name_view}
+use Rattle.gq_merging.specs.Helping.SetTables.{members_at}
 use Rattle.gq_merging.specs.GroupViews.{groups_view}
 use Rattle.gq_merging.specs.Views.{members_view, rows_view, look_view}
 use Rattle.gq_merging.proofs.ClassSearch.{seen, seen_of_one_key}
@@ -25,4 +25,4 @@ returns-clause-searched c =
     ap members_view c.deref-2.ensures.value ∙ c.in_ok-members.ensures ∙ ap (flat_map (members_at (rows_view c.args.look.rows.now))) c.deref.ensures.value in
     group_searched c.args.look.rows.now c.args.look.spreads.now c.requires.spreads c.args.fragments.now c.in_ok-found.found.items (members_view c.deref-2.result.now)
     c.in_ok-found.ensures.sound c.in_ok-found.ensures.complete members (look_view c.args.look) c.deref-3.result.now (by_name_view c.in_ok-table.table) (ap (map seen) (sym c.deref-3.ensures.value)) c.in_ok-table.ensures
-    c.args.items.now.items c.look_at_classes.new.items.items (groups_view c.args.groups.now.items) (groups_view c.look_at_classes.new.groups.items) (c.in_ok-look_at_classes.ensures c.if-not-branch.false)
+    c.args.faults.now.items c.look_at_classes.new.faults.items (groups_view c.args.groups.now.items) (groups_view c.look_at_classes.new.groups.items) (c.in_ok-look_at_classes.ensures c.if-not-branch.false)

@@ -1,6 +1,6 @@
 use Rattle.std.proofs.Common.{◌≡◌, ◌++◌, drop}
 use Rattle.std.specs.List.{flat_map}
-use Rattle.gq_merging.specs.SetTables.{members_at}
+use Rattle.gq_merging.specs.Helping.SetTables.{members_at}
 use Rattle.gq_merging.specs.Views.{members_view, rows_view}
 use Rattle.gq_merging.proofs.members.gathered.Given as goal
 

@@ -1,5 +1,5 @@
 use Rattle.std.proofs.Common.{rules, ◌<◌, ◌≤◌, length}
-use Rattle.gq_merging.specs.PairTables.{IsNumber}
+use Rattle.gq_merging.specs.Helping.PairTables.{IsNumber}
 use Rattle.gq_merging.proofs.LookLemmas.{gains_all, gains_more}
 use Rattle.gq_merging.proofs.pairs.put_lefts.Goals as goal
 

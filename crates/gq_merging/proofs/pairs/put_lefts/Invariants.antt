@@ -1,5 +1,5 @@
 use Rattle.std.proofs.Common.{Contains, length, take}
-use Rattle.gq_merging.specs.PairTables.{IsGiven, IsNumber, Gains}
+use Rattle.gq_merging.specs.Helping.PairTables.{IsGiven, IsNumber, Gains}
 use Rattle.gq_merging.proofs.pairs.put_lefts.Given as goal
 
 abbrev pub invariant-loop-left : goal.invariant-loop-left

@@ -1,5 +1,5 @@
 use Rattle.std.proofs.Common.{rules, ◌≡◌, ◌+◌, ◌*◌, ◌<◌, ◌∙◌, sym}
-use Rattle.gq_merging.specs.PairTables.{IsNumber}
+use Rattle.gq_merging.specs.Helping.PairTables.{IsNumber}
 use Rattle.gq_merging.proofs.LookLemmas.{gains_number}
 use Rattle.gq_merging.proofs.PairNumbers.{is_number}
 use Rattle.gq_merging.proofs.pairs.put_number.Goals as goal

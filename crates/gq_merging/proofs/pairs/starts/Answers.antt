@@ -1,6 +1,6 @@
 use Rattle.std.proofs.Common.{rules, ◌≡◌, ◌+◌, [], length, sym, subst}
 use Rattle.std.proofs.lemmas.List.{nil_from_length}
-use Rattle.gq_merging.specs.PairTables.{IsStart, Gains}
+use Rattle.gq_merging.specs.Helping.PairTables.{IsStart, Gains}
 use Rattle.gq_merging.proofs.LookLemmas.{no_start, start_passed, start_stays}
 use Rattle.gq_merging.proofs.pairs.starts.Goals as goal
 use Rattle.gq_merging.proofs.pairs.starts.Goals.{then-not-is_passed+in_ok-put_number, else-not-is_passed}

@@ -1,5 +1,5 @@
 use Rattle.std.proofs.Common.{[], length}
-use Rattle.gq_merging.specs.PairTables.{IsStart, Gains}
+use Rattle.gq_merging.specs.Helping.PairTables.{IsStart, Gains}
 use Rattle.gq_merging.proofs.pairs.starts.Given as goal
 
 abbrev pub invariant-loop-number : goal.invariant-loop-number

@@ -1,5 +1,5 @@
 use Rattle.std.proofs.Common.{take}
-use Rattle.gq_merging.specs.StartTables.{SetsMarks}
+use Rattle.gq_merging.specs.Helping.StartTables.{SetsMarks}
 use Rattle.gq_merging.proofs.passed.put_marks.Given as goal
 
 abbrev pub invariant-loop-number : goal.invariant-loop-number

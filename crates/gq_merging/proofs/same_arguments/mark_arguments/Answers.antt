@@ -1,6 +1,6 @@
 use Rattle.std.proofs.Common.{rules, ◌≡◌, ◌↔◌, ◌<◌, ◌+◌, IsTrue, true, length, map, get_or, set, sym, subst}
 use Rattle.gq_tree.specs.Views.{argument_view}
-use Rattle.gq_merging.specs.Marks.{IsAmongFirst, MarksSame}
+use Rattle.gq_merging.specs.Helping.Marks.{IsAmongFirst, MarksSame}
 use Rattle.gq_merging.proofs.MarkLemmas.{stands_seen, marks_begin, marks_set, marks_kept, found_none, found_here, found_kept}
 use Rattle.gq_merging.proofs.same_arguments.mark_arguments.Goals.{then-same, else-same}
 use Rattle.gq_merging.proofs.same_arguments.mark_arguments.Goals as goal

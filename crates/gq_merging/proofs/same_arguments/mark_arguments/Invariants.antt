@@ -1,6 +1,6 @@
 use Rattle.std.proofs.Common.{◌↔◌, IsTrue, map}
 use Rattle.gq_tree.specs.Views.{argument_view}
-use Rattle.gq_merging.specs.Marks.{IsAmongFirst, MarksSame}
+use Rattle.gq_merging.specs.Helping.Marks.{IsAmongFirst, MarksSame}
 use Rattle.gq_merging.proofs.same_arguments.mark_arguments.Given as goal
 
 abbrev pub invariant-loop-i : goal.invariant-loop-i

@@ -3,7 +3,7 @@ use Rattle.std.proofs.lemmas.Result.{IfOk-weaker}
 use Rattle.std.specs.List.{list_all}
 use Rattle.gq_tree.specs.Views.{values_view, entry_view}
 use Rattle.gq_merging.specs.SameArguments.{AreInOrder}
-use Rattle.gq_merging.specs.Marks.{IsAmongFirst, MarksSame}
+use Rattle.gq_merging.specs.Helping.Marks.{IsAmongFirst, MarksSame}
 use Rattle.gq_merging.proofs.MarkLemmas.{stands_seen, marks_begin, marks_set, marks_kept, found_none, found_here, found_kept, all_more_seen, sets_marked_seen}
 use Rattle.gq_merging.proofs.IdentityLemmas.{variables_alike, ints_alike, floats_alike, strings_alike, booleans_alike, nulls_alike, enums_alike, lists_alike, objects_alike, no_variable, no_int, no_float, no_string, no_boolean, no_null, no_enum, no_list, no_object, order_apart, order_goes_on, order_stops, order_ends}
 use Rattle.gq_merging.proofs.same_values.+alike.Goals.{mark_fields-then-same, mark_fields-else-same}

@@ -1,7 +1,7 @@
 use Rattle.std.proofs.Common.{◌↔◌, IsTrue, drop, take, map}
 use Rattle.gq_tree.specs.Views.{values_view, entry_view}
 use Rattle.gq_merging.specs.SameArguments.{AreInOrder}
-use Rattle.gq_merging.specs.Marks.{IsAmongFirst, MarksSame, AllFound}
+use Rattle.gq_merging.specs.Helping.Marks.{IsAmongFirst, MarksSame, AllFound}
 use Rattle.gq_merging.proofs.same_values.+alike.Given as goal
 
 abbrev pub invariant-are_in_order-loop-i : goal.invariant-are_in_order-loop-i

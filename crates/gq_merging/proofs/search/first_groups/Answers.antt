@@ -1,7 +1,7 @@
 use Rattle.std.proofs.Common.{rules, ◌≡◌, ◌+◌, ◌<◌, ◌++◌, ◌∷◌, [], false, true, length, sym, subst, ap, ◌∙◌}
 use Rattle.std.specs.Prelude.{slice_index_or}
 use Rattle.std.proofs.lemmas.List.{map-append, length-map}
-use Rattle.gq_merging.specs.SearchTables.{AreFirst}
+use Rattle.gq_merging.specs.Helping.SearchTables.{AreFirst}
 use Rattle.gq_merging.specs.GroupViews.{groups_view}
 use Rattle.gq_merging.specs.Views.{row_view, rows_view}
 use Rattle.gq_merging.proofs.GroupSearch.{first_none, first_stays, first_passed}

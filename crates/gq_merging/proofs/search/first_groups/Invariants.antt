@@ -1,4 +1,4 @@
-use Rattle.gq_merging.specs.SearchTables.{AreFirst}
+use Rattle.gq_merging.specs.Helping.SearchTables.{AreFirst}
 use Rattle.gq_merging.specs.GroupViews.{groups_view}
 use Rattle.gq_merging.specs.Views.{rows_view}
 use Rattle.gq_merging.proofs.search.first_groups.Given as goal

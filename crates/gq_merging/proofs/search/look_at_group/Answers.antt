@@ -1,10 +1,10 @@
 use Rattle.std.proofs.Common.{rules, ◌≡◌, ◌<◌, IfSome, Some, length, map, ap, sym, subst, ◌∙◌}
 use Rattle.std.specs.List.{flat_map}
 use Rattle.std.proofs.lemmas.Option.{same_Some}
-use Rattle.gq_merging.specs.NameTables.{by_name_view, AreByKey}
-use Rattle.gq_merging.specs.SetTables.{members_at, spreads_at}
-use Rattle.gq_merging.specs.SearchTables.{AreInGroup, Searched}
-use Rattle.gq_merging.specs.KeptTables.{AreKept, AreMetBesideOne, IsTableAt, IsTableOf, tables_view}
+use Rattle.gq_merging.specs.Helping.NameTables.{by_name_view, AreByKey}
+use Rattle.gq_merging.specs.Helping.SetTables.{members_at, spreads_at}
+use Rattle.gq_merging.specs.Helping.SearchTables.{AreInGroup, Searched}
+use Rattle.gq_merging.specs.Helping.KeptTables.{AreKept, AreMetBesideOne, IsTableAt, IsTableOf, tables_view}
 use Rattle.gq_merging.specs.GroupViews.{groups_view}
 use Rattle.gq_merging.specs.Views.{members_view, rows_view, look_view}
 use Rattle.gq_merging.proofs.ClassLemmas.{group_at}
@@ -32,16 +32,16 @@ look_at_besides-requires-clause-table c =
     let ts = c.table_of.new.kept.tables.items in
     let fragments = c.in_ok-fragments.fragments.items in
     let at = subst (λ o. IfSome o (λ p. IsTableAt (tables_view ts) p fragments)) c.in-Some.is c.in_ok-place.ensures.table in
-    let kept = subst (λ o. IfSome o (λ p. AreKept w c.table_of.new.items.items (groups_view c.table_of.new.groups.items) (tables_view ts))) c.in-Some.is c.in_ok-place.ensures.kept in
+    let kept = subst (λ o. IfSome o (λ p. AreKept w c.table_of.new.faults.items (groups_view c.table_of.new.groups.items) (tables_view ts))) c.in-Some.is c.in_ok-place.ensures.kept in
     by_their_keys (rows_view c.args.look.rows.now) fragments (by_name_view c.index-table.result.now.fields)
-    (table_here w c.table_of.new.items.items (groups_view c.table_of.new.groups.items) ts c.in-Some.place c.index-table.result.now fragments c.index-table.ensures at kept)
+    (table_here w c.table_of.new.faults.items (groups_view c.table_of.new.groups.items) ts c.in-Some.place c.index-table.result.now fragments c.index-table.ensures at kept)
 
 pub returns-clause-kept : goal.returns-clause-kept
 returns-clause-kept c = λ t.
     let w = look_view c.args.look in
     let ts = c.table_of.new.kept.tables.items in
-    let kept = subst (λ o. IfSome o (λ p. AreKept w c.table_of.new.items.items (groups_view c.table_of.new.groups.items) (tables_view ts))) c.in-Some.is c.in_ok-place.ensures.kept in
-    kept_on w (AreMetBesideOne (map seen c.deref-4.result.now) (by_name_view c.index-table.result.now.fields)) c.table_of.new.items.items c.look_at_besides.new.items.items
+    let kept = subst (λ o. IfSome o (λ p. AreKept w c.table_of.new.faults.items (groups_view c.table_of.new.groups.items) (tables_view ts))) c.in-Some.is c.in_ok-place.ensures.kept in
+    kept_on w (AreMetBesideOne (map seen c.deref-4.result.now) (by_name_view c.index-table.result.now.fields)) c.table_of.new.faults.items c.look_at_besides.new.faults.items
     (groups_view c.table_of.new.groups.items) (groups_view c.look_at_besides.new.groups.items) (tables_view ts) (c.in_ok-done.ensures t) kept
 
 pub returns-clause-searched : goal.returns-clause-searched
@@ -52,9 +52,9 @@ returns-clause-searched c = λ group there t.
     let fragments = c.in_ok-fragments.fragments.items in
     let table = by_name_view c.index-table.result.now.fields in
     let at = subst (λ o. IfSome o (λ p. IsTableAt (tables_view ts) p fragments)) c.in-Some.is c.in_ok-place.ensures.table in
-    let kept = subst (λ o. IfSome o (λ p. AreKept w c.table_of.new.items.items (groups_view c.table_of.new.groups.items) (tables_view ts))) c.in-Some.is c.in_ok-place.ensures.kept in
-    let reached = subst (λ o. IfSome o (λ p. Searched w (AreInGroup rows fragments) c.args.items.now.items c.table_of.new.items.items (groups_view c.args.groups.now.items) (groups_view c.table_of.new.groups.items))) c.in-Some.is c.in_ok-place.ensures.searched in
-    let is = table_here w c.table_of.new.items.items (groups_view c.table_of.new.groups.items) ts c.in-Some.place c.index-table.result.now fragments c.index-table.ensures at kept in
+    let kept = subst (λ o. IfSome o (λ p. AreKept w c.table_of.new.faults.items (groups_view c.table_of.new.groups.items) (tables_view ts))) c.in-Some.is c.in_ok-place.ensures.kept in
+    let reached = subst (λ o. IfSome o (λ p. Searched w (AreInGroup rows fragments) c.args.faults.now.items c.table_of.new.faults.items (groups_view c.args.groups.now.items) (groups_view c.table_of.new.groups.items))) c.in-Some.is c.in_ok-place.ensures.searched in
+    let is = table_here w c.table_of.new.faults.items (groups_view c.table_of.new.groups.items) ts c.in-Some.place c.index-table.result.now fragments c.index-table.ensures at kept in
     let own_is : c.deref.result.now ≡ group =
     same_Some c.deref.result.now group (ap Some c.deref.ensures.value ∙ sym (group_at c.args.groups.now.items c.args.place c.index.result.now c.requires.place c.index.ensures) ∙ there) in
     let spread_is : c.deref-2.result.now ≡ group =
@@ -64,6 +64,6 @@ returns-clause-searched c = λ group there t.
     let spread : fragments ≡ flat_map (spreads_at rows) group = c.in_ok-fragments.ensures ∙ ap (flat_map (spreads_at rows)) spread_is in
     group_told rows group c.deref-4.result.now (by_name_view c.in_ok-by_key.by_key) (ap (map seen) (sym c.deref-4.ensures.value))
     (subst (AreByKey (by_name_view c.in_ok-by_key.by_key)) own c.in_ok-by_key.ensures) table (subst (λ ns. IsTableOf rows ns table) spread is) w
-    c.args.items.now.items c.table_of.new.items.items c.look_at_besides.new.items.items (groups_view c.args.groups.now.items) (groups_view c.table_of.new.groups.items) (groups_view c.look_at_besides.new.groups.items)
-    (subst (λ ns. Searched w (AreInGroup rows ns) c.args.items.now.items c.table_of.new.items.items (groups_view c.args.groups.now.items) (groups_view c.table_of.new.groups.items)) spread reached)
+    c.args.faults.now.items c.table_of.new.faults.items c.look_at_besides.new.faults.items (groups_view c.args.groups.now.items) (groups_view c.table_of.new.groups.items) (groups_view c.look_at_besides.new.groups.items)
+    (subst (λ ns. Searched w (AreInGroup rows ns) c.args.faults.now.items c.table_of.new.faults.items (groups_view c.args.groups.now.items) (groups_view c.table_of.new.groups.items)) spread reached)
     (c.in_ok-done.ensures t)

@@ -1,7 +1,7 @@
 use Rattle.std.proofs.Common.{rules, ◌≡◌, ◌≤◌, [], length, sym, arith, ap, subst}
 use Rattle.std.proofs.lemmas.List.{length-map}
-use Rattle.gq_merging.specs.SearchTables.{Search}
-use Rattle.gq_merging.specs.KeptTables.{tables_view}
+use Rattle.gq_merging.specs.Helping.SearchTables.{Search}
+use Rattle.gq_merging.specs.Helping.KeptTables.{tables_view}
 use Rattle.gq_merging.specs.GroupViews.{groups_view}
 use Rattle.gq_merging.specs.Views.{row_view, look_view}
 use Rattle.gq_merging.proofs.KeptLemmas.{none_kept}
@@ -11,10 +11,10 @@ use Rattle.gq_merging.proofs.search.search_groups.Goals as goal
 pub loop-done-init : goal.loop-done-init
 loop-done-init c =
     let first = groups_view c.in_ok-groups.groups.items in
-    let none : c.new-items.result.items ≡ [] = c.new-items.ensures.items in (
+    let none : c.new-faults.result.items ≡ [] = c.new-faults.ensures.items in (
       subst (λ is. Search (look_view c.args.look) c.args.passed.now first is first 0) (sym none)
           (search_starts (look_view c.args.look) c.args.passed.now c.requires.sets (sym (length-map c.args.look.rows.now row_view)) c.requires.size first c.in_ok-groups.ensures c.requires.passed),
-      none_kept (look_view c.args.look) c.new-items.result.items first (tables_view c.in_ok-notes.notes.kept.tables.items) (ap tables_view c.in_ok-notes.ensures),
+      none_kept (look_view c.args.look) c.new-faults.result.items first (tables_view c.in_ok-notes.notes.kept.tables.items) (ap tables_view c.in_ok-notes.ensures),
     )
 
 pub search_on-requires-clause-kept : goal.search_on-requires-clause-kept
@@ -32,4 +32,4 @@ returns c =
     let past : length c.loop-done.groups.items ≤ c.loop-done.done = search rules in
     let all : length (groups_view c.loop-done.groups.items) ≤ c.loop-done.done = omega (arith, past, length-map c.loop-done.groups.items (λ v. v.items)) in
     search_ends (look_view c.args.look) c.args.passed.now c.requires.sets (sym (length-map c.args.look.rows.now row_view)) c.requires.size (groups_view c.in_ok-groups.groups.items) c.in_ok-groups.ensures c.requires.passed
-    c.loop-done.items.items (groups_view c.loop-done.groups.items) c.loop-done.done c.loop-done.invariant.0 all
+    c.loop-done.faults.items (groups_view c.loop-done.groups.items) c.loop-done.done c.loop-done.invariant.0 all

@@ -1,6 +1,6 @@
 use Rattle.std.proofs.Common.{◌≡◌, ◌++◌, drop}
 use Rattle.gq_tree.specs.Views.{sels_view}
-use Rattle.gq_merging.specs.SetTables.{own_spreads}
+use Rattle.gq_merging.specs.Helping.SetTables.{own_spreads}
 use Rattle.gq_merging.proofs.sets.+spreads.Given as goal
 
 abbrev pub invariant-put_spreads-loop-selection : goal.invariant-put_spreads-loop-selection

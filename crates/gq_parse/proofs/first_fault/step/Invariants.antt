@@ -1,6 +1,6 @@
 use Rattle.std.proofs.Common.{◌≡◌, length}
 use Rattle.std.specs.Prelude.{reverse}
-use Rattle.gq_parse.specs.Expected.{advance}
+use Rattle.gq_parse.specs.Helping.Expected.{advance}
 use Rattle.gq_parse.proofs.first_fault.step.Given as goal
 
 abbrev pub invariant-loop-symbol : goal.invariant-loop-symbol

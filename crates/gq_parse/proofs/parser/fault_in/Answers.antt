@@ -1,6 +1,6 @@
 use Rattle.std.proofs.Common.{map, subst, sym}
 use Rattle.gq_lex.specs.Tokens.{lexeme_of}
-use Rattle.gq_parse.specs.Telling.{IsFaultIn}
+use Rattle.gq_parse.specs.Helping.Telling.{IsFaultIn}
 use Rattle.gq_parse.proofs.Telling.{telling}
 use Rattle.gq_parse.proofs.parser.fault_in.Goals as goal
 

@@ -2,7 +2,7 @@ use Rattle.std.proofs.Common.{◌≡◌, List, map, Err, ap, subst, sym, inl}
 use Rattle.std.proofs.lemmas.Result.{IfErr-weaker}
 use Rattle.gq_lex.specs.declared.token.Token.{Token}
 use Rattle.gq_lex.specs.Tokens.{lexeme_of, Reads, IsBadAt}
-use Rattle.gq_parse.specs.Telling.{IsFaultIn}
+use Rattle.gq_parse.specs.Helping.Telling.{IsFaultIn}
 use Rattle.gq_parse.proofs.Derivations.{past_limits, bad_text}
 use Rattle.gq_parse.proofs.Telling.{refuses_text}
 use Rattle.gq_parse.proofs.parser.parse.Goals as goal

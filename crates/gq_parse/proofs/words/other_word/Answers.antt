@@ -1,6 +1,5 @@
-use Rattle.std.proofs.Common.{sym, ◌∙◌}
+use Rattle.std.proofs.Common.{sym, ◌∙◌, true, false}
 use Rattle.gq_parse.proofs.WordsAre.{other_by}
-use Rattle.std.proofs.Common.{true, false}
 use Rattle.gq_parse.proofs.words.other_word.Goals as goal
 
 pub returns-then-is_location : goal.returns-then-is_location

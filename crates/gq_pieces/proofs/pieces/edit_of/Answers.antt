@@ -4,7 +4,7 @@ use Rattle.gq_project.specs.Documents.{IsInOrder}
 use Rattle.gq_edit.specs.declared.edit.DocumentEdit.{DocumentEdit}
 use Rattle.gq_edit.specs.Edits.{AreInOrder, FitDocuments, is_moved}
 use Rattle.gq_pieces.specs.Pieces.{edits_from}
-use Rattle.gq_pieces.specs.FittingPieces.{AllFit}
+use Rattle.gq_pieces.specs.Helping.FittingPieces.{AllFit}
 use Rattle.gq_pieces.proofs.PieceLemmas.{edits_in_order, edits_fit, edits_there}
 use Rattle.gq_pieces.proofs.pieces.edit_of.Goals as goal
 

@@ -1,6 +1,6 @@
 use Rattle.std.proofs.Common.{◌≡◌, ◌++◌, drop}
 use Rattle.gq_pieces.specs.Pieces.{edits_from}
-use Rattle.gq_pieces.specs.FittingPieces.{AllFit}
+use Rattle.gq_pieces.specs.Helping.FittingPieces.{AllFit}
 use Rattle.gq_pieces.proofs.pieces.edits.Given as goal
 
 abbrev pub invariant-loop-file : goal.invariant-loop-file

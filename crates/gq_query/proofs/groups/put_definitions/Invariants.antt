@@ -2,7 +2,7 @@ use Rattle.std.proofs.Common.{◌≡◌, ◌++◌, List, drop}
 use Rattle.gq_index.specs.Indexed.{IsIndexOf}
 use Rattle.gq_index.specs.Occurrences.{DefinitionOf}
 use Rattle.gq_index.specs.VariableNames.{defined_variables}
-use Rattle.gq_query.specs.Gathered.{places_among}
+use Rattle.gq_query.specs.Helping.Gathered.{places_among}
 use Rattle.gq_query.proofs.groups.put_definitions.Given as goal
 
 abbrev pub invariant-loop-number : goal.invariant-loop-number

@@ -1,5 +1,5 @@
 use Rattle.std.proofs.Common.{◌≡◌, ◌++◌, drop, map}
-use Rattle.gq_query.specs.Gathered.{occurrence_in}
+use Rattle.gq_query.specs.Helping.Gathered.{occurrence_in}
 use Rattle.gq_query.proofs.groups.put_spans.Given as goal
 
 abbrev pub invariant-loop-span : goal.invariant-loop-span

@@ -3,7 +3,7 @@ use Rattle.std.specs.List.Sorted.{IsStrictlySortedBy}
 use Rattle.gq_index.specs.declared.occurrence.Occurrence.{Occurrence}
 use Rattle.gq_query.specs.declared.order.Place.{Place}
 use Rattle.gq_query.specs.Order.{occurrence_cmp}
-use Rattle.gq_query.specs.Placed.{occurrence_view}
+use Rattle.gq_query.specs.Helping.Placed.{occurrence_view}
 use Rattle.gq_query.proofs.Ordered.{sorted_occurrences, same_occurrences}
 use Rattle.gq_query.proofs.order.in_order.Goals as goal
 

@@ -1,5 +1,5 @@
 use Rattle.std.proofs.Common.{◌≡◌, ◌++◌, drop, map}
-use Rattle.gq_query.specs.Placed.{occurrence_view}
+use Rattle.gq_query.specs.Helping.Placed.{occurrence_view}
 use Rattle.gq_query.proofs.order.occurrences_of.Given as goal
 
 abbrev pub invariant-loop-place : goal.invariant-loop-place

@@ -1,5 +1,5 @@
 use Rattle.std.proofs.Common.{◌≡◌, ◌++◌, drop, map}
-use Rattle.gq_query.specs.Placed.{place_view}
+use Rattle.gq_query.specs.Helping.Placed.{place_view}
 use Rattle.gq_query.proofs.order.places_of.Given as goal
 
 abbrev pub invariant-loop-one : goal.invariant-loop-one

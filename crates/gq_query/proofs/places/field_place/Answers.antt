@@ -2,7 +2,7 @@ use Rattle.std.proofs.Common.{◌≡◌, false, ◌∙◌, ap, sym}
 use Rattle.std.specs.Prelude.{bytes_eq}
 use Rattle.gq_types.specs.Look.{types_view}
 use Rattle.gq_document.specs.Selections.{typename}
-use Rattle.gq_query.specs.Gathered.{first_of, field_places_at}
+use Rattle.gq_query.specs.Helping.Gathered.{first_of, field_places_at}
 use Rattle.gq_query.proofs.Lookups.{field_place_found, field_place_none}
 use Rattle.gq_query.proofs.places.field_place.Goals as goal
 

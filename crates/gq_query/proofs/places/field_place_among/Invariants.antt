@@ -1,6 +1,6 @@
 use Rattle.std.proofs.Common.{◌≡◌, drop}
 use Rattle.gq_types.specs.Look.{types_view}
-use Rattle.gq_query.specs.Gathered.{field_places_at, first_of}
+use Rattle.gq_query.specs.Helping.Gathered.{field_places_at, first_of}
 use Rattle.gq_query.proofs.places.field_place_among.Given as goal
 
 abbrev pub invariant-loop-number : goal.invariant-loop-number

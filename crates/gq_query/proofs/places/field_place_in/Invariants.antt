@@ -1,6 +1,6 @@
 use Rattle.std.proofs.Common.{◌≡◌, drop, map}
 use Rattle.gq_tree.specs.Views.{field_definition_view}
-use Rattle.gq_query.specs.Gathered.{field_place_in}
+use Rattle.gq_query.specs.Helping.Gathered.{field_place_in}
 use Rattle.gq_query.proofs.places.field_place_in.Given as goal
 
 abbrev pub invariant-loop-field : goal.invariant-loop-field

@@ -2,7 +2,7 @@ use Rattle.std.proofs.Common.{◌≡◌, ◌↔◌, ℕ, ◌<◌, List, Contains
 use Rattle.std.specs.Option.{option_map}
 use Rattle.gq_types.specs.Entries.{Text}
 use Rattle.gq_index.specs.VariableGroups.{VariableGroup}
-use Rattle.gq_query.specs.Gathered.{first_of}
+use Rattle.gq_query.specs.Helping.Gathered.{first_of}
 use Rattle.gq_query.specs.Groups.{variable_at}
 use Rattle.gq_query.specs.Views.{definitions_view}
 use Rattle.gq_query.specs.Words.{variable_words}

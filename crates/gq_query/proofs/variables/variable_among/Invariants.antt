@@ -1,5 +1,5 @@
 use Rattle.std.proofs.Common.{◌≡◌, drop}
-use Rattle.gq_query.specs.Gathered.{first_of}
+use Rattle.gq_query.specs.Helping.Gathered.{first_of}
 use Rattle.gq_query.specs.Groups.{variable_at}
 use Rattle.gq_query.specs.Views.{definitions_view}
 use Rattle.gq_query.proofs.variables.variable_among.Given as goal

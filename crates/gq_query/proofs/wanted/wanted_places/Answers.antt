@@ -2,7 +2,7 @@ use Rattle.std.proofs.Common.{subst, refl}
 use Rattle.gq_spans.specs.Views.{mention_view}
 use Rattle.gq_index.specs.Occurrences.{executables}
 use Rattle.gq_query.specs.Order.{AreExactly}
-use Rattle.gq_query.specs.Wants.{IsWanted}
+use Rattle.gq_query.specs.Helping.Wants.{IsWanted}
 use Rattle.gq_query.proofs.wanted.wanted_places.Goals as goal
 
 pub returns : goal.returns

@@ -1,6 +1,6 @@
 use Rattle.std.proofs.Common.{◌≡◌, ◌+◌, drop}
 use Rattle.std.specs.List.{prefix_len}
-use Rattle.gq_rename.specs.Found.{stands_before}
+use Rattle.gq_rename.specs.Helping.Found.{stands_before}
 use Rattle.gq_rename.proofs.targets.count_before.Given as goal
 
 abbrev pub invariant-loop-count : goal.invariant-loop-count

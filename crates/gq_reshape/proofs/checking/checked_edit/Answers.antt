@@ -4,7 +4,7 @@ use Rattle.gq_project.specs.declared.document.Doc.{Doc}
 use Rattle.gq_edit.specs.Edits.{FitDocuments}
 use Rattle.gq_pieces.specs.declared.pieces.Piece.{Piece}
 use Rattle.gq_pieces.specs.Pieces.{edits_from}
-use Rattle.gq_reshape.specs.Judged.{IsJudged}
+use Rattle.gq_reshape.specs.Helping.Judged.{IsJudged}
 use Rattle.gq_reshape.proofs.Judging.{fits_same}
 use Rattle.gq_reshape.proofs.checking.checked_edit.Goals as goal
 

@@ -2,13 +2,13 @@ use Rattle.std.proofs.Common.{◌≡◌, ◌∙◌, List, Option, Some, None, su
 use Rattle.gq_project.specs.declared.document.Doc.{Doc}
 use Rattle.gq_edit.specs.declared.edit.DocumentEdit.{DocumentEdit}
 use Rattle.gq_edit.specs.Edits.{after_edit, is_too_large}
-use Rattle.gq_read.specs.Readings.{AreReadings}
+use Rattle.gq_read.specs.Parsed.{AreParsed}
 use Rattle.gq_regroup.specs.Rewrites.{Rewrite}
 use Rattle.gq_regroup.specs.Views.{rewrite_of}
 use Rattle.gq_rename.specs.declared.refusal.Refusal.{Refusal}
-use Rattle.gq_rename.specs.Checked.{IsValidated}
+use Rattle.gq_rename.specs.Helping.Checked.{IsValidated}
 use Rattle.gq_reshape.specs.Cuts.{edits_of}
-use Rattle.gq_reshape.specs.Judged.{IsVerdict}
+use Rattle.gq_reshape.specs.Helping.Judged.{IsVerdict}
 use Rattle.gq_reshape.proofs.Judging.{as_many_after, refused, judged, same_edit}
 use Rattle.gq_reshape.proofs.checking.judged.Goals as goal
 
@@ -21,7 +21,7 @@ returns-in-Some-clause-judged c cut is r quiet =
     let V : Option Refusal → Type 0 = λ o. IsVerdict (rewrite_of c.args.rewrite.now) c.documents-2.result.now c.args.readings.now c.deref.result.now o in
     let D : List Doc → Type 0 = λ ds. IsVerdict (rewrite_of c.args.rewrite.now) ds c.args.readings.now c.deref.result.now (Some c.in-Some.why) in
     let W : Rewrite → Type 0 = λ x. IsVerdict x (after_edit (edits_of cut c.args.project.now) c.args.project.now) c.args.readings.now c.deref.result.now (Some c.in-Some.why) in
-    let R : List Doc → Type 0 = λ ds. AreReadings ds c.deref.result.now in
+    let R : List Doc → Type 0 = λ ds. AreParsed ds c.deref.result.now in
     let F : List DocumentEdit → Type 0 = λ es. find (is_too_large c.args.project.now) es ≡ None in
     let made : c.args.after ≡ after_edit (edits_of cut c.args.project.now) c.args.project.now = c.requires.after ∙ ap (λ (es : List DocumentEdit). after_edit es c.args.project.now) is in
     refused c.one_tree.ensures c.no_tree_past_limits.ensures c.args.project.now c.requires.in_order c.args.readings.now c.deref.result.now c.requires.read (c.valid_documents_are_trees.ensures c.args.project.now c.args.readings.now c.requires.read c.requires.valid) cut quiet
@@ -33,7 +33,7 @@ returns-in-None-clause-judged c cut is r quiet =
     let V : Option Refusal → Type 0 = λ o. IsVerdict (rewrite_of c.args.rewrite.now) c.documents-2.result.now c.args.readings.now c.deref.result.now o in
     let D : List Doc → Type 0 = λ ds. IsVerdict (rewrite_of c.args.rewrite.now) ds c.args.readings.now c.deref.result.now None in
     let W : Rewrite → Type 0 = λ x. IsVerdict x (after_edit (edits_of cut c.args.project.now) c.args.project.now) c.args.readings.now c.deref.result.now None in
-    let R : List Doc → Type 0 = λ ds. AreReadings ds c.deref.result.now in
+    let R : List Doc → Type 0 = λ ds. AreParsed ds c.deref.result.now in
     let F : List DocumentEdit → Type 0 = λ es. find (is_too_large c.args.project.now) es ≡ None in
     let made : c.args.after ≡ after_edit (edits_of cut c.args.project.now) c.args.project.now = c.requires.after ∙ ap (λ (es : List DocumentEdit). after_edit es c.args.project.now) is in
     let A : List Doc → Type 0 = λ ds. IsValidated ds c.args.edit c.validated.result in

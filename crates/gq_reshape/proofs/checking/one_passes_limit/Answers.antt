@@ -1,6 +1,6 @@
 use Rattle.std.proofs.Common.{arith, subst, sym}
 use Rattle.std.specs.Bool.{IsTrue}
-use Rattle.gq_reshape.specs.Limits.{PassesSomeLimit}
+use Rattle.gq_reshape.specs.Helping.Limits.{PassesSomeLimit}
 use Rattle.gq_reshape.proofs.LimitLemmas.{as_many, reading_at, passes_later}
 use Rattle.gq_reshape.proofs.checking.one_passes_limit.Goals as goal
 

@@ -4,7 +4,7 @@ use Rattle.gq_types.specs.Entries.{Text}
 use Rattle.gq_types.specs.Look.{types_view, text_of}
 use Rattle.gq_select.specs.Runs.{RunOf}
 use Rattle.gq_reshape.specs.Extract.{HasNoObject}
-use Rattle.gq_reshape.specs.Steps.{IsPossibleParent}
+use Rattle.gq_reshape.specs.Helping.Steps.{IsPossibleParent}
 use Rattle.gq_reshape.proofs.ExtractOffers.{run_without_type}
 use Rattle.gq_reshape.proofs.extracting.extract_run.Goals as goal
 

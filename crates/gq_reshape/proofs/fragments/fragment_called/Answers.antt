@@ -1,7 +1,7 @@
 use Rattle.std.specs.Option.{option_map}
 use Rattle.std.specs.Str.{bytes_eq}
 use Rattle.gq_document.specs.Definitions.{fragments_of}
-use Rattle.gq_reshape.specs.Fragments.{fragment_found}
+use Rattle.gq_reshape.specs.Helping.Fragments.{fragment_found}
 use Rattle.std.proofs.Common.{find}
 use Rattle.gq_reshape.proofs.LowLemmas.{found_read, later_read, none_found}
 use Rattle.gq_reshape.proofs.fragments.fragment_called.Goals as goal

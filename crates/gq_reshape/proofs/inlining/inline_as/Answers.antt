@@ -6,7 +6,7 @@ use Rattle.gq_tree.specs.Views.{directive_view, sels_view}
 use Rattle.gq_project.specs.declared.document.Doc.{Doc}
 use Rattle.gq_regroup.specs.Rewrites.{Rewrite, DefinitionPlace, with_inlined}
 use Rattle.gq_regroup.specs.Views.{dropped_of}
-use Rattle.gq_reshape.specs.Fragments.{fragment_found}
+use Rattle.gq_reshape.specs.Helping.Fragments.{fragment_found}
 use Rattle.gq_reshape.specs.Inline.{inline_at, inline_pieces}
 use Rattle.gq_reshape.proofs.Quiet.{inline_quiet, slice_is}
 use Rattle.gq_reshape.proofs.inlining.inline_as.Goals as goal

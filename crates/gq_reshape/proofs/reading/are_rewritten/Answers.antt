@@ -1,6 +1,6 @@
 use Rattle.std.proofs.Common.{◌≡◌, ◌<◌, false, sym, ◌∙◌, length, get_or, arith}
 use Rattle.gq_regroup.specs.Views.{rewrite_of}
-use Rattle.gq_reshape.specs.Rereading.{is_edited}
+use Rattle.gq_reshape.specs.Helping.Rereading.{is_edited}
 use Rattle.gq_reshape.proofs.LowLemmas.{behind, get_or_any}
 use Rattle.gq_reshape.proofs.reading.are_rewritten.Goals as goal
 use Rattle.gq_reshape.proofs.reading.are_rewritten.Goals.{else-is_edited-via-then-is_edited+in_ok-is_rewritten+else-not-branch, else-is_edited-via-else-is_edited}

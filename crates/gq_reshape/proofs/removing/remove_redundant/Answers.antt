@@ -1,7 +1,7 @@
 use Rattle.std.proofs.Common.{◌∙◌, List, subst}
 use Rattle.gq_project.specs.declared.document.Doc.{Doc}
 use Rattle.gq_project.specs.Documents.{IsInOrder}
-use Rattle.gq_read.specs.Readings.{AreReadings}
+use Rattle.gq_read.specs.Parsed.{AreParsed}
 use Rattle.gq_types.specs.Look.{types_view}
 use Rattle.gq_schema.specs.SchemaOf.{IsTypeSystemOf}
 use Rattle.gq_reshape.specs.Remove.{remove_cut}
@@ -13,7 +13,7 @@ use Rattle.gq_reshape.proofs.removing.remove_redundant.Goals as goal
 pub returns-clause-answer : goal.returns-clause-answer
 returns-clause-answer c =
     let listed = c.documents-documents.ensures.all ∙ c.project-project.ensures.same in
-    let R : List Doc → Type 0 = λ ds. AreReadings ds c.deref.result.now in
+    let R : List Doc → Type 0 = λ ds. AreParsed ds c.deref.result.now in
     let T : List Doc → Type 0 = λ ds. IsTypeSystemOf ds (types_view c.in_ok-types.types) in
     answered RefusesRemove IsRemoveEdit c.args.valid.now (types_view c.in_ok-types.types) c.deref.result.now (record { key = c.args.key.now; range = c.args.range }) c.remove_in.result
     (subst R listed (rw c.deref.ensures.value c.in_ok-readings.ensures)) (subst T listed c.in_ok-types.ensures) c.remove_in.ensures.answer

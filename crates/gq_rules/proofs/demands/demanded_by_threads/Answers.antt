@@ -5,6 +5,6 @@ returns g c = record {
   readings = c.in_ok-readings.readings.items;
   are_readings = c.in_ok-readings.ensures;
   sorted = c.in_order.ensures.sorted;
-  exact = λ item.
-      (λ x. (c.in_ok-items.ensures item).0 ((c.in_order.ensures.same item).0 x), λ y. (c.in_order.ensures.same item).1 ((c.in_ok-items.ensures item).1 y));
+  exact = λ fault.
+      (λ x. (c.in_ok-faults.ensures fault).0 ((c.in_order.ensures.same fault).0 x), λ y. (c.in_order.ensures.same fault).1 ((c.in_ok-faults.ensures fault).1 y));
 }

@@ -7,8 +7,8 @@ returns c =
     let d = c.requires in record {
       readings = d.readings;
       are_readings = d.are_readings;
-      items = c.args.items.now;
+      faults = c.args.faults.now;
       sorted = d.sorted;
       exact = d.exact;
-      are_told = c.in_ok-found.ensures ∙ ap (λ ds. told ds c.args.items.now) c.documents.ensures.all;
+      are_told = c.in_ok-found.ensures ∙ ap (λ ds. told ds c.args.faults.now) c.documents.ensures.all;
     }

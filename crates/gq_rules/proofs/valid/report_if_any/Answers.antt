@@ -7,9 +7,9 @@ use Rattle.gq_rules.proofs.valid.report_if_any.Goals as goal
 pub returns-then-is_empty : goal.returns-then-is_empty
 returns-then-is_empty c =
     let d = c.requires in
-    valid c.args.project.now d.readings d.are_readings c.args.items.now d.exact (nil_from_length _ (grind (arith, nat_tests)))
+    valid c.args.project.now d.readings d.are_readings c.args.faults.now d.exact (nil_from_length _ (grind (arith, nat_tests)))
 
 pub returns : goal.returns
 returns c =
     let d = c.requires in
-    (c.in_ok-report.ensures, invalid c.args.project.now d.readings d.are_readings c.args.items.now d.exact (λ e. let l = ap length e in grind (arith, nat_tests)))
+    (c.in_ok-report.ensures, invalid c.args.project.now d.readings d.are_readings c.args.faults.now d.exact (λ e. let l = ap length e in grind (arith, nat_tests)))

@@ -22,8 +22,8 @@ returns-then-is_empty c =
     let count : vec_len c.in_ok-wrong.wrong ≡ length c.in_ok-wrong.wrong.items = search rules in
     let none = nil_from_length c.in_ok-wrong.wrong.items (sym count ∙ none_told (vec_len c.in_ok-wrong.wrong) c.is_empty.result c.is_empty.ensures c.if-is_empty.true) in
     IfOk-weaker c.rule_faults.result _ _
-    (λ items. rules_wrong (executable_view c.args.executable.now) items.items
-    (λ item f. contains_none item (subst (λ xs. Contains xs item) none ((c.in_ok-wrong.ensures.exact item).1 f)))) c.rule_faults.ensures
+    (λ faults. rules_wrong (executable_view c.args.executable.now) faults.items
+    (λ fault f. contains_none fault (subst (λ xs. Contains xs fault) none ((c.in_ok-wrong.ensures.exact fault).1 f)))) c.rule_faults.ensures
 
 pub returns : goal.returns
 returns c =

@@ -3,9 +3,9 @@ use denote.Param.Send.{sendable}
 use Rattle.std.proofs.Crossing.{crosses}
 use Rattle.gq_document.specs.Executable.{executable_view}
 use Rattle.gq_document.proofs.Crossing.{Executable-sync}
-use Rattle.gq_found.specs.Puts.{Puts}
+use Rattle.gq_found.specs.Adds.{AddsExactly}
 use Rattle.gq_merging.specs.FieldsMerge.{IsMergingFault}
-use Rattle.gq_rules.specs.RuleGroups.{IsDefinitionFault}
+use Rattle.gq_rules.specs.Helping.RuleGroups.{IsDefinitionFault}
 use Rattle.gq_rules.proofs.RuleLemmas.{puts_then_found}
 use Rattle.gq_rules.proofs.wrong_by_threads.definition_and_merging_faults.Goals as goal
 
@@ -15,7 +15,7 @@ join-definitions-requires-send-F g c κs within = search (sendable, crosses, Exe
 pub returns : goal.returns
 returns g c =
     let x = executable_view c.args.executable.now in
-    puts_then_found (IsDefinitionFault x) (IsMergingFault x) [] c.in_ok-items.items.items c.in_ok-merging.field-0.items c.append.new.self.items
-    (subst (λ r. IfOk r (λ items. Puts (IsDefinitionFault x) [] items.items)) c.in_ok-items.was c.join-definitions.ensures.first)
-    (subst (λ r. IfOk r (λ items. Puts (IsMergingFault x) [] items.items)) c.in_ok-merging.was c.join-definitions.ensures.second)
+    puts_then_found (IsDefinitionFault x) (IsMergingFault x) [] c.in_ok-faults.faults.items c.in_ok-merging.field-0.items c.append.new.self.items
+    (subst (λ r. IfOk r (λ faults. AddsExactly (IsDefinitionFault x) [] faults.items)) c.in_ok-faults.was c.join-definitions.ensures.first)
+    (subst (λ r. IfOk r (λ faults. AddsExactly (IsMergingFault x) [] faults.items)) c.in_ok-merging.was c.join-definitions.ensures.second)
     c.in_ok-append.ensures.items

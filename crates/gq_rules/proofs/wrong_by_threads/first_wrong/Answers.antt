@@ -3,9 +3,9 @@ use denote.Param.Send.{sendable}
 use Rattle.std.proofs.Crossing.{send, sync}
 use Rattle.gq_document.specs.Executable.{executable_view}
 use Rattle.gq_document.proofs.Crossing.{Executable-sync}
-use Rattle.gq_found.specs.Puts.{Puts}
-use Rattle.gq_rules.specs.RuleGroups.{IsDefinitionOrMergingFault, IsOtherFault}
-use Rattle.gq_rules.specs.Wrongs.{IsWrong}
+use Rattle.gq_found.specs.Adds.{AddsExactly}
+use Rattle.gq_rules.specs.Helping.RuleGroups.{IsDefinitionOrMergingFault, IsOtherFault}
+use Rattle.gq_rules.specs.Helping.Wrongs.{IsWrong}
 use Rattle.gq_rules.proofs.RuleLemmas.{puts_rules}
 use Rattle.gq_rules.proofs.WrongLemmas.{schema_wrong, rules_wrong}
 use Rattle.gq_rules.proofs.wrong_by_threads.first_wrong.Goals as goal
@@ -24,6 +24,6 @@ pub returns-in_ok-append-in-Rules : goal.returns-in_ok-append-in-Rules
 returns-in_ok-append-in-Rules g c =
     let x = executable_view c.args.executable.now in
     let wrong = subst (IsWrong IsOtherFault x) c.in-Rules.is (subst (λ r. IfOk r (IsWrong IsOtherFault x)) c.in_ok-wrong.was c.join-definitions.ensures.second) in
-    let definitions = subst (λ r. IfOk r (λ items. Puts (IsDefinitionOrMergingFault x) [] items.items)) c.in_ok-items-in-Rules.was c.join-definitions.ensures.first in
+    let definitions = subst (λ r. IfOk r (λ faults. AddsExactly (IsDefinitionOrMergingFault x) [] faults.items)) c.in_ok-faults-in-Rules.was c.join-definitions.ensures.first in
     rules_wrong x c.append.new.self.items wrong.0
-    (puts_rules x c.in_ok-items-in-Rules.items.items c.in-Rules.others.items c.append.new.self.items definitions wrong.1 c.in_ok-append-in-Rules.ensures.items)
+    (puts_rules x c.in_ok-faults-in-Rules.faults.items c.in-Rules.others.items c.append.new.self.items definitions wrong.1 c.in_ok-append-in-Rules.ensures.items)

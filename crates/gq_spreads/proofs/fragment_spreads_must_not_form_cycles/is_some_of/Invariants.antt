@@ -1,5 +1,5 @@
 use Rattle.std.proofs.Common.{◌≡◌, drop}
-use Rattle.gq_spreads.specs.FragmentSpreadsMustNotFormCyclesPlaces.{some_of}
+use Rattle.gq_spreads.specs.Helping.FragmentSpreadsMustNotFormCyclesPlaces.{some_of}
 use Rattle.gq_spreads.proofs.fragment_spreads_must_not_form_cycles.is_some_of.Given as goal
 
 abbrev pub invariant-loop-number : goal.invariant-loop-number

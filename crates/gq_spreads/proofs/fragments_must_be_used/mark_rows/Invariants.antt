@@ -1,6 +1,6 @@
 use Rattle.std.proofs.Common.{◌≡◌, take, length}
 use Rattle.gq_reach.specs.Components.{Also}
-use Rattle.gq_spreads.specs.FragmentsMustBeUsedPlaces.{all_numbers}
+use Rattle.gq_spreads.specs.Helping.FragmentsMustBeUsedPlaces.{all_numbers}
 use Rattle.gq_spreads.proofs.fragments_must_be_used.mark_rows.Given as goal
 
 abbrev pub invariant-loop-row : goal.invariant-loop-row

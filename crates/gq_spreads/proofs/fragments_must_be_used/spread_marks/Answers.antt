@@ -1,6 +1,6 @@
 use Rattle.std.proofs.Common.{rules, ◌≡◌, List, ℕ, Bool, false, Vec, Global, replicate, subst}
 use Rattle.gq_reach.specs.Components.{Also}
-use Rattle.gq_spreads.specs.FragmentsMustBeUsedPlaces.{all_numbers}
+use Rattle.gq_spreads.specs.Helping.FragmentsMustBeUsedPlaces.{all_numbers}
 use Rattle.gq_spreads.proofs.MarkLemmas.{marks_rows}
 use Rattle.gq_spreads.proofs.fragments_must_be_used.spread_marks.Goals as goal
 

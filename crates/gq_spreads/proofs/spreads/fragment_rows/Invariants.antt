@@ -1,6 +1,6 @@
 use Rattle.std.proofs.Common.{◌≡◌, ◌++◌, drop, map}
 use Rattle.gq_document.specs.Definitions.{fragments_view}
-use Rattle.gq_spreads.specs.Rows.{fragment_numbers, row_items}
+use Rattle.gq_spreads.specs.Helping.Rows.{fragment_numbers, row_items}
 use Rattle.gq_spreads.proofs.spreads.fragment_rows.Given as goal
 
 abbrev pub invariant-loop-fragment : goal.invariant-loop-fragment

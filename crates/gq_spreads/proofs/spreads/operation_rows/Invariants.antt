@@ -1,6 +1,6 @@
 use Rattle.std.proofs.Common.{◌≡◌, ◌++◌, drop, map}
 use Rattle.gq_document.specs.Definitions.{operations_view}
-use Rattle.gq_spreads.specs.Rows.{operation_numbers, row_items}
+use Rattle.gq_spreads.specs.Helping.Rows.{operation_numbers, row_items}
 use Rattle.gq_spreads.proofs.spreads.operation_rows.Given as goal
 
 abbrev pub invariant-loop-operation : goal.invariant-loop-operation

@@ -1,6 +1,6 @@
 use Rattle.std.proofs.Common.{◌≡◌, ◌++◌, drop}
 use Rattle.gq_tree.specs.Names.{names_at}
-use Rattle.gq_spreads.specs.Rows.{numbers_of}
+use Rattle.gq_spreads.specs.Helping.Rows.{numbers_of}
 use Rattle.gq_spreads.proofs.spreads.put_numbers_of.Given as goal
 
 abbrev pub invariant-loop-name : goal.invariant-loop-name

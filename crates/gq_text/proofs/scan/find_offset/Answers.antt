@@ -2,8 +2,7 @@ use Rattle.std.proofs.Common.{◌≡◌, ◌<◌, ◌&&◌, nat_le, length, true
 use Rattle.std.proofs.lemmas.Bool.Decides.{nat_tests}
 use Rattle.gq_text.proofs.Steps.{ahead_boundary, ahead_line, ahead_content, ahead_stops, ahead_ends, width_at, units_at, width_read, units_read, last_read, content_byte, step}
 use Rattle.gq_text.proofs.scan.find_offset.Goals as goal
-use Rattle.gq_text.proofs.scan.find_offset.Goals.{then-is_last_of_line, else-is_last_of_line}
-use Rattle.gq_text.proofs.scan.find_offset.Goals.{then-lines-test+else-at-len, else-lines-test}
+use Rattle.gq_text.proofs.scan.find_offset.Goals.{then-is_last_of_line, else-is_last_of_line, then-lines-test+else-at-len, else-lines-test}
 
 pub overflow_add-at : goal.overflow_add-at
 overflow_add-at g c =

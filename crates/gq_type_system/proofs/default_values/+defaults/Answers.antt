@@ -1,6 +1,6 @@
 use Rattle.std.proofs.Common.{◌++◌, ◌+◌, drop, ap, sym, ◌∙◌}
 use Rattle.gq_tree.specs.Views.{type_view, value_view, values_view, entries_view}
-use Rattle.gq_type_system.specs.DefaultValuesPlaces.{absent_in, below_of, gathered, gathered_of, field_type}
+use Rattle.gq_type_system.specs.Helping.DefaultValuesPlaces.{absent_in, below_of, gathered, gathered_of, field_type}
 use Rattle.gq_types.specs.Look.{types_view}
 use Rattle.gq_values.specs.Literals.{input_object_at}
 use Rattle.gq_type_system.proofs.Numbering.{fields_step}

@@ -1,6 +1,6 @@
 use Rattle.std.proofs.Common.{◌≡◌, ◌++◌, drop}
 use Rattle.gq_tree.specs.Views.{type_view, values_view, entries_view}
-use Rattle.gq_type_system.specs.DefaultValuesPlaces.{absent_in, below_of, gathered}
+use Rattle.gq_type_system.specs.Helping.DefaultValuesPlaces.{absent_in, below_of, gathered}
 use Rattle.gq_types.specs.Look.{types_view}
 use Rattle.gq_type_system.proofs.default_values.+defaults.Given as goal
 

@@ -1,5 +1,5 @@
 use Rattle.std.proofs.Common.{◌≡◌, drop}
-use Rattle.gq_type_system.specs.DefaultValuesPlaces.{any_marked}
+use Rattle.gq_type_system.specs.Helping.DefaultValuesPlaces.{any_marked}
 use Rattle.gq_type_system.proofs.default_values.any_marked.Given as goal
 
 abbrev pub invariant-loop-number : goal.invariant-loop-number

@@ -1,8 +1,8 @@
 use Rattle.std.proofs.Common.{◌++◌, ◌∷◌, [], ◌+◌, List, ℕ, map, ap, sym, ◌∙◌, drop}
 use Rattle.std.proofs.lemmas.List.{at_drop_more, map-append}
 use Rattle.gq_type_system.specs.EndlessInputs.{InputField}
-use Rattle.gq_type_system.specs.DefaultValuesPlaces.{fields_view, field_leads}
-use Rattle.gq_type_system.specs.EndlessInputsPlaces.{row_items}
+use Rattle.gq_type_system.specs.Helping.DefaultValuesPlaces.{fields_view, field_leads}
+use Rattle.gq_type_system.specs.Helping.EndlessInputsPlaces.{row_items}
 use Rattle.gq_types.specs.Look.{types_view}
 use Rattle.gq_type_system.proofs.Numbering.{fields_step}
 use Rattle.gq_type_system.proofs.default_values.field_rows.Goals as goal

@@ -1,6 +1,6 @@
 use Rattle.std.proofs.Common.{◌≡◌, ◌++◌, drop, map}
-use Rattle.gq_type_system.specs.DefaultValuesPlaces.{fields_view, field_leads}
-use Rattle.gq_type_system.specs.EndlessInputsPlaces.{row_items}
+use Rattle.gq_type_system.specs.Helping.DefaultValuesPlaces.{fields_view, field_leads}
+use Rattle.gq_type_system.specs.Helping.EndlessInputsPlaces.{row_items}
 use Rattle.gq_types.specs.Look.{types_view}
 use Rattle.gq_type_system.proofs.default_values.field_rows.Given as goal
 

@@ -1,8 +1,8 @@
 use Rattle.std.proofs.Common.{◌≡◌, List, Vec, Global, ℕ, map, ap, sym, ◌∙◌, subst}
 use Rattle.std.proofs.lemmas.Result.{IfOk-weaker}
 use Rattle.gq_type_system.specs.EndlessInputs.{InputField}
-use Rattle.gq_type_system.specs.EndlessInputsPlaces.{row_items, MarksByDefault}
-use Rattle.gq_type_system.specs.DefaultValuesPlaces.{fields_view, field_leads, all_fields, field_numbers, any_marked}
+use Rattle.gq_type_system.specs.Helping.EndlessInputsPlaces.{row_items, MarksByDefault}
+use Rattle.gq_type_system.specs.Helping.DefaultValuesPlaces.{fields_view, field_leads, all_fields, field_numbers, any_marked}
 use Rattle.gq_types.specs.Entries.{EntryOf}
 use Rattle.gq_types.specs.Look.{types_view}
 use Rattle.gq_type_system.proofs.DefaultWays.{defaults_in_range, marks_by_default}

@@ -1,6 +1,6 @@
 use Rattle.std.proofs.Common.{◌≡◌, ◌++◌, drop, map}
-use Rattle.gq_type_system.specs.DefaultValuesPlaces.{any_marked}
-use Rattle.gq_type_system.specs.EndlessInputsPlaces.{row_items}
+use Rattle.gq_type_system.specs.Helping.DefaultValuesPlaces.{any_marked}
+use Rattle.gq_type_system.specs.Helping.EndlessInputsPlaces.{row_items}
 use Rattle.gq_type_system.proofs.default_values.marked_rows.Given as goal
 
 abbrev pub invariant-loop-row : goal.invariant-loop-row

@@ -1,6 +1,6 @@
 use Rattle.std.proofs.Common.{◌≡◌, ◌++◌, drop}
 use Rattle.gq_tree.specs.Views.{entries_view}
-use Rattle.gq_type_system.specs.DefaultValuesPlaces.{keys_in}
+use Rattle.gq_type_system.specs.Helping.DefaultValuesPlaces.{keys_in}
 use Rattle.gq_type_system.proofs.default_values.names_in.Given as goal
 
 abbrev pub invariant-loop-field : goal.invariant-loop-field

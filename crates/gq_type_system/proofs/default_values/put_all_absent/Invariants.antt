@@ -1,5 +1,5 @@
 use Rattle.std.proofs.Common.{◌≡◌, ◌++◌, drop, flat_map}
-use Rattle.gq_type_system.specs.DefaultValuesPlaces.{fields_view, absent_number}
+use Rattle.gq_type_system.specs.Helping.DefaultValuesPlaces.{fields_view, absent_number}
 use Rattle.gq_types.specs.Look.{types_view}
 use Rattle.gq_type_system.proofs.default_values.put_all_absent.Given as goal
 

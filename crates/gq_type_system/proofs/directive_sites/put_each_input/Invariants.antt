@@ -1,6 +1,6 @@
 use Rattle.std.proofs.Common.{◌≡◌, ◌++◌, drop, map}
 use Rattle.gq_tree.specs.Views.{input_view}
-use Rattle.gq_type_system.specs.DirectivesAndDefaultsPlaces.{inputs_view}
+use Rattle.gq_type_system.specs.Helping.DirectivesAndDefaultsPlaces.{inputs_view}
 use Rattle.gq_type_system.proofs.directive_sites.put_each_input.Given as goal
 
 abbrev pub invariant-loop-input : goal.invariant-loop-input

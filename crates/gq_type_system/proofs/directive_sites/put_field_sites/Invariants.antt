@@ -1,7 +1,7 @@
 use Rattle.std.proofs.Common.{◌≡◌, ◌++◌, drop, map, flat_map}
 use Rattle.gq_tree.specs.Views.{field_definition_view}
 use Rattle.gq_type_system.specs.DirectivesAndDefaults.{field_sites}
-use Rattle.gq_type_system.specs.DirectivesAndDefaultsPlaces.{sites_view}
+use Rattle.gq_type_system.specs.Helping.DirectivesAndDefaultsPlaces.{sites_view}
 use Rattle.gq_type_system.proofs.directive_sites.put_field_sites.Given as goal
 
 abbrev pub invariant-loop-field : goal.invariant-loop-field

@@ -1,5 +1,5 @@
 use Rattle.gq_types.specs.Look.{types_view}
-use Rattle.gq_type_system.specs.DirectivesAndDefaultsPlaces.{itself, group_view}
+use Rattle.gq_type_system.specs.Helping.DirectivesAndDefaultsPlaces.{itself, group_view}
 use Rattle.gq_type_system.proofs.GroupLemmas.{gathered}
 use Rattle.gq_type_system.proofs.directives_and_defaults.group_of.Goals as goal
 

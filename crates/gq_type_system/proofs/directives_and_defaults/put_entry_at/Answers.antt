@@ -1,5 +1,5 @@
 use Rattle.std.proofs.Common.{append-nil, sym}
-use Rattle.gq_type_system.specs.DirectivesAndDefaultsPlaces.{itself, group_view}
+use Rattle.gq_type_system.specs.Helping.DirectivesAndDefaultsPlaces.{itself, group_view}
 use Rattle.gq_type_system.proofs.GroupLemmas.{at_past}
 use Rattle.gq_type_system.proofs.directives_and_defaults.put_entry_at.Goals as goal
 

@@ -1,6 +1,6 @@
 use Rattle.std.proofs.Common.{◌≡◌, drop, map}
 use Rattle.gq_tree.specs.Views.{input_view}
-use Rattle.gq_type_system.specs.ImplementationsPlaces.{breaks_arguments}
+use Rattle.gq_type_system.specs.Helping.ImplementationsPlaces.{breaks_arguments}
 use Rattle.gq_type_system.proofs.implementations.breaks_arguments.Given as goal
 
 abbrev pub invariant-loop-argument : goal.invariant-loop-argument

@@ -1,7 +1,7 @@
 use Rattle.std.proofs.Common.{◌≡◌, drop}
 use Rattle.gq_types.specs.Joined.{interfaces_in_body}
 use Rattle.gq_types.specs.Look.{types_view}
-use Rattle.gq_type_system.specs.ImplementationsPlaces.{breaks_interface}
+use Rattle.gq_type_system.specs.Helping.ImplementationsPlaces.{breaks_interface}
 use Rattle.gq_types.specs.LookUps.{any_part}
 use Rattle.gq_type_system.proofs.implementations.breaks_implementation.Given as goal
 

@@ -1,7 +1,7 @@
 use Rattle.std.proofs.Common.{◌≡◌, drop}
 use Rattle.gq_types.specs.Joined.{interfaces_in_body}
 use Rattle.gq_types.specs.Look.{types_view}
-use Rattle.gq_type_system.specs.ImplementationsPlaces.{lacks_further}
+use Rattle.gq_type_system.specs.Helping.ImplementationsPlaces.{lacks_further}
 use Rattle.gq_types.specs.LookUps.{any_part}
 use Rattle.gq_type_system.proofs.implementations.lacks_interfaces.Given as goal
 

@@ -1,6 +1,6 @@
 use Rattle.std.proofs.Common.{◌≡◌, drop, map}
 use Rattle.gq_tree.specs.Views.{input_view}
-use Rattle.gq_type_system.specs.ImplementationsPlaces.{requires_further}
+use Rattle.gq_type_system.specs.Helping.ImplementationsPlaces.{requires_further}
 use Rattle.gq_type_system.proofs.implementations.requires_further.Given as goal
 
 abbrev pub invariant-loop-further : goal.invariant-loop-further

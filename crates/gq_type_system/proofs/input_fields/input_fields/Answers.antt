@@ -1,9 +1,9 @@
 use Rattle.std.proofs.Common.{◌≡◌, ◌+◌, ◌++◌, ◌∷◌, [], ◌<◌, List, length, ap, sym, ◌∙◌, flat_map, arith}
 use Rattle.std.proofs.lemmas.List.{length-map, map-append}
-use Rattle.gq_type_system.specs.DefaultValuesPlaces.{fields_view, fields_at, fields_left, number_rows, count_from}
+use Rattle.gq_type_system.specs.Helping.DefaultValuesPlaces.{fields_view, fields_at, fields_left, number_rows, count_from}
 use Rattle.gq_types.specs.Entries.{entry_view}
 use Rattle.gq_type_system.specs.EndlessInputs.{InputField}
-use Rattle.gq_type_system.specs.EndlessInputsPlaces.{row_items}
+use Rattle.gq_type_system.specs.Helping.EndlessInputsPlaces.{row_items}
 use Rattle.gq_types.specs.Look.{types_view}
 use Rattle.gq_type_system.proofs.Numbering.{fields_step, rows_step}
 use Rattle.gq_type_system.proofs.EntryRows.{rows_more}

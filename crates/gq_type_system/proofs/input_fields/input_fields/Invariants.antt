@@ -1,6 +1,6 @@
 use Rattle.std.proofs.Common.{◌≡◌, ◌++◌, flat_map, length}
-use Rattle.gq_type_system.specs.DefaultValuesPlaces.{fields_view, fields_left, number_rows, all_fields, field_numbers}
-use Rattle.gq_type_system.specs.EndlessInputsPlaces.{row_items}
+use Rattle.gq_type_system.specs.Helping.DefaultValuesPlaces.{fields_view, fields_left, number_rows, all_fields, field_numbers}
+use Rattle.gq_type_system.specs.Helping.EndlessInputsPlaces.{row_items}
 use Rattle.gq_types.specs.Look.{types_view}
 use Rattle.gq_type_system.proofs.input_fields.input_fields.Given as goal
 

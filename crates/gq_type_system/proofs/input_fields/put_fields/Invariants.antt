@@ -1,6 +1,6 @@
 use Rattle.std.proofs.Common.{◌≡◌, ◌++◌, drop, map, length}
 use Rattle.gq_tree.specs.Views.{input_view}
-use Rattle.gq_type_system.specs.DefaultValuesPlaces.{fields_view, named_fields, count_from}
+use Rattle.gq_type_system.specs.Helping.DefaultValuesPlaces.{fields_view, named_fields, count_from}
 use Rattle.gq_type_system.proofs.input_fields.put_fields.Given as goal
 
 abbrev pub invariant-loop-input : goal.invariant-loop-input

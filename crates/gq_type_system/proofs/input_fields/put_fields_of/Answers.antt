@@ -1,6 +1,6 @@
 use Rattle.std.proofs.Common.{◌≡◌, ◌+◌, ◌++◌, ℕ, List, ap, sym, ◌∙◌, drop, get_or, flat_map, length}
 use Rattle.std.proofs.lemmas.List.{at_drop_more}
-use Rattle.gq_type_system.specs.DefaultValuesPlaces.{fields_view, named_fields, named_fields_at, count_from}
+use Rattle.gq_type_system.specs.Helping.DefaultValuesPlaces.{fields_view, named_fields, named_fields_at, count_from}
 use Rattle.gq_type_system.specs.EndlessInputs.{InputField}
 use Rattle.gq_types.specs.Look.{types_view}
 use Rattle.gq_type_system.proofs.Numbering.{fields_step, numbers_step}

@@ -1,5 +1,5 @@
 use Rattle.std.proofs.Common.{◌≡◌, ◌++◌, drop, flat_map, length}
-use Rattle.gq_type_system.specs.DefaultValuesPlaces.{fields_view, named_fields_at, count_from}
+use Rattle.gq_type_system.specs.Helping.DefaultValuesPlaces.{fields_view, named_fields_at, count_from}
 use Rattle.gq_types.specs.Look.{types_view}
 use Rattle.gq_type_system.proofs.input_fields.put_fields_of.Given as goal
 

@@ -1,4 +1,4 @@
-use Rattle.gq_type_system.specs.Groups.{part_names_in, names_in}
+use Rattle.gq_type_system.specs.Helping.Groups.{part_names_in, names_in}
 use Rattle.gq_types.specs.Look.{types_view}
 use Rattle.gq_type_system.proofs.GroupLemmas.{gathered}
 use Rattle.gq_type_system.proofs.parts.part_names.Goals as goal

@@ -1,6 +1,6 @@
 use Rattle.std.proofs.Common.{◌≡◌, ◌++◌, drop, map}
 use Rattle.gq_tree.specs.Views.{field_definition_view}
-use Rattle.gq_type_system.specs.Groups.{names_in}
+use Rattle.gq_type_system.specs.Helping.Groups.{names_in}
 use Rattle.gq_types.specs.Joined.{put_in}
 use Rattle.gq_type_system.proofs.parts.put_field_names.Given as goal
 

@@ -1,5 +1,5 @@
 use Rattle.std.proofs.Common.{append-nil, sym}
-use Rattle.gq_type_system.specs.Groups.{part_names_in, names_in}
+use Rattle.gq_type_system.specs.Helping.Groups.{part_names_in, names_in}
 use Rattle.gq_type_system.proofs.GroupLemmas.{at_past}
 use Rattle.gq_type_system.proofs.parts.put_names_at.Goals as goal
 

@@ -1,7 +1,7 @@
 use Rattle.std.proofs.Common.{◌≡◌, drop}
 use Rattle.std.specs.List.{list_any}
-use Rattle.gq_type_system.specs.Groups.{roots_in_view}
-use Rattle.gq_type_system.specs.QueryRootPlaces.{is_for_queries}
+use Rattle.gq_type_system.specs.Helping.Groups.{roots_in_view}
+use Rattle.gq_type_system.specs.Helping.QueryRootPlaces.{is_for_queries}
 use Rattle.gq_type_system.proofs.query_root.has_query.Given as goal
 
 abbrev pub invariant-loop-one : goal.invariant-loop-one

@@ -1,6 +1,6 @@
 use Rattle.std.proofs.Common.{ap, ◌∙◌}
 use Rattle.std.proofs.lemmas.Result.{IfOk-weaker}
-use Rattle.gq_type_system.specs.EndlessInputsPlaces.{row_items, MarksNonNull}
+use Rattle.gq_type_system.specs.Helping.EndlessInputsPlaces.{row_items, MarksNonNull}
 use Rattle.gq_types.specs.Look.{types_view}
 use Rattle.gq_type_system.proofs.RequiredLemmas.{required_in_range, marks_non_null}
 use Rattle.gq_type_system.proofs.required_inputs.marked_non_null.Goals as goal

@@ -1,6 +1,6 @@
 use Rattle.std.proofs.Common.{◌≡◌, ◌++◌, drop, map}
 use Rattle.gq_tree.specs.Views.{input_view}
-use Rattle.gq_type_system.specs.EndlessInputsPlaces.{required_numbers}
+use Rattle.gq_type_system.specs.Helping.EndlessInputsPlaces.{required_numbers}
 use Rattle.gq_types.specs.Look.{types_view}
 use Rattle.gq_type_system.proofs.required_inputs.put_all_required.Given as goal
 

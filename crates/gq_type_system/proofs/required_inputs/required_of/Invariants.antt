@@ -1,5 +1,5 @@
 use Rattle.std.proofs.Common.{◌≡◌, ◌++◌, drop, flat_map}
-use Rattle.gq_type_system.specs.EndlessInputsPlaces.{required_at}
+use Rattle.gq_type_system.specs.Helping.EndlessInputsPlaces.{required_at}
 use Rattle.gq_types.specs.Look.{types_view}
 use Rattle.gq_type_system.proofs.required_inputs.required_of.Given as goal
 

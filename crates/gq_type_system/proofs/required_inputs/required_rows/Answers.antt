@@ -1,7 +1,7 @@
 use Rattle.std.proofs.Common.{◌≡◌, ◌<◌, length, ap, sym, ◌∙◌, arith}
 use Rattle.std.proofs.lemmas.List.{length-map}
 use Rattle.gq_types.specs.Entries.{entry_view}
-use Rattle.gq_type_system.specs.EndlessInputsPlaces.{required_of}
+use Rattle.gq_type_system.specs.Helping.EndlessInputsPlaces.{required_of}
 use Rattle.gq_types.specs.Look.{types_view}
 use Rattle.gq_tree.proofs.Trees.{gathers}
 use Rattle.gq_type_system.proofs.EntryRows.{rows_more}

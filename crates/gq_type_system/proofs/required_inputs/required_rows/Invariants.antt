@@ -1,6 +1,6 @@
 use Rattle.std.proofs.Common.{◌≡◌, ◌++◌, drop, map}
 use Rattle.gq_types.specs.Entries.{numbered_from}
-use Rattle.gq_type_system.specs.EndlessInputsPlaces.{row_items, required_of, required_rows}
+use Rattle.gq_type_system.specs.Helping.EndlessInputsPlaces.{row_items, required_of, required_rows}
 use Rattle.gq_types.specs.Look.{types_view}
 use Rattle.gq_type_system.proofs.required_inputs.required_rows.Given as goal
 

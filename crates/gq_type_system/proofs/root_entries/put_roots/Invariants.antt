@@ -1,6 +1,6 @@
 use Rattle.std.proofs.Common.{◌≡◌, ◌++◌, drop, map}
 use Rattle.gq_tree.specs.Views.{root_view}
-use Rattle.gq_type_system.specs.Groups.{roots_in_view}
+use Rattle.gq_type_system.specs.Helping.Groups.{roots_in_view}
 use Rattle.gq_types.specs.Joined.{put_in}
 use Rattle.gq_type_system.proofs.root_entries.put_roots.Given as goal
 

@@ -1,5 +1,5 @@
 use Rattle.std.proofs.Common.{append-nil, sym}
-use Rattle.gq_type_system.specs.Groups.{roots_in_entry, roots_in_view}
+use Rattle.gq_type_system.specs.Helping.Groups.{roots_in_entry, roots_in_view}
 use Rattle.gq_type_system.proofs.GroupLemmas.{at_past}
 use Rattle.gq_type_system.proofs.root_entries.put_roots_at.Goals as goal
 

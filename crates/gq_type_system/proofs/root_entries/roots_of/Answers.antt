@@ -1,4 +1,4 @@
-use Rattle.gq_type_system.specs.Groups.{roots_in_entry, roots_in_view}
+use Rattle.gq_type_system.specs.Helping.Groups.{roots_in_entry, roots_in_view}
 use Rattle.gq_types.specs.Look.{types_view}
 use Rattle.gq_type_system.proofs.GroupLemmas.{gathered}
 use Rattle.gq_type_system.proofs.root_entries.roots_of.Goals as goal

@@ -1,6 +1,6 @@
 use Rattle.std.proofs.Common.{◌≡◌, ◌++◌, drop}
 use Rattle.gq_types.specs.Look.{types_view}
-use Rattle.gq_type_system.specs.Groups.{at_numbers, roots_in_entry, roots_in_view}
+use Rattle.gq_type_system.specs.Helping.Groups.{at_numbers, roots_in_entry, roots_in_view}
 use Rattle.gq_type_system.proofs.root_entries.roots_of.Given as goal
 
 abbrev pub invariant-loop-one : goal.invariant-loop-one

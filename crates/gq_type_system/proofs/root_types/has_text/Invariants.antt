@@ -1,5 +1,5 @@
 use Rattle.std.proofs.Common.{◌≡◌, drop}
-use Rattle.gq_type_system.specs.RootTypesPlaces.{taken_view, has_text}
+use Rattle.gq_type_system.specs.Helping.RootTypesPlaces.{taken_view, has_text}
 use Rattle.gq_type_system.proofs.root_types.has_text.Given as goal
 
 abbrev pub invariant-loop-one : goal.invariant-loop-one

@@ -1,7 +1,7 @@
 use Rattle.std.proofs.Common.{◌≡◌, ◌++◌, [], drop}
 use Rattle.gq_types.specs.Look.{types_view}
 use Rattle.gq_types.specs.LookUps.{texts_of}
-use Rattle.gq_types.specs.PossiblePlaces.{objects_after, member_texts}
+use Rattle.gq_types.specs.Helping.PossiblePlaces.{objects_after, member_texts}
 use Rattle.gq_types.proofs.possible.members_of.Given as goal
 
 abbrev pub invariant-loop-part : goal.invariant-loop-part

@@ -1,7 +1,7 @@
 use Rattle.std.proofs.Common.{◌≡◌, ◌++◌, drop}
 use Rattle.gq_types.specs.Look.{types_view}
 use Rattle.gq_types.specs.LookUps.{texts_of}
-use Rattle.gq_types.specs.PossiblePlaces.{objects_at}
+use Rattle.gq_types.specs.Helping.PossiblePlaces.{objects_at}
 use Rattle.gq_types.proofs.possible.objects_at.Given as goal
 
 abbrev pub invariant-loop-number : goal.invariant-loop-number

@@ -2,7 +2,7 @@ use Rattle.std.proofs.Common.{◌≡◌, ◌++◌, drop, map}
 use Rattle.gq_tree.specs.Views.{name_of}
 use Rattle.gq_types.specs.Look.{types_view}
 use Rattle.gq_types.specs.LookUps.{texts_of}
-use Rattle.gq_types.specs.PossiblePlaces.{objects_after, name_texts}
+use Rattle.gq_types.specs.Helping.PossiblePlaces.{objects_after, name_texts}
 use Rattle.gq_types.proofs.possible.put_members.Given as goal
 
 abbrev pub invariant-loop-member : goal.invariant-loop-member

@@ -1,5 +1,5 @@
 use Rattle.std.proofs.Common.{◌≡◌, ◌++◌, drop}
-use Rattle.gq_variables.specs.VariablePlaces.{use_texts}
+use Rattle.gq_variables.specs.Helping.VariablePlaces.{use_texts}
 use Rattle.gq_variables.specs.Views.{uses_view}
 use Rattle.gq_variables.proofs.all_variables_used.used_names.Given as goal
 

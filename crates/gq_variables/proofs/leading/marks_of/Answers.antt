@@ -2,7 +2,7 @@ use Rattle.std.proofs.Common.{rules, ◌≡◌, ◌+◌, ◌<◌, length, List, 
 use Rattle.std.specs.Prelude.{All}
 use Rattle.std.proofs.lemmas.List.Elements.{All-weaker}
 use Rattle.gq_reach.specs.Reach.{InRange}
-use Rattle.gq_reach.specs.Turned.{Turned}
+use Rattle.gq_reach.specs.Transposed.{Transposed}
 use Rattle.gq_reach.specs.Components.{Also}
 use Rattle.gq_reach.proofs.Turning.{turned_in_range}
 use Rattle.gq_variables.specs.Leading.{numbers_with_uses}
@@ -26,7 +26,7 @@ pub returns-clause-marks : goal.returns-clause-marks
 returns-clause-marks c =
     let rows = rows_view c.args.rows.now in
     let numbers : c.deref-2.result.now ≡ numbers_with_uses 0 rows = c.deref-2.ensures.value ∙ c.in_ok-numbers.ensures in
-    let turned : Turned c.args.spreads.now c.deref.result.now = subst (λ (b : List (Vec ℕ Global)). Turned c.args.spreads.now b) (sym c.deref.ensures.value) c.in_ok-back.ensures in
+    let turned : Transposed c.args.spreads.now c.deref.result.now = subst (λ (b : List (Vec ℕ Global)). Transposed c.args.spreads.now b) (sym c.deref.ensures.value) c.in_ok-back.ensures in
     let none : c.in_ok-marks.marks.items ≡ replicate (length c.args.spreads.now) false = search rules in
     let also : Also c.in_ok-leading.leading.items (replicate (length c.args.spreads.now) false) c.mark_all.new.marks.items =
     subst (λ (ns : List ℕ). Also ns (replicate (length c.args.spreads.now) false) c.mark_all.new.marks.items) c.deref-3.ensures.value

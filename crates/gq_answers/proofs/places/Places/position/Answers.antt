@@ -1,6 +1,6 @@
 use Rattle.std.proofs.Common.{◌∙◌, ap, sym, map}
 use Rattle.gq_text.specs.Place.{pos}
-use Rattle.gq_answers.proofs.Floors.{pos-floor}
+use Rattle.gq_text.proofs.Floors.{pos-floor}
 use Rattle.gq_answers.proofs.Sorting.{position-found}
 use Rattle.gq_answers.proofs.places.Places.position.Goals as goal
 

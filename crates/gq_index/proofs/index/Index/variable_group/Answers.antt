@@ -9,8 +9,8 @@ use Rattle.std.proofs.lemmas.Map.Keys.{IsStrictlyIncreasing-dedup}
 use Rattle.std.proofs.lemmas.Bool.{lt-ltb, ltb-true}
 use Rattle.gq_reach.specs.Reach.{Reach}
 use Rattle.gq_types.proofs.Gathered.{from_filter, to_filter}
-use Rattle.gq_index.specs.GroupGraphs.{leads_of}
-use Rattle.gq_index.specs.Shared.{shared}
+use Rattle.gq_index.specs.Helping.GroupGraphs.{leads_of}
+use Rattle.gq_index.specs.Helping.Shared.{shared}
 use Rattle.gq_index.proofs.SharedLemmas.{reached_group, group_reached}
 use Rattle.gq_index.proofs.index.Index.variable_group.Goals as goal
 

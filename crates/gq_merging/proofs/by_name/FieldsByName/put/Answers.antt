@@ -1,7 +1,7 @@
 use Rattle.std.proofs.Common.{rules, ◌≡◌, ◌<◌, ◌∷◌, [], ◌++◌, Some, None, length, sym, ◌∙◌, ap, subst, refl}
 use Rattle.std.specs.List.{position}
 use Rattle.std.specs.Str.{bytes_eq}
-use Rattle.gq_merging.specs.NameTables.{by_name_view}
+use Rattle.gq_merging.specs.Helping.NameTables.{by_name_view}
 use Rattle.gq_merging.specs.Views.{member_view, members_view}
 use Rattle.gq_merging.proofs.NameLemmas.{listed_first, listed_other, list_there, list_set, list_pushed, place_there}
 use Rattle.gq_merging.proofs.by_name.FieldsByName.put.Goals as goal

@@ -2,7 +2,7 @@ use Rattle.std.proofs.Common.{ap, ◌∙◌}
 use Rattle.gq_parse.specs.declared.expected.Row.TheVariants.{Fields}
 use Rattle.gq_parse.specs.declared.expected.Symbol.TheVariants.{OptionalRow}
 use Rattle.gq_parse.specs.declared.expected.Move.{Move}
-use Rattle.gq_parse.specs.Expected.{parts_move}
+use Rattle.gq_parse.specs.Helping.Expected.{parts_move}
 use Rattle.gq_parse.proofs.Defaults.{type_parts_else}
 use Rattle.gq_parse.proofs.moves.definitions.type_parts_move.Goals as goal
 

@@ -1,7 +1,7 @@
 use Rattle.std.proofs.Common.{ap, ◌∙◌}
 use Rattle.gq_parse.specs.declared.expected.Symbol.TheVariants.{MoreSelections}
 use Rattle.gq_parse.specs.declared.expected.Move.{Move}
-use Rattle.gq_parse.specs.Expected.{behind}
+use Rattle.gq_parse.specs.Helping.Expected.{behind}
 use Rattle.gq_parse.proofs.Defaults.{selections_else}
 use Rattle.gq_parse.proofs.moves.selections.selections_move.Goals as goal
 

@@ -1,7 +1,7 @@
 use Rattle.std.proofs.Common.{ap, ◌∙◌}
 use Rattle.gq_parse.specs.declared.expected.Symbol.TheVariants.{MoreValues}
 use Rattle.gq_parse.specs.declared.expected.Move.{Move}
-use Rattle.gq_parse.specs.Expected.{behind}
+use Rattle.gq_parse.specs.Helping.Expected.{behind}
 use Rattle.gq_parse.proofs.Defaults.{values_else}
 use Rattle.gq_parse.proofs.moves.values.values_move.Goals as goal
 

@@ -2,7 +2,7 @@ use Rattle.std.proofs.Common.{◌≡◌, ◌++◌, drop}
 use Rattle.gq_names.specs.UnderNames.{items_under}
 use Rattle.gq_types.specs.Entries.{Text}
 use Rattle.gq_document.specs.Definitions.{fragments_view}
-use Rattle.gq_spreads.specs.Rows.{texts}
+use Rattle.gq_spreads.specs.Helping.Rows.{texts}
 use Rattle.gq_spreads.specs.Spreads.{places_from}
 use Rattle.gq_spreads.proofs.fragment_names.FragmentNames.of.Given as goal
 

@@ -1,9 +1,0 @@
--- What is told of the directives at one place. Computed; nothing here must be believed.
-use Rattle.std.specs.Prelude.{List, []}
-use Rattle.gq_found.specs.declared.item.Item.{Item}
-use Rattle.gq_types.specs.Entries.{EntryOf}
-use Rattle.gq_values.specs.DirectivePlaces.{directive_faults}
-use Rattle.gq_fields.specs.Directives.{Site}
-
-abbrev pub wrong_directives_at : List EntryOf → Site → List Item
-wrong_directives_at es site = directive_faults es site.file site.location [] site.directives

@@ -1,0 +1,7 @@
+-- What only helps to prove that the code does what the definitions say. No contract of a public call is about it.
+pub mod ArgumentsPlaces
+pub mod DirectivesPlaces
+pub mod FieldFaultsPlaces
+pub mod FieldSelectionsPlaces
+pub mod LeafFieldSelectionsPlaces
+pub mod ValuesPlaces

@@ -1,7 +1,0 @@
-use Rattle.std.proofs.Common.{◌≡◌, ◌++◌, [], drop}
-use Rattle.gq_document.specs.Definitions.{fragments_view}
-use Rattle.gq_fragments.specs.FragmentPlaces.{repeated_names}
-use Rattle.gq_fragments.proofs.fragment_name_uniqueness.put_repeated_names.Given as goal
-
-abbrev pub invariant-loop-fragment : goal.invariant-loop-fragment
-invariant-loop-fragment l = l.items.items ++ repeated_names l.before (fragments_view (drop l.fragment-index l.fragments)) ≡ l.initial.items.items ++ repeated_names [] (fragments_view l.fragments)

@@ -1,7 +1,0 @@
-use Rattle.std.proofs.Common.{◌≡◌, ◌++◌, drop}
-use Rattle.gq_document.specs.Definitions.{operations_view}
-use Rattle.gq_fragments.specs.OperationPlaces.{mutations}
-use Rattle.gq_fragments.proofs.root_operation_types.put_mutations.Given as goal
-
-abbrev pub invariant-loop-operation : goal.invariant-loop-operation
-invariant-loop-operation l = l.items.items ++ mutations (operations_view (drop l.operation-index l.operations)) ≡ l.initial.items.items ++ mutations (operations_view l.operations)

@@ -1,0 +1,100 @@
+-- What is told of fragments, computed.
+use Rattle.std.specs.Prelude.{ℕ, Bool, List, [], ◌∷◌, ◌++◌, Option, Some, None, map, flat_map, is_some, not, slice_get, if◌then◌else◌, ◌&&◌}
+use Rattle.std.specs.List.{list_any}
+use Rattle.std.specs.Option.{option_map_or}
+use Rattle.gq_text.specs.declared.place.Span.{Span}
+use Rattle.gq_tree.specs.Plain.{NameOf, Head, field, spread, inline}
+use Rattle.gq_names.specs.Repeats.{repeated_after}
+use Rattle.gq_found.specs.declared.code.Code.TheVariants.{FragmentNameNotUnique, UnknownTypeCondition, ConditionNotComposite, SpreadNotPossible}
+use Rattle.gq_found.specs.declared.fault.Fault.{Fault}
+use Rattle.gq_types.specs.declared.entry.TypeKind.{TypeKind}
+use Rattle.gq_types.specs.Entries.{Text, EntryOf}
+use Rattle.gq_types.specs.Kinds.{is_composite}
+use Rattle.gq_types.specs.Joined.{kind_named}
+use Rattle.gq_types.specs.Helping.PossiblePlaces.{possible_texts}
+use Rattle.gq_types.specs.SubtypesTests.{is_possible}
+use Rattle.gq_document.specs.Definitions.{FragmentOf}
+use Rattle.gq_document.specs.Selections.{SelectedOf, operation_selections, fragment_selections}
+use Rattle.gq_document.specs.Executable.{ExecutableOf}
+use Rattle.gq_spreads.specs.Spreads.{places_from}
+use Rattle.gq_found.specs.FaultPlaces.{fault_over, fault_at, first_bytes}
+
+abbrev pub name_texts : List FragmentOf → List Text
+name_texts fs = map (λ f. f.name.text) fs
+
+abbrev pub repeated_names : (before : List Text) → List FragmentOf → List Fault
+repeated_names before fs = map (λ f. fault_at f.file FragmentNameNotUnique f.name) (repeated_after (λ f. f.name.text) before fs)
+
+-- of a type condition
+abbrev pub condition_of_kind : ℕ → NameOf Span → Option TypeKind → List Fault
+condition_of_kind file name None = fault_at file UnknownTypeCondition name ∷ []
+condition_of_kind file name (Some kind) = if is_composite kind then [] else fault_at file ConditionNotComposite name ∷ []
+
+abbrev pub condition_faults : List EntryOf → ℕ → NameOf Span → List Fault
+condition_faults es file name = condition_of_kind file name (kind_named es name.text)
+
+-- of the type conditions of selections
+abbrev pub conditions_in : List EntryOf → ℕ → Head Span → List Fault
+conditions_in es file (field alias name arguments directives braces place) = []
+conditions_in es file (spread name directives place) = []
+conditions_in es file (inline None directives braces place) = []
+conditions_in es file (inline (Some condition) directives braces place) = condition_faults es file condition
+
+abbrev pub condition_of_selected : List EntryOf → SelectedOf → List Fault
+condition_of_selected es s = conditions_in es s.file s.selection.label
+
+abbrev pub conditions_of_selections : List EntryOf → List SelectedOf → List Fault
+conditions_of_selections es ss = flat_map (condition_of_selected es) ss
+
+-- of the type conditions of fragments
+abbrev pub condition_of_fragment : List EntryOf → FragmentOf → List Fault
+condition_of_fragment es f = condition_faults es f.file f.on
+
+abbrev pub conditions_of_fragments : List EntryOf → List FragmentOf → List Fault
+conditions_of_fragments es fs = flat_map (condition_of_fragment es) fs
+
+-- whether two types have a possible object type in common
+abbrev pub share_object : List EntryOf → (one other : Text) → Bool
+share_object es one other = list_any (is_possible es other) (possible_texts es one)
+
+-- of spreads
+abbrev pub is_impossible : List EntryOf → (parent condition : Text) → Bool
+is_impossible es parent condition = is_some (kind_named es parent) && (is_some (kind_named es condition) && not (share_object es parent condition))
+
+abbrev pub impossible_under : List EntryOf → ℕ → Span → Option Text → Text → List Fault
+impossible_under es file place None condition = []
+impossible_under es file place (Some parent) condition = if is_impossible es parent condition then fault_over file SpreadNotPossible place ∷ [] else []
+
+abbrev pub impossible_in : List EntryOf → SelectedOf → Span → Text → List Fault
+impossible_in es s place condition = impossible_under es s.file place s.parent condition
+
+abbrev pub impossible_numbered : List EntryOf → List FragmentOf → SelectedOf → NameOf Span → ℕ → List Fault
+impossible_numbered es fs s name number = option_map_or (λ f. impossible_in es s name.place f.on.text) (slice_get fs number) []
+
+abbrev pub impossible_among : List EntryOf → List FragmentOf → SelectedOf → NameOf Span → List ℕ → List Fault
+impossible_among es fs s name numbers = flat_map (impossible_numbered es fs s name) numbers
+
+abbrev pub impossible_spread : List EntryOf → List FragmentOf → SelectedOf → NameOf Span → List Fault
+impossible_spread es fs s name = impossible_among es fs s name (places_from 0 name.text (name_texts fs))
+
+abbrev pub impossible_by : List EntryOf → List FragmentOf → SelectedOf → Head Span → List Fault
+impossible_by es fs s (field alias name arguments directives braces place) = []
+impossible_by es fs s (spread name directives place) = impossible_spread es fs s name
+impossible_by es fs s (inline None directives braces place) = []
+impossible_by es fs s (inline (Some condition) directives braces place) = impossible_in es s (first_bytes 3 place) condition.text
+
+abbrev pub impossible_at : List EntryOf → List FragmentOf → SelectedOf → List Fault
+impossible_at es fs s = impossible_by es fs s s.selection.label
+
+abbrev pub impossible_spreads : List EntryOf → List FragmentOf → List SelectedOf → List Fault
+impossible_spreads es fs ss = flat_map (impossible_at es fs) ss
+
+-- all selections
+abbrev pub selections : ExecutableOf → List SelectedOf
+selections x = flat_map (operation_selections x.entries) x.operations ++ flat_map (fragment_selections x.entries) x.fragments
+
+abbrev pub faults_of_selections : ExecutableOf → List SelectedOf → List Fault
+faults_of_selections x ss = conditions_of_selections x.entries ss ++ impossible_spreads x.entries x.fragments ss
+
+abbrev pub fragment_faults : ExecutableOf → List Fault
+fragment_faults x = repeated_names [] x.fragments ++ (conditions_of_fragments x.entries x.fragments ++ faults_of_selections x (selections x))

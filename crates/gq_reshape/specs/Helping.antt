@@ -1,0 +1,6 @@
+-- What only helps to prove that the code does what the definitions say. No contract of a public call is about it.
+pub mod Fragments
+pub mod Judged
+pub mod Limits
+pub mod Rereading
+pub mod Steps

@@ -1,0 +1,68 @@
+-- What comes of the checks of an edit.
+use Rattle.std.specs.Prelude.{◌≡◌, ℕ, false, List, [], Option, Some, None, Result, Ok, Err, find}
+use Rattle.gq_project.specs.declared.document.Doc.{Doc}
+use Rattle.gq_edit.specs.declared.edit.DocumentEdit.{DocumentEdit}
+use Rattle.gq_edit.specs.Edits.{after_edit, is_too_large}
+use Rattle.gq_read.specs.declared.reader.Parsed.{Parsed}
+use Rattle.gq_rename.specs.declared.refusal.Refusal.{Refusal}
+use Rattle.gq_rename.specs.declared.refusal.Refusal.TheVariants.{ProjectInvalid, NothingHere, BadName, SameName, NameTaken, DirectiveInWay, NoPossibleType, NotSiblings, NotRedundant, TooLarge, SelfCheck, NoMemory}
+use Rattle.gq_rename.specs.Asks.{trees_of}
+use Rattle.gq_rename.specs.Rename.{IsTooLarge}
+use Rattle.gq_pieces.specs.Pieces.{replacements_in}
+use Rattle.gq_regroup.specs.Rewrites.{Rewrite}
+use Rattle.gq_reshape.specs.Helping.Limits.{OnePasses, NonePasses}
+use Rattle.gq_reshape.specs.Helping.Rereading.{is_edited, AreRewrittenFrom}
+use Rattle.gq_reshape.specs.Cuts.{Cut, edits_of, PassesCheck}
+
+-- whether an edited text passes a limit, whether all read as they should, and whether the edited project is valid
+abbrev pub IsJudged : List Doc → List Parsed → Cut → Result (List DocumentEdit) Refusal → Type 0
+IsJudged documents readings cut (Ok made) =
+    (made ≡ edits_of cut documents) × (IsTooLarge documents (edits_of cut documents) → ⊥) × PassesCheck documents (trees_of readings) cut
+IsJudged documents readings cut (Err ProjectInvalid) = ⊥
+IsJudged documents readings cut (Err NothingHere) = ⊥
+IsJudged documents readings cut (Err BadName) = ⊥
+IsJudged documents readings cut (Err SameName) = ⊥
+IsJudged documents readings cut (Err NameTaken) = ⊥
+IsJudged documents readings cut (Err DirectiveInWay) = ⊥
+IsJudged documents readings cut (Err NoPossibleType) = ⊥
+IsJudged documents readings cut (Err NotSiblings) = ⊥
+IsJudged documents readings cut (Err NotRedundant) = ⊥
+IsJudged documents readings cut (Err TooLarge) = IsTooLarge documents (edits_of cut documents)
+IsJudged documents readings cut (Err SelfCheck) = (IsTooLarge documents (edits_of cut documents) → ⊥) × (PassesCheck documents (trees_of readings) cut → ⊥)
+IsJudged documents readings cut (Err NoMemory) = Unit {0}
+
+-- the project after the edit, or an edited text of more than 4 MiB
+abbrev pub IsEdited : List Doc → List DocumentEdit → Result (List Doc) Refusal → Type 0
+IsEdited documents edits (Ok after) = (after ≡ after_edit edits documents) × (find (is_too_large documents) edits ≡ None)
+IsEdited documents edits (Err ProjectInvalid) = ⊥
+IsEdited documents edits (Err NothingHere) = ⊥
+IsEdited documents edits (Err BadName) = ⊥
+IsEdited documents edits (Err SameName) = ⊥
+IsEdited documents edits (Err NameTaken) = ⊥
+IsEdited documents edits (Err DirectiveInWay) = ⊥
+IsEdited documents edits (Err NoPossibleType) = ⊥
+IsEdited documents edits (Err NotSiblings) = ⊥
+IsEdited documents edits (Err NotRedundant) = ⊥
+IsEdited documents edits (Err TooLarge) = (edit : DocumentEdit) × (find (is_too_large documents) edits ≡ Some edit)
+IsEdited documents edits (Err SelfCheck) = ⊥
+IsEdited documents edits (Err NoMemory) = Unit {0}
+
+-- nothing is replaced in documents in which nothing may change
+abbrev pub IsQuiet : Cut → Type 0
+IsQuiet cut = (file : ℕ) → is_edited cut.rewrite file ≡ false → replacements_in cut.pieces file ≡ []
+
+-- what is wrong with the documents after an edit, which are read so
+abbrev pub IsVerdict : Rewrite → List Doc → (before after : List Parsed) → Option Refusal → Type 0
+IsVerdict r documents before after None = NonePasses documents × AreRewrittenFrom r 0 before after
+IsVerdict r documents before after (Some ProjectInvalid) = ⊥
+IsVerdict r documents before after (Some NothingHere) = ⊥
+IsVerdict r documents before after (Some BadName) = ⊥
+IsVerdict r documents before after (Some SameName) = ⊥
+IsVerdict r documents before after (Some NameTaken) = ⊥
+IsVerdict r documents before after (Some DirectiveInWay) = ⊥
+IsVerdict r documents before after (Some NoPossibleType) = ⊥
+IsVerdict r documents before after (Some NotSiblings) = ⊥
+IsVerdict r documents before after (Some NotRedundant) = ⊥
+IsVerdict r documents before after (Some TooLarge) = OnePasses documents
+IsVerdict r documents before after (Some SelfCheck) = NonePasses documents × (AreRewrittenFrom r 0 before after → ⊥)
+IsVerdict r documents before after (Some NoMemory) = ⊥

@@ -1,0 +1,27 @@
+-- What only helps to compare the readings before and after an edit.
+use Rattle.std.specs.Prelude.{◌≡◌, ℕ, suc, Bool, true, false, ◌||◌, nat_eq, List, [], ◌∷◌}
+use Rattle.std.specs.Option.{option_map_or}
+use Rattle.gq_tree.specs.Plain.{erase_document}
+use Rattle.gq_read.specs.declared.reader.Parsed.{Parsed}
+use Rattle.gq_read.specs.declared.reader.Parsed.TheVariants as reading
+use Rattle.gq_document.specs.Definitions.{definitions_read}
+use Rattle.gq_regroup.specs.Rewrites.{Rewrite, rewritten_document}
+
+-- whether something may change in the document of that number
+abbrev pub is_edited : Rewrite → ℕ → Bool
+is_edited r file = nat_eq r.file file || option_map_or (λ d. nat_eq d.file file) r.dropped false
+
+abbrev pub IsTree : Parsed → Type 0
+IsTree (reading.Tree document) = Unit {0}
+IsTree (reading.Syntax place) = ⊥
+IsTree (reading.Limit place) = ⊥
+
+-- it reads as the rewritten tree of what it read as before
+abbrev pub IsRewrittenAt : Rewrite → ℕ → (before after : Parsed) → Type 0
+IsRewrittenAt r file before after = IsTree after × (erase_document (definitions_read after) ≡ rewritten_document r file (definitions_read before))
+
+-- so do all documents in which something may change, the first of which has that number
+abbrev pub AreRewrittenFrom : Rewrite → ℕ → (before after : List Parsed) → Type 0
+AreRewrittenFrom r file [] after = Unit {0}
+AreRewrittenFrom r file (b ∷ bs) [] = ⊥
+AreRewrittenFrom r file (b ∷ bs) (a ∷ rest) = (is_edited r file ≡ true → IsRewrittenAt r file b a) × AreRewrittenFrom r (suc file) bs rest

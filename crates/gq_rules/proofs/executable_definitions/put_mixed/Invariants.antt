@@ -1,6 +1,0 @@
-use Rattle.std.proofs.Common.{◌≡◌, ◌++◌, drop}
-use Rattle.gq_rules.specs.Places.{mixed_at, each_from}
-use Rattle.gq_rules.proofs.executable_definitions.put_mixed.Given as goal
-
-abbrev pub invariant-loop-file : goal.invariant-loop-file
-invariant-loop-file l = l.items.items ++ each_from mixed_at l.file (drop l.file l.readings) ≡ l.initial.items.items ++ each_from mixed_at 0 l.readings

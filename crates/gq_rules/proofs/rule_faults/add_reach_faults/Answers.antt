@@ -1,0 +1,5 @@
+use Rattle.gq_found.proofs.PutLemmas.{puts_both}
+use Rattle.gq_rules.proofs.rule_faults.add_reach_faults.Goals as goal
+
+pub returns : goal.returns
+returns c = puts_both _ _ _ _ _ c.in_ok-add_spread_faults.ensures c.in_ok-add_variable_faults.ensures

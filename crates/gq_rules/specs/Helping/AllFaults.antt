@@ -1,0 +1,15 @@
+-- What is told of documents, in order and each once, as it is computed.
+use Rattle.std.specs.Prelude.{◌↔◌, List, Contains}
+use Rattle.std.specs.List.Sorted.{IsStrictlySortedBy}
+use Rattle.gq_project.specs.declared.document.Doc.{Doc}
+use Rattle.gq_found.specs.declared.fault.Fault.{Fault}
+use Rattle.gq_found.specs.Order.{fault_cmp}
+use Rattle.gq_read.specs.declared.reader.Parsed.{Parsed}
+use Rattle.gq_read.specs.Parsed.{AreParsed}
+use Rattle.gq_rules.specs.Faults.{IsFaultOf}
+
+pub record AreFaultsOf (documents : List Doc) (faults : List Fault) : Type 0 where
+  pub readings : List Parsed
+  pub are_readings : AreParsed documents readings
+  pub sorted : IsStrictlySortedBy fault_cmp faults
+  pub exact : (fault : Fault) → Contains faults fault ↔ IsFaultOf readings fault

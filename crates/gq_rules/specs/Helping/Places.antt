@@ -1,0 +1,34 @@
+-- The faults of documents without a tree and of mixed ones, computed.
+use Rattle.std.specs.Prelude.{ℕ, ◌+◌, List, [], ◌∷◌, ◌++◌, Option, Some, None, if◌then◌else◌}
+use Rattle.std.specs.List.{list_any}
+use Rattle.gq_text.specs.declared.place.Span.{Span}
+use Rattle.gq_tree.specs.Plain.{Def, TypeSystemOf}
+use Rattle.gq_found.specs.declared.code.Code.TheVariants.{Syntax, OverLimit, MixedFile}
+use Rattle.gq_found.specs.declared.fault.Fault.{Fault}
+use Rattle.gq_read.specs.declared.reader.Parsed.{Parsed}
+use Rattle.gq_read.specs.declared.reader.Parsed.TheVariants as reading
+use Rattle.gq_document.specs.Definitions.{definitions_read}
+use Rattle.gq_found.specs.FaultPlaces.{fault_over}
+use Rattle.gq_type_system.specs.DefinedTwice.{definition_place}
+use Rattle.gq_rules.specs.Unread.{fault_before}
+use Rattle.gq_rules.specs.ExecutableDefinitions.{is_executable, first_of_type_system}
+
+abbrev pub unread_at : ℕ → Parsed → List Fault
+unread_at file (reading.Tree document) = []
+unread_at file (reading.Syntax place) = fault_before file Syntax place ∷ []
+unread_at file (reading.Limit place) = fault_before file OverLimit place ∷ []
+
+abbrev pub mixed_fault : ℕ → Option (TypeSystemOf Span) → List Fault
+mixed_fault file None = []
+mixed_fault file (Some definition) = fault_over file MixedFile (definition_place definition) ∷ []
+
+abbrev pub mixed_in : ℕ → List (Def Span) → List Fault
+mixed_in file ds = if list_any is_executable ds then mixed_fault file (first_of_type_system ds) else []
+
+abbrev pub mixed_at : ℕ → Parsed → List Fault
+mixed_at file reading = mixed_in file (definitions_read reading)
+
+-- what is told of each reading, the first of which has that number
+abbrev pub each_from : (ℕ → Parsed → List Fault) → ℕ → List Parsed → List Fault
+each_from f file [] = []
+each_from f file (r ∷ rs) = f file r ++ each_from f (file + 1) rs

@@ -1,0 +1,22 @@
+use Rattle.std.proofs.Common.{List, ℕ, Vec, Global, sym, subst}
+use Rattle.std.proofs.lemmas.Result.{on_ok_weaker}
+use Rattle.gq_reach.specs.Reach.{InRange}
+use Rattle.gq_document.specs.Executable.{executable_view}
+use Rattle.gq_spreads.specs.Helping.FragmentSpreadsMustNotFormCyclesPlaces.{AreComponents}
+use Rattle.gq_spreads.proofs.RowLemmas.{fragments_in_range}
+use Rattle.gq_spreads.proofs.CycleLemmas.{puts_cycles}
+use Rattle.gq_spreads.proofs.fragment_spreads_must_not_form_cycles.add_fragment_cycles.Goals as goal
+
+pub components-requires : goal.components-requires
+components-requires c = record {
+  rows = subst (λ (rows : List (Vec ℕ Global)). InRange rows) (sym c.deref.ensures.value) (fragments_in_range (executable_view c.args.executable.now) c.args.spreads.now c.requires.spreads);
+}
+
+pub returns : goal.returns
+returns c =
+    let exact : AreComponents c.args.spreads.now.of_fragments.items c.deref-2.result.now =
+    subst (λ (rows : List (Vec ℕ Global)). AreComponents rows c.deref-2.result.now) c.deref.ensures.value
+    (subst (λ (components : List ℕ). AreComponents c.deref.result.now components) (sym c.deref-2.ensures.value) c.in_ok-components.ensures.exact) in
+    on_ok_weaker c.add_cycles.result
+    (λ is. puts_cycles (executable_view c.args.executable.now) c.args.spreads.now c.requires.spreads c.deref-2.result.now exact c.args.names.now.names.items c.args.faults.now.items c.add_cycles.new.faults.items c.requires.names is)
+    c.add_cycles.ensures

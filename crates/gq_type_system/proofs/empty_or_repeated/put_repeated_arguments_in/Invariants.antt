@@ -1,7 +1,0 @@
-use Rattle.std.proofs.Common.{◌≡◌, ◌++◌, drop, map}
-use Rattle.gq_tree.specs.Views.{input_view}
-use Rattle.gq_type_system.specs.EmptyOrRepeatedPlaces.{repeated_arguments_after, repeated_arguments_in}
-use Rattle.gq_type_system.proofs.empty_or_repeated.put_repeated_arguments_in.Given as goal
-
-abbrev pub invariant-loop-one : goal.invariant-loop-one
-invariant-loop-one l = l.items.items ++ repeated_arguments_after l.file l.seen (map input_view (drop l.one-index l.arguments)) ≡ l.initial.items.items ++ repeated_arguments_in l.file (map input_view l.arguments)

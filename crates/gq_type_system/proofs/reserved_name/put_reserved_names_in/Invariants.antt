@@ -1,7 +1,0 @@
-use Rattle.std.proofs.Common.{◌≡◌, ◌++◌, drop}
-use Rattle.gq_type_system.specs.ReservedNamePlaces.{reserved_names_in}
-use Rattle.gq_type_system.specs.UsesViews.{names_view}
-use Rattle.gq_type_system.proofs.reserved_name.put_reserved_names_in.Given as goal
-
-abbrev pub invariant-loop-name : goal.invariant-loop-name
-invariant-loop-name l = l.items.items ++ reserved_names_in l.file (names_view (drop l.name-index l.names)) ≡ l.initial.items.items ++ reserved_names_in l.file (names_view l.names)

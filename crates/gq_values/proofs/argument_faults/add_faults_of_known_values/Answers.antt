@@ -1,0 +1,13 @@
+use Rattle.std.proofs.Common.{◌++◌, map, Some}
+use Rattle.gq_tree.specs.Views.{argument_view, input_view}
+use Rattle.gq_types.specs.Look.{types_view}
+use Rattle.gq_values.specs.Helping.ArgumentPlaces.{value_faults_of, argument_value_faults}
+use Rattle.gq_values.proofs.Steps.{turn_seen}
+use Rattle.gq_values.proofs.argument_faults.add_faults_of_known_values.Goals as goal
+
+pub loop-argument-preserved : goal.loop-argument-preserved
+loop-argument-preserved c =
+    let es = types_view c.args.types.now in
+    let definitions = Some (map input_view c.args.known.all.now) in
+    turn_seen (value_faults_of es c.args.file definitions) argument_view c.args.arguments.now c.loop-argument.argument-index c.argument-item.result c.loop-argument.faults.items c.add_faults_of_known_value.new.faults.items
+    (c.args.faults.now.items ++ argument_value_faults es c.args.file definitions (map argument_view c.args.arguments.now)) c.loop-argument-test.true c.argument-item.is c.loop-argument.invariant c.in_ok-add_faults_of_known_value.ensures

@@ -1,8 +1,0 @@
-use Rattle.std.proofs.Common.{◌≡◌, ◌++◌, drop, map}
-use Rattle.gq_tree.specs.Views.{variable_view}
-use Rattle.gq_variables.specs.VariablePlaces.{not_used}
-use Rattle.gq_variables.proofs.all_variables_used.put_each_not_used.Given as goal
-
-abbrev pub invariant-loop-one : goal.invariant-loop-one
-invariant-loop-one l =
-    l.items.items ++ not_used l.file l.used (map variable_view (drop l.one-index l.variables)) ≡ l.initial.items.items ++ not_used l.file l.used (map variable_view l.variables)

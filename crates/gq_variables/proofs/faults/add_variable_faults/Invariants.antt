@@ -1,0 +1,7 @@
+use Rattle.gq_found.specs.Adds.{AddsExactly}
+use Rattle.gq_document.specs.Executable.{executable_view}
+use Rattle.gq_variables.specs.Helping.VariablePlaces.{IsFaultBefore}
+use Rattle.gq_variables.proofs.faults.add_variable_faults.Given as goal
+
+abbrev pub invariant-loop-number : goal.invariant-loop-number
+invariant-loop-number l = AddsExactly (IsFaultBefore (executable_view l.executable) l.number) l.initial.faults.items l.faults.items
