@@ -3,6 +3,7 @@
 
 python3 scripts/definitions.py           writes it anew
 python3 scripts/definitions.py --check   says whether it is as it would be written, and changes nothing
+Either fails where a theorem uses a definition of a folder specs/Helping, since these only help proofs.
 
 A theorem is the contract of a public function. What its clauses name is looked up through the `ghost use` lines of its file, and what a
 definition names through the `use` lines of its own, down to the types of the code and to the toolchain's library."""
@@ -169,6 +170,11 @@ def page():
 
 def main():
     path, made = f"{TOP}/docs/definitions.md", page()
+    named = [line.split("|")[1].strip() for line in made.split("\n") if line.startswith("| gq_")]
+    helping = [one for one in named if "Helping/" in one]
+    if helping:
+        print("a theorem uses what only helps proofs: " + ", ".join(helping))
+        return 1
     if "--check" in sys.argv[1:]:
         same = os.path.isfile(path) and read(path) == made
         print("docs/definitions.md is as it would be written" if same else "docs/definitions.md differs: run scripts/definitions.py")
