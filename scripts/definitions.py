@@ -3,10 +3,13 @@
 
 python3 scripts/definitions.py           writes it anew
 python3 scripts/definitions.py --check   says whether it is as it would be written, and changes nothing
-Either fails where a theorem uses a definition of a folder specs/Helping, since these only help proofs.
+Either fails where a theorem, or the contract of any public call of a crate, uses a definition of a folder specs/Helping, since these only help
+proofs, and where a file of specs/ outside Helping is cited by no contract of a public call, directly or through other definitions, or brings in a
+file of Helping.
 
 A theorem is the contract of a public function. What its clauses name is looked up through the `ghost use` lines of its file, and what a
 definition names through the `use` lines of its own, down to the types of the code and to the toolchain's library."""
+import glob
 import os
 import re
 import sys
@@ -26,7 +29,10 @@ THEOREMS = [
     ("What `gqls exec` prints", "gq_check", "executing", "exec"),
 ]
 WORD = re.compile(r"[A-Za-z_][A-Za-z0-9_']*(?:\.[A-Za-z_][A-Za-z0-9_']*)?|◌[^\s◌,{}]+◌")
-START = re.compile(r"^(?:pub )?(?:abbrev|data|record|def|lemma)\b(?: pub)? ?(?:pub )?([A-Za-z_][A-Za-z0-9_]*)|^(?:abbrev|data|record) pub ([A-Za-z_][A-Za-z0-9_]*)")
+START = re.compile(r"\s*(?:pub )?(abbrev|unfoldable|data|record|def|lemma)\b(?: pub)? ([A-Za-z_][A-Za-z0-9_']*)")
+MEMBER = re.compile(r"  (pub) ([A-Za-z_][A-Za-z0-9_']*) : ")
+CONSTRUCTOR = re.compile(r"\s+([A-Za-z_][A-Za-z0-9_']*) : ")
+IMPORT = re.compile(r"^[ \t]*(?:ghost |pub )?use (Rattle\.[\w.]+?)(?:\.\{([^{}]*)\}| as (\w+))[ \t]*;?[ \t]*$", re.M)
 
 
 def read(path):
@@ -34,20 +40,15 @@ def read(path):
         return it.read()
 
 
-def imports(lines):
+def imports(text):
     """What each name that a file brings in stands for: the module's words and the name there."""
     found = {}
-    for line in lines:
-        whole = re.match(r"\s*(?:ghost |pub )?use (Rattle\.[\w.]+?)(?:\.\{(.*)\}| as (\w+))\s*;?\s*$", line)
-        if not whole:
-            continue
-        module, names, other = whole[1].split("."), whole[2], whole[3]
+    for module, names, other in IMPORT.findall(text):
         if other:
-            found[other] = (module, None)
-            continue
-        for name in names.split(", "):
+            found[other] = (module.split("."), None)
+        for name in filter(None, re.split(r",\s*", names.strip())):
             of, _, own = name.partition(" as ")
-            found[(own or of).strip()] = (module, of.strip())
+            found[(own or of).strip()] = (module.split("."), of.strip())
     return found
 
 
@@ -56,27 +57,39 @@ class Specs:
 
     def __init__(self, crate, inside):
         self.crate, self.inside = crate, inside
-        lines = read(f"{TOP}/crates/{crate}/specs/{inside}.antt").split("\n")
-        self.head = []
+        text = read(f"{TOP}/crates/{crate}/specs/{inside}.antt")
+        lines, self.head = text.split("\n"), []
         for line in lines:
             if not line.startswith("--"):
                 break
             self.head.append(line[2:].strip())
-        self.names, self.defined, comment, now = imports(lines), {}, [], None
+        self.names, self.defined, self.constructors = imports(text), {}, {}
+        comment, now, together = [], None, False
         for line in lines[len(self.head) :]:
-            if line.startswith("--"):
-                comment.append(line[2:].strip())
-                now = None
+            if line.strip().startswith("--"):
+                comment.append(line.strip()[2:].strip())
                 continue
-            if re.match(r"(pub )?(use|mod|syntax|infix)", line):
+            if re.match(r"(pub )?(use|mod|syntax|infix|module)\b", line):
                 continue
-            start = START.match(line)
+            if line and line[0] != " ":
+                together = line.endswith("mutual")
+            start = not line.endswith("mutual") and START.match(line) or together and MEMBER.match(line)
             if start:
-                now = start[1] or start[2]
+                kind, now = start[1], start[2]
                 self.defined[now] = [" ".join(comment), set()]
                 comment = []
             if now:
                 self.defined[now][1].update(WORD.findall(line))
+                made = CONSTRUCTOR.match(line)
+                if made and kind == "data":
+                    self.constructors[made[1]] = now
+
+    def whose(self, name):
+        """The file and the definition that a name of this file stands for, its own or one that it hands on."""
+        if name in self.defined or name in self.constructors:
+            return self.crate, self.inside, self.constructors.get(name, name)
+        module, of = self.names.get(name, ([], None))
+        return (module[1], "/".join(module[3:]), of) if of and is_ours(module) else None
 
 
 FILES = {}
@@ -89,16 +102,70 @@ def specs(crate, inside):
     return FILES[crate, inside]
 
 
+def clauses(lines, at):
+    """The words of the clauses of the function that begins at that line."""
+    margin = re.match(r"\s*", lines[at])[0]
+    end = next(i for i in range(at, len(lines)) if lines[i].endswith((" {", ";")) or re.match(rf"{margin}\{{", lines[i]))
+    begin = next((i for i in range(at, end + 1) if re.match(r"\s+(requires|ensures)\b", lines[i])), end + 1)
+    return set(WORD.findall("\n".join(lines[begin : end + 1])))
+
+
 def contract(crate, source, function):
     """The words of a function's clauses, and what its file brings in for them."""
     text = read(f"{TOP}/crates/{crate}/src/{source}.rt")
     lines = text.split("\n")
-    brings = imports(lines)
     at = next(i for i, line in enumerate(lines) if re.match(rf"\s*pub fn {function}\b", line))
-    end = next(i for i in range(at, len(lines)) if re.match(r"\s*\{\s*$", lines[i]))
-    clauses = "\n".join(lines[at:end])
-    words = set(WORD.findall(clauses[clauses.find("\n    ensures") :]) if "ensures" in clauses else [])
-    return words, brings
+    return clauses(lines, at), imports(text)
+
+
+def sources(crate):
+    """The files of a crate's code by their module, as `moves/words`, and the modules and names that others see."""
+    top = f"{TOP}/crates/{crate}/src"
+    files = {os.path.relpath(path, top)[:-3]: read(path) for path in glob.glob(f"{top}/**/*.rt", recursive=True)}
+    queue, modules, names = [root for root in ("lib", "main") if root in files], set(), set()
+    while queue:
+        module = queue.pop()
+        modules.add(module)
+        folder = "" if module in ("lib", "main") else module + "/"
+        queue += [folder + name for name in re.findall(r"^pub mod (\w+);", files[module], re.M)]
+        for path in re.findall(r"^pub use ([^;]*);", files[module], re.M):
+            names.update(re.findall(r"\w+", path))
+    return files, modules, names
+
+
+def public(crate):
+    """The words of each contract that others see, and what its file brings in: those of functions, of methods and views of types, of traits.
+    An invariant of a type is none of them, nor is a ghost field."""
+    files, modules, names = sources(crate)
+    types = set(names)
+    for module in modules:
+        types.update(re.findall(r"^pub (?:struct|enum|trait|type) (\w+)", files[module], re.M))
+    for module, text in sorted(files.items()):
+        lines, brings, within = text.split("\n"), imports(text), None
+        for at, line in enumerate(lines):
+            head = re.match(r"(pub trait|impl)\b(?:<.*?>(?= [\w&]))? (.*?)(?: \{|$)", line)
+            if line.startswith("}"):
+                within = None
+            elif head:
+                kind, trait, of = head[1], *re.match(r"(?:(.*) for )?&?(?:'\w+ )?(\w+)", head[2]).groups()
+                within = (kind, trait) if of in types else None
+            function = re.match(r"(    )?(pub )?fn (\w+)", line)
+            if function and function[1]:
+                seen = within and (function[2] or within != ("impl", None))
+            elif function:
+                is_shown = function[2] and (module in modules or function[3] in names)
+                seen = is_shown or (module, function[3]) == ("main", "main")
+            else:
+                seen = False
+            if seen:
+                yield clauses(lines, at), brings
+            elif within and re.match(r"    ghost (?!use\b|invariant\b)", line):
+                yield set(WORD.findall(line)), brings
+
+
+def is_ours(module):
+    """Whether these words of a path name a file of specs/ of this repository."""
+    return len(module) > 3 and module[1].startswith("gq_") and module[2] == "specs" and module[3] not in ("declared", "contracts")
 
 
 def wanted(words, brings, own):
@@ -109,25 +176,29 @@ def wanted(words, brings, own):
         of, dot, inner = word.partition(".")
         if dot and of in brings and brings[of][1] is None:
             module = brings[of][0]
-            if len(module) > 3 and module[1].startswith("gq_") and module[2] == "specs" and module[3] != "declared":
+            if is_ours(module):
                 yield module[1], "/".join(module[3:]), inner
         else:
             whole |= {of, inner} - {""}
     for word in sorted(whole):
-        if own and word in own.defined:
-            yield own.crate, own.inside, word
+        if own and own.whose(word):
+            yield own.whose(word)
         elif word in brings:
             module, name = brings[word]
-            if len(module) > 3 and module[1].startswith("gq_") and module[2] == "specs" and module[3] != "declared" and name:
+            if is_ours(module) and name:
                 yield module[1], "/".join(module[3:]), name
 
 
-def below(words, brings):
-    """All that must be believed for these words, in the order in which a reader comes to it: a file after those that cite it."""
-    queue, seen, order = list(wanted(words, brings, None)), set(), []
+def below(starts):
+    """All that must be believed for these definitions, in the order in which a reader comes to it: a file after those that cite it."""
+    queue, seen, order = list(starts), set(), []
     while queue:
         crate, inside, name = queue.pop(0)
         it = specs(crate, inside)
+        whose = it and it.whose(name)
+        if whose and whose != (crate, inside, name):
+            queue.append(whose)
+            continue
         if it is None or (crate, inside, name) in seen or name not in it.defined:
             continue
         seen.add((crate, inside, name))
@@ -155,7 +226,7 @@ def page():
     ]
     told = set()
     for title, crate, source, function in THEOREMS:
-        order, seen = below(*contract(crate, source, function))
+        order, seen = below(wanted(*contract(crate, source, function), None))
         new = seen - told
         told |= seen
         text += ["", f"## {title}", "", f"`{function}` of {crate} (`crates/{crate}/src/{source}.rt`): {len(seen)} definitions, {len(new)} of them new here.", ""]
@@ -168,12 +239,32 @@ def page():
     return "\n".join(text) + "\n"
 
 
+def misplaced():
+    """What is wrong with where files of specs/ stand, by what public contracts cite."""
+    crates = sorted(os.path.basename(path) for path in glob.glob(f"{TOP}/crates/*"))
+    cited, _ = below(one for crate in crates for words, brings in public(crate) for one in wanted(words, brings, None))
+    for crate in crates:
+        top = f"{TOP}/crates/{crate}/specs"
+        for inside in sorted(os.path.relpath(path, top)[:-5] for path in glob.glob(f"{top}/**/*.antt", recursive=True)):
+            if inside in ("Lib", "Helping"):
+                continue
+            if inside.startswith("Helping/"):
+                if (crate, inside) in cited:
+                    yield f"stands in Helping, and a public contract cites it: {crate} {inside}"
+                continue
+            if (crate, inside) not in cited:
+                yield f"only helps proofs, and stands outside Helping: {crate} {inside}"
+            for module in sorted({".".join(module) for module, _ in specs(crate, inside).names.values() if is_ours(module)}):
+                if ".Helping." in module:
+                    yield f"stands outside Helping, and brings in what only helps proofs: {crate} {inside}, {module}"
+
+
 def main():
     path, made = f"{TOP}/docs/definitions.md", page()
     named = [line.split("|")[1].strip() for line in made.split("\n") if line.startswith("| gq_")]
-    helping = [one for one in named if "Helping/" in one]
-    if helping:
-        print("a theorem uses what only helps proofs: " + ", ".join(helping))
+    wrong = [f"a theorem uses what only helps proofs: {one}" for one in named if "Helping/" in one] + list(misplaced())
+    if wrong:
+        print("\n".join(wrong))
         return 1
     if "--check" in sys.argv[1:]:
         same = os.path.isfile(path) and read(path) == made

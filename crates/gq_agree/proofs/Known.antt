@@ -16,7 +16,7 @@ use Rattle.gq_agree.specs.Agree.{static_of}
 use Rattle.gq_agree.proofs.SelectedFields.{IsSelectedField}
 use Rattle.gq_agree.proofs.Parents.{possible_known}
 
-pub field_known : (x : ExecutableOf) → ((item : Fault) → IsUnknownField x item → ⊥) → (f : FieldAt) (p o : Text) → f.parent ≡ Some p → is_possible x.entries p o ≡ true → IsSelectedField x f → (c : Text) × (static_of x.entries p f.name.text ≡ Some c)
+pub field_known : (x : ExecutableOf) → ((fault : Fault) → IsUnknownField x fault → ⊥) → (f : FieldAt) (p o : Text) → f.parent ≡ Some p → is_possible x.entries p o ≡ true → IsSelectedField x f → (c : Text) × (static_of x.entries p f.name.text ≡ Some c)
 field_known x known f p o is possible selected = by_field (field_on x.entries p f.name.text) refl
   where
     by_field : (d : Option FieldOf) → field_on x.entries p f.name.text ≡ d → (c : Text) × (static_of x.entries p f.name.text ≡ Some c)

@@ -10,7 +10,7 @@ use Rattle.gq_merging.specs.declared.purpose.Purpose.TheVariants.{Names}
 use Rattle.gq_merging.proofs.EarliestLemmas.{no_later, no_later_other}
 use Rattle.gq_meaning.proofs.TextLemmas.{same_text, text_same}
 
-module _ (x : ExecutableOf) (merge : (item : Fault) → IsMergingFault x item → ⊥) where
+module _ (x : ExecutableOf) (merge : (fault : Fault) → IsMergingFault x fault → ⊥) where
   never_differ : (a b : FieldAt) → Meet x Names a b → can_coincide x.entries a.parent b.parent ≡ true → IsNoLater a b → (a.name.text ≡ b.name.text → ⊥) → ⊥
   never_differ a b met c l other = merge (fault_of b) (of_names (record {
     first = a;

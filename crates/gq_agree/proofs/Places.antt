@@ -51,7 +51,7 @@ some_one a b e = cc
 pub record Promises (x : ExecutableOf) (g : Given) : Type 0 where
   pub coincide : (s t o : Text) → g.applies s o ≡ true → g.applies t o ≡ true → can_coincide x.entries (Some s) (Some t) ≡ true
   pub are_known : (f : FieldAt) (p o : Text) → f.parent ≡ Some p → g.applies p o ≡ true → IsSelectedField x f → (c : Text) × (static_of x.entries p f.name.text ≡ Some c)
-  pub merge : (item : Fault) → IsMergingFault x item → ⊥
+  pub merge : (fault : Fault) → IsMergingFault x fault → ⊥
   pub subtypes : HasSubtypes (static_of x.entries) g
 
 module _ (x : ExecutableOf) (g : Given) (promises : Promises x g) where

@@ -84,7 +84,7 @@ root_used (schema extends description directives roots place) root c = (refl, to
 root_used (type_definition extends description name directives body place) root c = nothing_in root c
 root_used (directive_definition description name arguments repeatable locations place) root c = nothing_in root c
 
-module _ (es : List EntryOf) (has_root : (item : Fault) → HasNoQueryRoot es item → ⊥) (objects : (item : Fault) → IsNoObject es item → ⊥) (known : (item : Fault) → IsUnknownType es item → ⊥) where
+module _ (es : List EntryOf) (has_root : (fault : Fault) → HasNoQueryRoot es fault → ⊥) (objects : (fault : Fault) → IsNoObject es fault → ⊥) (known : (fault : Fault) → IsUnknownType es fault → ⊥) where
   abbrev roots : List (In (RootOf Span))
   roots = roots_of es (schema_number es)
 
@@ -172,7 +172,7 @@ module _ (es : List EntryOf) (has_root : (item : Fault) → HasNoQueryRoot es it
       by_default None e = by_entry e (find is_for_queries roots) refl
 
 -- Each operation has a root type.
-pub operation_root : (x : ExecutableOf) → ((item : Fault) → IsSchemaFault x.entries item → ⊥) → ((item : Fault) → IsOperationFault x item → ⊥) → (o : OperationOf) → Contains x.operations o → (t : Text) × (root_of x.entries o.kind ≡ Some t)
+pub operation_root : (x : ExecutableOf) → ((fault : Fault) → IsSchemaFault x.entries fault → ⊥) → ((fault : Fault) → IsOperationFault x fault → ⊥) → (o : OperationOf) → Contains x.operations o → (t : Text) × (root_of x.entries o.kind ≡ Some t)
 operation_root x no_schema no_fault o c = by_kind o.kind refl
   where
     by_root : o.kind ≡ Mutation → (r : Option Text) → root_of x.entries Mutation ≡ r → (t : Text) × (root_of x.entries Mutation ≡ Some t)
@@ -186,6 +186,6 @@ operation_root x no_schema no_fault o c = by_kind o.kind refl
     })))
 
     by_kind : (k : OperationKind) → o.kind ≡ k → (t : Text) × (root_of x.entries k ≡ Some t)
-    by_kind Query e = query_root x.entries (λ item f. no_schema item (schema_fault.no_query_root f)) (λ item f. no_schema item (schema_fault.no_object f)) (λ item f. no_schema item (schema_fault.unknown_type f))
+    by_kind Query e = query_root x.entries (λ fault f. no_schema fault (schema_fault.no_query_root f)) (λ fault f. no_schema fault (schema_fault.no_object f)) (λ fault f. no_schema fault (schema_fault.unknown_type f))
     by_kind Mutation e = by_root e (root_of x.entries Mutation) refl
     by_kind Subscription e = absurd (no_fault (fault_over o.file SubscriptionOperation (operation_place o)) (operation_fault.subscription (record { operation = o; stands = c; is_subscription = e; is = refl })))

@@ -23,23 +23,23 @@ use Rattle.gq_agree.proofs.Known.{field_known}
 use Rattle.gq_agree.proofs.Places.{Promises, operation_agrees}
 use Rattle.gq_agree.proofs.RootTypes.{operation_root}
 
-module _ (x : ExecutableOf) (no_schema : (item : Fault) → IsSchemaFault x.entries item → ⊥) (no_rule : (item : Fault) → IsRuleFault x item → ⊥) where
+module _ (x : ExecutableOf) (no_schema : (fault : Fault) → IsSchemaFault x.entries fault → ⊥) (no_rule : (fault : Fault) → IsRuleFault x fault → ⊥) where
   promised : (rows : List RowOf) (values : Values) → HasSubtypes (static_of x.entries) (given_in x.entries rows values) → Promises x (given_in x.entries rows values)
   promised rows values subtypes = record {
     coincide = coincide x.entries;
-    are_known = field_known x (λ item f. no_rule item (of_fields (unknown_field f)));
-    merge = λ item f. no_rule item (of_merging f);
+    are_known = field_known x (λ fault f. no_rule fault (of_fields (unknown_field f)));
+    merge = λ fault f. no_rule fault (of_merging f);
     subtypes = subtypes;
   }
 
   pub agreed : (o : OperationOf) → Contains x.operations o → (rows : List RowOf) (values : Values) → OperationAgrees x o rows values
   agreed o c rows values subtypes =
       let g = given_in x.entries rows values in
-      let t = operation_root x no_schema (λ item f. no_rule item (of_operations f)) o c in
+      let t = operation_root x no_schema (λ fault f. no_rule fault (of_operations f)) o c in
       subst (λ z. NamesAgree g (fragments_in x) (root z (set_of o.set))) (sym (ap (λ z. unwrap_or z []) t.1)) (operation_agrees x g (promised rows values subtypes) o c t.0 t.1)
 
 pub agree_in_valid : NothingIsDemanded → NamesAgreeInValid
 agree_in_valid nothing documents valid readings are o c rows values =
     let none = nothing documents valid readings are in
     let no_first : (other : Fault) → IsToldFirst readings other → ⊥ = λ other told. none other (first told) in
-    agreed (executable_of readings) (λ item f. none item (first (type_system f))) (λ item f. none item (rule no_first f)) o c rows values
+    agreed (executable_of readings) (λ fault f. none fault (first (type_system f))) (λ fault f. none fault (rule no_first f)) o c rows values

@@ -7,7 +7,7 @@ use Rattle.gq_meaning.specs.Shown.{Data}
 use Rattle.gq_meaning.specs.Selected.{Directives, Arguments, Set}
 use Rattle.gq_meaning.specs.Expand.{Definition}
 use Rattle.gq_meaning.specs.Response.{Given, Responds}
-use Rattle.gq_meaning.specs.Alike.{SetsAlike, ends, fields, spreads, inlines, FoundAlike, neither, both, AreAlike}
+use Rattle.gq_meaning.specs.Helping.Alike.{SetsAlike, ends, fields, spreads, inlines, FoundAlike, neither, both, AreAlike}
 use Rattle.gq_meaning.proofs.AlikeLemmas.{alike_responses}
 
 module _ (F : Text → Text → Type 0) (W : Directives → Directives → Type 0) (A : Arguments → Arguments → Type 0) where

@@ -34,7 +34,7 @@ use Rattle.gq_meaning.specs.Shown.{Data}
 use Rattle.gq_meaning.specs.Selected.{Directives, Arguments, Set, bare, set_of}
 use Rattle.gq_meaning.specs.Expand.{find_definition}
 use Rattle.gq_meaning.specs.Response.{Responds}
-use Rattle.gq_meaning.specs.Alike.{SetsAlike, ends, fields, spreads, inlines, FoundAlike, neither, both, AreAlike}
+use Rattle.gq_meaning.specs.Helping.Alike.{SetsAlike, ends, fields, spreads, inlines, FoundAlike, neither, both, AreAlike}
 use Rattle.gq_meaning.proofs.Places.{set_forgets}
 use Rattle.gq_meaning.proofs.TextLemmas.{same_text}
 use Rattle.gq_coerce.specs.Literals.{coerced_arguments}

@@ -23,7 +23,7 @@ use Rattle.gq_meaning.specs.Selected.{Arguments, set_of}
 use Rattle.gq_meaning.specs.Expand.{Definition, find_definition}
 use Rattle.gq_meaning.specs.Response.{Responds}
 use Rattle.gq_meaning.specs.Renamed.{IsNew}
-use Rattle.gq_meaning.specs.Alike.{FoundAlike, neither, both, AreAlike}
+use Rattle.gq_meaning.specs.Helping.Alike.{FoundAlike, neither, both, AreAlike}
 use Rattle.gq_meaning.proofs.TextLemmas.{same_text, text_itself, text_same}
 use Rattle.gq_coerce.specs.Literals.{coerced_arguments}
 use Rattle.gq_coerce.specs.Variables.{coerced_variables}

@@ -18,10 +18,10 @@ use Rattle.gq_alike.proofs.SameTypes.{IsExecutable, IsOfTypes, AreOfOneKind}
 
 -- nothing is demanded of it, whatever reads it
 abbrev pub NothingIsDemanded : Type 0
-NothingIsDemanded = (documents : List Doc) → IsValid documents → (readings : List Parsed) → AreParsed documents readings → (item : Fault) → IsFaultOf readings item → ⊥
+NothingIsDemanded = (documents : List Doc) → IsValid documents → (readings : List Parsed) → AreParsed documents readings → (fault : Fault) → IsFaultOf readings fault → ⊥
 
 pub nothing_demanded : ((documents : List Doc) → IsValid documents → IsInvalid documents → ⊥) → NothingIsDemanded
-nothing_demanded apart documents valid readings are item demanded = apart documents valid (record { readings = readings; are_readings = are; some = (item, demanded) })
+nothing_demanded apart documents valid readings are fault demanded = apart documents valid (record { readings = readings; are_readings = are; some = (fault, demanded) })
 
 -- no document is mixed (section 5.1.1)
 abbrev pub NoneIsMixed : List Parsed → Type 0

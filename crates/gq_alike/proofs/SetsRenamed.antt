@@ -19,7 +19,7 @@ use Rattle.gq_rewrite.specs.Renamed.{rename_value, rename_directive, rename_sele
 use Rattle.gq_meaning.specs.Values.{Text}
 use Rattle.gq_meaning.specs.Selected.{Directives, Arguments, Set, bare, set_of}
 use Rattle.gq_meaning.specs.Renamed.{IsUnspread}
-use Rattle.gq_meaning.specs.Alike.{SetsAlike, ends, fields, spreads, inlines}
+use Rattle.gq_meaning.specs.Helping.Alike.{SetsAlike, ends, fields, spreads, inlines}
 use Rattle.gq_meaning.proofs.Places.{set_forgets}
 
 -- Where there are no places, none is forgotten.

@@ -13,7 +13,7 @@ use Rattle.gq_meaning.specs.Shown.{Data}
 use Rattle.gq_meaning.specs.Expand.{Asked}
 use Rattle.gq_meaning.specs.Thin.{IsIn}
 use Rattle.gq_meaning.specs.Response.{FieldType, Given, Place, place_of, is_non_null, call_at}
-use Rattle.gq_meaning.specs.Helping.Answered.{is_null, Answered}
+use Rattle.gq_meaning.specs.Answered.{is_null, Answered}
 use Rattle.gq_meaning.proofs.Ends.{none_below_leaf, leaf_answered}
 use Rattle.gq_answer.specs.declared.world.World.{World}
 use Rattle.gq_answer.specs.declared.collect.Taken.{Taken}

@@ -14,7 +14,7 @@ use Rattle.gq_meaning.specs.Shown.{Entries, Data}
 use Rattle.gq_meaning.specs.Expand.{Asked, expand, sets_of}
 use Rattle.gq_meaning.specs.Thin.{Thin}
 use Rattle.gq_meaning.specs.Response.{FieldType, setting, is_unfit, item_at, indexes, keys_after, of_key, place_of, steps, leaf_in, item_type, is_non_null}
-use Rattle.gq_meaning.specs.Helping.Answered.{is_null, Answered, ChildAnswered}
+use Rattle.gq_meaning.specs.Answered.{is_null, Answered, ChildAnswered}
 use Rattle.gq_meaning.proofs.Building.{Made, made_none, made_more, entries_with, answered_null, answered_object, answered_list}
 use Rattle.gq_meaning.proofs.Children.{step_in}
 use Rattle.gq_meaning.proofs.Descending.{object_steps, object_child, list_steps, list_child}
@@ -23,7 +23,7 @@ use Rattle.gq_answer.specs.declared.world.World.{World}
 use Rattle.gq_response.specs.declared.data.Data.{Data as Given_data}
 use Rattle.gq_response.specs.declared.data.Member.{Member}
 use Rattle.gq_answer.specs.World.{given_by, definitions_in}
-use Rattle.gq_meaning.specs.Helping.Depth.{depth}
+use Rattle.gq_meaning.specs.Depth.{depth}
 use Rattle.gq_answer.specs.declared.collect.Taken.{Taken}
 use Rattle.gq_answer.specs.Groups.{AreGroups}
 use Rattle.gq_response.specs.Views.{Keyed, numbered, keyed, data_view, members_view}

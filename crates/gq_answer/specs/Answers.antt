@@ -6,7 +6,7 @@ use Rattle.gq_meaning.specs.Results.{Answer, Answers, Step, Path, Call, index}
 use Rattle.gq_meaning.specs.Shown.{Data}
 use Rattle.gq_meaning.specs.Expand.{Asked}
 use Rattle.gq_meaning.specs.Response.{FieldType, Place, place_of, is_non_null, item_type}
-use Rattle.gq_meaning.specs.Helping.Answered.{is_null, Answered}
+use Rattle.gq_meaning.specs.Answered.{is_null, Answered}
 use Rattle.gq_answer.specs.declared.world.World.{World}
 use Rattle.gq_answer.specs.World.{given_by, definitions_in}
 

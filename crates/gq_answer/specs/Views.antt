@@ -3,7 +3,7 @@ use Rattle.std.specs.Prelude.{ℕ, List, map, Option}
 use Rattle.std.specs.Borrow.{Bor}
 use Rattle.gq_tree.specs.declared.types.TypeRef.{TypeRef}
 use Rattle.gq_table.specs.declared.results.Outcome.{Outcome}
-use Rattle.gq_meaning.specs.Helping.Depth.{depth}
+use Rattle.gq_meaning.specs.Depth.{depth}
 use Rattle.gq_tree.specs.Plain.{erase_values}
 use Rattle.std.specs.Option.{option_map, option_map_or}
 use Rattle.gq_tree.specs.declared.tree.Field.{Field}

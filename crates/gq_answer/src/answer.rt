@@ -8,7 +8,7 @@ ghost use Rattle.gq_meaning.specs.Acyclic.{Rankable};
 ghost use Rattle.gq_meaning.specs.Expand.{sets_of};
 ghost use Rattle.gq_meaning.specs.Results as result_of;
 ghost use Rattle.gq_meaning.specs.Response.{fits as fits_type, fits_composite, fits_leaf, is_nothing, is_list, is_unfit, is_non_null, item_type, item_of, written, leaf_in};
-ghost use Rattle.gq_meaning.specs.Helping.Answered.{is_null};
+ghost use Rattle.gq_meaning.specs.Answered.{is_null};
 ghost use Rattle.gq_answer.specs.World.{given_by, definitions_in};
 ghost use Rattle.gq_response.specs.Views.{step_view, path_view, errors_view, data_view};
 ghost use Rattle.gq_answer.specs.Views.{asked_all, type_seen, found_seen};

@@ -7,7 +7,7 @@ ghost use Rattle.gq_table.specs.Rows.{row_of, deepest};
 ghost use Rattle.gq_table.specs.Views.{leaf_view, answer_view, entries_view, rows_view};
 ghost use Rattle.gq_document.specs.Definitions.{fragment_view};
 ghost use Rattle.gq_meaning.specs.Expand.{find_definition};
-ghost use Rattle.gq_meaning.specs.Helping.Depth.{depth};
+ghost use Rattle.gq_meaning.specs.Depth.{depth};
 ghost use Rattle.gq_types.specs.Look.{types_view};
 ghost use Rattle.gq_answer.specs.Fragments.{definition_of};
 ghost use Rattle.gq_answer.specs.World.{types_in, given_by, definitions_in, type_in, call_in, look_in, deepest_in};

@@ -14,8 +14,8 @@ use Rattle.gq_meaning.specs.Expand.{Asked, Definition, expand, sets_of}
 use Rattle.gq_meaning.specs.Thin.{IsIn, Thin, ended, kept}
 use Rattle.gq_meaning.specs.Acyclic.{Rankable}
 use Rattle.gq_meaning.specs.Response.{FieldType, Given, setting, Place, fails, is_unfit, is_non_null, item_type, item_at, of_key, keys_after, place_of, place_in, child, indexes, steps, has_nothing, has_list, has_object, leaf_in, root, root_fields, Responds}
-use Rattle.gq_meaning.specs.Helping.Answered.{is_null, Answered, ChildAnswered}
-use Rattle.gq_meaning.specs.Helping.Depth.{depth}
+use Rattle.gq_meaning.specs.Answered.{is_null, Answered, ChildAnswered}
+use Rattle.gq_meaning.specs.Depth.{depth}
 use Rattle.gq_meaning.proofs.Building.{Made, made_none, made_more, entries_with, answered_null, answered_object, answered_list}
 use Rattle.gq_meaning.proofs.Children.{step_in}
 use Rattle.gq_meaning.proofs.Ends.{none_below_nothing, none_below_leaf, failed_answered, nothing_answered, leaf_answered, error_is_unfit, leaf_is_written}

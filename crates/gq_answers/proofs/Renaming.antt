@@ -17,7 +17,7 @@ use Rattle.gq_rpc.specs.declared.messages.Outgoing.TheVariants as outgoing
 use Rattle.gq_answers.specs.Sound.{IsSound}
 use Rattle.gq_answers.specs.Renames.{refused, TellsRename}
 use Rattle.gq_answers.specs.Answers.{text_at, offset_at}
-use Rattle.gq_answers.specs.Results.{IsEditByPosition, IsRenameResult, IsRefusedProject}
+use Rattle.gq_answers.specs.Helping.Results.{IsEditByPosition, IsRenameResult, IsRefusedProject}
 
 module _ (documents : List Doc) (params : RenameParams) (offset : ℕ) (key name : List ℕ) (same_key : key ≡ params.key) (same_name : name ≡ params.new_name) where
   named : (answer : Result (List DocumentEdit) Refusal) → IsRenameAnswer documents key offset name answer → IsRenameAnswer documents params.key offset params.new_name answer

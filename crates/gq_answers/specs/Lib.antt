@@ -1,7 +1,5 @@
 pub mod Ranges
 pub mod Sound
-pub mod Places
-pub mod Rows
 pub mod Locations
 pub mod Renames
 pub mod CodeActions
@@ -10,4 +8,4 @@ pub mod Answers
 pub mod Responses
 pub mod Offers
 pub mod Laws
-pub mod Results
+pub mod Helping

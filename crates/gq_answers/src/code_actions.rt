@@ -11,7 +11,7 @@ ghost use Rattle.gq_rpc.specs.declared.messages.Id.{Id};
 ghost use Rattle.gq_rpc.specs.declared.messages.Outgoing.TheVariants as outgoing;
 ghost use Rattle.gq_answers.specs.CodeActions as spec;
 ghost use Rattle.gq_answers.specs.Answers.{span_at};
-ghost use Rattle.gq_answers.specs.Results.{IsEditIfAny, AddsGiven};
+ghost use Rattle.gq_answers.specs.Helping.Results.{IsEditIfAny, AddsGiven};
 
 use crate::queries::text_of;
 use gq_edit::{Edit, to_positions};

@@ -2,7 +2,7 @@
 ghost use Rattle.std.specs.Prelude.{◌≡◌, ◌<◌, ◌≤◌, ◌^◌, ◌++◌, length, map, take, All, IfOk, OnOk};
 ghost use Rattle.gq_edit.specs.Workspace.{AreTexts};
 ghost use Rattle.gq_answers.specs.Locations.{location_in, locations_of};
-ghost use Rattle.gq_answers.specs.Rows.{first_file};
+ghost use Rattle.gq_answers.specs.Helping.Rows.{first_file};
 
 use crate::places::Places;
 use gq_index::Occurrence;

@@ -3,7 +3,7 @@ ghost use Rattle.std.specs.Prelude.{◌≡◌, ◌≤◌, ◌^◌, length, All, 
 ghost use Rattle.std.specs.Str.{IsCharBoundary};
 ghost use Rattle.gq_text.specs.Place.{pos};
 ghost use Rattle.gq_answers.specs.Ranges.{range_of};
-ghost use Rattle.gq_answers.specs.Places.{AreOf};
+ghost use Rattle.gq_answers.specs.Helping.Places.{AreOf};
 
 use gq_text::{NoMemory, Position, Range, Span, position_in, positions_in};
 use std::alloc::Global;

@@ -1,7 +1,7 @@
 //! Renames that are asked for.
 ghost use Rattle.std.specs.Prelude.{◌≡◌, IfOk, IfErr};
 ghost use Rattle.gq_edit.specs.Workspace.{AreTexts};
-ghost use Rattle.gq_answers.specs.Results.{IsRenameResult, IsRefusedProject};
+ghost use Rattle.gq_answers.specs.Helping.Results.{IsRenameResult, IsRefusedProject};
 
 use gq_edit::{WorkspaceEdit, to_positions};
 use gq_project::Project;

@@ -112,7 +112,7 @@ positions-fit key text found starts positions h are =
     let mapped = length-map starts (pos text) in
     (omega arith, omega arith)
 
--- the position that was found for an fault is that of its start
+-- the position that was found for a fault is that of its start
 pub position-at : (documents : List Doc) (found : List Found) (text key : List ℕ) (starts : List ℕ) (positions : List Position) (i : ℕ) (item : Found) (d : Position) → AreStarts (first_key found) text 0 found starts
     → text ≡ text_at documents key → key ≡ first_key found → positions ≡ map (pos text) starts → i < length starts → item ≡ get_or found i item → get_or positions i d ≡ pos (text_at documents item.key) item.span.start
 position-at documents found text key starts positions i item d h of_text of_key are lt is =

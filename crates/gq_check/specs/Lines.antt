@@ -17,13 +17,13 @@ text_in (Some document) = document.text
 abbrev pub text_at : List Doc → List ℕ → List ℕ
 text_at documents key = text_in (find (has_key key) documents)
 
--- the line of an fault that starts there; lines and columns are counted from 1
+-- the line of a fault that starts there; lines and columns are counted from 1
 abbrev pub line_at : Found → Position → List ℕ
 line_at found position =
     found.key ++ codes ":" ++ decimal (position.line + 1) ++ codes ":" ++ decimal (position.character + 1) ++ codes ": "
     ++ text_of found.code ++ codes " " ++ words_of found.code ++ codes "\n"
 
--- the line of an fault, at the position of its start (LSP 3.17, "Position")
+-- the line of a fault, at the position of its start (LSP 3.17, "Position")
 abbrev pub line_of : List Doc → Found → List ℕ
 line_of documents found = line_at found (pos (text_at documents found.key) found.span.start)
 

@@ -12,6 +12,7 @@ ghost use Rattle.gq_check.specs.Execution.{rows_in, variables_in, table_fault, v
 use crate::exec_fault::ExecFault;
 use crate::fault::CheckFault;
 use gq_exec::{Table, TableFault, Variables, VariablesFault};
+use gq_table_text::read_in_rows;
 use gq_text::NoMemory;
 use serde_json::Value as Json;
 use std::alloc::Global;
@@ -35,6 +36,17 @@ pub(crate) fn read_table(alloc: Global, bytes: Option<&[u8]>) -> Result<Table, E
     let Some(bytes) = bytes else {
         return Err(ExecFault::Check(CheckFault::Device));
     };
+    match read_in_rows(alloc, bytes)? {
+        Some(table) => Ok(table),
+        None => table_in(alloc, bytes),
+    }
+}
+
+/// The table of these bytes, read as JSON as a whole.
+fn table_in(alloc: Global, bytes: &[u8]) -> Result<Table, ExecFault>
+    ensures ok { IfOk result (λ table. rows_in bytes.now ≡ Some (rows_view table)) }
+    ensures err { IfErr result (IsFaultOfTable (rows_in bytes.now)) }
+{
     match json_in(alloc, bytes)? {
         Some(json) => {
             let table = table_of(alloc, &json)?;

@@ -83,7 +83,7 @@ fn front_starts(alloc: Global, text: &str, found: &[Found]) -> Result<Vec<usize>
     Ok(starts)
 }
 
-/// Writes the line of an fault that starts at that position.
+/// Writes the line of a fault that starts at that position.
 fn write_line(found: &Found, position: Position, lines: &mut String) -> Result<(), NoMemory>
     ensures { OnOk result (string_bytes lines.new ≡ string_bytes lines.old ++ line_at found.now position) }
 {

@@ -21,7 +21,7 @@ use Rattle.gq_values.specs.Literals.{is_list}
 use Rattle.gq_coerce.specs.Coerced as coerced
 use Rattle.gq_coerce.specs.Coerced.{Coerced, wrapped, items_of, list_value}
 use Rattle.gq_coerce.specs.Literals.{Says, Setting, ReadAt, at_type, at_name, formed, missing_item, at_type_value, literal_value, read_all, unless_null, inputs_from, input_fields, default_within}
-use Rattle.gq_coerce.specs.Views.{bare}
+use Rattle.gq_coerce.specs.Helping.Views.{bare}
 use Rattle.gq_coerce.specs.Helping.Wrapping.{wrapped_to}
 use Rattle.gq_coerce.specs.Helping.Forms.{is_single}
 

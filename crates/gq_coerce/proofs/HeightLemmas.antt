@@ -16,7 +16,7 @@ use Rattle.gq_types.specs.Joined.{type_number}
 use Rattle.gq_types.specs.Look.{joined_numbers}
 use Rattle.gq_coerce.specs.Literals.{input_fields}
 use Rattle.gq_coerce.specs.declared.parts.Part.{Part}
-use Rattle.gq_coerce.specs.Views.{bare, part_view, inputs_view}
+use Rattle.gq_coerce.specs.Helping.Views.{bare, part_view, inputs_view}
 use Rattle.gq_coerce.specs.Helping.Heights.{height, height_of, deepest, deepest_default, weight, default_weight, given_weight}
 use Rattle.gq_coerce.specs.Helping.Inputs.{inputs_at}
 use Rattle.gq_coerce.proofs.InputLemmas.{fields_are, no_fields}

@@ -31,7 +31,7 @@ use Rattle.gq_coerce.specs.Coerced as coerced
 use Rattle.gq_coerce.specs.Coerced.{Coerced, alone, unnamed, wrapped, items_of, list_value, part_named}
 use Rattle.gq_coerce.specs.Literals.{Setting, input_part, inputs_from, input_fields, or_default, unless_null}
 use Rattle.gq_coerce.specs.Variables.{variable_part, scalar_input, is_known, spelled_in, at_name, formed, at_type, read_all, input_value, is_list_value, is_object_value, has_unknown}
-use Rattle.gq_coerce.specs.Views.{inputs_view}
+use Rattle.gq_coerce.specs.Helping.Views.{inputs_view}
 use Rattle.gq_coerce.specs.Helping.Heights.{height, raw_weight}
 use Rattle.gq_coerce.specs.Helping.Readings.{given_raw}
 use Rattle.gq_coerce.specs.Helping.Wrapping.{wrapped_to}

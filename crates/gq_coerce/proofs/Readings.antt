@@ -16,7 +16,7 @@ use Rattle.gq_meaning.specs.Values.{Text}
 use Rattle.gq_coerce.specs.Coerced.{Coerced, Part, part_named}
 use Rattle.gq_coerce.specs.Literals.{Setting, ReadAt, at_type, read_all, literal_value, input_part, inputs_from, or_default}
 use Rattle.gq_coerce.specs.declared.parts.Part.{Part as Named}
-use Rattle.gq_coerce.specs.Views.{bare, part_view, inputs_view}
+use Rattle.gq_coerce.specs.Helping.Views.{bare, part_view, inputs_view}
 use Rattle.gq_coerce.specs.Helping.Readings.{read_value, given_literal}
 
 abbrev key_text : Option (NameOf (Unit {0})) → Option Text

@@ -3,7 +3,7 @@ use Rattle.std.proofs.Common.{◌≡◌, ℕ, List, [], Option, Some, None, refl
 use Rattle.std.specs.Prelude.{unwrap_or}
 use Rattle.gq_lex.specs.declared.token.Kind.TheVariants.{String, BlockString}
 use Rattle.gq_lex.specs.Tokens.{IsToken}
-use Rattle.gq_lex.specs.Helping.Decoding.{string_at, raw_at}
+use Rattle.gq_lex.specs.Decoding.{string_at, raw_at}
 use Rattle.gq_lex.specs.Values.{IsStringValue, IsBlockStringValue, block_value}
 use Rattle.gq_lex.proofs.Decodings.{string_told, string_decoded, raw_told, raw_decoded}
 use Rattle.gq_lex.proofs.Valued.{string_token, block_token}

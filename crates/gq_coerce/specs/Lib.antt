@@ -2,5 +2,4 @@ pub mod Coerced
 pub mod Literals
 pub mod Leaves
 pub mod Variables
-pub mod Views
 pub mod Helping

@@ -6,7 +6,7 @@ use Rattle.gq_text.specs.declared.place.Span.{Span}
 use Rattle.gq_tree.specs.Forest.{none, more, row}
 use Rattle.gq_tree.specs.Plain as tree
 use Rattle.gq_tree.specs.Plain.{Val, Vals, TypeOf, named, list_of, non_null, InputOf, no_place, place_value}
-use Rattle.gq_lex.specs.Helping.Decoding.{string_at, raw_at}
+use Rattle.gq_lex.specs.Decoding.{string_at, raw_at}
 use Rattle.gq_lex.specs.Values.{block_value}
 use Rattle.gq_types.specs.Entries.{EntryOf}
 use Rattle.gq_types.specs.Required.{is_non_null}

@@ -7,7 +7,7 @@ ghost use Rattle.gq_table.specs.Views.{value_view, entry_view};
 ghost use Rattle.gq_coerce.specs.Coerced.{fault, null_value, entry_with, put_entry, wrapped, list_value, object_value};
 ghost use Rattle.gq_coerce.specs.Helping.Order.{in_order};
 ghost use Rattle.gq_coerce.specs.Helping.Readings.{item_after};
-ghost use Rattle.gq_coerce.specs.Views.{coerced_view};
+ghost use Rattle.gq_coerce.specs.Helping.Views.{coerced_view};
 
 use gq_table::{Entry, Value};
 use gq_text::{NoMemory, SmallText};

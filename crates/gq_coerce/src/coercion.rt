@@ -8,7 +8,7 @@ ghost use Rattle.gq_table.specs.Views.{entry_view, entries_view};
 ghost use Rattle.gq_coerce.specs.Coerced.{entries_of};
 ghost use Rattle.gq_coerce.specs.Literals.{input_count, coerced_arguments};
 ghost use Rattle.gq_coerce.specs.Variables.{variable_part, coerced_variables};
-ghost use Rattle.gq_coerce.specs.Views.{setting_view};
+ghost use Rattle.gq_coerce.specs.Helping.Views.{setting_view};
 
 use crate::coerced::{in_order, put_coerced};
 use crate::inputs::{default_limit, references};

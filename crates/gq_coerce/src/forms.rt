@@ -4,7 +4,7 @@ ghost use Rattle.gq_tree.specs.Forest.{row};
 ghost use Rattle.gq_tree.specs.Plain.{erase_values, unnamed, object};
 ghost use Rattle.gq_tree.specs.Views.{entry_view};
 ghost use Rattle.gq_values.specs.Literals.{is_object_literal};
-ghost use Rattle.gq_coerce.specs.Views.{bare};
+ghost use Rattle.gq_coerce.specs.Helping.Views.{bare};
 ghost use Rattle.gq_coerce.specs.Helping.Forms.{IsForm};
 
 use gq_tree::{ObjectField, Value};

@@ -7,7 +7,7 @@ ghost use Rattle.gq_tree.specs.Views.{entry_view};
 ghost use Rattle.gq_table.specs.Views.{value_view, entry_view as given_entry};
 ghost use Rattle.gq_coerce.specs.Coerced.{null_value, items_of, entries_of};
 ghost use Rattle.gq_coerce.specs.Literals.{at_any, read_all};
-ghost use Rattle.gq_coerce.specs.Views.{bare, coerced_view, setting_view};
+ghost use Rattle.gq_coerce.specs.Helping.Views.{bare, coerced_view, setting_view};
 ghost use Rattle.gq_coerce.specs.Helping.Readings.{read_value};
 
 use crate::coerced::{Coerced, add_item, in_order, list_of, object_of, put_coerced};

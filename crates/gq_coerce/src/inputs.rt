@@ -6,7 +6,7 @@ ghost use Rattle.gq_types.specs.Joined.{inputs_in_body, body_in};
 ghost use Rattle.gq_types.specs.Look.{types_view};
 ghost use Rattle.gq_coerce.specs.Literals.{input_fields, input_count};
 ghost use Rattle.gq_coerce.specs.Helping.Inputs.{inputs_at};
-ghost use Rattle.gq_coerce.specs.Views.{inputs_view};
+ghost use Rattle.gq_coerce.specs.Helping.Views.{inputs_view};
 
 use gq_text::NoMemory;
 use gq_tree::{InputValueDefinition, TypeBody, TypeSystemDefinition};

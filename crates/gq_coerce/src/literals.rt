@@ -8,7 +8,7 @@ ghost use Rattle.gq_types.specs.Look.{types_view};
 ghost use Rattle.gq_table.specs.Views.{value_view as given_value, entry_view as given_entry};
 ghost use Rattle.gq_coerce.specs.Coerced.{absent, items_of, entries_of};
 ghost use Rattle.gq_coerce.specs.Literals.{at_type, at_name, read_all, missing_item, or_default, inputs_from, literal_value};
-ghost use Rattle.gq_coerce.specs.Views.{bare, coerced_view, setting_view, inputs_view, part_view, value_seen};
+ghost use Rattle.gq_coerce.specs.Helping.Views.{bare, coerced_view, setting_view, inputs_view, part_view, value_seen};
 ghost use Rattle.gq_coerce.specs.Helping.Readings.{given_literal};
 
 use crate::coerced::{Coerced, add_item, in_order, list_of, object_of, put_coerced};

@@ -4,7 +4,7 @@ ghost use Rattle.std.specs.Option.{option_map};
 ghost use Rattle.std.specs.Str.{bytes_eq};
 ghost use Rattle.gq_tree.specs.Plain.{erase_values};
 ghost use Rattle.gq_tree.specs.Views.{value_view, entry_view, argument_view};
-ghost use Rattle.gq_coerce.specs.Views.{part_view, value_seen};
+ghost use Rattle.gq_coerce.specs.Helping.Views.{part_view, value_seen};
 
 use gq_names::NameList;
 use gq_text::NoMemory;

@@ -9,7 +9,7 @@ ghost use Rattle.gq_table.specs.Views.{value_view, values_view, entry_view, entr
 ghost use Rattle.gq_coerce.specs.Coerced.{fault, alone, items_of, entries_of};
 ghost use Rattle.gq_coerce.specs.Literals.{input_fields, or_default, inputs_from};
 ghost use Rattle.gq_coerce.specs.Variables.{at_name, read_all, input_value, is_known, has_unknown, is_object_value};
-ghost use Rattle.gq_coerce.specs.Views.{coerced_view, setting_view, inputs_view, raw_seen};
+ghost use Rattle.gq_coerce.specs.Helping.Views.{coerced_view, setting_view, inputs_view, raw_seen};
 ghost use Rattle.gq_tree.specs.NamedTypes.{base_name};
 ghost use Rattle.gq_coerce.specs.Helping.Wrapping.{wrapped_to};
 ghost use Rattle.gq_coerce.specs.Helping.Readings.{given_raw};

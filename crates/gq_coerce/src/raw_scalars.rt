@@ -4,7 +4,7 @@ ghost use Rattle.gq_types.specs.Look.{types_view};
 ghost use Rattle.gq_table.specs.Views.{leaf_view, value_view, entries_view};
 ghost use Rattle.gq_meaning.specs.Values.{leaf as says_leaf};
 ghost use Rattle.gq_coerce.specs.Variables.{number_input, leaf_input, spelled, spelled_in, scalar_input, enum_input};
-ghost use Rattle.gq_coerce.specs.Views.{coerced_view};
+ghost use Rattle.gq_coerce.specs.Helping.Views.{coerced_view};
 
 use crate::coerced::Coerced;
 use crate::scalars::{

@@ -1,7 +1,7 @@
 //! Literals at scalars and enums (GraphQL, October 2021, sections 3.5 and 3.9), and the values of variables.
 ghost use Rattle.std.specs.Prelude.{◌≡◌, [], unwrap_or, if◌then◌else◌, IfOk};
 ghost use Rattle.gq_meaning.specs.Values as value_of;
-ghost use Rattle.gq_lex.specs.Helping.Decoding.{raw_at};
+ghost use Rattle.gq_lex.specs.Decoding.{raw_at};
 ghost use Rattle.gq_lex.specs.Values.{block_value};
 ghost use Rattle.gq_tree.specs.Plain.{float, string, boolean};
 ghost use Rattle.gq_types.specs.Names.{has_value};
@@ -10,7 +10,7 @@ ghost use Rattle.gq_table.specs.Views.{entries_view};
 ghost use Rattle.gq_coerce.specs.Coerced.{fault, leaf_value, enum_value};
 ghost use Rattle.gq_table.specs.Numbers.{decimal};
 ghost use Rattle.gq_coerce.specs.Literals.{string_text, variable_value, is_text_type, int_value, scalar_value, value_of_enum};
-ghost use Rattle.gq_coerce.specs.Views.{bare, coerced_view, variables_in};
+ghost use Rattle.gq_coerce.specs.Helping.Views.{bare, coerced_view, variables_in};
 
 use crate::coerced::Coerced;
 use crate::values::Variables;

@@ -2,7 +2,7 @@
 ghost use Rattle.std.specs.Prelude.{◌≡◌, ◌<◌, ◌-◌};
 ghost use Rattle.gq_tree.specs.Forest.{none};
 ghost use Rattle.gq_types.specs.Look.{types_view};
-ghost use Rattle.gq_coerce.specs.Views.{variables_in};
+ghost use Rattle.gq_coerce.specs.Helping.Views.{variables_in};
 
 use crate::values::Variables;
 use gq_types::Types;

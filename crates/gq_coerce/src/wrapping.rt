@@ -7,7 +7,7 @@ ghost use Rattle.gq_types.specs.Required.{is_non_null};
 ghost use Rattle.gq_table.specs.Views.{value_view};
 ghost use Rattle.gq_coerce.specs.Literals.{is_null_says, unless_null};
 ghost use Rattle.gq_coerce.specs.Helping.Wrapping.{wrapped_to};
-ghost use Rattle.gq_coerce.specs.Views.{coerced_view, type_seen};
+ghost use Rattle.gq_coerce.specs.Helping.Views.{coerced_view, type_seen};
 
 use crate::coerced::{Coerced, wrapped};
 use gq_table::Value;

@@ -3,7 +3,7 @@ ghost use Rattle.std.specs.Prelude.{◌≡◌, ◌&&◌, nat_lt, IfOk};
 ghost use Rattle.std.specs.Option.{option_map};
 ghost use Rattle.gq_tree.specs.Views.{sel_view, sels_view, document_view};
 ghost use Rattle.gq_types.specs.Look.{types_view};
-ghost use Rattle.gq_sets.specs.Helping.SetViews.{set_view, sets_view};
+ghost use Rattle.gq_sets.specs.SetViews.{set_view, sets_view};
 ghost use Rattle.gq_sets.specs.Last.{find_last};
 ghost use Rattle.gq_completion.specs.Sets.{encloses, innermost, place_in, is_within_one};
 

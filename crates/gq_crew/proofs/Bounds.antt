@@ -10,7 +10,7 @@ use Rattle.gq_rpc.specs.declared.header.Head.{Head}
 use Rattle.gq_rpc.specs.declared.header.Head.TheVariants as head
 use Rattle.gq_rpc.specs.declared.header.Scan.TheVariants.{Whole, Partial, Bad}
 use Rattle.gq_crew.specs.declared.inbox.NoMore.{NoMore}
-use Rattle.gq_crew.specs.Inbox.{View}
+use Rattle.gq_crew.specs.Helping.Inbox.{View}
 
 -- the beginning of a frame is shorter
 abbrev pub held_max : ℕ

@@ -15,7 +15,7 @@ use Rattle.gq_crew.specs.declared.run.RunFault.{RunFault}
 use Rattle.gq_crew.specs.declared.run.RunFault.TheVariants as fault
 use Rattle.gq_crew.specs.Output.{event_of, AreTurnsOf}
 use Rattle.gq_crew.specs.Runs.{SourceAfter, SinkAfter, Runs}
-use Rattle.gq_crew.specs.Inbox.{View, with_bodies, with_told, GivesBody, GivesNone, Gives, fault_at, ended_as}
+use Rattle.gq_crew.specs.Helping.Inbox.{View, with_bodies, with_told, GivesBody, GivesNone, Gives, fault_at, ended_as}
 use Rattle.gq_crew.proofs.Inboxes.{sees_all, last_step, Stands, At, At-start, At-fills, At-body, Given, At-yields, not_failed}
 use Rattle.gq_crew.proofs.Endings.{runs_told, runs_stopped, runs_without_memory, runs_unwritten, runs_too_long}
 

@@ -17,7 +17,7 @@ use Rattle.gq_crew.specs.declared.run.RunFault.{RunFault}
 use Rattle.gq_crew.specs.declared.run.RunFault.TheVariants as fault
 use Rattle.gq_crew.specs.Output.{event_of, AreTurnsOf}
 use Rattle.gq_crew.specs.Runs.{SourceAfter, SinkAfter, Reached, IsEnd, Ends, AnswersEarlier, Runs, bodies_max}
-use Rattle.gq_crew.specs.Inbox.{Finds, Tells, fault_of, ended_as}
+use Rattle.gq_crew.specs.Helping.Inbox.{Finds, Tells, fault_of, ended_as}
 use Rattle.gq_desk.proofs.Runs.{FitsRun-append}
 use Rattle.gq_crew.proofs.Alone.{quiet, quiet_turn, quiet_of, quiet_fits, fits_all, answered_all, outputs_more, outputs_stopped, goes_before}
 use Rattle.gq_crew.proofs.Outputs.{AreTurnsOf-append, AreTurnsOf-cons, parts_of, Sent-more, Sent-behind}

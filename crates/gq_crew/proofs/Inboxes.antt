@@ -12,7 +12,7 @@ use Rattle.gq_crew.specs.declared.inbox.NoMore.TheVariants as no_more
 use Rattle.gq_crew.specs.declared.run.RunFault.TheVariants as fault
 use Rattle.gq_crew.specs.Output.{event_of}
 use Rattle.gq_crew.specs.Runs.{SourceAfter, piece_max}
-use Rattle.gq_crew.specs.Inbox.{View, with_bodies, Finds, ReadsOn, Fills, GivesBody, Gives}
+use Rattle.gq_crew.specs.Helping.Inbox.{View, with_bodies, Finds, ReadsOn, Fills, GivesBody, Gives}
 use Rattle.gq_crew.proofs.Reading.{same_text}
 
 -- ---- the steps of an inbox, seen as plain data

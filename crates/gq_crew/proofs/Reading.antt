@@ -5,7 +5,7 @@ use Rattle.gq_rpc.specs.Frames.{Cuts, scan_of}
 use Rattle.gq_rpc.specs.declared.header.Scan.TheVariants.{Partial}
 use Rattle.gq_rpc.proofs.Sends.{Consumes-trans}
 use Rattle.gq_crew.specs.declared.inbox.NoMore.{NoMore}
-use Rattle.gq_crew.specs.Inbox.{View, Holds, Ready, Finds, ReadsOnce, ReadsOn, Fills}
+use Rattle.gq_crew.specs.Helping.Inbox.{View, Holds, Ready, Finds, ReadsOnce, ReadsOn, Fills}
 use Rattle.gq_crew.proofs.Bounds.{held_max, partial_short, to_read, more_to_read}
 
 -- the framer holds one text

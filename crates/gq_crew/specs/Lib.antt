@@ -1,3 +1,3 @@
 pub mod Output
 pub mod Runs
-pub mod Inbox
+pub mod Helping

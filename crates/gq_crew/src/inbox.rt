@@ -2,7 +2,7 @@
 ghost use Rattle.std.specs.Prelude.{◌≡◌, [], Some, None, false, IfSome};
 ghost use Rattle.gq_rpc.specs.Frames.{contents};
 ghost use Rattle.std.specs.Option.{option_and_then};
-ghost use Rattle.gq_crew.specs.Inbox.{TakesFrames, end_in};
+ghost use Rattle.gq_crew.specs.Helping.Inbox.{TakesFrames, end_in};
 
 use crate::run::RunFault;
 use gq_desk::Event;
@@ -61,7 +61,7 @@ pub struct Pending {
 }
 
 impl Pending {
-    ghost use Rattle.gq_crew.specs.Inbox.{seen, Holds, Ready, ReadsOnce, Fills, IsFull, Gives, fault_of};
+    ghost use Rattle.gq_crew.specs.Helping.Inbox.{seen, Holds, Ready, ReadsOnce, Fills, IsFull, Gives, fault_of};
 
     /// Nothing was read. It takes no memory.
     pub fn new(alloc: Global) -> Pending
@@ -164,7 +164,7 @@ pub struct Inbox<'a, S> {
 }
 
 impl<S: Source> Iterator for Inbox<'_, S> {
-    ghost use Rattle.gq_crew.specs.Inbox.{seen_in, Ready, Steps};
+    ghost use Rattle.gq_crew.specs.Helping.Inbox.{seen_in, Ready, Steps};
 
     type Item = Event;
 

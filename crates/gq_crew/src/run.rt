@@ -1,8 +1,8 @@
 //! A run: the frames that come in, and the frames of the replies.
 ghost use Rattle.std.specs.Prelude.{◌≡◌, Option, true, false, Some};
 ghost use Rattle.gq_crew.specs.Runs.{Runs};
-ghost use Rattle.gq_crew.specs.Inbox.{seen_in, unread, ended_as};
-ghost use Rattle.gq_crew.specs.Inbox as spec;
+ghost use Rattle.gq_crew.specs.Helping.Inbox.{seen_in, unread, ended_as};
+ghost use Rattle.gq_crew.specs.Helping.Inbox as spec;
 
 use crate::inbox::{Inbox, Pending};
 use gq_desk::{Desk, DriveFault, NoHands, drive};

@@ -22,7 +22,7 @@ use Rattle.gq_desk.specs.declared.driving.DriveFault.TheVariants as drive
 use Rattle.gq_desk.specs.Faults.{of_desk}
 use Rattle.gq_desk.specs.Frames.{frame_in, frames_in, stop_in}
 use Rattle.gq_desk.specs.Driving.{Chain, Delivers, Breaks, AreAnswered, AreExact, Drives, TakesTooMany, Fails, events_of, events_max}
-use Rattle.gq_desk.specs.Turns.{TakesTurn, BreaksTurn, Known}
+use Rattle.gq_desk.specs.Helping.Turns.{TakesTurn, BreaksTurn, Known}
 use Rattle.gq_desk.proofs.Runs.{run-append, reached-append, FitsRun-append, stop_in-append, next_on}
 use Rattle.gq_desk.proofs.Chains.{chain_on}
 

@@ -23,7 +23,7 @@ use Rattle.gq_events.specs.declared.effect.Effect.TheVariants as effect
 use Rattle.gq_events.specs.Tasks.{is_of}
 use Rattle.gq_events.specs.Rules.{Session, decides, verdict, session_after, changed_by, taken, own, refused_as, failed, answered}
 use Rattle.gq_events.specs.Machine.{left, verdicts}
-use Rattle.gq_desk.specs.Settling.{refused_each, rest_of}
+use Rattle.gq_desk.specs.Helping.Settling.{refused_each, rest_of}
 use Rattle.gq_desk.proofs.Taking.{none_passes, all_stay}
 
 -- what decides all, or none

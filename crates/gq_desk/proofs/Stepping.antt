@@ -14,7 +14,7 @@ use Rattle.gq_events.specs.declared.effect.Effect.{Effect}
 use Rattle.gq_events.specs.Documents.{docs_of}
 use Rattle.gq_events.specs.Rules.{FitsTaken, Session, effect_of, changed_by, session_after, denied_by, taken, own, answer_to}
 use Rattle.gq_events.specs.Machine.{Table, State, settled, with_jobs, jobs_for, jobs_then, next_jobs, handed_on, taken_by, verdicts, replies_to, brings, jobs_after, Steps}
-use Rattle.gq_desk.specs.Settling.{rest_of}
+use Rattle.gq_desk.specs.Helping.Settling.{rest_of}
 use Rattle.gq_desk.proofs.Settled.{session_stays, changed_stays, own_stays, taken_stays}
 
 abbrev state : Session → ℕ → Table → State

@@ -4,7 +4,7 @@ use Rattle.std.specs.Prelude.{filter, remove}
 use Rattle.std.specs.List.{AllByRecursion}
 use Rattle.gq_events.specs.declared.event.Job.{Job}
 use Rattle.gq_events.specs.Laws.{AreAscending}
-use Rattle.gq_desk.specs.Settling.{AreNumbered}
+use Rattle.gq_desk.specs.Helping.Settling.{AreNumbered}
 
 abbrev number : Job → ℕ
 number job = job.number

@@ -1,5 +1,4 @@
 pub mod Frames
 pub mod Faults
-pub mod Settling
 pub mod Driving
-pub mod Turns
+pub mod Helping

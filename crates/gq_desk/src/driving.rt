@@ -8,7 +8,7 @@ ghost use Rattle.gq_events.specs.Machine as machine;
 ghost use Rattle.gq_events.specs.Laws.{handing_of, handings};
 ghost use Rattle.gq_desk.specs.Frames.{frame_in, frames_in, stop_in};
 ghost use Rattle.gq_desk.specs.Driving as spec;
-ghost use Rattle.gq_desk.specs.Turns as turns;
+ghost use Rattle.gq_desk.specs.Helping.Turns as turns;
 
 use crate::desk::{Desk, DeskFault};
 use crate::hands::{Hands, HandsFault};

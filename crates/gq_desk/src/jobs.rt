@@ -8,7 +8,7 @@ ghost use Rattle.gq_events.specs.Documents.{docs_of};
 ghost use Rattle.gq_events.specs.Rules as rules;
 ghost use Rattle.gq_events.specs.Tasks as tasks;
 ghost use Rattle.gq_events.specs.Machine as spec;
-ghost use Rattle.gq_desk.specs.Settling.{AreNumbered, refused_each, is_result_of, rest_of};
+ghost use Rattle.gq_desk.specs.Helping.Settling.{AreNumbered, refused_each, is_result_of, rest_of};
 
 use gq_events::answers::notify;
 use gq_events::documents::OpenDocuments;
@@ -104,7 +104,7 @@ fn refuse_cancelled(
 }
 
 /// Whether what a worker made is of that job, and about the documents as they are.
-#[tactic(auto, unfolding(crate::specs::Settling::is_result_of))]
+#[tactic(auto, unfolding(crate::specs::Helping::Settling::is_result_of))]
 fn is_decided_by(documents: &OpenDocuments, done: &Done, job: &Job) -> bool
     ensures { result ≡ is_result_of (docs_of documents.now) done.now job.now }
 {
@@ -188,7 +188,7 @@ fn settle_pending(
 }
 
 /// Whether an event decides a job.
-#[tactic(auto, unfolding(crate::specs::Settling::is_result_of))]
+#[tactic(auto, unfolding(crate::specs::Helping::Settling::is_result_of))]
 fn decides(documents: &OpenDocuments, effect: &Effect, job: &Job) -> bool
     ensures { result ≡ rules.decides (docs_of documents.now) effect.now job.now }
 {
@@ -255,7 +255,7 @@ pub struct Jobs {
 
 impl Model for Jobs {
     ghost use Rattle.gq_events.specs.Machine.{Table};
-    ghost use Rattle.gq_desk.specs.Settling.{AreNumbered};
+    ghost use Rattle.gq_desk.specs.Helping.Settling.{AreNumbered};
 
     ghost Value = { Table };
 

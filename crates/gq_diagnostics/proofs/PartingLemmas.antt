@@ -11,7 +11,7 @@ use Rattle.std.proofs.lemmas.List.{append-nil, length-set}
 use Rattle.std.proofs.lemmas.List.Elements.{filter-append}
 use Rattle.gq_project.specs.declared.document.Doc.{Doc}
 use Rattle.gq_project.specs.Documents.{IsInOrder, has_key}
-use Rattle.gq_project.specs.Places.{IsPlaceOf}
+use Rattle.gq_project.specs.Helping.Places.{IsPlaceOf}
 use Rattle.gq_found.specs.declared.found.Found.{Found}
 use Rattle.gq_diagnostics.specs.Diagnostics.{found_in}
 use Rattle.gq_diagnostics.specs.Helping.Parted.{IsAt, IsWhere}

@@ -3,7 +3,7 @@ ghost use Rattle.std.specs.Prelude.{◌≡◌, ◌++◌, ◌∷◌, ◌<◌, [],
 ghost use Rattle.gq_diagnostics.specs.Diagnostics.{found_in};
 ghost use Rattle.gq_diagnostics.specs.Helping.Parted.{IsAt, IsWhere};
 ghost use Rattle.gq_project.specs.Documents.{IsInOrder};
-ghost use Rattle.gq_project.specs.Places.{IsPlaceOf, IsGapFor};
+ghost use Rattle.gq_project.specs.Helping.Places.{IsPlaceOf, IsGapFor};
 
 use gq_found::Found;
 use gq_project::Doc;

@@ -8,7 +8,7 @@ use Rattle.gq_text.specs.Place.{pos}
 use Rattle.gq_text.specs.declared.place.Position.{Position}
 use Rattle.gq_text.specs.declared.replacement.Replacement.{Replacement}
 use Rattle.gq_edit.specs.Replacements.{AreDisjoint, AreDisjointFrom, FitText}
-use Rattle.gq_edit.specs.Ends.{ends_of, placed}
+use Rattle.gq_edit.specs.Helping.Ends.{ends_of, placed}
 use Rattle.gq_edit.specs.Workspace.{text_edit_of}
 
 pub length-ends_of : (rs : List Replacement) → length (ends_of rs) ≡ 2 * length rs

@@ -1,4 +1,4 @@
 pub mod Replacements
 pub mod Edits
 pub mod Workspace
-pub mod Ends
+pub mod Helping

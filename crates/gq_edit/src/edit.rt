@@ -3,7 +3,7 @@ ghost use Rattle.std.specs.Prelude.{◌≡◌, find, IfOk, IfErr};
 ghost use Rattle.std.specs.Option.{option_copied};
 ghost use Rattle.std.specs.Ordering.{int_eq};
 ghost use Rattle.std.specs.Str.{bytes_eq};
-ghost use Rattle.gq_project.specs.Places.{IsPlaceOf, IsGapFor};
+ghost use Rattle.gq_project.specs.Helping.Places.{IsPlaceOf, IsGapFor};
 
 use crate::replacements::Replacements;
 use gq_project::Doc;

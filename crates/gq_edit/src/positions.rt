@@ -2,7 +2,7 @@
 ghost use Rattle.std.specs.Prelude.{◌≡◌, ◌≤◌, ◌^◌, ◌*◌, IfOk, length};
 ghost use Rattle.gq_edit.specs.Replacements.{FitText};
 ghost use Rattle.gq_edit.specs.Edits.{FitDocuments};
-ghost use Rattle.gq_edit.specs.Ends.{ends_of, placed};
+ghost use Rattle.gq_edit.specs.Helping.Ends.{ends_of, placed};
 ghost use Rattle.gq_edit.specs.Workspace.{AreTexts, workspace_edit_of, document_edit_of};
 
 use crate::applying::document;

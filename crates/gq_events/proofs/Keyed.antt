@@ -4,7 +4,7 @@ use Rattle.std.specs.Prelude.{ℤ, find, option_map}
 use Rattle.std.specs.Cmp.Lexicographic.{bytes_decides}
 use Rattle.std.specs.List.{insert}
 use Rattle.gq_project.specs.declared.document.Doc.{Doc}
-use Rattle.gq_project.specs.Places.{IsPlaceOf, IsGapFor}
+use Rattle.gq_project.specs.Helping.Places.{IsPlaceOf, IsGapFor}
 use Rattle.gq_project.proofs.Keys.{Ascend-with_item, Ascend-without_item, set_with_item, insert_with_item}
 use Rattle.gq_rpc.specs.declared.messages.DidChangeParams.{DidChangeParams}
 use Rattle.gq_events.specs.declared.documents.OpenDocument.{OpenDocument}

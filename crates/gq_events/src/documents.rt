@@ -1,7 +1,7 @@
 //! The documents that a client has open.
 ghost use Rattle.std.specs.Prelude.{◌≡◌, ◌≤◌, ◌^◌, Bool, true, false, [], length, Some, None, IfOk, IfErr, OnOk, OnErr, option_map, if◌then◌else◌};
 ghost use Rattle.gq_edit.specs.Workspace.{AreTexts};
-ghost use Rattle.gq_project.specs.Places.{IsPlaceOf, IsGapFor};
+ghost use Rattle.gq_project.specs.Helping.Places.{IsPlaceOf, IsGapFor};
 ghost use Rattle.gq_events.specs.declared.effect.Change.TheVariants as change;
 ghost use Rattle.gq_events.specs.Documents as spec;
 

@@ -135,7 +135,7 @@ search_name (f ∷ fs) t = by_test (bytes_eq t f.name.text) refl (search_name fs
       | inr k ↦ r g k q
     ])
 
-module _ (x : ExecutableOf) (no_cycle : (item : Fault) → IsFragmentCycle x item → ⊥) (no_unknown : (item : Fault) → IsUnknownFragment x item → ⊥) where
+module _ (x : ExecutableOf) (no_cycle : (fault : Fault) → IsFragmentCycle x fault → ⊥) (no_unknown : (fault : Fault) → IsUnknownFragment x fault → ⊥) where
   back : (from to : FragmentOf) → Contains x.fragments from → to.name.text ≡ from.name.text → Reaches x.fragments from.set to → ⊥
   back from to c e (reaches.at_once d s) = no_cycle (fault_at from.file FragmentCycle s.name) (record {
     fragment = from;

@@ -3,7 +3,7 @@ ghost use Rattle.std.specs.Prelude.{◌≡◌, ◌++◌, OnOk, Some, map};
 ghost use Rattle.std.specs.Option.{option_map};
 ghost use Rattle.gq_tree.specs.Views.{name_of, argument_view, input_view};
 ghost use Rattle.gq_types.specs.Look.{types_view};
-ghost use Rattle.gq_values.specs.Helping.ArgumentPlaces.{argument_faults};
+ghost use Rattle.gq_values.specs.ArgumentPlaces.{argument_faults};
 ghost use Rattle.gq_document.specs.Views.{selected_field_view};
 
 use gq_document::SelectedField;

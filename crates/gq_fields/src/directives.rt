@@ -2,7 +2,7 @@
 ghost use Rattle.std.specs.Prelude.{◌≡◌, ◌++◌, [], OnOk, map};
 ghost use Rattle.gq_tree.specs.Views.{directive_view};
 ghost use Rattle.gq_types.specs.Look.{types_view};
-ghost use Rattle.gq_values.specs.Helping.DirectivePlaces.{directive_faults};
+ghost use Rattle.gq_values.specs.DirectivePlaces.{directive_faults};
 ghost use Rattle.gq_document.specs.Views.{selected_view};
 ghost use Rattle.gq_fields.specs.Directives.{operation_location, selection_site};
 ghost use Rattle.gq_fields.specs.Helping.DirectivesPlaces.{wrong_directives_at};

@@ -5,7 +5,7 @@ ghost use Rattle.gq_found.specs.Order.{fault_cmp};
 
 use crate::fault::Fault;
 
-/// Adds the faults in order, each once. It takes no memory.
+/// Puts the faults in order, each once. It takes no memory.
 pub fn put_in_order(faults: &mut Vec<Fault>)
     ensures sorted { IsStrictlySortedBy fault_cmp faults.new.items }
     ensures same { (fault : _) → Contains faults.new.items fault ↔ Contains faults.old.items fault }

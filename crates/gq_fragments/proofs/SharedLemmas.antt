@@ -21,7 +21,7 @@ use Rattle.gq_types.proofs.KindLemmas.{has_kind_decides}
 use Rattle.gq_types.proofs.PossibleLemmas.{possible_texts_are}
 use Rattle.gq_types.proofs.SubtypeLemmas.{possible_decides}
 use Rattle.gq_fragments.specs.Helping.FragmentPlaces.{share_object}
-use Rattle.gq_fragments.specs.SharedObjectsPlaces.{same_pair, IsAnswer, AreAnswers}
+use Rattle.gq_fragments.specs.Helping.SharedObjectsPlaces.{same_pair, IsAnswer, AreAnswers}
 
 -- an object type is possible for both
 abbrev pub Share : List EntryOf → (one other : Text) → Type 0

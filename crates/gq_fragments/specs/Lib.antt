@@ -10,5 +10,4 @@ pub mod FragmentSpreadTypeExistence
 pub mod FragmentsOnCompositeTypes
 pub mod FragmentSpreadIsPossible
 pub mod FragmentFaults
-pub mod SharedObjectsPlaces
 pub mod Helping

@@ -6,7 +6,7 @@ ghost use Rattle.gq_types.specs.Look.{types_view};
 ghost use Rattle.gq_document.specs.Definitions.{fragments_view};
 ghost use Rattle.gq_document.specs.Views.{selected_view, selections_view};
 ghost use Rattle.gq_fragments.specs.Helping.FragmentPlaces.{name_texts, is_impossible, impossible_in, impossible_numbered, impossible_among, impossible_spread, impossible_at, impossible_spreads};
-ghost use Rattle.gq_fragments.specs.SharedObjectsPlaces.{AreAnswers};
+ghost use Rattle.gq_fragments.specs.Helping.SharedObjectsPlaces.{AreAnswers};
 
 use crate::shared_objects::SharedObjects;
 use gq_document::{Executable, Selected};

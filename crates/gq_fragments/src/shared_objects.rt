@@ -7,7 +7,7 @@ ghost use Rattle.gq_types.specs.Look.{types_view};
 ghost use Rattle.gq_types.specs.LookUps.{texts_of};
 ghost use Rattle.gq_types.specs.SubtypesTests.{is_possible};
 ghost use Rattle.gq_fragments.specs.Helping.FragmentPlaces.{share_object};
-ghost use Rattle.gq_fragments.specs.SharedObjectsPlaces.{AreAnswers};
+ghost use Rattle.gq_fragments.specs.Helping.SharedObjectsPlaces.{AreAnswers};
 
 use gq_text::NoMemory;
 use gq_types::{TypeKind, Types};

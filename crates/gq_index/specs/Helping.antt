@@ -2,3 +2,4 @@
 pub mod GroupGraphs
 pub mod Shared
 pub mod SpreadNumbers
+pub mod Views

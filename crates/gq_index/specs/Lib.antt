@@ -1,6 +1,5 @@
 pub mod VariableNames
 pub mod Occurrences
-pub mod Views
 pub mod VariableGroups
 pub mod Indexed
 pub mod Helping

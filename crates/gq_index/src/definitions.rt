@@ -4,7 +4,7 @@ ghost use Rattle.gq_tree.specs.Names.{names_at, spread_names, names_in};
 ghost use Rattle.gq_tree.specs.Views.{def_view, type_system_view};
 ghost use Rattle.gq_document.specs.Definitions.{in_document};
 ghost use Rattle.gq_index.specs.Occurrences.{executable_in, executables, fragment_name, spreads_in, place_of, type_system_place};
-ghost use Rattle.gq_index.specs.Views.{definitions_view};
+ghost use Rattle.gq_index.specs.Helping.Views.{definitions_view};
 
 use gq_read::Parsed;
 use gq_text::{NoMemory, Span};

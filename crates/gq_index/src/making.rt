@@ -1,7 +1,7 @@
 //! The index of a project.
 ghost use Rattle.std.specs.Prelude.{IfOk};
 ghost use Rattle.gq_index.specs.Indexed.{AreVariablesOf, AreVariables, IsIndexOf, IsIndexOfProject};
-ghost use Rattle.gq_index.specs.Views.{definition_view, definitions_view};
+ghost use Rattle.gq_index.specs.Helping.Views.{definition_view, definitions_view};
 
 use crate::definitions::{Executable, executables};
 use crate::index::{Index, Variables};

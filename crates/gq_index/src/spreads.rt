@@ -8,7 +8,7 @@ ghost use Rattle.gq_types.specs.Entries.{Text};
 ghost use Rattle.gq_index.specs.Occurrences.{is_operation};
 ghost use Rattle.gq_index.specs.Helping.SpreadNumbers.{numbers_under, fragment_numbers, spread_numbers, rows_under};
 ghost use Rattle.gq_index.specs.VariableGroups.{SpreadsFragment};
-ghost use Rattle.gq_index.specs.Views.{definitions_view};
+ghost use Rattle.gq_index.specs.Helping.Views.{definitions_view};
 
 use crate::definitions::{Executable, fragment_name, spreads_in};
 use gq_names::ByName;

@@ -8,7 +8,7 @@ use Rattle.std.proofs.lemmas.Bool.Decides.{nat_tests}
 use Rattle.std.proofs.lemmas.List.{length-drop, length-append}
 use Rattle.gq_lex.specs.declared.quoted.Step.TheVariants.{Ends, Goes, Fails}
 use Rattle.gq_lex.specs.Bytes.{look_up, is_comment_byte}
-use Rattle.gq_lex.specs.Helping.Scanning.{byte_at, unit_at, second_step, unit_step, escaped_step, escape_step, string_step}
+use Rattle.gq_lex.specs.Scanning.{byte_at, unit_at, second_step, unit_step, escaped_step, escape_step, string_step}
 use Rattle.gq_lex.specs.Strings.{is_quote, is_plain_byte, escapes, code_unit, IsEscapedUnit, escaped_unit, is_high_surrogate, is_low_surrogate, is_surrogate, paired, IsCharacter, plain, escaped, unicode, pair}
 use Rattle.gq_lex.proofs.Runs.{found_holds, not_true, is_number}
 

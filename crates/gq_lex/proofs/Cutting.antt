@@ -3,8 +3,8 @@ use Rattle.std.proofs.Common.{◌≡◌, ℕ, ◌+◌, ◌<◌, ◌≤◌, List,
 use Rattle.std.specs.Prelude.{flat_map, not, ◌&&◌, ◌||◌}
 use Rattle.std.specs.List.{prefix_len, onto_first, join_with_byte}
 use Rattle.std.proofs.lemmas.List.{append-nil, drop-drop, length-drop}
-use Rattle.gq_lex.specs.Helping.Decoding.{is_line_byte, terminator_len, later_lines, behind_line_feed}
-use Rattle.gq_lex.specs.Helping.Scanning.{byte_at}
+use Rattle.gq_lex.specs.Decoding.{is_line_byte, terminator_len, later_lines, behind_line_feed}
+use Rattle.gq_lex.specs.Scanning.{byte_at}
 use Rattle.gq_lex.specs.Values.{lines, begins_line_feed}
 use Rattle.gq_lex.proofs.Runs.{is_number}
 

@@ -10,8 +10,8 @@ use Rattle.gq_lex.specs.declared.quoted.Step.{Step}
 use Rattle.gq_lex.specs.declared.quoted.Step.TheVariants.{Ends, Goes, Fails}
 use Rattle.gq_lex.specs.Blocks.{is_source_byte, begins_quotes, begins_escape, IsBlockBody, closing, escape, source}
 use Rattle.gq_lex.specs.Bytes.{look_up}
-use Rattle.gq_lex.specs.Helping.Decoding.{scalar_value, second_value, unit_value, escaped_value, escape_value, character_value, block_character_value, value_at, with_front, decoded, string_at, raw_at}
-use Rattle.gq_lex.specs.Helping.Scanning.{byte_at, unit_at, string_step, block_step, step_at}
+use Rattle.gq_lex.specs.Decoding.{scalar_value, second_value, unit_value, escaped_value, escape_value, character_value, block_character_value, value_at, with_front, decoded, string_at, raw_at}
+use Rattle.gq_lex.specs.Scanning.{byte_at, unit_at, string_step, block_step, step_at}
 use Rattle.gq_lex.specs.Strings.{is_quote, escapes, IsEscapedUnit, escaped_unit, is_high_surrogate, is_low_surrogate, is_surrogate, paired, IsCharacter, plain, escaped, unicode, pair, AreCharacters, none, more}
 use Rattle.gq_lex.specs.Values.{IsStringValue}
 use Rattle.gq_lex.proofs.Characters.{unit_is, unit_behind, no_surrogate, plain_tests, character_is, character_first, character_told, quote_told, ends_inj, goes_inj}

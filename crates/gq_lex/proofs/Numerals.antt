@@ -10,7 +10,7 @@ use Rattle.gq_lex.specs.declared.token.BadKind.TheVariants.{Number}
 use Rattle.gq_lex.specs.Bytes.{Passes, Stops, is_digit}
 use Rattle.gq_lex.specs.Numbers.{is_non_zero_digit, is_exponent_indicator, is_sign, is_number_continue, IsIntegerPart, zero as int_zero, negative_zero, digits, negative_digits, IsFractionalPart, fraction as dotted, IsExponentPart, exponent as raised, signed_exponent, IsFloat, with_fraction as float_fraction, with_exponent as float_exponent, with_both}
 use Rattle.gq_lex.specs.Helping.Reading.{Found}
-use Rattle.gq_lex.specs.Helping.Scanning.{Piece, byte_at, unsigned_len, behind_sign, integer_len, some_digits, fraction_len, exponent_len, with_exponent, with_fraction, with_integer, number_at}
+use Rattle.gq_lex.specs.Scanning.{Piece, byte_at, unsigned_len, behind_sign, integer_len, some_digits, fraction_len, exponent_len, with_exponent, with_fraction, with_integer, number_at}
 use Rattle.gq_lex.specs.Tokens.{IsToken, int, float}
 use Rattle.gq_lex.proofs.Runs.{prefix_len_stops_at, cut_prefix, found_of, is_number, some_inj, ok_inj}
 

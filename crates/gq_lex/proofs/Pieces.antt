@@ -14,7 +14,7 @@ use Rattle.gq_lex.specs.declared.lexer.Class.TheVariants.{Blank, Mark, Hash, Dot
 use Rattle.gq_lex.specs.Bytes.{Passes, Stops, is_white_space, is_line_terminator, is_name_start, is_name_continue, is_comment_byte, is_digit, punctuator, punctuators}
 use Rattle.gq_lex.specs.Numbers.{is_non_zero_digit, IsIntegerPart, zero as int_zero, negative_zero, digits, negative_digits, IsFloat, with_fraction, with_exponent, with_both}
 use Rattle.gq_lex.specs.Helping.Reading.{is_blank, is_number_start, piece_at, piece_by, class_of, sign_class, whole_at, IsPiece, Found, IsFaulty}
-use Rattle.gq_lex.specs.Helping.Scanning.{Piece, number_at, quoted_at}
+use Rattle.gq_lex.specs.Scanning.{Piece, number_at, quoted_at}
 use Rattle.gq_lex.specs.Strings.{is_quote}
 use Rattle.gq_lex.specs.Tokens.{IsIgnored, unicode_bom, white_space, line_terminator, comment, comma, IsToken, sign, spread, name, int, float, empty_string, string, block_string, fault_kind, BeginsIgnored, BeginsToken, IsStuck}
 use Rattle.gq_lex.proofs.Numerals.{int_is, float_is, number_told, number_fault}

@@ -18,7 +18,7 @@ use Rattle.gq_lex.specs.declared.quoted.Step.TheVariants.{Ends, Goes, Fails}
 use Rattle.gq_lex.specs.Blocks.{is_source_byte, begins_quotes, begins_escape, IsBlockBody, closing, escape, source}
 use Rattle.gq_lex.specs.Bytes.{Stops}
 use Rattle.gq_lex.specs.Helping.Reading.{Found}
-use Rattle.gq_lex.specs.Helping.Scanning.{byte_at, string_step, block_step, step_at, grown, scan, closed, quoted_at}
+use Rattle.gq_lex.specs.Scanning.{byte_at, string_step, block_step, step_at, grown, scan, closed, quoted_at}
 use Rattle.gq_lex.specs.Strings.{is_quote, AreCharacters, none, more}
 use Rattle.gq_lex.specs.Tokens.{IsToken, empty_string, string, block_string}
 use Rattle.gq_lex.proofs.Characters.{character_is, character_first, Front, character_told, quote_told, ends_inj, goes_inj}

@@ -4,7 +4,7 @@ use Rattle.std.specs.Prelude.{IsSome, IfNone}
 use Rattle.gq_lex.specs.declared.token.Kind.{Kind}
 use Rattle.gq_lex.specs.declared.token.Kind.TheVariants.{String, BlockString}
 use Rattle.gq_lex.specs.Bytes.{punctuator, punctuators}
-use Rattle.gq_lex.specs.Helping.Decoding.{string_at, raw_at}
+use Rattle.gq_lex.specs.Decoding.{string_at, raw_at}
 use Rattle.gq_lex.specs.Strings.{AreCharacters, none}
 use Rattle.gq_lex.specs.Tokens.{IsToken, sign, spread, name, int, float, empty_string, string, block_string}
 use Rattle.gq_lex.specs.Values.{IsStringValue, IsBlockStringValue, block_value}

@@ -1,4 +1,2 @@
 -- What only helps to prove that the code does what the definitions say. No contract of a public call is about it.
-pub mod Decoding
 pub mod Reading
-pub mod Scanning

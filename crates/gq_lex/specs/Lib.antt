@@ -7,3 +7,5 @@ pub mod Strings
 pub mod Tokens
 pub mod Values
 pub mod Helping
+pub mod Decoding
+pub mod Scanning

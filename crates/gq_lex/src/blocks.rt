@@ -2,12 +2,12 @@
 
 ghost use Rattle.std.specs.Prelude.{◌≡◌};
 ghost use Rattle.gq_lex.specs.Blocks.{begins_escape, begins_quotes, is_source_byte};
-ghost use Rattle.gq_lex.specs.Helping.Scanning.{block_step};
+ghost use Rattle.gq_lex.specs.Scanning.{block_step};
 
 use crate::bytes::{byte_at, is_comment_byte, is_line_terminator};
 use crate::quoted::Step;
 
-#[tactic(auto, unfolding(crate::specs::Helping::Scanning::block_step))]
+#[tactic(auto, unfolding(crate::specs::Scanning::block_step))]
 pub(crate) fn block_step(bytes: &[u8]) -> Step
     ensures { result ≡ block_step bytes.now }
 {

@@ -3,7 +3,7 @@
 ghost use Rattle.std.specs.Prelude.{◌≡◌, ◌≤◌, length, get_or, drop};
 ghost use Rattle.std.specs.List.{prefix_len};
 ghost use Rattle.gq_lex.specs.Bytes.{is_white_space, is_line_terminator, is_name_start, is_name_continue, is_comment_byte, is_digit};
-ghost use Rattle.gq_lex.specs.Helping.Decoding.{is_line_byte};
+ghost use Rattle.gq_lex.specs.Decoding.{is_line_byte};
 ghost use Rattle.gq_lex.specs.Helping.Reading.{is_blank, is_number_start};
 
 pub(crate) fn is_white_space(b: u8) -> bool

@@ -2,8 +2,8 @@
 
 ghost use Rattle.std.specs.Prelude.{◌≡◌, ◌++◌, true, option_map, IfOk, OnOk, if◌then◌else◌};
 ghost use Rattle.gq_lex.specs.Bytes.{look_up};
-ghost use Rattle.gq_lex.specs.Helping.Decoding.{block_character_value, character_value, decoded, escape_value, escaped_value, scalar_value, second_value, unit_value, value_at};
-ghost use Rattle.gq_lex.specs.Helping.Scanning.{unit_at};
+ghost use Rattle.gq_lex.specs.Decoding.{block_character_value, character_value, decoded, escape_value, escaped_value, scalar_value, second_value, unit_value, value_at};
+ghost use Rattle.gq_lex.specs.Scanning.{unit_at};
 ghost use Rattle.gq_lex.specs.Strings.{escapes, is_high_surrogate, is_low_surrogate, paired};
 
 use crate::blocks::begins_escape;
@@ -50,7 +50,7 @@ fn push_value(form: Form, bytes: &[u8], out: &mut Vec<u8>) -> Result<(), NoMemor
     }
 }
 
-#[tactic(auto, unfolding(crate::specs::Helping::Decoding::character_value))]
+#[tactic(auto, unfolding(crate::specs::Decoding::character_value))]
 fn push_character(bytes: &[u8], out: &mut Vec<u8>) -> Result<(), NoMemory>
     ensures { OnOk result (out.new.items ≡ out.old.items ++ character_value bytes.now) }
 {

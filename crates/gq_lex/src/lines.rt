@@ -3,7 +3,7 @@
 ghost use Rattle.std.specs.Prelude.{◌≡◌, ◌<◌, ◌≤◌, ◌++◌, ◌∷◌, [], IfOk, OnOk, length, drop, flat_map, map};
 ghost use Rattle.std.specs.List.{prefix_len, join_with_byte};
 ghost use Rattle.gq_lex.specs.Bytes.{is_white_space};
-ghost use Rattle.gq_lex.specs.Helping.Decoding.{behind_line_feed, is_line_byte, least_indent, terminator_len, texts_of, to_filled};
+ghost use Rattle.gq_lex.specs.Decoding.{behind_line_feed, is_line_byte, least_indent, terminator_len, texts_of, to_filled};
 ghost use Rattle.gq_lex.specs.Values.{block_value, common_indent, dedented, from_filled, is_blank_line, lines};
 
 use crate::bytes::{behind, byte_at, line_len, white_space_len};

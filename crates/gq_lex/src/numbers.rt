@@ -3,14 +3,14 @@
 ghost use Rattle.std.specs.Prelude.{◌≡◌, ℕ, ◌+◌, ◌≤◌, IfSome, length};
 ghost use Rattle.std.specs.List.{prefix_len};
 ghost use Rattle.gq_lex.specs.Bytes.{is_digit};
-ghost use Rattle.gq_lex.specs.Helping.Scanning.{behind_sign, ended_at, exponent_len, fraction_len, integer_len, number_at, some_digits, unsigned_len};
+ghost use Rattle.gq_lex.specs.Scanning.{behind_sign, ended_at, exponent_len, fraction_len, integer_len, number_at, some_digits, unsigned_len};
 ghost use Rattle.gq_lex.specs.Numbers.{is_exponent_indicator, is_number_continue, is_sign};
 
 use crate::bytes::{byte_at, digits_len, is_digit, is_name_start};
 use crate::token::{BadKind, Kind};
 
 // The number at the front: its kind, and its length.
-#[tactic(auto, unfolding(crate::specs::Helping::Scanning::number_at))]
+#[tactic(auto, unfolding(crate::specs::Scanning::number_at))]
 pub(crate) fn number(bytes: &[u8]) -> Result<(Option<Kind>, usize), BadKind>
     ensures { result ≡ number_at bytes.now }
 {

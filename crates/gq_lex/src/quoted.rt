@@ -1,7 +1,7 @@
 //! How long the string or block string at the front of a text is.
 
 ghost use Rattle.std.specs.Prelude.{◌≡◌, ℕ, ◌≤◌, ◌^◌, IfSome, length};
-ghost use Rattle.gq_lex.specs.Helping.Scanning.{closed, quoted_at, scan, step_at};
+ghost use Rattle.gq_lex.specs.Scanning.{closed, quoted_at, scan, step_at};
 
 use crate::blocks::{begins_quotes, block_step};
 use crate::bytes::behind;
@@ -24,7 +24,7 @@ pub(crate) enum Step {
 }
 
 // The string or block string at the front: its kind, and its length.
-#[tactic(auto, unfolding(crate::specs::Helping::Scanning::quoted_at))]
+#[tactic(auto, unfolding(crate::specs::Scanning::quoted_at))]
 pub(crate) fn quoted(bytes: &[u8]) -> Result<(Option<Kind>, usize), BadKind>
     requires { 1 ≤ length bytes.now }
     ensures { result ≡ quoted_at bytes.now }

@@ -3,13 +3,13 @@
 ghost use Rattle.std.specs.Prelude.{◌≡◌, ◌≤◌, if◌then◌else◌};
 ghost use Rattle.std.specs.Char.{digit_value};
 ghost use Rattle.gq_lex.specs.Bytes.{is_comment_byte, look_up};
-ghost use Rattle.gq_lex.specs.Helping.Scanning.{escape_step, escaped_step, second_step, string_step, unit_at, unit_step};
+ghost use Rattle.gq_lex.specs.Scanning.{escape_step, escaped_step, second_step, string_step, unit_at, unit_step};
 ghost use Rattle.gq_lex.specs.Strings.{code_unit, escapes, is_high_surrogate, is_low_surrogate};
 
 use crate::bytes::{behind, byte_at, is_comment_byte};
 use crate::quoted::Step;
 
-#[tactic(auto, unfolding(crate::specs::Helping::Scanning::string_step))]
+#[tactic(auto, unfolding(crate::specs::Scanning::string_step))]
 pub(crate) fn string_step(bytes: &[u8]) -> Step
     ensures { result ≡ string_step bytes.now }
 {

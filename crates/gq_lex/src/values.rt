@@ -2,7 +2,7 @@
 
 ghost use Rattle.std.specs.Prelude.{◌≡◌, ℕ, List, [], IfOk, IfSome, IfNone, IsSome, IsUtf8, option_map};
 ghost use Rattle.gq_lex.specs.declared.token.Kind.TheVariants.{String, BlockString};
-ghost use Rattle.gq_lex.specs.Helping.Decoding.{raw_at, string_at};
+ghost use Rattle.gq_lex.specs.Decoding.{raw_at, string_at};
 ghost use Rattle.gq_lex.specs.Tokens.{IsToken};
 ghost use Rattle.gq_lex.specs.Values.{IsStringValue, IsBlockStringValue};
 
@@ -28,7 +28,7 @@ pub fn string_value(alloc: Global, text: &str) -> Result<Option<OwnedText>, NoMe
 }
 
 // What the characters of a string stand for.
-#[tactic(auto, unfolding(crate::specs::Helping::Decoding::string_at))]
+#[tactic(auto, unfolding(crate::specs::Decoding::string_at))]
 fn characters(alloc: Global, bytes: &[u8]) -> Result<Option<Vec<u8>>, NoMemory>
     ensures { IfOk result (λ found. option_map (λ value. value.items) found ≡ string_at bytes.now) }
 {
@@ -54,7 +54,7 @@ pub fn block_string_value(alloc: Global, text: &str) -> Result<Option<OwnedText>
 }
 
 // What the characters of a block string stand for.
-#[tactic(auto, unfolding(crate::specs::Helping::Decoding::raw_at))]
+#[tactic(auto, unfolding(crate::specs::Decoding::raw_at))]
 fn raw(alloc: Global, bytes: &[u8]) -> Result<Option<Vec<u8>>, NoMemory>
     ensures { IfOk result (λ found. option_map (λ value. value.items) found ≡ raw_at bytes.now) }
 {

@@ -11,8 +11,8 @@ use Rattle.gq_meaning.specs.Shown.{Data}
 use Rattle.gq_meaning.specs.Selected.{Directives, Arguments, Set, join}
 use Rattle.gq_meaning.specs.Expand.{Asked, Definition, fits_condition, expand_with, entered, expand_within, expand, sets_of}
 use Rattle.gq_meaning.specs.Response.{FieldType, Given, setting, Place, fits, fits_composite, fits_leaf, is_nothing, is_unfit, fails, item_at, of_key, keys_after, place_of, place_in, below_result, below, child, steps_below, steps_of, written, leaf_in, AreTold, error_at, call_at, root, Responds, Calls}
-use Rattle.gq_meaning.specs.Alike as alike
-use Rattle.gq_meaning.specs.Alike.{ends, fields, spreads, inlines, neither, both}
+use Rattle.gq_meaning.specs.Helping.Alike as alike
+use Rattle.gq_meaning.specs.Helping.Alike.{ends, fields, spreads, inlines, neither, both}
 use Rattle.gq_meaning.proofs.Simulation.{IsSimulation, shows_same, told_same}
 
 zip_append : {A : Type 0} (R : A → A → Type 0) (xs ys us vs : List A) → AllZip R xs ys → AllZip R us vs → AllZip R (xs ++ us) (ys ++ vs)

@@ -9,7 +9,7 @@ use Rattle.gq_meaning.specs.Shown.{Shown, Entry, Entries, Data}
 use Rattle.gq_meaning.specs.Expand.{Definition}
 use Rattle.gq_meaning.specs.Thin.{IsIn}
 use Rattle.gq_meaning.specs.Response.{Given, Place, fails, child, steps, is_non_null, has_list, has_object, has_nothing, IsNull, failed, nothing, by_child, ShowsAs, ShowAll, Shows, AreTold, no_more, one_more, error_at}
-use Rattle.gq_meaning.specs.Helping.Answered.{is_null_shown, is_null, Answered, ChildAnswered}
+use Rattle.gq_meaning.specs.Answered.{is_null_shown, is_null, Answered, ChildAnswered}
 use Rattle.gq_meaning.proofs.Simulation.{shows_same, told_same, flipped}
 use Rattle.gq_meaning.proofs.SameRepeats.{HasFewer, repeats_sim}
 

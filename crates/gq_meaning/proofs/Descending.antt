@@ -8,7 +8,7 @@ use Rattle.gq_meaning.specs.Shown.{Data}
 use Rattle.gq_meaning.specs.Expand.{Asked, Definition, expand, sets_of}
 use Rattle.gq_meaning.specs.Thin.{Thin}
 use Rattle.gq_meaning.specs.Response.{FieldType, Given, setting, Place, fails, item_type, item_at, of_key, keys_after, place_of, place_in, indexes, steps, is_non_null}
-use Rattle.gq_meaning.specs.Helping.Answered.{is_null, Answered, ChildAnswered}
+use Rattle.gq_meaning.specs.Answered.{is_null, Answered, ChildAnswered}
 use Rattle.gq_meaning.proofs.Repeats.{thin_of_key, thin_keys_all}
 use Rattle.gq_meaning.proofs.SameRepeats.{places_both}
 use Rattle.gq_meaning.proofs.Building.{answered_more}

@@ -9,7 +9,7 @@ use Rattle.gq_meaning.specs.Results.{Result, Answer, Answers, Step, Path}
 use Rattle.gq_meaning.specs.Shown as shown
 use Rattle.gq_meaning.specs.Expand.{Asked, Definition}
 use Rattle.gq_meaning.specs.Response.{FieldType, Given, Place, fits, is_unfit, fails, below, child, steps_of, steps, has_nothing, leaf_in, written, IsNull, failed, nothing, by_child, AreTold, no_more, error_at}
-use Rattle.gq_meaning.specs.Helping.Answered.{Answered}
+use Rattle.gq_meaning.specs.Answered.{Answered}
 
 same_if : {A : Type 0} (b : Bool) (x : A) → (if b then x else x) ≡ x
 same_if true x = refl

@@ -6,7 +6,7 @@ use Rattle.gq_meaning.specs.Values.{Text}
 use Rattle.gq_meaning.specs.Selected.{Directives, Arguments, Set, none, field, spread, inline}
 use Rattle.gq_meaning.specs.Expand.{Definition, find_definition}
 use Rattle.gq_meaning.specs.Response.{Given}
-use Rattle.gq_meaning.specs.Alike.{SetsAlike, ends, fields, spreads, inlines, FoundAlike, neither, both, AreAlike}
+use Rattle.gq_meaning.specs.Helping.Alike.{SetsAlike, ends, fields, spreads, inlines, FoundAlike, neither, both, AreAlike}
 use Rattle.gq_meaning.specs.Renamed.{renamed, rename_set, rename_definition, IsUnspread, IsNew, RenamesKeep}
 use Rattle.gq_meaning.proofs.TextLemmas.{same_text, text_itself, text_same}
 use Rattle.gq_meaning.proofs.AlikeLemmas.{alike_responses}

@@ -2,7 +2,7 @@
 use Rattle.std.proofs.Common.{ℕ, suc, ◌+◌, ◌*◌, ◌<◌, ◌≤◌, List, ◌∷◌, arith, mul-le-mul_right}
 use Rattle.gq_tree.specs.Forest.{row}
 use Rattle.gq_meaning.specs.Results.{Answer}
-use Rattle.gq_meaning.specs.Helping.Depth.{depth}
+use Rattle.gq_meaning.specs.Depth.{depth}
 
 -- deepest: no result of the table nests deeper
 abbrev pub weight : (deepest height depth : ℕ) → ℕ

@@ -1,4 +1,3 @@
--- What only helps to prove that the code does what the definitions say. No response is defined by it.
+-- What only helps to prove that the code does what the definitions say. No contract of a public call is about it.
+pub mod Alike
 pub mod Gathers
-pub mod Answered
-pub mod Depth

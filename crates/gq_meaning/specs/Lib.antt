@@ -8,8 +8,9 @@ pub mod Acyclic
 pub mod Response
 pub mod Directives
 pub mod Views
-pub mod Alike
 pub mod Rewritten
 pub mod Renamed
 pub mod Laws
 pub mod Helping
+pub mod Answered
+pub mod Depth

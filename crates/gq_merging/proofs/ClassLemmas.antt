@@ -22,8 +22,8 @@ use Rattle.gq_merging.specs.Shapes.{shape_of}
 use Rattle.gq_merging.specs.Helping.Comparisons.{known_type, same_shapes}
 use Rattle.gq_merging.specs.Helping.SetTables.{MemberOf, RowOf, members_at, spreads_at, IsMember}
 use Rattle.gq_merging.specs.Helping.GroupTables.{IsOfGroup, IsThrough, known_shape, SayTheSame, IsUnder, AreBelow, ClassesOf, HasClass, AreClasses, HaveClasses, Takes, AreSettled}
-use Rattle.gq_merging.specs.Views.{field_at, member_view, members_view, row_view, rows_view}
-use Rattle.gq_merging.specs.GroupViews.{groups_view, classes_view}
+use Rattle.gq_merging.specs.Helping.Views.{field_at, member_view, members_view, row_view, rows_view}
+use Rattle.gq_merging.specs.Helping.GroupViews.{groups_view, classes_view}
 use Rattle.gq_merging.specs.declared.classes.Classes.{Classes}
 use Rattle.gq_merging.specs.declared.rows.Member.{Member}
 use Rattle.gq_merging.specs.declared.rows.Row.{Row}

@@ -15,8 +15,8 @@ use Rattle.gq_merging.specs.Helping.PairTables.{MetOf, LookOf, AreMet}
 use Rattle.gq_merging.specs.Helping.NameTables.{ByNameOf, list_at, AreByKey}
 use Rattle.gq_merging.specs.Helping.ParentTables.{AreByParent}
 use Rattle.gq_merging.specs.Helping.SearchTables.{AreOfOneKey, IsClique, AreMetInOne, Searched}
-use Rattle.gq_merging.specs.SearchViews.{list_with, AreCliquesWith, AreMetWith}
-use Rattle.gq_merging.specs.Views.{member_view, members_view}
+use Rattle.gq_merging.specs.Helping.SearchViews.{list_with, AreCliquesWith, AreMetWith}
+use Rattle.gq_merging.specs.Helping.Views.{member_view, members_view}
 use Rattle.gq_merging.specs.declared.purpose.Purpose.TheVariants.{Shapes, Names}
 use Rattle.gq_merging.specs.declared.rows.Member.{Member}
 use Rattle.gq_merging.proofs.ClassLemmas.{members_more}

@@ -17,7 +17,7 @@ use Rattle.gq_merging.specs.Shapes.{shape_of}
 use Rattle.gq_merging.specs.Helping.SetTables.{MemberOf}
 use Rattle.gq_merging.specs.Helping.PairTables.{MetOf, LookOf, AreMet, IsGiven, IsFaultOf}
 use Rattle.gq_merging.specs.Helping.SearchTables.{IsEarliest, IsWith, IsClique}
-use Rattle.gq_merging.specs.Views.{field_at, member_view, members_view}
+use Rattle.gq_merging.specs.Helping.Views.{field_at, member_view, members_view}
 use Rattle.gq_merging.specs.declared.purpose.Purpose.{Purpose}
 use Rattle.gq_merging.specs.declared.rows.Member.{Member}
 use Rattle.gq_merging.proofs.DifferLemmas.{differ_may, first_differs, second_differs}

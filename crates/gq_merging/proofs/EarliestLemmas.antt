@@ -10,7 +10,7 @@ use Rattle.gq_merging.specs.FieldsMerge.{IsNoLater}
 use Rattle.gq_merging.specs.Helping.Comparisons.{is_no_later}
 use Rattle.gq_merging.specs.Helping.SetTables.{MemberOf}
 use Rattle.gq_merging.specs.Helping.SearchTables.{IsEarliest, earlier_of}
-use Rattle.gq_merging.specs.Views.{member_view, members_view}
+use Rattle.gq_merging.specs.Helping.Views.{member_view, members_view}
 use Rattle.gq_merging.specs.declared.rows.Member.{Member}
 use Rattle.gq_merging.proofs.ClassLemmas.{members_more}
 

@@ -6,11 +6,11 @@ use Rattle.gq_found.specs.Adds.{AddsExactly}
 use Rattle.gq_found.proofs.PutLemmas.{puts_both, puts_as}
 use Rattle.gq_document.specs.Executable.{ExecutableOf}
 use Rattle.gq_merging.specs.FieldsMerge.{IsFaultFor, IsMergingFault, of_shapes, of_names}
-use Rattle.gq_merging.specs.Groups.{AreMerged}
+use Rattle.gq_merging.specs.Helping.Groups.{AreMerged}
 use Rattle.gq_merging.specs.Helping.SetTables.{AreRows, spreads_at}
 use Rattle.gq_merging.specs.Helping.StartTables.{Passes}
 use Rattle.gq_merging.specs.Helping.PairTables.{LookOf, IsGiven, IsMetReached, IsFaultOf}
-use Rattle.gq_merging.specs.Views.{row_view, rows_view}
+use Rattle.gq_merging.specs.Helping.Views.{row_view, rows_view}
 use Rattle.gq_merging.specs.declared.rows.Row.{Row}
 use Rattle.gq_merging.specs.declared.purpose.Purpose.{Purpose}
 use Rattle.gq_merging.specs.declared.purpose.Purpose.TheVariants.{Shapes, Names}

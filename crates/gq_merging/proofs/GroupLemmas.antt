@@ -17,10 +17,11 @@ use Rattle.gq_document.specs.FieldSets.{SetOf, FieldAt, key, InSet, field_set}
 use Rattle.gq_merging.specs.FieldsMerge.{Differ, in_shape, in_call}
 use Rattle.gq_merging.specs.SameArguments.{SameArguments}
 use Rattle.gq_merging.specs.Shapes.{shape_of}
-use Rattle.gq_merging.specs.Groups.{MeetFrom, together, deeper, IsMerged, AreMerged}
-use Rattle.gq_merging.specs.Helping.GroupTables.{IsOfGroup, IsThrough, SayTheSame, IsUnder, AreBelow, GoTogether, AreSettled, IsSettled, IsReached, IsTest, ArePassed, IsTested, AreTested, AreMarked, IsKnown, as_empty, as_before, as_marked}
+use Rattle.gq_merging.specs.Helping.Groups.{MeetFrom, together, deeper, IsMerged, AreMerged}
+use Rattle.gq_reach.specs.Components.{Also}
+use Rattle.gq_merging.specs.Helping.GroupTables.{IsOfGroup, IsThrough, SayTheSame, IsUnder, AreBelow, GoTogether, AreSettled, IsSettled, IsReached, IsTest, ArePassed, IsTested, AreTested, IsKnown, as_empty, as_before, as_marked}
 use Rattle.gq_merging.specs.Helping.SetTables.{MemberOf, RowOf, AreRows, AreAlike, IsMember, members_at, spreads_at}
-use Rattle.gq_merging.specs.Views.{member_view, row_view, rows_view}
+use Rattle.gq_merging.specs.Helping.Views.{member_view, row_view, rows_view}
 use Rattle.gq_merging.specs.declared.purpose.Purpose.{Purpose}
 use Rattle.gq_merging.specs.declared.rows.Row.{Row}
 use Rattle.gq_merging.proofs.ClassLemmas.{through_member}
@@ -343,12 +344,12 @@ through_is_tested es rows n fragment through t =
     }
 
 -- one set more is marked
-pub one_more_tested : (es : List EntryOf) (rows : List RowOf) (n : ℕ) (old new : List Bool) → length new ≡ length old → AreMarked (n ∷ []) old new →
+pub one_more_tested : (es : List EntryOf) (rows : List RowOf) (n : ℕ) (old new : List Bool) → length new ≡ length old → Also (n ∷ []) old new →
     IsTested es rows n → AreTested es rows old → AreTested es rows new
 one_more_tested es rows n old new count marked here before = record {
   count = count ∙ before.count;
-  tested = λ k e. elim (marked k e) [
-    | inl c ↦ subst (IsTested es rows) (sym (contains_one n k c)) here
-    | inr f ↦ before.tested k f
+  tested = λ k e. elim (marked.only k e) [
+    | inl was ↦ before.tested k was
+    | inr c ↦ subst (IsTested es rows) (sym (contains_one n k c)) here
   ];
 }

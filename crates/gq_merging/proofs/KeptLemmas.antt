@@ -17,7 +17,7 @@ use Rattle.gq_merging.specs.Helping.PairTables.{MetOf, LookOf, AreMet}
 use Rattle.gq_merging.specs.Helping.NameTables.{ByNameOf, by_name_view, fields_with, AreByKey}
 use Rattle.gq_merging.specs.Helping.SearchTables.{AreInGroup, AreOfOneKey, AreMetInOne, Searched}
 use Rattle.gq_merging.specs.Helping.KeptTables.{KeptOf, AreByTheirKeys, IsTableOf, IsKept, AreKept, IsTableAt, ArePut, AreMetBeside, AreMetBesideOne, table_view, tables_view}
-use Rattle.gq_merging.specs.Views.{member_view, members_view, rows_view}
+use Rattle.gq_merging.specs.Helping.Views.{member_view, members_view, rows_view}
 use Rattle.gq_merging.specs.declared.rows.Member.{Member}
 use Rattle.gq_merging.specs.declared.rows.Row.{Row}
 use Rattle.gq_merging.specs.declared.kept.Table.{Table}

@@ -12,6 +12,7 @@ pub mod LookLemmas
 pub mod SearchLemmas
 pub mod FaultLemmas
 pub mod ArgumentLemmas
+pub mod EntryLemmas
 pub mod MarkLemmas
 pub mod StringLemmas
 pub mod IdentityLemmas

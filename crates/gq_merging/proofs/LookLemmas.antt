@@ -15,7 +15,7 @@ use Rattle.gq_merging.specs.FieldsMerge.{leads_on}
 use Rattle.gq_merging.specs.Helping.SetTables.{MemberOf, spreads_at}
 use Rattle.gq_merging.specs.Helping.NameTables.{ByNameOf, fields_with, AreByKey, AreMetByKey}
 use Rattle.gq_merging.specs.Helping.PairTables.{MetOf, LookOf, AreMet, IsMetIn, IsNumber, IsStart, IsBelow, IsGiven, IsFaultOf, IsAfter, below, by_left, by_right, Gains, Looked}
-use Rattle.gq_merging.specs.Views.{member_view, members_view}
+use Rattle.gq_merging.specs.Helping.Views.{member_view, members_view}
 use Rattle.gq_merging.specs.declared.rows.Member.{Member}
 
 -- nothing is put

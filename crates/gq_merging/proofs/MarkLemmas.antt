@@ -1,8 +1,8 @@
 -- Each pair of entries is compared once: what the marks then say.
-use Rattle.std.proofs.Common.{◌≡◌, ◌≢◌, ◌↔◌, ◌⊎◌, inl, inr, ⊎_elim, ℕ, zero, suc, ◌+◌, ◌<◌, ◌≤◌, Bool, true, false, IsTrue, List, [], ◌∷◌, ◌++◌, length, take, map, get_or, set, Contains, refl, sym, ◌∙◌, ap, subst, arith}
+use Rattle.std.proofs.Common.{◌≡◌, ◌≢◌, ◌↔◌, ◌⊎◌, inl, inr, ⊎_elim, ℕ, zero, suc, ◌+◌, ◌<◌, ◌≤◌, Bool, true, false, IsTrue, List, [], ◌∷◌, ◌++◌, length, take, set, Contains, refl, sym, ◌∙◌, ap, subst, arith}
 use Rattle.std.specs.List.{list_all}
 use Rattle.std.proofs.lemmas.Bool.Decides.{eqb_tells}
-use Rattle.std.proofs.lemmas.List.{get_or_default, get_or-map, length-map, take_more, take_all, map-append, get_or-set_same, get_or-set_other, length-set}
+use Rattle.std.proofs.lemmas.List.{get_or_default, take_more, take_all, get_or-set_same, get_or-set_other, length-set}
 use Rattle.std.proofs.lemmas.List.Elements.{Contains-append_left, Contains-append_right, Contains-append_cases}
 use Rattle.gq_names.proofs.RepeatLemmas.{contains_none, contains_first, contains_cases}
 use Rattle.gq_names.specs.Repeats.{StandsAt}
@@ -13,10 +13,6 @@ use Rattle.gq_merging.specs.Helping.Marks.{IsAmong, IsSameAt, IsAmongFirst, is_m
 
 one_stands : {A : Type 0} (xs : List A) (i : ℕ) (x y : A) → StandsAt xs i x → StandsAt xs i y → x ≡ y
 one_stands xs i x y h k = sym h.1 ∙ get_or_default xs i x y h.0 ∙ k.1
-
--- an item that is read from a list stands in what is seen of the list
-pub stands_seen : {A : Type 0} (view : A → Val Span) (xs : List A) (i : ℕ) (x : A) → i < length xs → get_or xs i x ≡ x → StandsAt (map view xs) i (view x)
-stands_seen view xs i x inside is = (subst (λ n. i < n) (sym (length-map xs view)) inside, get_or-map view xs i x (view x) inside ∙ ap view is)
 
 module _ (a : Val Span) (bs : List (Val Span)) where
   pub marks_begin : (old : List Bool) → MarksSame a bs 0 old old
@@ -69,7 +65,7 @@ module _ (a : Val Span) (bs : List (Val Span)) where
   found_none = ((λ t. absurd (cc)), (λ q. absurd (omega (arith, q.1))))
 
 -- one more entry has found an identical one
-pub all_more : (xs bs : List (Val Span)) (a : Val Span) (old new : List Bool) → AllFound xs bs old → IsAmong a bs → MarksSame a bs (length bs) old new → AllFound (xs ++ a ∷ []) bs new
+all_more : (xs bs : List (Val Span)) (a : Val Span) (old new : List Bool) → AllFound xs bs old → IsAmong a bs → MarksSame a bs (length bs) old new → AllFound (xs ++ a ∷ []) bs new
 all_more xs bs a old new h is m = record {
   found = λ x k. ⊎_elim (λ p. h.found x p) (λ p. subst (λ z. IsAmong z bs) (last x p) is) (Contains-append_cases xs (a ∷ []) x k);
   as_many = m.as_many ∙ h.as_many;
@@ -85,12 +81,10 @@ all_more xs bs a old new h is m = record {
     below : {z : Val Span} (j : ℕ) → IsSameAt z bs j → j < length bs
     below j q = q.1.0
 
--- the same where the entry is read from a list
-pub all_more_seen : {A : Type 0} (view : A → Val Span) (xs : List A) (bs : List (Val Span)) (i : ℕ) (x : A) (old new : List Bool) → i < length xs → get_or xs i x ≡ x →
-    AllFound (map view (take i xs)) bs old → IsAmong (view x) bs → MarksEach (view x) bs old new → AllFound (map view (take (i + 1) xs)) bs new
-all_more_seen view xs bs i x old new inside read h is m =
-    subst (λ ys. AllFound ys bs new) (sym (ap (map view) (take_more xs i x inside ∙ ap (λ y. take i xs ++ y ∷ []) read) ∙ map-append view (take i xs) (x ∷ [])))
-    (all_more (map view (take i xs)) bs (view x) old new h is m)
+-- the same for the entry that stands next in a list
+pub all_more_at : (xs bs : List (Val Span)) (i : ℕ) (a : Val Span) (old new : List Bool) → StandsAt xs i a → AllFound (take i xs) bs old → IsAmong a bs → MarksEach a bs old new → AllFound (take (i + 1) xs) bs new
+all_more_at xs bs i a old new stands h is m =
+    subst (λ ys. AllFound ys bs new) (sym (take_more xs i a stands.0 ∙ ap (λ y. take i xs ++ y ∷ []) stands.1)) (all_more (take i xs) bs a old new h is m)
 
 -- all marks are set exactly if the sets are one
 marks_all : (marks : List Bool) → list_all (λ m. m) marks ≡ true → (j : ℕ) → j < length marks → is_marked marks j ≡ true
@@ -104,7 +98,7 @@ all_marks [] h = refl
 all_marks (true ∷ marks) h = all_marks marks (λ j k. h (suc j) (omega (arith, k)))
 all_marks (false ∷ marks) h = h 0 (omega arith)
 
-pub sets_marked : (xs bs : List (Val Span)) (marks : List Bool) (all : Bool) → AllFound xs bs marks → all ≡ list_all (λ m. m) marks → IsTrue all ↔ SameArguments xs bs
+sets_marked : (xs bs : List (Val Span)) (marks : List Bool) (all : Bool) → AllFound xs bs marks → all ≡ list_all (λ m. m) marks → IsTrue all ↔ SameArguments xs bs
 sets_marked xs bs marks all h is = (
   (λ t. record {
     given = h.found;
@@ -125,6 +119,5 @@ sets_marked xs bs marks all h is = (
         by_item : SameArguments xs bs → (j : ℕ) → j < length bs → (b : Val Span) × StandsAt bs j b → (a : Val Span) × Contains xs a × IsSameAt a bs j
         by_item s j k b = let q = s.others b.0 (j, b.1.0, b.1.1) in (q.0, q.1, (b.0, b.1, q.2))
 
-pub sets_marked_seen : {A : Type 0} (view : A → Val Span) (xs : List A) (bs : List (Val Span)) (i : ℕ) (marks : List Bool) (all : Bool) → length xs ≤ i →
-    AllFound (map view (take i xs)) bs marks → all ≡ list_all (λ m. m) marks → IsTrue all ↔ SameArguments (map view xs) bs
-sets_marked_seen view xs bs i marks all end h is = sets_marked (map view xs) bs marks all (subst (λ ys. AllFound (map view ys) bs marks) (take_all i xs end) h) is
+pub sets_marked_at_end : (xs bs : List (Val Span)) (i : ℕ) (marks : List Bool) (all : Bool) → length xs ≤ i → AllFound (take i xs) bs marks → all ≡ list_all (λ m. m) marks → IsTrue all ↔ SameArguments xs bs
+sets_marked_at_end xs bs i marks all end h is = sets_marked xs bs marks all (subst (λ ys. AllFound ys bs marks) (take_all i xs end) h) is

@@ -12,9 +12,8 @@ use Rattle.gq_document.specs.Executable.{ExecutableOf}
 use Rattle.gq_document.specs.FieldSets.{fragment_set, operation_set}
 use Rattle.gq_merging.specs.Helping.SetTables.{RowOf, IsRow, AreRows, first_sets, names_of, members_at, spreads_at}
 use Rattle.gq_merging.specs.Helping.StartTables.{Passes}
-use Rattle.gq_merging.specs.Views.{members_view, row_view, rows_view}
+use Rattle.gq_merging.specs.Helping.Views.{members_view, row_view, rows_view}
 use Rattle.gq_merging.specs.declared.rows.Row.{Row}
-use Rattle.gq_merging.specs.declared.rows.Member.{Member}
 use Rattle.gq_merging.proofs.MemberLemmas.{spreads_within}
 use Rattle.gq_types.proofs.Gathered.{from_map_as as from_map, to_map}
 

@@ -14,7 +14,7 @@ use Rattle.gq_names.proofs.RepeatLemmas.{contains_none}
 use Rattle.gq_types.specs.Entries.{Text}
 use Rattle.gq_merging.specs.Helping.NameTables.{ByNameOf, list_at, fields_with, AreListed}
 use Rattle.gq_merging.specs.Helping.SetTables.{MemberOf}
-use Rattle.gq_merging.specs.Views.{member_view, members_view}
+use Rattle.gq_merging.specs.Helping.Views.{member_view, members_view}
 use Rattle.gq_merging.specs.declared.rows.Member.{Member}
 use Rattle.gq_merging.proofs.ClassLemmas.{get_set_same, get_set_other}
 use Rattle.gq_merging.proofs.Worklist.{get_longer, get_seam}

@@ -9,7 +9,7 @@ use Rattle.gq_found.specs.declared.fault.Fault.{Fault}
 use Rattle.gq_document.specs.Executable.{ExecutableOf}
 use Rattle.gq_document.specs.FieldSets.{SetOf, FieldAt, key, InSet, Stands, field_set}
 use Rattle.gq_merging.specs.FieldsMerge.{HaveOneKey, leads_on, Differ, IsNoLater, fault_of, Meet, together, deeper, IsFaultFor}
-use Rattle.gq_merging.specs.Groups.{MeetFrom, AreMerged, together as together_there, deeper as deeper_there}
+use Rattle.gq_merging.specs.Helping.Groups.{MeetFrom, AreMerged, together as together_there, deeper as deeper_there}
 use Rattle.gq_merging.specs.Helping.SetTables.{MemberOf, RowOf, AreRows, AreAlike, HasNumber, IsMember, spreads_at}
 use Rattle.gq_merging.specs.Helping.StartTables.{LeadsTo, Passes}
 use Rattle.gq_merging.specs.Helping.PairTables.{MetOf, LookOf, IsMetAt, IsGiven, IsReached, start, step, IsMetReached, IsFaultOf}

@@ -3,7 +3,7 @@ use Rattle.std.proofs.Common.{◌≡◌, ◌<◌, List, [], ◌∷◌, ◌++◌,
 use Rattle.std.proofs.lemmas.List.{map-append, length-map, get_or-map}
 use Rattle.gq_document.specs.Executable.{ExecutableOf}
 use Rattle.gq_merging.specs.Helping.SetTables.{AreNumbered, own_fields, own_spreads, names_of, weights}
-use Rattle.gq_merging.specs.Views.{set_at, sets_at, members_view, row_view, rows_view}
+use Rattle.gq_merging.specs.Helping.Views.{set_at, sets_at, members_view, row_view, rows_view}
 use Rattle.gq_merging.specs.declared.sets.StandingSet.{StandingSet}
 use Rattle.gq_merging.specs.declared.rows.Row.{Row}
 use Rattle.gq_merging.proofs.Worklist.{Listing, listing_goes_on, less_waits}

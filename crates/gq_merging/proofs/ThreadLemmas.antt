@@ -4,8 +4,8 @@ use Rattle.std.proofs.lemmas.List.{length-map, length-replicate}
 use Rattle.gq_types.specs.Entries.{EntryOf}
 use Rattle.gq_merging.specs.Helping.GroupTables.{ArePassed, AreTested}
 use Rattle.gq_merging.specs.Helping.SetTables.{RowOf}
-use Rattle.gq_merging.specs.GroupViews.{groups_view}
-use Rattle.gq_merging.specs.Views.{row_view, rows_view}
+use Rattle.gq_merging.specs.Helping.GroupViews.{groups_view}
+use Rattle.gq_merging.specs.Helping.Views.{row_view, rows_view}
 use Rattle.gq_merging.specs.declared.rows.Row.{Row}
 use Rattle.gq_merging.proofs.GroupLemmas.{none_passed}
 

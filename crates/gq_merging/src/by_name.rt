@@ -6,7 +6,7 @@ ghost use Rattle.std.specs.Str.{bytes_eq};
 ghost use Rattle.gq_types.specs.Entries.{Text};
 ghost use Rattle.gq_merging.specs.Helping.NameTables.{AreByKey, AreListed, by_name_view, fields_with};
 ghost use Rattle.gq_merging.specs.Helping.SetTables.{MemberOf};
-ghost use Rattle.gq_merging.specs.Views.{field_at, member_view, members_view};
+ghost use Rattle.gq_merging.specs.Helping.Views.{field_at, member_view, members_view};
 
 use crate::comparing::key;
 use crate::rows::Member;

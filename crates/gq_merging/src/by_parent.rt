@@ -5,7 +5,7 @@ ghost use Rattle.gq_types.specs.Look.{types_view};
 ghost use Rattle.gq_merging.specs.Helping.NameTables.{by_name_view};
 ghost use Rattle.gq_merging.specs.Helping.ParentTables.{AreByParent};
 ghost use Rattle.gq_merging.specs.Helping.SetTables.{MemberOf};
-ghost use Rattle.gq_merging.specs.Views.{member_view, members_view};
+ghost use Rattle.gq_merging.specs.Helping.Views.{member_view, members_view};
 
 use crate::by_name::FieldsByName;
 use crate::comparing::is_object;

@@ -7,8 +7,8 @@ ghost use Rattle.gq_document.specs.Selections.{typename_field};
 ghost use Rattle.gq_merging.specs.Helping.SetTables.{MemberOf, IsMember};
 ghost use Rattle.gq_document.specs.FieldSets.{key};
 ghost use Rattle.gq_merging.specs.Helping.GroupTables.{known_shape, SayTheSame, IsUnder, IsThrough, IsThroughMarked, AreBelow, AreClasses, Takes, AreSettled};
-ghost use Rattle.gq_merging.specs.Views.{field_at, member_view, members_view, rows_view};
-ghost use Rattle.gq_merging.specs.GroupViews.{groups_view, classes_view, AreKeyed};
+ghost use Rattle.gq_merging.specs.Helping.Views.{field_at, member_view, members_view, rows_view};
+ghost use Rattle.gq_merging.specs.Helping.GroupViews.{groups_view, classes_view, AreKeyed};
 
 use crate::comparing::{have_same_shape, key, known_type};
 use crate::rows::{Member, Row};

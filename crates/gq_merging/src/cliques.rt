@@ -17,9 +17,9 @@ ghost use Rattle.gq_merging.specs.Helping.PairTables.{AreMet, IsGiven, IsFaultOf
 ghost use Rattle.gq_merging.specs.Helping.SearchTables.{AreOfOneKey, IsClique, IsWith, IsBelowOne, AreBelowThese, AreMetInOne, Grows, Searched};
 ghost use Rattle.gq_merging.specs.Helping.GroupTables.{IsOfGroup};
 ghost use Rattle.gq_merging.specs.Helping.SetTables.{MemberOf};
-ghost use Rattle.gq_merging.specs.GroupViews.{groups_view};
-ghost use Rattle.gq_merging.specs.SearchViews.{list_with, AreCliquesWith, AreMetWith};
-ghost use Rattle.gq_merging.specs.Views.{member_view, members_view, rows_view, look_view};
+ghost use Rattle.gq_merging.specs.Helping.GroupViews.{groups_view};
+ghost use Rattle.gq_merging.specs.Helping.SearchViews.{list_with, AreCliquesWith, AreMetWith};
+ghost use Rattle.gq_merging.specs.Helping.Views.{member_view, members_view, rows_view, look_view};
 
 use crate::by_name::FieldsByName;
 use crate::by_parent::FieldsByParent;

@@ -9,7 +9,7 @@ ghost use Rattle.gq_document.specs.Selections.{typename_field, no_span};
 ghost use Rattle.gq_document.specs.FieldSets.{key};
 ghost use Rattle.gq_merging.specs.FieldsMerge.{can_coincide, leads_on, Differ};
 ghost use Rattle.gq_merging.specs.Helping.Comparisons.{known_type, same_ends, same_shapes, shapes_differ, is_no_later};
-ghost use Rattle.gq_merging.specs.Views.{field_at};
+ghost use Rattle.gq_merging.specs.Helping.Views.{field_at};
 ghost use Rattle.gq_merging.specs.declared.purpose.Purpose.TheVariants.{Names};
 
 use crate::purpose::Purpose;

@@ -6,7 +6,7 @@ ghost use Rattle.gq_document.specs.Selections.{typename_field};
 ghost use Rattle.gq_merging.specs.Helping.Comparisons.{may_differ};
 ghost use Rattle.gq_merging.specs.FieldsMerge.{Differ};
 ghost use Rattle.gq_merging.specs.Helping.SearchTables.{IsEarliest, earlier_of};
-ghost use Rattle.gq_merging.specs.Views.{field_at, member_view, members_view};
+ghost use Rattle.gq_merging.specs.Helping.Views.{field_at, member_view, members_view};
 
 use crate::comparing::{differ, is_no_later, known_type};
 use crate::pairs::Look;

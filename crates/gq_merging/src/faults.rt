@@ -7,12 +7,12 @@ ghost use Rattle.gq_reach.specs.Reach.{InRange};
 ghost use Rattle.gq_document.specs.Selections.{typename_field};
 ghost use Rattle.gq_document.specs.Executable.{executable_view};
 ghost use Rattle.gq_merging.specs.FieldsMerge.{IsMergingFault};
-ghost use Rattle.gq_merging.specs.Groups.{AreMerged};
+ghost use Rattle.gq_merging.specs.Helping.Groups.{AreMerged};
 ghost use Rattle.gq_merging.specs.Helping.NameTables.{AreMetByKey, by_name_view};
 ghost use Rattle.gq_merging.specs.Helping.PairTables.{AreMet, IsMetIn, IsAfter, IsMetReached, IsGiven, IsFaultOf, Gains, Looked};
 ghost use Rattle.gq_merging.specs.Helping.SearchTables.{HaveSets};
 ghost use Rattle.gq_merging.specs.Helping.SetTables.{AreRows, members_at};
-ghost use Rattle.gq_merging.specs.Views.{member_view, members_view, rows_view, met_view, look_view};
+ghost use Rattle.gq_merging.specs.Helping.Views.{member_view, members_view, rows_view, met_view, look_view};
 
 use crate::by_name::FieldsByName;
 use crate::comparing::{differ, is_no_later, key, typename_type};

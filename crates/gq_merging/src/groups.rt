@@ -7,8 +7,11 @@
 //! is passed over if it was there already, or if it is one set of which this is known. A set in which one spread stands alone
 //! has the fields of that fragment, and is known with it.
 //!
-//! Where a test fails, the fragments that are spread in its set are tested, and no other set that spreads one that fails. After a
-//! number of steps in proportion to the project the tests end.
+//! Where a test fails, the fragments that are spread in its set are tested, and no other set that spreads one that fails.
+//!
+//! Where many sets reach the same fragments, each with fields of its own, their tests take more steps than they have. Then all
+//! are tested as one group, and where that fails, one by one in more steps. After a number of steps in proportion to the project
+//! the tests end.
 ghost use Rattle.std.specs.Prelude.{◌≡◌, ◌<◌, ◌+◌, ◌⊎◌, ℕ, List, All, Some, IsTrue, IfOk, OnOk, true, false, length, map, slice_get, slice_index_or};
 ghost use Rattle.std.specs.List.{flat_map};
 ghost use Rattle.gq_reach.specs.Reach.{InRange, row};
@@ -18,10 +21,10 @@ ghost use Rattle.gq_types.specs.Look.{types_view};
 ghost use Rattle.gq_document.specs.Selections.{typename_field};
 ghost use Rattle.gq_document.specs.Executable.{executable_view};
 ghost use Rattle.gq_merging.specs.Helping.SetTables.{RowOf, AreRows, members_at};
-ghost use Rattle.gq_merging.specs.Groups.{AreMerged};
-ghost use Rattle.gq_merging.specs.Helping.GroupTables.{AreReached, IsTest, IsTested, ArePassed, AreTested, AreMarked, IsKnown, IsMarkedOne};
-ghost use Rattle.gq_merging.specs.Views.{members_view, rows_view};
-ghost use Rattle.gq_merging.specs.GroupViews.{groups_view};
+ghost use Rattle.gq_merging.specs.Helping.Groups.{AreMerged};
+ghost use Rattle.gq_merging.specs.Helping.GroupTables.{AreReached, IsTest, IsTested, ArePassed, AreTested, IsKnown, IsMarkedOne};
+ghost use Rattle.gq_merging.specs.Helping.Views.{members_view, rows_view};
+ghost use Rattle.gq_merging.specs.Helping.GroupViews.{groups_view};
 
 use crate::classes::{Tables, groups_below, has_selections, is_through};
 use crate::cliques::take_steps;
@@ -29,6 +32,7 @@ use crate::members::{gathered, own_members, reached_sets};
 use crate::passed::named_rows;
 use crate::rows::{Member, Row};
 use gq_document::Executable;
+use gq_reach::mark_all;
 use gq_text::NoMemory;
 use gq_tree::TypeRef;
 use std::alloc::Global;
@@ -118,17 +122,6 @@ fn is_known(groups: &[Vec<usize>], marks: &[bool], place: usize, places: &mut Ve
     let earlier = places[first];
     places[first] = place;
     is_as_before(groups, earlier, place)
-}
-
-/// Marks the numbers.
-fn mark_all(marks: &mut Vec<bool>, numbers: &[usize])
-    requires range { All (λ n. n < length marks.old.items) numbers.now }
-    ensures count { length marks.new.items ≡ length marks.old.items }
-    ensures marked { AreMarked numbers.now marks.old.items marks.new.items }
-{
-    for number in numbers {
-        marks[*number] = true;
-    }
 }
 
 /// How many numbers stand in the groups.
@@ -400,16 +393,13 @@ fn unmarked_below(alloc: Global, marks: &[bool], count: usize) -> Result<Vec<usi
     Ok(numbers)
 }
 
-/// Notes of no test. The tests may take four steps for each place of the room.
-fn no_notes(alloc: Global, rows: &[Row<'_>]) -> Result<Notes, NoMemory> {
+/// Notes of no test. The tests may take so many steps.
+fn no_notes(alloc: Global, rows: &[Row<'_>], steps: usize) -> Result<Notes, NoMemory> {
     let room = all_room(rows);
     Ok(Notes {
         places: vec![in alloc; 0; rows.len()]?,
         failed: vec![in alloc; false; rows.len()]?,
-        left: Budget {
-            steps: room.saturating_mul(4),
-            room,
-        },
+        left: Budget { steps, room },
         room,
     })
 }
@@ -433,7 +423,48 @@ fn tested_numbers(
     Ok(numbers)
 }
 
-/// The marks that tests leave which begin with these sets, in order.
+/// Tests these sets one by one, in order, and tells whether so many steps are enough.
+fn mark_in_steps(
+    tables: Tables<'_>,
+    starts: &[usize],
+    marks: &mut Vec<bool>,
+    steps: usize,
+) -> Result<bool, NoMemory>
+    requires typename { type_view tables.typename_type.now ≡ typename_field.type_ref }
+    requires range { InRange tables.spreads.now }
+    requires spreads { map (λ v. v.items) tables.spreads.now ≡ map (λ r. r.spreads.items) tables.rows.now }
+    requires starts { All (λ n. n < length tables.rows.now) starts.now }
+    requires tested { AreTested (types_view tables.types.now) (rows_view tables.rows.now) marks.old.items }
+    ensures tested { OnOk result (AreTested (types_view tables.entry.types.now) (rows_view tables.entry.rows.now) marks.new.items) }
+{
+    let mut notes = no_notes(tables.alloc, tables.rows, steps)?;
+    let mut groups = Vec::new(tables.alloc);
+    mark_each(tables, starts, marks, &mut groups, &mut notes)?;
+    Ok(notes.left.steps > 0)
+}
+
+/// Tests these sets together.
+fn mark_together(
+    tables: Tables<'_>,
+    starts: &[usize],
+    marks: &mut Vec<bool>,
+    steps: usize,
+) -> Result<(), NoMemory>
+    requires typename { type_view tables.typename_type.now ≡ typename_field.type_ref }
+    requires range { InRange tables.spreads.now }
+    requires spreads { map (λ v. v.items) tables.spreads.now ≡ map (λ r. r.spreads.items) tables.rows.now }
+    requires starts { All (λ n. n < length tables.rows.now) starts.now }
+    requires tested { AreTested (types_view tables.types.now) (rows_view tables.rows.now) marks.old.items }
+    ensures tested { OnOk result (AreTested (types_view tables.entry.types.now) (rows_view tables.entry.rows.now) marks.new.items) }
+{
+    let mut notes = no_notes(tables.alloc, tables.rows, steps)?;
+    let mut groups = Vec::new(tables.alloc);
+    let tested = tested_from(tables, marks, starts, &mut groups, &mut notes)?;
+    mark_all(marks, &tested);
+    Ok(())
+}
+
+/// The marks that tests leave which begin with these sets: one by one in few steps, together, and one by one in more.
 fn marks_from(tables: Tables<'_>, starts: &[usize]) -> Result<Vec<bool>, NoMemory>
     requires typename { type_view tables.typename_type.now ≡ typename_field.type_ref }
     requires range { InRange tables.spreads.now }
@@ -442,9 +473,11 @@ fn marks_from(tables: Tables<'_>, starts: &[usize]) -> Result<Vec<bool>, NoMemor
     ensures { IfOk result (λ marks. AreTested (types_view tables.entry.types.now) (rows_view tables.entry.rows.now) marks.items) }
 {
     let mut marks = vec![in tables.alloc; false; tables.rows.len()]?;
-    let mut notes = no_notes(tables.alloc, tables.rows)?;
-    let mut groups = Vec::new(tables.alloc);
-    mark_each(tables, starts, &mut marks, &mut groups, &mut notes)?;
+    let room = all_room(tables.rows);
+    if !mark_in_steps(tables, starts, &mut marks, room / 4)? {
+        mark_together(tables, starts, &mut marks, room)?;
+        mark_in_steps(tables, starts, &mut marks, room.saturating_mul(4))?;
+    }
     Ok(marks)
 }
 

@@ -13,8 +13,8 @@ ghost use Rattle.gq_document.specs.Selections.{typename_field};
 ghost use Rattle.gq_merging.specs.Helping.NameTables.{by_name_view};
 ghost use Rattle.gq_merging.specs.Helping.SearchTables.{AreInGroup, AreOfOneKey, Searched};
 ghost use Rattle.gq_merging.specs.Helping.KeptTables.{KeptOf, AreByTheirKeys, AreKept, AreMetBeside, AreMetBesideOne, ArePut, IsTableAt, IsTableOf, table_view, tables_view};
-ghost use Rattle.gq_merging.specs.GroupViews.{groups_view};
-ghost use Rattle.gq_merging.specs.Views.{members_view, rows_view, look_view};
+ghost use Rattle.gq_merging.specs.Helping.GroupViews.{groups_view};
+ghost use Rattle.gq_merging.specs.Helping.Views.{members_view, rows_view, look_view};
 
 use crate::by_name::FieldsByName;
 use crate::cliques::{look_at_class, look_at_classes, take_steps};

@@ -7,6 +7,7 @@ mod classes;
 mod cliques;
 mod comparing;
 mod earliest;
+mod entries;
 mod faults;
 mod groups;
 mod kept;

@@ -3,7 +3,7 @@ ghost use Rattle.std.specs.Prelude.{◌≡◌, ℕ, ◌++◌, ◌<◌, All, IfOk
 ghost use Rattle.std.specs.List.{flat_map};
 ghost use Rattle.gq_reach.specs.Reach.{Reach, InRange, row};
 ghost use Rattle.gq_merging.specs.Helping.SetTables.{members_at, spreads_at};
-ghost use Rattle.gq_merging.specs.Views.{members_view, rows_view};
+ghost use Rattle.gq_merging.specs.Helping.Views.{members_view, rows_view};
 
 use crate::rows::{Member, Row};
 use gq_reach::reach_rows;

@@ -2,7 +2,7 @@
 //! `i * count + j`, which 128 bits hold.
 ghost use Rattle.std.specs.Prelude.{[], Contains, IfOk, OnOk, length};
 ghost use Rattle.gq_merging.specs.Helping.PairTables.{IsNumber, IsStart, IsBelow, IsGiven, Gains};
-ghost use Rattle.gq_merging.specs.Views.{met_view, look_view};
+ghost use Rattle.gq_merging.specs.Helping.Views.{met_view, look_view};
 
 use crate::comparing::leads_on;
 use crate::purpose::Purpose;

@@ -4,7 +4,7 @@ ghost use Rattle.gq_tree.specs.Views.{sels_view};
 ghost use Rattle.gq_types.specs.Look.{types_view, text_of};
 ghost use Rattle.gq_document.specs.Executable.{executable_view};
 ghost use Rattle.gq_merging.specs.Helping.SetTables.{AreRows, AreNumbered, IsEmptyAt, IsPut, first_sets, own_fields, own_spreads, names_of};
-ghost use Rattle.gq_merging.specs.Views.{field_at, fields_at, set_at, sets_at, members_view, rows_view};
+ghost use Rattle.gq_merging.specs.Helping.Views.{field_at, fields_at, set_at, sets_at, members_view, rows_view};
 
 use crate::sets::{
     StandingField, StandingSet, field_set, fragment_set, operation_set, put_fields, put_spreads,

@@ -1,17 +1,19 @@
 //! Identical values (section 5.3.2): lists item by item, input objects as sets of names and values.
-ghost use Rattle.std.specs.Prelude.{◌≡◌, ◌↔◌, ◌<◌, IsTrue, IfOk, OnOk, length, map};
+ghost use Rattle.std.specs.Prelude.{◌≡◌, ◌↔◌, ◌<◌, IsTrue, IfOk, OnOk, length};
 ghost use Rattle.std.specs.Str.{bytes_eq};
-ghost use Rattle.gq_tree.specs.Views.{value_view, values_view, entry_view};
+ghost use Rattle.gq_tree.specs.Views.{value_view, values_view};
 ghost use Rattle.gq_merging.specs.SameArguments.{AreInOrder, IsArgument, SameArguments};
+ghost use Rattle.gq_merging.specs.Helping.Entries.{entry_seen, entries_seen};
 ghost use Rattle.gq_merging.specs.Helping.Marks.{AreAlike, IsAmong, MarksEach};
 
+use crate::entries::{Entries, Entry};
 use crate::marks::{are_all_marked, unmarked};
 use crate::same_strings::are_same_strings;
 use gq_text::NoMemory;
-use gq_tree::{Literal, Name, ObjectField, Value};
+use gq_tree::{Literal, Name, Value};
 use std::alloc::Global;
 
-pub(crate) fn have_same_text(left: &Name, right: &Name) -> bool
+fn have_same_text(left: &Name, right: &Name) -> bool
     ensures { result ≡ bytes_eq left.now.text right.now.text }
 {
     left.text.as_str() == right.text.as_str()
@@ -26,7 +28,7 @@ fn have_same_spelling(left: &Literal, right: &Literal) -> bool
 /// Whether the values are identical.
 #[cycle(alike)]
 #[tactic(auto, using(gq_tree::proofs::Trees::values))]
-pub(crate) fn are_identical(alloc: Global, left: &Value, right: &Value) -> Result<bool, NoMemory>
+fn are_identical(alloc: Global, left: &Value, right: &Value) -> Result<bool, NoMemory>
     ensures { IfOk result (λ same. IsTrue same ↔ AreAlike (value_view left.now) (value_view right.now)) }
 {
     match (left, right) {
@@ -47,7 +49,7 @@ pub(crate) fn are_identical(alloc: Global, left: &Value, right: &Value) -> Resul
             are_in_order(alloc, left, right)
         }
         (Value::Object { fields: left, .. }, Value::Object { fields: right, .. }) => {
-            have_same_fields(alloc, left, right)
+            have_same_entries(alloc, Entries::Fields(left), Entries::Fields(right))
         }
         _ => Ok(false),
     }
@@ -71,19 +73,18 @@ fn are_in_order(alloc: Global, left: &[Value], right: &[Value]) -> Result<bool, 
     Ok(true)
 }
 
-/// Whether each field of the one is in the other, and the other way round. Each pair of fields is compared once.
+/// Whether each entry of the one is in the other, and the other way round. Each pair of entries is compared once.
 #[cycle(alike)]
-#[tactic(auto, using(gq_tree::proofs::Trees::values))]
-fn have_same_fields(
+pub(crate) fn have_same_entries(
     alloc: Global,
-    left: &[ObjectField],
-    right: &[ObjectField],
+    left: Entries<'_>,
+    right: Entries<'_>,
 ) -> Result<bool, NoMemory>
-    ensures { IfOk result (λ same. IsTrue same ↔ SameArguments (map entry_view left.now) (map entry_view right.now)) }
+    ensures { IfOk result (λ same. IsTrue same ↔ SameArguments (entries_seen left.entry) (entries_seen right.entry)) }
 {
     let mut marks = unmarked(alloc, right.len())?;
-    for field in left {
-        let found = mark_fields(alloc, field, right, &mut marks)?;
+    for i in 0..left.len() {
+        let found = mark_entries(alloc, left.at(i), right, &mut marks)?;
         if !found {
             return Ok(false);
         }
@@ -91,22 +92,21 @@ fn have_same_fields(
     Ok(are_all_marked(&marks))
 }
 
-/// Marks the fields that are identical to this one, and answers whether there are some.
+/// Marks the entries that are identical to this one, and answers whether there are some.
 #[cycle(alike)]
-#[tactic(auto, using(gq_tree::proofs::Trees::values))]
-fn mark_fields(
+fn mark_entries(
     alloc: Global,
-    field: &ObjectField,
-    others: &[ObjectField],
+    entry: Entry<'_>,
+    others: Entries<'_>,
     marks: &mut Vec<bool>,
 ) -> Result<bool, NoMemory>
-    requires { length marks.old.items ≡ length others.now }
-    ensures found { IfOk result (λ found. IsTrue found ↔ IsAmong (entry_view field.now) (map entry_view others.now)) }
-    ensures marks { OnOk result (MarksEach (entry_view field.now) (map entry_view others.now) marks.old.items marks.new.items) }
+    requires { length marks.old.items ≡ length (entries_seen others) }
+    ensures found { IfOk result (λ found. IsTrue found ↔ IsAmong (entry_seen entry.entry) (entries_seen others.entry)) }
+    ensures marks { OnOk result (MarksEach (entry_seen entry.entry) (entries_seen others.entry) marks.old.items marks.new.items) }
 {
     let mut found = false;
     for i in 0..others.len() {
-        let same = is_same_field(alloc, field, &others[i])?;
+        let same = is_same_entry(alloc, entry, others.at(i))?;
         if same {
             marks[i] = true;
             found = true;
@@ -117,12 +117,11 @@ fn mark_fields(
 
 /// Whether the names are one and the values identical.
 #[cycle(alike)]
-#[tactic(auto, using(gq_tree::proofs::Trees::values))]
-fn is_same_field(alloc: Global, left: &ObjectField, right: &ObjectField) -> Result<bool, NoMemory>
-    ensures { IfOk result (λ same. IsTrue same ↔ IsArgument (entry_view left.now) (entry_view right.now)) }
+fn is_same_entry(alloc: Global, left: Entry<'_>, right: Entry<'_>) -> Result<bool, NoMemory>
+    ensures { IfOk result (λ same. IsTrue same ↔ IsArgument (entry_seen left.entry) (entry_seen right.entry)) }
 {
-    if !have_same_text(&left.name, &right.name) {
+    if !have_same_text(left.name, right.name) {
         return Ok(false);
     }
-    are_identical(alloc, &left.value, &right.value)
+    are_identical(alloc, left.value, right.value)
 }

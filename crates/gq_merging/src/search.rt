@@ -13,8 +13,8 @@ ghost use Rattle.gq_document.specs.Selections.{typename_field};
 ghost use Rattle.gq_merging.specs.Helping.PairTables.{IsGiven, IsMetReached, IsFaultOf};
 ghost use Rattle.gq_merging.specs.Helping.SearchTables.{AreFirst, AreInGroup, HaveSets, Search, Searched, WasThere};
 ghost use Rattle.gq_merging.specs.Helping.KeptTables.{AreKept, tables_view};
-ghost use Rattle.gq_merging.specs.GroupViews.{groups_view};
-ghost use Rattle.gq_merging.specs.Views.{rows_view, look_view};
+ghost use Rattle.gq_merging.specs.Helping.GroupViews.{groups_view};
+ghost use Rattle.gq_merging.specs.Helping.Views.{rows_view, look_view};
 
 use crate::by_name::FieldsByName;
 use crate::classes::number_of_same;

@@ -5,7 +5,7 @@ ghost use Rattle.gq_types.specs.Look.{types_view, text_of};
 ghost use Rattle.gq_document.specs.Definitions.{operation_view, fragment_view};
 ghost use Rattle.gq_document.specs.FieldSets.{operation_set, fragment_set, field_set};
 ghost use Rattle.gq_merging.specs.Helping.SetTables.{own_fields, own_fields_at, own_spreads, own_spreads_at};
-ghost use Rattle.gq_merging.specs.Views.{field_at, fields_at, set_at};
+ghost use Rattle.gq_merging.specs.Helping.Views.{field_at, fields_at, set_at};
 
 use gq_document::{FragmentEntry, OperationEntry, selected_field};
 use gq_spreads::FragmentNames;

@@ -1,3 +1,3 @@
-pub mod Places
 pub mod Repeats
 pub mod UnderNames
+pub mod Helping

@@ -2,7 +2,7 @@
 ghost use Rattle.std.specs.Prelude.{◌≡◌, ◌<◌, ◌≤◌, ◌++◌, ◌∷◌, [], List, ℕ, length, not, slice_index_or, position, IfOk, OnOk, OnErr};
 ghost use Rattle.std.specs.List.{list_any};
 ghost use Rattle.std.specs.Str.{bytes_eq};
-ghost use Rattle.gq_names.specs.Places.{FindFirstPlaces};
+ghost use Rattle.gq_names.specs.Helping.Places.{FindFirstPlaces};
 
 use crate::places::{FEW, FirstPlaces};
 use gq_text::{NoMemory, SmallText};
@@ -19,7 +19,7 @@ pub struct NameList {
 
 impl Model for NameList {
     ghost use Rattle.std.specs.Prelude.{List, ℕ, ◌<◌, length};
-    ghost use Rattle.gq_names.specs.Places.{FindFirstPlaces};
+    ghost use Rattle.gq_names.specs.Helping.Places.{FindFirstPlaces};
 
     ghost Value = { List (List ℕ) };
 

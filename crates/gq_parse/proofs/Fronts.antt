@@ -3,8 +3,8 @@ use Rattle.std.proofs.Common.{Bool, true, false, Option, Some, None, ◌≡◌, 
 use Rattle.std.specs.Prelude.{is_some, not, IfSome, IfNone}
 use Rattle.gq_lex.specs.declared.token.Kind.{Kind}
 use Rattle.gq_parse.specs.Grammar.{Tokens, IsPunctuator, NotNext, ManyUntil, closed, another, OptionalMany, absent, enclosed}
-use Rattle.gq_parse.specs.Phrases.{Lacks}
-use Rattle.gq_parse.proofs.Unique.{not_next, moved, punctuator_begins, same_punctuator, Unique, NeverBegins, same_closed}
+use Rattle.gq_parse.specs.Helping.Phrases.{Lacks, Unique, NeverBegins}
+use Rattle.gq_parse.proofs.Unique.{not_next, moved, punctuator_begins, same_punctuator, same_closed}
 
 pub data Front {A : Type 0} (X : A → Tokens → Tokens → Type 0) : List A → Tokens → Tokens → Type 0 where
   no_more : {tokens : Tokens} → Front X [] tokens tokens
@@ -21,6 +21,14 @@ front_start {X} xs {tokens} e = subst (λ ys. Front X ys tokens tokens) (sym e) 
 -- one more is put
 pub front_put : {A : Type 0} {X : A → Tokens → Tokens → Type 0} (xs ys : List A) (x : A) {tokens a rest : Tokens} → ys ≡ xs ++ x ∷ [] → Front X xs tokens a → X x a rest → Front X ys tokens rest
 front_put {X} xs ys x {tokens} {rest = rest} e front one = subst (λ zs. Front X zs tokens rest) (sym e) (front_push front one)
+
+map_push : {A B : Type 0} (f : A → B) (xs : List A) (x : A) → map f (xs ++ x ∷ []) ≡ map f xs ++ f x ∷ []
+map_push f [] x = refl
+map_push f (y ∷ xs) x = ap (λ zs. f y ∷ zs) (map_push f xs x)
+
+-- one more is put, which is read as f says
+pub front_read : {A B : Type 0} {X : B → Tokens → Tokens → Type 0} (f : A → B) (xs ys : List A) (x : A) {tokens a rest : Tokens} → ys ≡ xs ++ x ∷ [] → Front X (map f xs) tokens a → X (f x) a rest → Front X (map f ys) tokens rest
+front_read f xs ys x e front one = front_put _ _ (f x) (ap (map f) e ∙ map_push f xs x) front one
 
 -- a front and what closes it
 pub front_closed : {A : Type 0} {X : A → Tokens → Tokens → Type 0} {k : Kind} {xs : List A} {tokens a rest : Tokens} → Front X xs tokens a → IsPunctuator k a rest → ManyUntil X k xs tokens rest

@@ -8,12 +8,12 @@ use Rattle.gq_lex.specs.declared.token.Kind.TheVariants as kind
 use Rattle.gq_tree.specs.declared.tree.OperationKind.{OperationKind}
 use Rattle.gq_tree.specs.declared.tree.OperationKind.TheVariants.{Query}
 use Rattle.gq_tree.specs.Plain.{NameOf, VariableOf, DirectiveOf, Sels, Def, operation, fragment}
-use Rattle.gq_parse.specs.From.{from}
+use Rattle.gq_parse.specs.Helping.From.{from}
 use Rattle.gq_parse.specs.Grammar.{Tokens, covered, IsKeyword, IsFragmentName, IsTypeCondition, IsOptionalName, IsVariableDefinitions, IsDirectives, IsSelectionSet, IsOperationType, IsOperationDefinition, bare, typed, IsFragmentDefinition, fragment_on, IsPunctuator, NotNext, braces}
 use Rattle.gq_parse.specs.TypeSystem.{IsTypeSystemDefinition}
 use Rattle.gq_parse.specs.Documents.{IsDefinition, an_operation, a_fragment, a_type_system_definition, IsDocument, at_end, definition}
-use Rattle.gq_parse.specs.Parts.{IsTypeSystem, of_type_system, IsOperationOrTypeSystem}
-use Rattle.gq_parse.specs.Phrases.{Lacks}
+use Rattle.gq_parse.specs.Helping.Parts.{IsTypeSystem, of_type_system, IsOperationOrTypeSystem}
+use Rattle.gq_parse.specs.Helping.Phrases.{Lacks}
 use Rattle.gq_parse.proofs.Unique.{not_next, punctuator_begins, same_spelled, same_fragment_name, same_type_condition, same_optional_name}
 use Rattle.gq_parse.proofs.UniqueValues.{same_variable_definitions, same_directives}
 use Rattle.gq_parse.proofs.UniqueOperations.{type_or_set, same_operation_type, fragment_or_operation}

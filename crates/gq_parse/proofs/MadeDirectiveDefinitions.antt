@@ -7,9 +7,9 @@ use Rattle.gq_tree.specs.declared.type_system.DirectiveLocation.{DirectiveLocati
 use Rattle.gq_tree.specs.Plain.{NameOf, InputOf, TypeSystemOf, directive_definition}
 use Rattle.gq_parse.specs.Grammar.{Tokens, IsPunctuator, IsName, IsKeyword, NotNext, covered}
 use Rattle.gq_parse.specs.TypeSystem.{Delimited, IsArgumentsDefinition, location_word, IsLocation, a_location, IsRepeatable, once, repeatable}
-use Rattle.gq_parse.specs.Phrases.{Lacks}
-use Rattle.gq_parse.specs.Locations.{location_named}
-use Rattle.gq_parse.specs.Parts.{IsDirectiveDescribed, directive_described}
+use Rattle.gq_parse.specs.Helping.Phrases.{Lacks}
+use Rattle.gq_parse.specs.Helping.Locations.{location_named}
+use Rattle.gq_parse.specs.Helping.Parts.{IsDirectiveDescribed, directive_described}
 use Rattle.gq_parse.proofs.Unique.{not_next, moved, punctuator_begins, spelled_begins, same_punctuator, same_spelled, same_name}
 use Rattle.gq_parse.proofs.UniqueTypeSystem.{same_inputs, paren_never}
 use Rattle.gq_parse.proofs.UniqueDocuments.{on_apart_repeatable, same_repeatable}

@@ -10,8 +10,8 @@ use Rattle.gq_tree.specs.Plain.{NameOf, Val, TypeOf, InputOf}
 use Rattle.gq_tree.specs.Views.{literal_view}
 use Rattle.gq_parse.specs.Grammar.{Tokens, IsPunctuator, IsSpelled, IsName, NotNext, IsValueWord, IsDirectives, IsType, IsDefaultValue}
 use Rattle.gq_parse.specs.TypeSystem.{IsDescription, a_description, a_block_description, IsInputValue, an_input_value, IsArgumentsDefinition, IsFieldDefinition, a_field_definition, IsEnumValueDefinition, an_enum_value}
-use Rattle.gq_parse.specs.Phrases.{Lacks}
-use Rattle.gq_parse.proofs.Unique.{not_next, moved, punctuator_begins, spelled_begins, same_punctuator, same_name, NeverBegins}
+use Rattle.gq_parse.specs.Helping.Phrases.{Lacks, NeverBegins}
+use Rattle.gq_parse.proofs.Unique.{not_next, moved, punctuator_begins, spelled_begins, same_punctuator, same_name}
 use Rattle.gq_parse.proofs.UniqueValues.{same_type, same_default}
 use Rattle.gq_parse.proofs.UniqueTypeSystem.{same_description, same_inputs, paren_never, brace_never}
 

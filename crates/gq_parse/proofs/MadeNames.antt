@@ -6,8 +6,8 @@ use Rattle.gq_lex.specs.declared.token.Kind.TheVariants as kind
 use Rattle.gq_tree.specs.Plain.{NameOf}
 use Rattle.gq_parse.specs.Grammar.{Tokens, IsPunctuator, IsName, IsKeyword, NotNext}
 use Rattle.gq_parse.specs.TypeSystem.{NotWord, Separated, last, next, Delimited, plain, led, IsImplements, no_interfaces, interfaces, IsMembers, no_members, members}
-use Rattle.gq_parse.specs.Phrases.{Lacks}
-use Rattle.gq_parse.proofs.Unique.{not_next, moved, punctuator_begins, spelled_begins, same_punctuator, same_spelled, Unique}
+use Rattle.gq_parse.specs.Helping.Phrases.{Lacks, Unique}
+use Rattle.gq_parse.proofs.Unique.{not_next, moved, punctuator_begins, spelled_begins, same_punctuator, same_spelled}
 use Rattle.gq_parse.proofs.UniqueTypeSystem.{not_word}
 use Rattle.gq_parse.proofs.Fronts.{Front, no_more, one_more}
 

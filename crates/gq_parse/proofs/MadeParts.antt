@@ -9,8 +9,8 @@ use Rattle.gq_tree.specs.declared.types.TypeRef.{TypeRef}
 use Rattle.gq_tree.specs.declared.types.TypeRef.TheVariants as variant
 use Rattle.gq_tree.proofs.Trees.{view_named, view_list_of, view_non_null}
 use Rattle.gq_parse.specs.Grammar.{Tokens, covered, IsPunctuator, IsName, NotNext, IsValue, IsArguments, IsDirectives, no_directive, a_directive, IsType, without_null, IsNullableType, named_type, list_type, IsDefaultValue, no_default, a_default, IsVariableDefinition, a_variable_definition}
-use Rattle.gq_parse.specs.Phrases.{Begins, Lacks, IsVariable, IsLoneValue, lone, IsDirective, one_directive}
-use Rattle.gq_parse.proofs.Unique.{not_next, moved, one_kind, punctuator_begins, spelled_begins, same_punctuator, same_name, Unique}
+use Rattle.gq_parse.specs.Helping.Phrases.{Begins, Lacks, IsVariable, IsLoneValue, lone, IsDirective, one_directive, Unique}
+use Rattle.gq_parse.proofs.Unique.{not_next, moved, one_kind, punctuator_begins, spelled_begins, same_punctuator, same_name}
 use Rattle.gq_parse.proofs.UniqueValues.{same_arguments, same_type, same_default}
 use Rattle.gq_parse.proofs.Fronts.{Front, no_more, one_more}
 

@@ -6,8 +6,8 @@ use Rattle.gq_tree.specs.declared.tree.OperationKind.{OperationKind}
 use Rattle.gq_tree.specs.Plain.{NameOf, DirectiveOf, RootOf}
 use Rattle.gq_parse.specs.Grammar.{Tokens, IsPunctuator, IsName, IsKeyword, NotNext, OptionalMany, IsDirectives, IsOperationType, a_query, a_mutation, a_subscription}
 use Rattle.gq_parse.specs.TypeSystem.{IsRoot, a_root, IsSchema, a_schema}
-use Rattle.gq_parse.specs.Phrases.{Lacks}
-use Rattle.gq_parse.specs.Parts.{LacksSchema}
+use Rattle.gq_parse.specs.Helping.Phrases.{Lacks}
+use Rattle.gq_parse.specs.Helping.Parts.{LacksSchema}
 use Rattle.gq_parse.proofs.Unique.{not_next, moved, punctuator_begins, spelled_begins, same_punctuator, same_spelled}
 use Rattle.gq_parse.proofs.UniqueValues.{same_directives}
 use Rattle.gq_parse.proofs.UniqueOperations.{same_operation_type}

@@ -15,8 +15,8 @@ use Rattle.gq_tree.specs.declared.value.Argument.{Argument}
 use Rattle.gq_tree.specs.declared.value.Directive.{Directive}
 use Rattle.gq_tree.proofs.Trees.{view_spread, view_made, view_inline}
 use Rattle.gq_parse.specs.Grammar.{Tokens, covered, IsPunctuator, IsName, IsKeyword, NotNext, ManyUntil, closed, another, IsFragmentName, IsOptionalCondition, no_condition, a_condition, IsFieldName, no_alias, alias, IsArguments, IsDirectives, IsSelection, a_field, a_spread, an_inline, IsOptionalSet, no_set, a_set, IsSelectionSet, braces, IsSelections, set_closed, selection}
-use Rattle.gq_parse.specs.Phrases.{Lacks, IsSel}
-use Rattle.gq_parse.proofs.Unique.{not_next, moved, punctuator_begins, spelled_begins, same_punctuator, same_name, same_fragment_name, same_optional_condition, same_field_name, Unique, NeverBegins}
+use Rattle.gq_parse.specs.Helping.Phrases.{Lacks, IsSel, Unique, NeverBegins}
+use Rattle.gq_parse.proofs.Unique.{not_next, moved, punctuator_begins, spelled_begins, same_punctuator, same_name, same_fragment_name, same_optional_condition, same_field_name}
 use Rattle.gq_parse.proofs.UniqueValues.{same_arguments, same_directives}
 use Rattle.gq_parse.proofs.UniqueSelections.{field_or_dots, selection_or_close, same_selection}
 

@@ -5,8 +5,8 @@ use Rattle.gq_text.specs.declared.place.Span.{Span}
 use Rattle.gq_tree.specs.Plain.{NameOf, DirectiveOf, RootOf, BodyOf, scalar_type, object_type, interface_type, union_type, enum_type, input_type, TypeSystemOf, schema, type_definition}
 use Rattle.gq_parse.specs.Grammar.{Tokens, IsKeyword, covered}
 use Rattle.gq_parse.specs.TypeSystem.{IsDescription, IsSchema, IsTypeBody, HasParts, IsTypeSystemDefinition, a_schema_definition, a_type_definition, a_directive_definition, a_schema_extension, a_type_extension}
-use Rattle.gq_parse.specs.Phrases.{Lacks}
-use Rattle.gq_parse.specs.Parts.{filled, has_parts, LacksBody, LacksSchema, IsSchemaExtended, schema_extended, IsTypeExtended, type_extended, IsExtended, IsSchemaDescribed, schema_described, IsTypeDescribed, type_described, IsDirectiveDescribed, directive_described, IsDirectiveOrType, IsDescribed}
+use Rattle.gq_parse.specs.Helping.Phrases.{Lacks}
+use Rattle.gq_parse.specs.Helping.Parts.{filled, has_parts, LacksBody, LacksSchema, IsSchemaExtended, schema_extended, IsTypeExtended, type_extended, IsExtended, IsSchemaDescribed, schema_described, IsTypeDescribed, type_described, IsDirectiveDescribed, directive_described, IsDirectiveOrType, IsDescribed}
 use Rattle.gq_parse.proofs.Unique.{same_spelled}
 use Rattle.gq_parse.proofs.Fronts.{no_items, some_items}
 use Rattle.gq_parse.proofs.UniqueTypeSystem.{same_description, same_schema, same_body}

@@ -8,8 +8,8 @@ use Rattle.gq_parse.specs.declared.type_definitions.TypeKind.{TypeKind}
 use Rattle.gq_parse.specs.declared.type_definitions.TypeKind.TheVariants as of
 use Rattle.gq_parse.specs.Grammar.{Tokens, IsPunctuator, IsName, IsKeyword, NotNext, OptionalMany, IsDirectives}
 use Rattle.gq_parse.specs.TypeSystem.{IsImplements, IsFieldsDefinition, IsMembers, IsEnumValueDefinition, IsInputValue, IsTypeBody, a_scalar, an_object_type, an_interface, a_union, an_enum_type, an_input_type}
-use Rattle.gq_parse.specs.Phrases.{Lacks}
-use Rattle.gq_parse.specs.Parts.{kind_word, kind_named, IsNamed, IsFielded, IsBodyBehind, LacksNamed, LacksFielded, LacksBehind, LacksBody}
+use Rattle.gq_parse.specs.Helping.Phrases.{Lacks}
+use Rattle.gq_parse.specs.Helping.Parts.{kind_word, kind_named, IsNamed, IsFielded, IsBodyBehind, LacksNamed, LacksFielded, LacksBehind, LacksBody}
 use Rattle.gq_parse.proofs.Unique.{not_next, spelled_begins, same_name, same_spelled}
 use Rattle.gq_parse.proofs.UniqueValues.{same_directives}
 use Rattle.gq_parse.proofs.UniqueTypeSystem.{same_implements}

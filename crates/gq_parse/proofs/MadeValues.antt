@@ -13,8 +13,8 @@ use Rattle.gq_tree.specs.declared.value.Value.{Value}
 use Rattle.gq_tree.specs.declared.value.Value.TheVariants as variant
 use Rattle.gq_tree.proofs.Trees.{view_variable, view_int, view_float, view_string, view_boolean, view_null, view_enum, view_list, view_object}
 use Rattle.gq_parse.specs.Grammar.{Tokens, covered, IsPunctuator, IsSpelled, IsName, IsKeyword, NotNext, ManyUntil, closed, another, IsValueWord, IsValue, a_variable, an_int, a_float, a_string, a_block_string, is_true, is_false, is_null, an_enum, a_list, an_object, IsValues, list_closed, an_item, IsObjectFields, object_closed, an_object_field, IsArgument, an_argument}
-use Rattle.gq_parse.specs.Phrases.{Begins, Lacks, IsVariable, IsLoneValue, lone}
-use Rattle.gq_parse.proofs.Unique.{not_next, moved, one_kind, punctuator_begins, spelled_begins, same_punctuator, same_name, Unique, NeverBegins}
+use Rattle.gq_parse.specs.Helping.Phrases.{Begins, Lacks, IsVariable, IsLoneValue, lone, Unique, NeverBegins}
+use Rattle.gq_parse.proofs.Unique.{not_next, moved, one_kind, punctuator_begins, spelled_begins, same_punctuator, same_name}
 use Rattle.gq_parse.proofs.UniqueValues.{value_by, same_value, value_or_close}
 
 seen_as : {constant : Bool} {x y : Val Span} {tokens rest : Tokens} → y ≡ x → IsLoneValue constant x tokens rest → IsLoneValue constant y tokens rest

@@ -4,7 +4,7 @@ use Rattle.gq_text.specs.declared.place.Span.{Span}
 use Rattle.gq_lex.specs.declared.token.Kind.TheVariants as kind
 use Rattle.gq_tree.specs.Plain.{NameOf}
 use Rattle.gq_parse.specs.Grammar.{Tokens, IsPunctuator, IsTypeCondition, IsOptionalCondition, no_condition, a_condition}
-use Rattle.gq_parse.specs.Phrases.{Lacks}
+use Rattle.gq_parse.specs.Helping.Phrases.{Lacks}
 use Rattle.gq_parse.proofs.Unique.{not_next, punctuator_begins}
 
 -- a Name is next that begins no type condition

@@ -6,7 +6,7 @@ use Rattle.gq_text.specs.declared.place.Span.{Span}
 use Rattle.gq_lex.specs.declared.token.Token.{Token}
 use Rattle.gq_lex.specs.Tokens.{Lexeme, lexeme_of}
 use Rattle.gq_parse.specs.Grammar.{Tokens, starts, ends, covered}
-use Rattle.gq_parse.specs.From.{from}
+use Rattle.gq_parse.specs.Helping.From.{from}
 
 ends_take : (ts : Tokens) (k : ℕ) (d : Lexeme) → k < length ts → ends (take (suc k) ts) ≡ (get_or ts k d).span.end
 ends_take [] k d h = absurd (omega (arith, h))

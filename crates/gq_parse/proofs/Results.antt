@@ -5,7 +5,7 @@ use Rattle.gq_lex.specs.declared.token.Token.{Token}
 use Rattle.gq_parse.specs.declared.phrases.Miss.{Miss}
 use Rattle.gq_parse.specs.declared.phrases.Miss.TheVariants.{NoMemory}
 use Rattle.gq_parse.specs.Grammar.{Tokens}
-use Rattle.gq_parse.specs.From.{from}
+use Rattle.gq_parse.specs.Helping.From.{from}
 
 pub found_weaker : {T A : Type 0} (r : Result (T × ℕ) Miss) (view : T → A) (X Y : A → Tokens → Tokens → Type 0) (here there : Tokens) (tokens : List Token) → ((x : A) (rest : Tokens) → X x here rest → Y x there rest) →
     IfOk r (λ x. X (view x.0) here (from tokens x.1)) → IfOk r (λ x. Y (view x.0) there (from tokens x.1))

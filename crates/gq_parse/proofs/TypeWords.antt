@@ -7,8 +7,8 @@ use Rattle.gq_tree.specs.declared.type_system.DirectiveLocation.TheVariants as l
 use Rattle.gq_parse.specs.declared.type_definitions.TypeKind.{TypeKind}
 use Rattle.gq_parse.specs.declared.type_definitions.TypeKind.TheVariants as of
 use Rattle.gq_parse.specs.TypeSystem.{location_word}
-use Rattle.gq_parse.specs.Locations.{executable_location, type_system_location, or_else, location_named}
-use Rattle.gq_parse.specs.Parts.{kind_word, kind_named}
+use Rattle.gq_parse.specs.Helping.Locations.{executable_location, type_system_location, or_else, location_named}
+use Rattle.gq_parse.specs.Helping.Parts.{kind_word, kind_named}
 
 -- x's word, or one of the others
 or_other : {K : Type 0} (word_of : K → List ℕ) (word : List ℕ) (x k : K) (others : Option K) → (others ≡ Some k → word ≡ word_of k) → (if bytes_eq word (word_of x) then Some x else others) ≡ Some k → word ≡ word_of k

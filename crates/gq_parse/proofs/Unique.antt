@@ -6,7 +6,7 @@ use Rattle.gq_lex.specs.declared.token.Kind.TheVariants as kind
 use Rattle.gq_lex.specs.Tokens.{Lexeme}
 use Rattle.gq_tree.specs.Plain.{NameOf}
 use Rattle.gq_parse.specs.Grammar.{Tokens, IsPunctuator, IsSpelled, IsName, NotNext, ManyUntil, closed, another, OptionalMany, absent, enclosed, IsFragmentName, IsTypeCondition, IsOptionalCondition, no_condition, a_condition, IsOptionalName, no_name, a_name, IsFieldName, no_alias, alias}
-use Rattle.gq_parse.specs.Phrases.{Begins}
+use Rattle.gq_parse.specs.Helping.Phrases.{Begins, Unique, NeverBegins}
 
 head_is : {a b : Lexeme} {x y : Tokens} → ◌≡◌ {A = Tokens} (a ∷ x) (b ∷ y) → a ≡ b
 head_is h = cc
@@ -49,14 +49,6 @@ same_name {n} {m} h same i =
     let e = same_spelled h same i in
     let N : List ℕ → Span → NameOf Span = λ t p. record { text = t; place = p } in
     (ap (λ (t : List ℕ). N t n.place) e.0 ∙ ap (λ (p : Span). N m.text p) e.1, e.2)
-
--- X is read in one way at most
-abbrev pub Unique : {A : Type 0} → (A → Tokens → Tokens → Type 0) → Type 0
-Unique {A} X = (x y : A) (tokens other a b : Tokens) → X x tokens a → tokens ≡ other → X y other b → (x ≡ y) × (a ≡ b)
-
--- no X begins with a token of this kind
-abbrev pub NeverBegins : {A : Type 0} → Kind → (A → Tokens → Tokens → Type 0) → Type 0
-NeverBegins {A} k X = (x : A) (tokens a : Tokens) → X x tokens a → Begins k tokens → ⊥
 
 pub same_closed : {A : Type 0} {X : A → Tokens → Tokens → Type 0} {k : Kind} {xs ys : List A} {tokens other a b : Tokens} → Unique X → NeverBegins k X → ManyUntil X k xs tokens a → tokens ≡ other → ManyUntil X k ys other b → (xs ≡ ys) × (a ≡ b)
 same_closed unique apart (closed m) same (closed m2) = (refl, same_punctuator m same m2)

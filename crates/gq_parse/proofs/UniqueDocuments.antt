@@ -10,9 +10,9 @@ use Rattle.gq_tree.specs.Plain.{NameOf, Def, DirectiveOf, RootOf, BodyOf, scalar
 use Rattle.gq_parse.specs.Grammar.{Tokens, IsKeyword, braces, IsOperationType, IsOperationDefinition, bare, typed, fragment_on}
 use Rattle.gq_parse.specs.TypeSystem.{IsDescription, no_description, a_description, a_block_description, IsSchema, a_schema, IsTypeBody, a_scalar, an_object_type, an_interface, a_union, an_enum_type, an_input_type, location_word, IsLocation, a_location, IsRepeatable, once, repeatable, IsTypeSystemDefinition, a_schema_definition, a_type_definition, a_directive_definition, a_schema_extension, a_type_extension}
 use Rattle.gq_parse.specs.Documents.{IsDefinition, an_operation, a_fragment, a_type_system_definition, IsDocument, at_end, definition}
-use Rattle.gq_parse.specs.Phrases.{Begins}
-use Rattle.gq_parse.specs.Locations.{location_named}
-use Rattle.gq_parse.proofs.Unique.{Unique, first_letter, one_kind, moved, punctuator_begins, spelled_begins, same_spelled, same_punctuator, same_name}
+use Rattle.gq_parse.specs.Helping.Phrases.{Begins, Unique}
+use Rattle.gq_parse.specs.Helping.Locations.{location_named}
+use Rattle.gq_parse.proofs.Unique.{first_letter, one_kind, moved, punctuator_begins, spelled_begins, same_spelled, same_punctuator, same_name}
 use Rattle.gq_parse.proofs.UniqueOperations.{type_keyword, fragment_or_operation, same_operation, same_fragment}
 use Rattle.gq_parse.proofs.UniqueTypeSystem.{same_description, named_next, same_led, same_schema, same_inputs, paren_never, same_body}
 

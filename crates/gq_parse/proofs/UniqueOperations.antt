@@ -6,7 +6,7 @@ use Rattle.gq_tree.specs.declared.tree.OperationKind.{OperationKind}
 use Rattle.gq_tree.specs.declared.tree.OperationKind.TheVariants.{Query, Mutation, Subscription}
 use Rattle.gq_tree.specs.Plain.{Sels, Def}
 use Rattle.gq_parse.specs.Grammar.{Tokens, IsKeyword, IsSelectionSet, braces, IsOperationType, a_query, a_mutation, a_subscription, IsOperationDefinition, bare, typed, IsFragmentDefinition, fragment_on}
-use Rattle.gq_parse.specs.Phrases.{Begins}
+use Rattle.gq_parse.specs.Helping.Phrases.{Begins}
 use Rattle.gq_parse.proofs.Unique.{first_letter, one_kind, moved, punctuator_begins, spelled_begins, same_spelled, same_fragment_name, same_type_condition, same_optional_name}
 use Rattle.gq_parse.proofs.UniqueValues.{same_directives, same_variable_definitions}
 use Rattle.gq_parse.proofs.UniqueSelections.{same_selection_set}

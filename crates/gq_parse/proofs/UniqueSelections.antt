@@ -4,7 +4,7 @@ use Rattle.gq_text.specs.declared.place.Span.{Span}
 use Rattle.gq_lex.specs.declared.token.Kind.TheVariants as kind
 use Rattle.gq_tree.specs.Plain.{NameOf, Head, Sels}
 use Rattle.gq_parse.specs.Grammar.{Tokens, IsPunctuator, IsFieldName, IsSelection, a_field, a_spread, an_inline, IsOptionalSet, no_set, a_set, IsSelectionSet, braces, IsSelections, set_closed, selection}
-use Rattle.gq_parse.specs.Phrases.{Begins}
+use Rattle.gq_parse.specs.Helping.Phrases.{Begins}
 use Rattle.gq_parse.proofs.Unique.{one_kind, not_next, moved, punctuator_begins, same_punctuator, same_fragment_name, same_optional_condition, name_or_condition, same_field_name, field_name_begins}
 use Rattle.gq_parse.proofs.UniqueValues.{same_arguments, same_directives}
 

@@ -6,8 +6,8 @@ use Rattle.gq_lex.specs.declared.token.Kind.TheVariants as kind
 use Rattle.gq_tree.specs.Plain.{NameOf, DirectiveOf, InputOf, FieldDefinitionOf, EnumValueOf, RootOf, BodyOf}
 use Rattle.gq_parse.specs.Grammar.{Tokens, IsName, IsKeyword, OptionalMany}
 use Rattle.gq_parse.specs.TypeSystem.{NotWord, IsDescription, no_description, a_description, a_block_description, Separated, last, next, Delimited, plain, led, IsRoot, a_root, IsSchema, a_schema, IsInputValue, an_input_value, IsFieldDefinition, a_field_definition, IsFieldsDefinition, IsEnumValueDefinition, an_enum_value, IsImplements, no_interfaces, interfaces, IsMembers, no_members, members, IsTypeBody, a_scalar, an_object_type, an_interface, a_union, an_enum_type, an_input_type}
-use Rattle.gq_parse.specs.Phrases.{Begins}
-use Rattle.gq_parse.proofs.Unique.{first_letter, one_kind, not_next, moved, punctuator_begins, spelled_begins, same_punctuator, same_spelled, same_name, Unique, NeverBegins, same_enclosed}
+use Rattle.gq_parse.specs.Helping.Phrases.{Begins, Unique, NeverBegins}
+use Rattle.gq_parse.proofs.Unique.{first_letter, one_kind, not_next, moved, punctuator_begins, spelled_begins, same_punctuator, same_spelled, same_name, same_enclosed}
 use Rattle.gq_parse.proofs.UniqueValues.{same_directives, same_type, same_default}
 use Rattle.gq_parse.proofs.UniqueOperations.{same_operation_type, type_keyword}
 

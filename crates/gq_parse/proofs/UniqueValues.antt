@@ -6,8 +6,8 @@ use Rattle.gq_lex.specs.declared.token.Kind.TheVariants as kind
 use Rattle.gq_tree.specs.Forest.{none}
 use Rattle.gq_tree.specs.Plain.{NameOf, Says, Val, Vals, variable, int, float, string, boolean, null, enum, list, object, DirectiveOf, TypeOf, named, list_of, non_null, VariableOf}
 use Rattle.gq_parse.specs.Grammar.{Tokens, covered, IsPunctuator, IsSpelled, IsName, IsKeyword, IsValueWord, IsValue, a_variable, an_int, a_float, a_string, a_block_string, is_true, is_false, is_null, an_enum, a_list, an_object, IsValues, list_closed, an_item, IsObjectFields, object_closed, an_object_field, IsArgument, an_argument, IsArguments, IsDirectives, no_directive, a_directive, IsType, nullable, without_null, IsNullableType, named_type, list_type, IsDefaultValue, no_default, a_default, IsVariableDefinition, a_variable_definition, IsVariableDefinitions}
-use Rattle.gq_parse.specs.Phrases.{Begins, IsVariable}
-use Rattle.gq_parse.proofs.Unique.{first_letter, one_kind, not_next, moved, punctuator_begins, spelled_begins, same_punctuator, same_spelled, same_name, Unique, NeverBegins, same_enclosed}
+use Rattle.gq_parse.specs.Helping.Phrases.{Begins, IsVariable, Unique, NeverBegins}
+use Rattle.gq_parse.proofs.Unique.{first_letter, one_kind, not_next, moved, punctuator_begins, spelled_begins, same_punctuator, same_spelled, same_name, same_enclosed}
 
 pub same_variable : {n m : NameOf Span} {tokens other a b : Tokens} → IsVariable n tokens a → tokens ≡ other → IsVariable m other b → (n ≡ m) × (a ≡ b)
 same_variable h same i = same_name h.names (same_punctuator h.dollar same i.dollar) i.names

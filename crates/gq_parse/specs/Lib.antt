@@ -5,8 +5,4 @@ pub mod Limits
 pub mod Derives
 pub mod Prefix
 pub mod Faults
-pub mod Phrases
-pub mod Parts
-pub mod Locations
-pub mod From
 pub mod Helping

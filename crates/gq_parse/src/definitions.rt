@@ -5,9 +5,9 @@ ghost use Rattle.gq_tree.specs.Plain.{Def};
 ghost use Rattle.gq_tree.specs.Views.{def_view, document_view};
 ghost use Rattle.gq_parse.specs.Grammar.{IsOperationType, IsOperationDefinition, IsFragmentDefinition};
 ghost use Rattle.gq_parse.specs.Documents.{IsDefinition, IsDocument};
-ghost use Rattle.gq_parse.specs.From.{from};
-ghost use Rattle.gq_parse.specs.Phrases.{Lacks};
-ghost use Rattle.gq_parse.specs.Parts.{IsTypeSystem, IsOperationOrTypeSystem};
+ghost use Rattle.gq_parse.specs.Helping.From.{from};
+ghost use Rattle.gq_parse.specs.Helping.Phrases.{Lacks};
+ghost use Rattle.gq_parse.specs.Helping.Parts.{IsTypeSystem, IsOperationOrTypeSystem};
 
 use crate::directives::directives;
 use crate::phrases::{

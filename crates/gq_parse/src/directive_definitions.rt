@@ -4,10 +4,10 @@ ghost use Rattle.std.specs.Option.{option_map};
 ghost use Rattle.gq_lex.specs.declared.token.Kind.TheVariants as kind;
 ghost use Rattle.gq_tree.specs.Views.{literal_view, type_system_view};
 ghost use Rattle.gq_parse.specs.TypeSystem.{Separated, Delimited, IsLocation, IsRepeatable};
-ghost use Rattle.gq_parse.specs.From.{from};
-ghost use Rattle.gq_parse.specs.Phrases.{Lacks};
-ghost use Rattle.gq_parse.specs.Locations.{executable_location, type_system_location, location_named};
-ghost use Rattle.gq_parse.specs.Parts.{IsDirectiveDescribed};
+ghost use Rattle.gq_parse.specs.Helping.From.{from};
+ghost use Rattle.gq_parse.specs.Helping.Phrases.{Lacks};
+ghost use Rattle.gq_parse.specs.Helping.Locations.{executable_location, type_system_location, location_named};
+ghost use Rattle.gq_parse.specs.Helping.Parts.{IsDirectiveDescribed};
 
 use crate::fields::input_values;
 use crate::phrases::{Miss, covered, keyword, name, punctuator, token_at};

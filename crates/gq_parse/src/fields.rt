@@ -1,16 +1,19 @@
 //! Descriptions, and what fields, arguments and the values of an enum are defined by. Each function answers the phrase
 //! that stands at an index, and the index behind it.
-ghost use Rattle.std.specs.Prelude.{◌≡◌, ◌≢◌, ◌||◌, ◌⊎◌, codes, ◌+◌, ◌<◌, ◌≤◌, ◌++◌, ◌∷◌, [], length, map, IfOk, IfErr, OnOk};
+ghost use Rattle.std.specs.Prelude.{◌≡◌, ◌≢◌, ◌||◌, ◌⊎◌, codes, ◌<◌, ◌≤◌, length, map, IfOk, IfErr};
 ghost use Rattle.std.specs.Str.{bytes_eq};
 ghost use Rattle.std.specs.Option.{option_map};
+ghost use Rattle.gq_text.specs.declared.place.Span.{Span};
 ghost use Rattle.gq_lex.specs.declared.token.Kind.TheVariants as kind;
+ghost use Rattle.gq_tree.specs.Plain.{InputOf, FieldDefinitionOf, EnumValueOf};
 ghost use Rattle.gq_tree.specs.Views.{literal_view, input_view, field_definition_view, enum_value_view};
-ghost use Rattle.gq_parse.specs.Grammar.{NotNext, ManyUntil, OptionalMany};
+ghost use Rattle.gq_parse.specs.Grammar.{NotNext, OptionalMany};
 ghost use Rattle.gq_parse.specs.TypeSystem.{IsDescription, IsInputValue, IsFieldDefinition, IsFieldsDefinition, IsEnumValueDefinition};
-ghost use Rattle.gq_parse.specs.From.{from};
-ghost use Rattle.gq_parse.specs.Phrases.{Lacks};
+ghost use Rattle.gq_parse.specs.Helping.From.{from};
+ghost use Rattle.gq_parse.specs.Helping.Phrases.{Lacks};
 
 use crate::directives::directives;
+use crate::many::{Phrase, optional_many};
 use crate::phrases::{Miss, name, punctuator, spelled};
 use crate::types::type_ref;
 use crate::variables::default_value;
@@ -58,6 +61,29 @@ fn block_description(
     }
 }
 
+// Definitions of arguments and of input fields, as a sort of phrase.
+#[derive(Drop)]
+struct InputPhrase;
+
+impl Phrase for InputPhrase {
+    type Item = InputValueDefinition;
+
+    ghost View = { InputOf Span };
+
+    ghost view = { input_view };
+
+    ghost stands = { λ _. IsInputValue };
+
+    fn parse(
+        &self,
+        alloc: Global,
+        tokens: &[Token<'_>],
+        at: usize,
+    ) -> Result<(InputValueDefinition, usize), Miss> {
+        input_value(alloc, tokens, at)
+    }
+}
+
 // The definition of an argument or of an input field.
 fn input_value(
     alloc: Global,
@@ -101,49 +127,29 @@ pub(crate) fn input_values(
     ensures within { IfOk result (λ x. (at ≤ x.1) × (x.1 ≤ length tokens.now)) }
     ensures none { IfErr result (λ miss. miss ≢ Miss.NoMemory → Lacks (OptionalMany IsInputValue opening closing) (from tokens.now at)) }
 {
-    match punctuator(opening, tokens, at) {
-        Some(behind) => {
-            let (inputs, end) = closed_inputs(alloc, closing, tokens, behind)?;
-            if inputs.is_empty() {
-                return Err(Miss::NoPhrase { at: behind });
-            }
-            Ok((inputs, end))
-        }
-        None => Ok((Vec::new(alloc), at)),
-    }
+    optional_many(&InputPhrase, alloc, opening, closing, tokens, at)
 }
 
-fn closed_inputs(
-    alloc: Global,
-    closing: Kind,
-    tokens: &[Token<'_>],
-    start: usize,
-) -> Result<(Vec<InputValueDefinition>, usize), Miss>
-    requires within { start ≤ length tokens.now }
-    requires closing { (closing ≡ kind.ParenClose) ⊎ (closing ≡ kind.BraceClose) }
-    ensures found { IfOk result (λ x. ManyUntil IsInputValue closing (map input_view x.0.items) (from tokens.now start) (from tokens.now x.1)) }
-    ensures within { IfOk result (λ x. (start < x.1) × (x.1 ≤ length tokens.now)) }
-    ensures none { IfErr result (λ miss. miss ≢ Miss.NoMemory → Lacks (ManyUntil IsInputValue closing) (from tokens.now start)) }
-{
-    let mut inputs = Vec::new(alloc);
-    let mut at = start;
-    loop {
-        if let Some(end) = punctuator(closing, tokens, at) {
-            return Ok((inputs, end));
-        }
-        let (one, behind) = input_value(alloc, tokens, at)?;
-        put_input(&mut inputs, one)?;
-        at = behind;
-    }
-}
+// Definitions of fields, as a sort of phrase.
+#[derive(Drop)]
+struct FieldPhrase;
 
-fn put_input(inputs: &mut Vec<InputValueDefinition>, one: InputValueDefinition) -> Result<(), Miss>
-    ensures ok { OnOk result (map input_view inputs.new.items ≡ map input_view inputs.old.items ++ input_view one ∷ []) }
-    ensures err { IfErr result (λ e. e ≡ Miss.NoMemory) }
-{
-    match inputs.push(one) {
-        Ok(()) => Ok(()),
-        Err(_) => Err(Miss::NoMemory),
+impl Phrase for FieldPhrase {
+    type Item = FieldDefinition;
+
+    ghost View = { FieldDefinitionOf Span };
+
+    ghost view = { field_definition_view };
+
+    ghost stands = { λ _. IsFieldDefinition };
+
+    fn parse(
+        &self,
+        alloc: Global,
+        tokens: &[Token<'_>],
+        at: usize,
+    ) -> Result<(FieldDefinition, usize), Miss> {
+        field_definition(alloc, tokens, at)
     }
 }
 
@@ -187,47 +193,36 @@ pub(crate) fn field_definitions(
     ensures within { IfOk result (λ x. (at ≤ x.1) × (x.1 ≤ length tokens.now)) }
     ensures none { IfErr result (λ miss. miss ≢ Miss.NoMemory → Lacks IsFieldsDefinition (from tokens.now at)) }
 {
-    match punctuator(Kind::BraceOpen, tokens, at) {
-        Some(behind) => {
-            let (fields, end) = closed_fields(alloc, tokens, behind)?;
-            if fields.is_empty() {
-                return Err(Miss::NoPhrase { at: behind });
-            }
-            Ok((fields, end))
-        }
-        None => Ok((Vec::new(alloc), at)),
-    }
+    optional_many(
+        &FieldPhrase,
+        alloc,
+        Kind::BraceOpen,
+        Kind::BraceClose,
+        tokens,
+        at,
+    )
 }
 
-fn closed_fields(
-    alloc: Global,
-    tokens: &[Token<'_>],
-    start: usize,
-) -> Result<(Vec<FieldDefinition>, usize), Miss>
-    requires { start ≤ length tokens.now }
-    ensures found { IfOk result (λ x. ManyUntil IsFieldDefinition kind.BraceClose (map field_definition_view x.0.items) (from tokens.now start) (from tokens.now x.1)) }
-    ensures within { IfOk result (λ x. (start < x.1) × (x.1 ≤ length tokens.now)) }
-    ensures none { IfErr result (λ miss. miss ≢ Miss.NoMemory → Lacks (ManyUntil IsFieldDefinition kind.BraceClose) (from tokens.now start)) }
-{
-    let mut fields = Vec::new(alloc);
-    let mut at = start;
-    loop {
-        if let Some(end) = punctuator(Kind::BraceClose, tokens, at) {
-            return Ok((fields, end));
-        }
-        let (one, behind) = field_definition(alloc, tokens, at)?;
-        put_field(&mut fields, one)?;
-        at = behind;
-    }
-}
+// Definitions of the values of an enum, as a sort of phrase.
+#[derive(Drop)]
+struct EnumValuePhrase;
 
-fn put_field(fields: &mut Vec<FieldDefinition>, one: FieldDefinition) -> Result<(), Miss>
-    ensures ok { OnOk result (map field_definition_view fields.new.items ≡ map field_definition_view fields.old.items ++ field_definition_view one ∷ []) }
-    ensures err { IfErr result (λ e. e ≡ Miss.NoMemory) }
-{
-    match fields.push(one) {
-        Ok(()) => Ok(()),
-        Err(_) => Err(Miss::NoMemory),
+impl Phrase for EnumValuePhrase {
+    type Item = EnumValueDefinition;
+
+    ghost View = { EnumValueOf Span };
+
+    ghost view = { enum_value_view };
+
+    ghost stands = { λ _. IsEnumValueDefinition };
+
+    fn parse(
+        &self,
+        alloc: Global,
+        tokens: &[Token<'_>],
+        at: usize,
+    ) -> Result<(EnumValueDefinition, usize), Miss> {
+        enum_value(alloc, tokens, at)
     }
 }
 
@@ -273,49 +268,12 @@ pub(crate) fn enum_values(
     ensures within { IfOk result (λ x. (at ≤ x.1) × (x.1 ≤ length tokens.now)) }
     ensures none { IfErr result (λ miss. miss ≢ Miss.NoMemory → Lacks (OptionalMany IsEnumValueDefinition kind.BraceOpen kind.BraceClose) (from tokens.now at)) }
 {
-    match punctuator(Kind::BraceOpen, tokens, at) {
-        Some(behind) => {
-            let (values, end) = closed_enum_values(alloc, tokens, behind)?;
-            if values.is_empty() {
-                return Err(Miss::NoPhrase { at: behind });
-            }
-            Ok((values, end))
-        }
-        None => Ok((Vec::new(alloc), at)),
-    }
-}
-
-fn closed_enum_values(
-    alloc: Global,
-    tokens: &[Token<'_>],
-    start: usize,
-) -> Result<(Vec<EnumValueDefinition>, usize), Miss>
-    requires { start ≤ length tokens.now }
-    ensures found { IfOk result (λ x. ManyUntil IsEnumValueDefinition kind.BraceClose (map enum_value_view x.0.items) (from tokens.now start) (from tokens.now x.1)) }
-    ensures within { IfOk result (λ x. (start < x.1) × (x.1 ≤ length tokens.now)) }
-    ensures none { IfErr result (λ miss. miss ≢ Miss.NoMemory → Lacks (ManyUntil IsEnumValueDefinition kind.BraceClose) (from tokens.now start)) }
-{
-    let mut values = Vec::new(alloc);
-    let mut at = start;
-    loop {
-        if let Some(end) = punctuator(Kind::BraceClose, tokens, at) {
-            return Ok((values, end));
-        }
-        let (one, behind) = enum_value(alloc, tokens, at)?;
-        put_enum_value(&mut values, one)?;
-        at = behind;
-    }
-}
-
-fn put_enum_value(
-    values: &mut Vec<EnumValueDefinition>,
-    one: EnumValueDefinition,
-) -> Result<(), Miss>
-    ensures ok { OnOk result (map enum_value_view values.new.items ≡ map enum_value_view values.old.items ++ enum_value_view one ∷ []) }
-    ensures err { IfErr result (λ e. e ≡ Miss.NoMemory) }
-{
-    match values.push(one) {
-        Ok(()) => Ok(()),
-        Err(_) => Err(Miss::NoMemory),
-    }
+    optional_many(
+        &EnumValuePhrase,
+        alloc,
+        Kind::BraceOpen,
+        Kind::BraceClose,
+        tokens,
+        at,
+    )
 }

@@ -10,6 +10,7 @@ pub mod fault;
 mod fields;
 mod first_fault;
 pub mod laws;
+mod many;
 mod moves;
 mod names;
 pub mod parser;

@@ -4,8 +4,8 @@ ghost use Rattle.std.specs.Prelude.{◌≡◌, ◌≢◌, ◌+◌, ◌<◌, ◌�
 ghost use Rattle.gq_tree.specs.Views.{name_of};
 ghost use Rattle.gq_parse.specs.Grammar.{IsName};
 ghost use Rattle.gq_parse.specs.TypeSystem.{Separated, Delimited, IsImplements, IsMembers};
-ghost use Rattle.gq_parse.specs.From.{from};
-ghost use Rattle.gq_parse.specs.Phrases.{Lacks};
+ghost use Rattle.gq_parse.specs.Helping.From.{from};
+ghost use Rattle.gq_parse.specs.Helping.Phrases.{Lacks};
 
 use crate::phrases::{Miss, keyword, name, punctuator};
 use gq_lex::{Kind, Token};

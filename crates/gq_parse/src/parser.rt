@@ -7,7 +7,7 @@ ghost use Rattle.gq_tree.specs.Views.{document_view};
 ghost use Rattle.gq_parse.specs.Documents.{IsDocument};
 ghost use Rattle.gq_parse.specs.Derives.{Derives};
 ghost use Rattle.gq_parse.specs.Faults.{IsSyntaxFault, IsLimitFault};
-ghost use Rattle.gq_parse.specs.From.{from};
+ghost use Rattle.gq_parse.specs.Helping.From.{from};
 ghost use Rattle.gq_parse.specs.Limits.{IsNestedWithin};
 ghost use Rattle.gq_parse.specs.Helping.Telling.{told, IsFirstWrong, IsFirstDeep, IsFaultIn};
 

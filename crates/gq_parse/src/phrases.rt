@@ -6,8 +6,8 @@ ghost use Rattle.gq_lex.specs.Tokens.{lexeme_of};
 ghost use Rattle.gq_tree.specs.Plain.{NameOf};
 ghost use Rattle.gq_tree.specs.Views.{name_of};
 ghost use Rattle.gq_parse.specs.Grammar.{Tokens, covered, IsPunctuator, IsSpelled, IsName, IsKeyword, IsFragmentName, IsTypeCondition, IsOptionalCondition, IsOptionalName, IsOperationType, NotNext};
-ghost use Rattle.gq_parse.specs.From.{from};
-ghost use Rattle.gq_parse.specs.Phrases.{Lacks};
+ghost use Rattle.gq_parse.specs.Helping.From.{from};
+ghost use Rattle.gq_parse.specs.Helping.Phrases.{Lacks};
 
 use gq_lex::{Kind, Token};
 use gq_text::{SmallText, Span};

@@ -1,14 +1,17 @@
 //! Schemas, from their keyword on. Each function answers the phrase that stands at an index, and the index behind it.
-ghost use Rattle.std.specs.Prelude.{◌≡◌, ◌≢◌, List, ◌+◌, ◌<◌, ◌≤◌, ◌++◌, ◌∷◌, [], length, map, IfOk, IfErr, OnOk};
+ghost use Rattle.std.specs.Prelude.{◌≢◌, ◌<◌, ◌≤◌, length, map, IfOk, IfErr};
+ghost use Rattle.gq_text.specs.declared.place.Span.{Span};
 ghost use Rattle.gq_lex.specs.declared.token.Kind.TheVariants as kind;
+ghost use Rattle.gq_tree.specs.Plain.{RootOf};
 ghost use Rattle.gq_tree.specs.Views.{directive_view, root_view};
-ghost use Rattle.gq_parse.specs.Grammar.{ManyUntil, OptionalMany};
+ghost use Rattle.gq_parse.specs.Grammar.{OptionalMany};
 ghost use Rattle.gq_parse.specs.TypeSystem.{IsRoot, IsSchema};
-ghost use Rattle.gq_parse.specs.From.{from};
-ghost use Rattle.gq_parse.specs.Phrases.{Lacks};
-ghost use Rattle.gq_parse.specs.Parts.{LacksSchema};
+ghost use Rattle.gq_parse.specs.Helping.From.{from};
+ghost use Rattle.gq_parse.specs.Helping.Phrases.{Lacks};
+ghost use Rattle.gq_parse.specs.Helping.Parts.{LacksSchema};
 
 use crate::directives::directives;
+use crate::many::{Phrase, optional_many};
 use crate::phrases::{Miss, keyword, name, operation_type, punctuator};
 use gq_lex::{Kind, Token};
 use gq_tree::{Directive, RootOperationType};
@@ -44,47 +47,36 @@ fn roots(
     ensures within { IfOk result (λ x. (at ≤ x.1) × (x.1 ≤ length tokens.now)) }
     ensures none { IfErr result (λ miss. miss ≢ Miss.NoMemory → Lacks (OptionalMany IsRoot kind.BraceOpen kind.BraceClose) (from tokens.now at)) }
 {
-    match punctuator(Kind::BraceOpen, tokens, at) {
-        Some(behind) => {
-            let (roots, end) = closed_roots(alloc, tokens, behind)?;
-            if roots.is_empty() {
-                return Err(Miss::NoPhrase { at: behind });
-            }
-            Ok((roots, end))
-        }
-        None => Ok((Vec::new(alloc), at)),
-    }
+    optional_many(
+        &RootPhrase,
+        alloc,
+        Kind::BraceOpen,
+        Kind::BraceClose,
+        tokens,
+        at,
+    )
 }
 
-fn closed_roots(
-    alloc: Global,
-    tokens: &[Token<'_>],
-    start: usize,
-) -> Result<(Vec<RootOperationType>, usize), Miss>
-    requires { start ≤ length tokens.now }
-    ensures found { IfOk result (λ x. ManyUntil IsRoot kind.BraceClose (map root_view x.0.items) (from tokens.now start) (from tokens.now x.1)) }
-    ensures within { IfOk result (λ x. (start < x.1) × (x.1 ≤ length tokens.now)) }
-    ensures none { IfErr result (λ miss. miss ≢ Miss.NoMemory → Lacks (ManyUntil IsRoot kind.BraceClose) (from tokens.now start)) }
-{
-    let mut roots = Vec::new(alloc);
-    let mut at = start;
-    loop {
-        if let Some(end) = punctuator(Kind::BraceClose, tokens, at) {
-            return Ok((roots, end));
-        }
-        let (one, behind) = root(alloc, tokens, at)?;
-        put_root(&mut roots, one)?;
-        at = behind;
-    }
-}
+// Types of root operations, as a sort of phrase.
+#[derive(Drop)]
+struct RootPhrase;
 
-fn put_root(roots: &mut Vec<RootOperationType>, one: RootOperationType) -> Result<(), Miss>
-    ensures ok { OnOk result (map root_view roots.new.items ≡ map root_view roots.old.items ++ root_view one ∷ []) }
-    ensures err { IfErr result (λ e. e ≡ Miss.NoMemory) }
-{
-    match roots.push(one) {
-        Ok(()) => Ok(()),
-        Err(_) => Err(Miss::NoMemory),
+impl Phrase for RootPhrase {
+    type Item = RootOperationType;
+
+    ghost View = { RootOf Span };
+
+    ghost view = { root_view };
+
+    ghost stands = { λ _. IsRoot };
+
+    fn parse(
+        &self,
+        alloc: Global,
+        tokens: &[Token<'_>],
+        at: usize,
+    ) -> Result<(RootOperationType, usize), Miss> {
+        root(alloc, tokens, at)
     }
 }
 

@@ -6,8 +6,8 @@ ghost use Rattle.gq_lex.specs.declared.token.Kind.TheVariants as kind;
 ghost use Rattle.gq_tree.specs.Plain.{NameOf, Sels};
 ghost use Rattle.gq_tree.specs.Views.{name_of, sel_view, sels_view, below_of, braces_of};
 ghost use Rattle.gq_parse.specs.Grammar.{Tokens, covered, ManyUntil, NotNext, IsPunctuator, IsFragmentName, IsOptionalCondition, IsFieldName, IsOptionalSet, IsSelectionSet};
-ghost use Rattle.gq_parse.specs.From.{from};
-ghost use Rattle.gq_parse.specs.Phrases.{Lacks, IsSel};
+ghost use Rattle.gq_parse.specs.Helping.From.{from};
+ghost use Rattle.gq_parse.specs.Helping.Phrases.{Lacks, IsSel};
 
 use crate::directives::directives;
 use crate::phrases::{Miss, covered, fragment_name, keyword, name, optional_condition, punctuator};

@@ -6,8 +6,8 @@ ghost use Rattle.gq_tree.specs.Plain.{NameOf, DirectiveOf, BodyOf};
 ghost use Rattle.gq_tree.specs.Views.{name_of, directive_view, field_definition_view, body_view};
 ghost use Rattle.gq_parse.specs.Grammar.{Tokens, IsKeyword};
 ghost use Rattle.gq_parse.specs.TypeSystem.{IsTypeBody};
-ghost use Rattle.gq_parse.specs.From.{from};
-ghost use Rattle.gq_parse.specs.Parts.{kind_word, kind_named, IsNamed, IsFielded, IsBodyBehind, LacksNamed, LacksFielded, LacksBehind, LacksBody};
+ghost use Rattle.gq_parse.specs.Helping.From.{from};
+ghost use Rattle.gq_parse.specs.Helping.Parts.{kind_word, kind_named, IsNamed, IsFielded, IsBodyBehind, LacksNamed, LacksFielded, LacksBehind, LacksBody};
 
 use crate::directives::directives;
 use crate::fields::{enum_values, field_definitions, input_values};

@@ -4,9 +4,9 @@ ghost use Rattle.std.specs.Prelude.{◌≡◌, ◌≢◌, ◌+◌, ◌<◌, ◌�
 ghost use Rattle.std.specs.Option.{option_map};
 ghost use Rattle.gq_tree.specs.Views.{literal_view, body_view, type_system_view};
 ghost use Rattle.gq_parse.specs.TypeSystem.{IsTypeSystemDefinition};
-ghost use Rattle.gq_parse.specs.From.{from};
-ghost use Rattle.gq_parse.specs.Phrases.{Lacks};
-ghost use Rattle.gq_parse.specs.Parts.{has_parts, IsSchemaExtended, IsTypeExtended, IsExtended, IsSchemaDescribed, IsTypeDescribed, IsDirectiveOrType, IsDescribed};
+ghost use Rattle.gq_parse.specs.Helping.From.{from};
+ghost use Rattle.gq_parse.specs.Helping.Phrases.{Lacks};
+ghost use Rattle.gq_parse.specs.Helping.Parts.{has_parts, IsSchemaExtended, IsTypeExtended, IsExtended, IsSchemaDescribed, IsTypeDescribed, IsDirectiveOrType, IsDescribed};
 
 use crate::directive_definitions::directive_definition;
 use crate::fields::description;

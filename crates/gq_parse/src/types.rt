@@ -2,8 +2,8 @@
 ghost use Rattle.std.specs.Prelude.{◌≡◌, ◌≢◌, ◌+◌, ◌<◌, ◌≤◌, length, IfOk, IfErr};
 ghost use Rattle.gq_tree.specs.Views.{type_view};
 ghost use Rattle.gq_parse.specs.Grammar.{IsType, IsNullableType};
-ghost use Rattle.gq_parse.specs.From.{from};
-ghost use Rattle.gq_parse.specs.Phrases.{Lacks};
+ghost use Rattle.gq_parse.specs.Helping.From.{from};
+ghost use Rattle.gq_parse.specs.Helping.Phrases.{Lacks};
 
 use crate::phrases::{Miss, name, punctuator};
 use gq_lex::{Kind, Token};

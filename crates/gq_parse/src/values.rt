@@ -2,12 +2,13 @@
 ghost use Rattle.std.specs.Prelude.{◌≡◌, ◌≢◌, ℕ, Bool, ◌+◌, ◌<◌, ◌≤◌, ◌++◌, ◌∷◌, [], List, length, map, IfOk, IfErr, OnOk, IfSome, IfNone};
 ghost use Rattle.gq_text.specs.declared.place.Span.{Span};
 ghost use Rattle.gq_lex.specs.declared.token.Kind.TheVariants as kind;
-ghost use Rattle.gq_tree.specs.Plain.{under};
+ghost use Rattle.gq_tree.specs.Plain.{Val, under};
 ghost use Rattle.gq_tree.specs.Views.{name_of, value_view, entry_view, argument_view};
 ghost use Rattle.gq_parse.specs.Grammar.{Tokens, covered, ManyUntil, IsArgument, IsArguments};
-ghost use Rattle.gq_parse.specs.From.{from};
-ghost use Rattle.gq_parse.specs.Phrases.{Begins, Lacks, IsVariable, IsLoneValue};
+ghost use Rattle.gq_parse.specs.Helping.From.{from};
+ghost use Rattle.gq_parse.specs.Helping.Phrases.{Begins, Lacks, IsVariable, IsLoneValue};
 
+use crate::many::{Phrase, optional_many};
 use crate::phrases::{Miss, covered, keyword, name, punctuator, spelled, token_at};
 use gq_lex::{Kind, Token};
 use gq_tree::{Argument, Name, ObjectField, Value, Variable};
@@ -292,6 +293,32 @@ fn named_value(
     }
 }
 
+// Arguments, as a sort of phrase. The value of a constant one holds no variable.
+#[derive(Drop)]
+struct ArgumentPhrase {
+    constant: bool,
+}
+
+impl Phrase for ArgumentPhrase {
+    type Item = Argument;
+
+    ghost View = { Val Span };
+
+    ghost view = { argument_view };
+
+    ghost stands = { λ phrase. IsArgument phrase.constant };
+
+    fn parse(
+        &self,
+        alloc: Global,
+        tokens: &[Token<'_>],
+        at: usize,
+    ) -> Result<(Argument, usize), Miss> {
+        let (name, value, end) = named_value(alloc, self.constant, tokens, at)?;
+        Ok((Argument { name, value }, end))
+    }
+}
+
 /// Arguments, or none where no parenthesis opens.
 pub(crate) fn arguments(
     alloc: Global,
@@ -304,48 +331,13 @@ pub(crate) fn arguments(
     ensures within { IfOk result (λ x. (at ≤ x.1) × (x.1 ≤ length tokens.now)) }
     ensures none { IfErr result (λ miss. miss ≢ Miss.NoMemory → Lacks (IsArguments constant) (from tokens.now at)) }
 {
-    match punctuator(Kind::ParenOpen, tokens, at) {
-        Some(behind) => {
-            let (arguments, end) = closed_arguments(alloc, constant, tokens, behind)?;
-            if arguments.is_empty() {
-                return Err(Miss::NoPhrase { at: behind });
-            }
-            Ok((arguments, end))
-        }
-        None => Ok((Vec::new(alloc), at)),
-    }
-}
-
-// Arguments, and the parenthesis that closes them.
-fn closed_arguments(
-    alloc: Global,
-    constant: bool,
-    tokens: &[Token<'_>],
-    start: usize,
-) -> Result<(Vec<Argument>, usize), Miss>
-    requires { start ≤ length tokens.now }
-    ensures found { IfOk result (λ x. ManyUntil (IsArgument constant) kind.ParenClose (map argument_view x.0.items) (from tokens.now start) (from tokens.now x.1)) }
-    ensures within { IfOk result (λ x. (start < x.1) × (x.1 ≤ length tokens.now)) }
-    ensures none { IfErr result (λ miss. miss ≢ Miss.NoMemory → Lacks (ManyUntil (IsArgument constant) kind.ParenClose) (from tokens.now start)) }
-{
-    let mut arguments = Vec::new(alloc);
-    let mut at = start;
-    loop {
-        if let Some(end) = punctuator(Kind::ParenClose, tokens, at) {
-            return Ok((arguments, end));
-        }
-        let (name, value, behind) = named_value(alloc, constant, tokens, at)?;
-        put_argument(&mut arguments, Argument { name, value })?;
-        at = behind;
-    }
-}
-
-fn put_argument(arguments: &mut Vec<Argument>, one: Argument) -> Result<(), Miss>
-    ensures ok { OnOk result (map argument_view arguments.new.items ≡ map argument_view arguments.old.items ++ argument_view one ∷ []) }
-    ensures err { IfErr result (λ e. e ≡ Miss.NoMemory) }
-{
-    match arguments.push(one) {
-        Ok(()) => Ok(()),
-        Err(_) => Err(Miss::NoMemory),
-    }
+    let phrase = ArgumentPhrase { constant };
+    optional_many(
+        &phrase,
+        alloc,
+        Kind::ParenOpen,
+        Kind::ParenClose,
+        tokens,
+        at,
+    )
 }

@@ -1,13 +1,16 @@
 //! Definitions of variables. Each function answers the phrase that stands at an index, and the index behind it.
-ghost use Rattle.std.specs.Prelude.{◌≡◌, ◌≢◌, true, ◌+◌, ◌<◌, ◌≤◌, ◌++◌, ◌∷◌, [], length, map, IfOk, IfErr, OnOk};
+ghost use Rattle.std.specs.Prelude.{◌≢◌, ◌<◌, ◌≤◌, length, map, IfOk, IfErr};
 ghost use Rattle.std.specs.Option.{option_map};
+ghost use Rattle.gq_text.specs.declared.place.Span.{Span};
 ghost use Rattle.gq_lex.specs.declared.token.Kind.TheVariants as kind;
+ghost use Rattle.gq_tree.specs.Plain.{VariableOf};
 ghost use Rattle.gq_tree.specs.Views.{value_view, variable_view};
-ghost use Rattle.gq_parse.specs.Grammar.{ManyUntil, IsDefaultValue, IsVariableDefinition, IsVariableDefinitions};
-ghost use Rattle.gq_parse.specs.From.{from};
-ghost use Rattle.gq_parse.specs.Phrases.{Lacks};
+ghost use Rattle.gq_parse.specs.Grammar.{IsDefaultValue, IsVariableDefinition, IsVariableDefinitions};
+ghost use Rattle.gq_parse.specs.Helping.From.{from};
+ghost use Rattle.gq_parse.specs.Helping.Phrases.{Lacks};
 
 use crate::directives::directives;
+use crate::many::{Phrase, optional_many};
 use crate::phrases::{Miss, punctuator};
 use crate::types::type_ref;
 use crate::values::{value, variable};
@@ -26,51 +29,36 @@ pub(crate) fn variable_definitions(
     ensures within { IfOk result (λ x. (at ≤ x.1) × (x.1 ≤ length tokens.now)) }
     ensures none { IfErr result (λ miss. miss ≢ Miss.NoMemory → Lacks IsVariableDefinitions (from tokens.now at)) }
 {
-    match punctuator(Kind::ParenOpen, tokens, at) {
-        Some(behind) => {
-            let (variables, end) = closed_definitions(alloc, tokens, behind)?;
-            if variables.is_empty() {
-                return Err(Miss::NoPhrase { at: behind });
-            }
-            Ok((variables, end))
-        }
-        None => Ok((Vec::new(alloc), at)),
-    }
+    optional_many(
+        &VariablePhrase,
+        alloc,
+        Kind::ParenOpen,
+        Kind::ParenClose,
+        tokens,
+        at,
+    )
 }
 
-// Definitions of variables, and the parenthesis that closes them.
-fn closed_definitions(
-    alloc: Global,
-    tokens: &[Token<'_>],
-    start: usize,
-) -> Result<(Vec<VariableDefinition>, usize), Miss>
-    requires { start ≤ length tokens.now }
-    ensures found { IfOk result (λ x. ManyUntil IsVariableDefinition kind.ParenClose (map variable_view x.0.items) (from tokens.now start) (from tokens.now x.1)) }
-    ensures within { IfOk result (λ x. (start < x.1) × (x.1 ≤ length tokens.now)) }
-    ensures none { IfErr result (λ miss. miss ≢ Miss.NoMemory → Lacks (ManyUntil IsVariableDefinition kind.ParenClose) (from tokens.now start)) }
-{
-    let mut variables = Vec::new(alloc);
-    let mut at = start;
-    loop {
-        if let Some(end) = punctuator(Kind::ParenClose, tokens, at) {
-            return Ok((variables, end));
-        }
-        let (one, behind) = variable_definition(alloc, tokens, at)?;
-        put_variable(&mut variables, one)?;
-        at = behind;
-    }
-}
+// Definitions of variables, as a sort of phrase.
+#[derive(Drop)]
+struct VariablePhrase;
 
-fn put_variable(
-    variables: &mut Vec<VariableDefinition>,
-    one: VariableDefinition,
-) -> Result<(), Miss>
-    ensures ok { OnOk result (map variable_view variables.new.items ≡ map variable_view variables.old.items ++ variable_view one ∷ []) }
-    ensures err { IfErr result (λ e. e ≡ Miss.NoMemory) }
-{
-    match variables.push(one) {
-        Ok(()) => Ok(()),
-        Err(_) => Err(Miss::NoMemory),
+impl Phrase for VariablePhrase {
+    type Item = VariableDefinition;
+
+    ghost View = { VariableOf Span };
+
+    ghost view = { variable_view };
+
+    ghost stands = { λ _. IsVariableDefinition };
+
+    fn parse(
+        &self,
+        alloc: Global,
+        tokens: &[Token<'_>],
+        at: usize,
+    ) -> Result<(VariableDefinition, usize), Miss> {
+        variable_definition(alloc, tokens, at)
     }
 }
 

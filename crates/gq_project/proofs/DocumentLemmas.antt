@@ -5,7 +5,7 @@ use Rattle.gq_project.specs.declared.document.Doc.{Doc}
 use Rattle.gq_project.specs.declared.document.DocChange.{DocChange}
 use Rattle.gq_project.specs.declared.document.DocChange.TheVariants.{Put, Close}
 use Rattle.gq_project.specs.Documents.{IsInOrder, with_doc, without, after_change}
-use Rattle.gq_project.specs.Places.{IsPlaceOf, IsGapFor}
+use Rattle.gq_project.specs.Helping.Places.{IsPlaceOf, IsGapFor}
 use Rattle.gq_project.proofs.Keys.{Ascend-with_item, Ascend-without_item, set_with_item, insert_with_item}
 
 pub IsInOrder-with_doc : (docs : List Doc) (doc : Doc) → IsInOrder docs → IsInOrder (with_doc docs doc)

@@ -17,7 +17,7 @@ use Rattle.std.proofs.lemmas.Bool.{cases_lt, cases_order, both_ways, false_from_
 use Rattle.std.proofs.lemmas.List.Elements.{recursion_from_All, All-weaker, filter_passes}
 use Rattle.std.proofs.lemmas.List.Kept.{IsStrictlySortedBy-filter}
 use Rattle.std.proofs.lemmas.List.Folds.{find-append}
-use Rattle.gq_project.specs.Places.{IsPlaceOf, IsGapFor}
+use Rattle.gq_project.specs.Helping.Places.{IsPlaceOf, IsGapFor}
 use Rattle.gq_project.proofs.Filters.{Tests, find-filter_keeps, find-filter_loses, filter_all, filter_front, filter_back, filter_but_one, find_at, find_none}
 
 -- how two keys stand by their bytes

@@ -1,3 +1,3 @@
 pub mod Documents
 pub mod Laws
-pub mod Places
+pub mod Helping

@@ -2,7 +2,7 @@
 ghost use Rattle.std.specs.Prelude.{◌≡◌, [], IfOk, IfErr, OnOk, OnErr, find};
 ghost use Rattle.std.specs.Option.{option_copied};
 ghost use Rattle.gq_project.specs.Documents.{IsInOrder, has_key, with_doc, without, after_change, AddsDocument};
-ghost use Rattle.gq_project.specs.Places.{IsPlaceOf, IsGapFor};
+ghost use Rattle.gq_project.specs.Helping.Places.{IsPlaceOf, IsGapFor};
 
 use crate::document::{Doc, DocChange};
 use gq_text::{Items, NoMemory};

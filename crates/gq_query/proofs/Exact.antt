@@ -26,7 +26,7 @@ use Rattle.gq_query.specs.Hovers.{IsVariableTold}
 use Rattle.gq_query.specs.Words.{variable_words}
 use Rattle.gq_query.specs.Order.{occurrence_cmp, AreExactly}
 use Rattle.gq_query.specs.References.{IsReference, IsUse, IsDeclaration}
-use Rattle.gq_query.specs.Views.{definitions_view}
+use Rattle.gq_query.specs.Helping.Views.{definitions_view}
 use Rattle.gq_query.specs.Helping.Wants.{IsWanted}
 use Rattle.gq_query.specs.declared.executables.Executable.{Executable}
 use Rattle.gq_query.proofs.Grouped.{in_group, in_past, first_in_group, first_past}

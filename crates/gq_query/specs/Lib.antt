@@ -8,5 +8,4 @@ pub mod Places
 pub mod Hovers
 pub mod Definitions
 pub mod References
-pub mod Views
 pub mod Helping

@@ -4,7 +4,7 @@ ghost use Rattle.std.specs.Option.{option_map};
 ghost use Rattle.gq_project.specs.Documents.{has_key};
 ghost use Rattle.gq_spans.specs.Views.{mention_view, mentions_view};
 ghost use Rattle.gq_query.specs.Asked.{mentions_of, asked};
-ghost use Rattle.gq_query.specs.Views.{definitions_view};
+ghost use Rattle.gq_query.specs.Helping.Views.{definitions_view};
 
 use crate::executables::Executable;
 use gq_project::Doc;

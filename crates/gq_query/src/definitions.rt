@@ -9,7 +9,7 @@ ghost use Rattle.gq_query.specs.Asked.{AtMention};
 ghost use Rattle.gq_query.specs.Definitions.{IsDefinitionOf, AreDefinitions};
 ghost use Rattle.gq_query.specs.Order.{AreExactly};
 ghost use Rattle.gq_query.specs.References.{IsDeclaration};
-ghost use Rattle.gq_query.specs.Views.{definitions_view};
+ghost use Rattle.gq_query.specs.Helping.Views.{definitions_view};
 
 use crate::asking::asked;
 use crate::executables::{Executable, executables};

@@ -3,7 +3,7 @@ ghost use Rattle.std.specs.Prelude.{◌≡◌, ◌++◌, IfOk, OnOk, flat_map, m
 ghost use Rattle.gq_tree.specs.Views.{def_view};
 ghost use Rattle.gq_document.specs.Definitions.{in_document};
 ghost use Rattle.gq_index.specs.Occurrences.{executable_in, executables};
-ghost use Rattle.gq_query.specs.Views.{definitions_view};
+ghost use Rattle.gq_query.specs.Helping.Views.{definitions_view};
 
 use gq_read::Parsed;
 use gq_text::NoMemory;

@@ -6,7 +6,7 @@ ghost use Rattle.gq_index.specs.Occurrences.{executables};
 ghost use Rattle.gq_spans.specs.Views.{mention_view};
 ghost use Rattle.gq_query.specs.Asked.{asked};
 ghost use Rattle.gq_query.specs.Hovers.{IsToldOf, IsHoverOf, IsHoverAt, IsHover};
-ghost use Rattle.gq_query.specs.Views.{definitions_view};
+ghost use Rattle.gq_query.specs.Helping.Views.{definitions_view};
 
 use crate::asking::asked;
 use crate::executables::{Executable, executables};

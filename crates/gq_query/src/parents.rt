@@ -8,7 +8,7 @@ ghost use Rattle.gq_tree.specs.NamedTypes.{base_name};
 ghost use Rattle.gq_document.specs.Helping.Trees.{selected_in};
 ghost use Rattle.gq_document.specs.Views.{selections_view};
 ghost use Rattle.gq_query.specs.Parents.{is_field_at, selections_in, parent_at};
-ghost use Rattle.gq_query.specs.Views.{definition_view};
+ghost use Rattle.gq_query.specs.Helping.Views.{definition_view};
 
 use crate::executables::Executable;
 use gq_document::{Selected, selected_field};

@@ -7,7 +7,7 @@ ghost use Rattle.gq_spans.specs.Views.{mention_view};
 ghost use Rattle.gq_query.specs.Parents.{parent_of};
 ghost use Rattle.gq_query.specs.Places.{defined_field_place, type_place};
 ghost use Rattle.gq_query.specs.Schemas.{BySchema};
-ghost use Rattle.gq_query.specs.Views.{definitions_view};
+ghost use Rattle.gq_query.specs.Helping.Views.{definitions_view};
 ghost use Rattle.gq_query.specs.Words.{field_words, field_told, condition_told};
 
 use crate::executables::Executable;

@@ -12,7 +12,7 @@ ghost use Rattle.gq_spans.specs.Views.{mention_view};
 ghost use Rattle.gq_query.specs.Helping.Gathered.{first_of};
 ghost use Rattle.gq_query.specs.Groups.{variable_in, variable_at};
 ghost use Rattle.gq_query.specs.Hovers.{IsVariableTold};
-ghost use Rattle.gq_query.specs.Views.{definitions_view, found_variable};
+ghost use Rattle.gq_query.specs.Helping.Views.{definitions_view, found_variable};
 ghost use Rattle.gq_query.specs.Words.{variable_words};
 
 use crate::executables::Executable;

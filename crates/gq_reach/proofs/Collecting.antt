@@ -8,8 +8,8 @@ use Rattle.std.proofs.lemmas.List.{append_assoc, length-append, length_push, tak
 use Rattle.std.proofs.lemmas.List.Elements.{Contains-append_left, Contains-append_right, Contains-append_cases, Contains-push, Contains-push_cases, All-nil, All-push, All-append, All-contains, All-weaker}
 use Rattle.std.proofs.lemmas.Bool.{cases_lt, false≢true}
 use Rattle.gq_reach.specs.Reach.{Reach, start, step, LeadsBack, row, InRange, NoneTwice}
-use Rattle.gq_reach.specs.Found.{Marked, Added}
-use Rattle.gq_reach.specs.Finished.{Finished}
+use Rattle.gq_reach.specs.Helping.Found.{Marked, Added}
+use Rattle.gq_reach.specs.Helping.Finished.{Finished}
 use Rattle.gq_reach.specs.Transposed.{Transposed}
 use Rattle.gq_reach.specs.Components.{Led, Closed, Also, SomeMarked, Collected}
 use Rattle.gq_reach.proofs.Ways.{contains_nothing, contains_one, one_contains, way_on, way_of, way_from, way_back, way_starts, way_into, FirstStep, first_step, Beyond, beyond, Parts, finished_pop}

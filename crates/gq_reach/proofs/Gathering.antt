@@ -10,7 +10,7 @@ use Rattle.std.proofs.lemmas.Map.Views.{list_any-from_Contains}
 use Rattle.indexmap.proofs.CallerLemmas.{Contains-list_any}
 use Rattle.indexmap.specs.IndexSet.{insert_key}
 use Rattle.gq_reach.specs.Reach.{NoneTwice}
-use Rattle.gq_reach.specs.Found.{Marked, Grown, Added}
+use Rattle.gq_reach.specs.Helping.Found.{Marked, Grown, Added}
 use Rattle.gq_reach.proofs.Marking.{visit_marked, marked_none}
 use Rattle.gq_reach.proofs.Searching.{Search, search_starts, search_next}
 

@@ -6,11 +6,11 @@ use Rattle.std.specs.declared.alloc.Global.{Global}
 use Rattle.std.proofs.lemmas.List.{length_push, drop_at, take_rest, get_or_append_left, length-replicate}
 use Rattle.std.proofs.lemmas.List.Elements.{Contains-append_left, Contains-append_cases, Contains-push, Contains-push_cases, All-nil, All-contains}
 use Rattle.gq_reach.specs.Reach.{Reach, LeadToEachOther, row, InRange}
-use Rattle.gq_reach.specs.Found.{Marked}
-use Rattle.gq_reach.specs.Finished.{Finished}
+use Rattle.gq_reach.specs.Helping.Found.{Marked}
+use Rattle.gq_reach.specs.Helping.Finished.{Finished}
 use Rattle.gq_reach.specs.Transposed.{Transposed}
 use Rattle.gq_reach.specs.Components.{Led}
-use Rattle.gq_reach.specs.Mutual.{Assigned, Gathered}
+use Rattle.gq_reach.specs.Helping.Mutual.{Assigned, Gathered}
 use Rattle.gq_reach.proofs.Ways.{contains_nothing, way_on, way_into}
 use Rattle.gq_reach.proofs.Collecting.{Part, Turn, turn, turn_back}
 

@@ -5,7 +5,7 @@ use Rattle.std.proofs.lemmas.List.{get_or-set_same, get_or-set_other, length-set
 use Rattle.std.proofs.lemmas.List.Elements.{Contains-append_left, Contains-append_right, Contains-push, All-nil, All-push, All-append, All-weaker, All-contains}
 use Rattle.std.proofs.lemmas.Bool.{cases_eq, cases_lt, false≢true}
 use Rattle.gq_reach.specs.Reach.{NoneTwice}
-use Rattle.gq_reach.specs.Found.{count_marked, Marked, Grown, Added}
+use Rattle.gq_reach.specs.Helping.Found.{count_marked, Marked, Grown, Added}
 
 pub count_le : (s : List Bool) → count_marked s ≤ length s
 count_le [] = omega arith

@@ -7,7 +7,7 @@ use Rattle.std.specs.declared.alloc.Global.{Global}
 use Rattle.std.proofs.lemmas.List.{append_assoc, length-append, length-drop, take-append-le, drop-append-le, get_or-drop, append-nil}
 use Rattle.std.proofs.lemmas.List.Elements.{Contains-append_right, Contains-get_or, All-nil, All-push, All-append, All-contains, All-contains_itself, All-get_or, All-weaker}
 use Rattle.gq_reach.specs.Reach.{Reach, start, step, row, InRange}
-use Rattle.gq_reach.specs.Found.{count_marked, Marked, Grown}
+use Rattle.gq_reach.specs.Helping.Found.{count_marked, Marked, Grown}
 use Rattle.gq_reach.specs.Components.{Led, Closed}
 use Rattle.gq_reach.proofs.Marking.{count_le, grown_keeps}
 

@@ -7,8 +7,8 @@ use Rattle.std.proofs.lemmas.List.{length_push, length-set, length-replicate, ge
 use Rattle.std.proofs.lemmas.List.Elements.{Contains-append_left, Contains-append_right, Contains-append_cases, Contains-push, Contains-push_cases, Contains-get_or, All-nil, All-push, All-contains, All-weaker, All-head, All-tail}
 use Rattle.std.proofs.lemmas.Bool.{cases_eq, cases_lt}
 use Rattle.gq_reach.specs.Reach.{Reach, start, step, row, InRange}
-use Rattle.gq_reach.specs.Found.{Marked, Added}
-use Rattle.gq_reach.specs.Finished.{Finished, nothing, finish, LeadsOn, Walk, entries_left}
+use Rattle.gq_reach.specs.Helping.Found.{Marked, Added}
+use Rattle.gq_reach.specs.Helping.Finished.{Finished, nothing, finish, LeadsOn, Walk, entries_left}
 use Rattle.gq_reach.proofs.Ways.{contains_nothing, one_contains}
 use Rattle.gq_reach.proofs.Searching.{row_at}
 

@@ -5,7 +5,7 @@ use Rattle.std.proofs.lemmas.List.Elements.{Contains-append_left, Contains-appen
 use Rattle.std.proofs.lemmas.List.{same_from_push, length_push}
 use Rattle.std.proofs.lemmas.Bool.{cases_eq}
 use Rattle.gq_reach.specs.Reach.{Reach, start, step}
-use Rattle.gq_reach.specs.Finished.{Back, Finished, nothing, finish}
+use Rattle.gq_reach.specs.Helping.Finished.{Back, Finished, nothing, finish}
 
 pub contains_nothing : (n : ℕ) → Contains [] n → ⊥
 contains_nothing n h = let b : h.0 < 0 = h.1 in omega (arith, b)

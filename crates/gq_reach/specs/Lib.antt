@@ -1,6 +1,4 @@
 pub mod Reach
-pub mod Found
 pub mod Transposed
-pub mod Finished
 pub mod Components
-pub mod Mutual
+pub mod Helping

@@ -1,7 +1,7 @@
 //! What was found, closed under a table.
 ghost use Rattle.std.specs.Prelude.{◌≡◌, ◌≤◌, length, take, drop, OnOk};
 ghost use Rattle.gq_reach.specs.Reach.{row, InRange};
-ghost use Rattle.gq_reach.specs.Found.{Marked};
+ghost use Rattle.gq_reach.specs.Helping.Found.{Marked};
 ghost use Rattle.gq_reach.specs.Components.{Led, Closed};
 
 use crate::found::Found;

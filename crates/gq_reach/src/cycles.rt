@@ -5,7 +5,7 @@
 //! the number leads to was collected, since that one is then among them.
 ghost use Rattle.std.specs.Prelude.{◌≡◌, ℕ, ◌<◌, ◌≤◌, ◌↔◌, length, All, IfOk, OnOk, IsTrue, slice_index_or, false, true};
 ghost use Rattle.gq_reach.specs.Reach.{LeadsBack, row, InRange};
-ghost use Rattle.gq_reach.specs.Found.{Marked};
+ghost use Rattle.gq_reach.specs.Helping.Found.{Marked};
 ghost use Rattle.gq_reach.specs.Components.{Led, SomeMarked, Collected};
 
 use crate::closing::close;

@@ -1,6 +1,6 @@
 //! Numbers that were found, each once.
 ghost use Rattle.std.specs.Prelude.{◌≡◌, ℕ, ◌<◌, length, All, IfOk, OnOk, []};
-ghost use Rattle.gq_reach.specs.Found.{Marked, Grown, Added};
+ghost use Rattle.gq_reach.specs.Helping.Found.{Marked, Grown, Added};
 
 use gq_text::NoMemory;
 use std::alloc::Global;

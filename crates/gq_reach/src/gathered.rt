@@ -1,7 +1,7 @@
 //! Numbers that were found, each once, kept so that it costs time and memory for the found ones alone.
 ghost use Rattle.std.specs.Prelude.{◌≡◌, IfOk, OnOk};
 ghost use Rattle.gq_reach.specs.Reach.{NoneTwice};
-ghost use Rattle.gq_reach.specs.Found.{Grown, Added};
+ghost use Rattle.gq_reach.specs.Helping.Found.{Grown, Added};
 
 use gq_text::NoMemory;
 use indexmap::IndexSet;

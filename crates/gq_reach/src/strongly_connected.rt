@@ -4,9 +4,9 @@
 //! collects what leads to it and was not collected before: by the order, just what it leads to as well.
 ghost use Rattle.std.specs.Prelude.{◌≡◌, ℕ, ◌<◌, ◌↔◌, length, All, IfOk, OnOk, slice_index};
 ghost use Rattle.gq_reach.specs.Reach.{LeadToEachOther, row, InRange};
-ghost use Rattle.gq_reach.specs.Found.{Marked};
+ghost use Rattle.gq_reach.specs.Helping.Found.{Marked};
 ghost use Rattle.gq_reach.specs.Components.{Led};
-ghost use Rattle.gq_reach.specs.Mutual.{Assigned, Gathered};
+ghost use Rattle.gq_reach.specs.Helping.Mutual.{Assigned, Gathered};
 
 use crate::closing::close;
 use crate::found::Found;

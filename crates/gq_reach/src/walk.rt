@@ -1,8 +1,8 @@
 //! A walk of a table in depth.
 ghost use Rattle.std.specs.Prelude.{◌≡◌, ℕ, ◌+◌, ◌*◌, ◌<◌, length, All, Contains, IfOk, OnOk, ◌∷◌, ◌++◌, []};
 ghost use Rattle.gq_reach.specs.Reach.{row, InRange};
-ghost use Rattle.gq_reach.specs.Found.{Marked};
-ghost use Rattle.gq_reach.specs.Finished.{Finished, Walk, entries_left};
+ghost use Rattle.gq_reach.specs.Helping.Found.{Marked};
+ghost use Rattle.gq_reach.specs.Helping.Finished.{Finished, Walk, entries_left};
 
 use crate::found::Found;
 use gq_text::NoMemory;

@@ -99,7 +99,7 @@ found_some (g ∷ fs) f name c e = by (bytes_eq name g.name.text) refl (cases_co
 abbrev pub project_over : List EntryOf → List Parsed → ExecutableOf
 project_over es readings = record { entries = es; operations = operations_of readings; fragments = fragments_of readings }
 
-module _ (es : List EntryOf) (rs : List Parsed) (no_fault : (item : Fault) → IsRuleFault (project_over es rs) item → ⊥) where
+module _ (es : List EntryOf) (rs : List Parsed) (no_fault : (fault : Fault) → IsRuleFault (project_over es rs) fault → ⊥) where
   is_spread_name : (s : SelectedOf) → Selected rs es s → (name : NameOf Span) → Contains (spread_name s.selection.label) name → IsSpreadName (project_over es rs) s.file name
   is_spread_name s (of_operation c w) name d = target.of_operation c (name_in w.1 name d) w.0
   is_spread_name s (of_fragment c w) name d = target.of_fragment c (name_in w.1 name d) w.0
@@ -146,8 +146,8 @@ module _ (es : List EntryOf) (rs : List Parsed) (no_fault : (item : Fault) → I
   abbrev alone : ExecutableOf
   alone = record { entries = []; operations = no_operation ∷ []; fragments = fragments_of rs }
 
-  no_cycle : (item : Fault) → IsFragmentCycle alone item → ⊥
-  no_cycle item c = no_fault item (of_spreads (fragment_cycle (record {
+  no_cycle : (fault : Fault) → IsFragmentCycle alone fault → ⊥
+  no_cycle fault c = no_fault fault (of_spreads (fragment_cycle (record {
     fragment = c.fragment;
     stands = c.stands;
     name = c.name;
@@ -169,8 +169,8 @@ module _ (es : List EntryOf) (rs : List Parsed) (no_fault : (item : Fault) → I
   same_spread file name (target.of_operation {o = o} c d e) = not_of_it o name c d
   same_spread file name (target.of_fragment c d e) = target.of_fragment c d e
 
-  no_unknown : (item : Fault) → IsUnknownFragment alone item → ⊥
-  no_unknown item u = no_fault item (of_spreads (unknown_fragment (record { file = u.file; name = u.name; is_spread = same_spread u.file u.name u.is_spread; is_unknown = u.is_unknown; is = u.is })))
+  no_unknown : (fault : Fault) → IsUnknownFragment alone fault → ⊥
+  no_unknown fault u = no_fault fault (of_spreads (unknown_fragment (record { file = u.file; name = u.name; is_spread = same_spread u.file u.name u.is_spread; is_unknown = u.is_unknown; is = u.is })))
 
   -- fragments are ranked
   fragments_ranked : (rank : Text → ℕ) × IsRanked rank (definitions_of (trees_read rs))

@@ -5,7 +5,7 @@ ghost use Rattle.gq_project.specs.Documents.{has_key};
 ghost use Rattle.gq_document.specs.Definitions.{definitions_read};
 ghost use Rattle.gq_rules.specs.Validity.{IsValid};
 ghost use Rattle.gq_schema.specs.SchemaOf.{IsTypeSystemOf};
-ghost use Rattle.gq_sets.specs.Helping.SetViews.{sets_view};
+ghost use Rattle.gq_sets.specs.SetViews.{sets_view};
 ghost use Rattle.gq_select.specs.Meant.{document_sets};
 ghost use Rattle.gq_reshape.specs.Asks.{tree_at};
 

@@ -11,7 +11,7 @@ ghost use Rattle.gq_types.specs.Entries.{EntryOf};
 ghost use Rattle.gq_types.specs.Look.{types_view, text_of};
 ghost use Rattle.gq_rules.specs.Validity.{IsValid};
 ghost use Rattle.gq_select.specs.Meant.{StandingOf, document_sets, is_inline, meant};
-ghost use Rattle.gq_select.specs.Helping.Views.{standing_view};
+ghost use Rattle.gq_select.specs.Views.{standing_view};
 ghost use Rattle.gq_rename.specs.declared.refusal.Refusal.TheVariants as refusal;
 ghost use Rattle.gq_reshape.specs.Asks.{RangeAsk, IsAskedOf, tree_at};
 ghost use Rattle.gq_reshape.specs.Helping.Judged.{IsJudged};

@@ -2,7 +2,7 @@
 use Rattle.std.proofs.Common.{◌≡◌, ◌<◌, ℕ, zero, suc, ◌+◌, List, [], ◌∷◌, ◌++◌, map, drop, length, refl, ap, sym, ◌∙◌, Vec, Global, append_assoc, append-nil, codes}
 use Rattle.gq_meaning.specs.Values.{Text}
 use Rattle.gq_response.specs.Texts.{entry_texts, data_text}
-use Rattle.gq_response.specs.Commas.{comma_before, texts_from, member_text}
+use Rattle.gq_response.specs.Helping.Commas.{comma_before, texts_from, member_text}
 use Rattle.gq_tree.specs.Forest.{none}
 use Rattle.gq_table.specs.declared.values.Leaf.{Leaf}
 use Rattle.gq_table.specs.Views.{leaf_view}

@@ -1,4 +1,4 @@
-pub mod Commas
 pub mod Responses
 pub mod Texts
 pub mod Views
+pub mod Helping

@@ -4,7 +4,7 @@ ghost use Rattle.json.specs.Print.{quoted};
 ghost use Rattle.gq_table.specs.Views.{leaf_view};
 ghost use Rattle.gq_response.specs.Responses.{answered};
 ghost use Rattle.gq_response.specs.Texts.{leaf_text, step_text, with_commas, data_text, error_text, errors_text, response_text};
-ghost use Rattle.gq_response.specs.Commas.{comma_before, member_text};
+ghost use Rattle.gq_response.specs.Helping.Commas.{comma_before, member_text};
 ghost use Rattle.gq_response.specs.Views.{step_view, path_view, errors_view, data_view, member_view, members_view, response_view};
 
 use crate::data::{Data, Member, Response, Step};

@@ -8,7 +8,7 @@ use Rattle.gq_lex.specs.declared.token.Kind.TheVariants as kind
 use Rattle.gq_lex.specs.Bytes.{Passes, is_name_start, is_name_continue}
 use Rattle.gq_lex.specs.Tokens.{IsToken, name}
 use Rattle.gq_rewrite.specs.Names.{IsNameText, IsFragmentNameText}
-use Rattle.gq_rewrite.specs.Spelling.{is_name_spelled}
+use Rattle.gq_rewrite.specs.Helping.Spelling.{is_name_spelled}
 use Rattle.gq_rewrite.proofs.Retelling.{spelled}
 
 all_pass : (p : ℕ → Bool) (bs : List ℕ) → list_all p bs ≡ true → Passes p bs

@@ -3,7 +3,7 @@ ghost use Rattle.std.specs.Prelude.{◌≡◌, ◌↔◌, IsTrue, codes, bytes_e
 ghost use Rattle.std.specs.List.{list_all};
 ghost use Rattle.gq_lex.specs.Bytes.{is_name_start, is_name_continue};
 ghost use Rattle.gq_rewrite.specs.Names.{IsNameText, IsFragmentNameText};
-ghost use Rattle.gq_rewrite.specs.Spelling.{is_name_spelled};
+ghost use Rattle.gq_rewrite.specs.Helping.Spelling.{is_name_spelled};
 
 /// Whether the text is a Name (GraphQL, October 2021, section 2.1.9).
 pub fn is_name(text: &str) -> bool

@@ -5,6 +5,5 @@ pub mod RuleFaults
 pub mod Faults
 pub mod Validity
 pub mod ValidityViews
-pub mod Reported
 pub mod Trees
 pub mod Helping

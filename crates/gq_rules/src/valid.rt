@@ -1,7 +1,7 @@
 //! Projects with which nothing is wrong.
 ghost use Rattle.std.specs.Prelude.{◌≡◌, IfOk, IfErr};
 ghost use Rattle.gq_rules.specs.Helping.AllFaults.{AreFaultsOf};
-ghost use Rattle.gq_rules.specs.Reported.{IsReported};
+ghost use Rattle.gq_rules.specs.Helping.Reported.{IsReported};
 ghost use Rattle.gq_rules.specs.Validity.{IsValid};
 
 use crate::demands::{demanded, demanded_by_threads};

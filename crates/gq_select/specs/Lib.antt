@@ -1,4 +1,5 @@
 pub mod Meant
 pub mod Runs
 pub mod Touched
-pub mod Helping
+pub mod TouchedPlace
+pub mod Views

@@ -2,9 +2,9 @@
 ghost use Rattle.std.specs.Prelude.{◌≡◌, ◌≤◌, length, take};
 ghost use Rattle.std.specs.Option.{option_map, ForSome};
 ghost use Rattle.gq_tree.specs.Views.{sels_view};
-ghost use Rattle.gq_sets.specs.Helping.SetViews.{set_view, sets_view};
+ghost use Rattle.gq_sets.specs.SetViews.{set_view, sets_view};
 ghost use Rattle.gq_select.specs.Runs.{find_run, innermost, run_in, run_of_set, run_to};
-ghost use Rattle.gq_select.specs.Helping.Views.{run_view};
+ghost use Rattle.gq_select.specs.Views.{run_view};
 
 use crate::selecting::place_of;
 use gq_sets::SetIn;

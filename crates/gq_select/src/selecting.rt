@@ -3,10 +3,10 @@ ghost use Rattle.std.specs.Prelude.{◌≡◌, None, if◌then◌else◌};
 ghost use Rattle.std.specs.Option.{option_map};
 ghost use Rattle.gq_tree.specs.Views.{sel_view, sels_view};
 ghost use Rattle.gq_types.specs.Look.{text_of};
-ghost use Rattle.gq_sets.specs.Helping.SetViews.{sets_view};
+ghost use Rattle.gq_sets.specs.SetViews.{sets_view};
 ghost use Rattle.gq_regroup.specs.Rewrites.{head_place};
 ghost use Rattle.gq_select.specs.Meant.{holds, begins_last, is_meant, later, meant, standing_in};
-ghost use Rattle.gq_select.specs.Helping.Views.{is_of_kind, standing_view};
+ghost use Rattle.gq_select.specs.Views.{is_of_kind, standing_view};
 
 use gq_sets::SetIn;
 use gq_text::Span;

@@ -4,7 +4,7 @@ ghost use Rattle.std.specs.Option.{option_map};
 ghost use Rattle.gq_lex.specs.Tokens.{Reads, lexeme_of};
 ghost use Rattle.gq_sets.specs.Last.{find_last};
 ghost use Rattle.gq_select.specs.Touched.{is_touched};
-ghost use Rattle.gq_select.specs.Helping.TouchedPlace.{IsTouchedPlace};
+ghost use Rattle.gq_select.specs.TouchedPlace.{IsTouchedPlace};
 
 use gq_lex::laws::{faults_read_as_nothing, limits_are_passed, one_reading};
 use gq_lex::{LexFault, Token, lex};

@@ -1,3 +1,3 @@
 pub mod Last
 pub mod Sets
-pub mod Helping
+pub mod SetViews

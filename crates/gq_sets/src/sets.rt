@@ -6,7 +6,7 @@ ghost use Rattle.gq_types.specs.Look.{types_view, text_of};
 ghost use Rattle.gq_document.specs.Selections.{selected_field};
 ghost use Rattle.gq_tree.specs.NamedTypes.{base_name};
 ghost use Rattle.gq_sets.specs.Sets.{sets_among, sets_of};
-ghost use Rattle.gq_sets.specs.Helping.SetViews.{sets_below, sets_view};
+ghost use Rattle.gq_sets.specs.SetViews.{sets_below, sets_view};
 
 use gq_document::selected_field;
 use gq_text::{NoMemory, Span};

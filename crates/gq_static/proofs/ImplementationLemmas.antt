@@ -82,7 +82,7 @@ covers_end (by_items c) = covers_end c
 covers_end (both_non_null c) = covers_end c
 covers_end (without_null c) = covers_end c
 
-module _ (es : List EntryOf) (no_bad : (item : Fault) → IsBadImplementation es item → ⊥) (object : Text) (d : DefinesObject es object) where
+module _ (es : List EntryOf) (no_bad : (fault : Fault) → IsBadImplementation es fault → ⊥) (object : Text) (d : DefinesObject es object) where
   implements_well : BreaksImplementation es d.number d.name.text → ⊥
   implements_well breaks = no_bad (fault_at d.entry.file BadImplementation d.name) (record {
     at = record { number = d.number; entry = d.entry };

@@ -46,7 +46,7 @@ some_stand (after s) = refl
 composite_kind : (es : List EntryOf) (type_name : Text) → (k : TypeKind) → kind_named es type_name ≡ Some k → is_composite k ≡ true → is_composite_named es type_name ≡ true
 composite_kind es type_name k known composite = ap (λ (o : Option TypeKind). option_map_or is_composite o false) known ∙ composite
 
-module _ (x : ExecutableOf) (no_schema : (item : Fault) → IsSchemaFault x.entries item → ⊥) (no_rule : (item : Fault) → IsRuleFault x item → ⊥) where
+module _ (x : ExecutableOf) (no_schema : (fault : Fault) → IsSchemaFault x.entries fault → ⊥) (no_rule : (fault : Fault) → IsRuleFault x fault → ⊥) where
   -- operations
   abbrev Root : OperationOf → OperationKind → Type 0
   Root o operation = o.kind ≡ operation → (t : Text) × (root_of x.entries operation ≡ Some t)
@@ -59,7 +59,7 @@ module _ (x : ExecutableOf) (no_schema : (item : Fault) → IsSchemaFault x.entr
       by_root (Some t) e = (t, e)
 
   some_root : (o : OperationOf) → Contains x.operations o → (operation : OperationKind) → Root o operation
-  some_root o there Query is = query_root x.entries (λ item u. no_schema item (unknown_type u)) (λ item u. no_schema item (no_object u)) (λ item u. no_schema item (no_query_root u))
+  some_root o there Query is = query_root x.entries (λ fault u. no_schema fault (unknown_type u)) (λ fault u. no_schema fault (no_object u)) (λ fault u. no_schema fault (no_query_root u))
   some_root o there Mutation is = mutation_root o there is
   some_root o there Subscription is = absurd (no_rule (places.fault_over o.file SubscriptionOperation (operation_place o)) (of_operations (subscription (record { operation = o; stands = there; is_subscription = is; is = refl }))))
 
@@ -103,7 +103,7 @@ module _ (x : ExecutableOf) (no_schema : (item : Fault) → IsSchemaFault x.entr
         by_field : (o : Option (FieldDefinitionOf Span)) → field_named x.entries type_name text ≡ o → option_map (λ f. let one : FieldOf = record { type_ref = f.type_ref; arguments = f.arguments } in one) o ≡ Some d → (k : TypeKind) × (kind_named x.entries (base_name d.type_ref) ≡ Some k)
         by_field None is h = absurd (cc)
         by_field (Some f) is h =
-            let k = type_is_known x.entries (λ item u. no_schema item (unknown_type u)) type_name text f is in
+            let k = type_is_known x.entries (λ fault u. no_schema fault (unknown_type u)) type_name text f is in
             (k.0, subst (λ (g : FieldOf). kind_named x.entries (base_name g.type_ref) ≡ Some k.0) (same_Some (record { type_ref = f.type_ref; arguments = f.arguments }) d h) k.1)
 
     field_found : (one : SelectsField x) → HasParent x.entries one.selected.parent → IsFound one.selected.parent one.name.text

@@ -80,7 +80,7 @@ root_is_object es operation text h =
     by_test t true e h = subst (λ s. is_object es s ≡ true) (same_Some t text h) e
     by_test t false e h = absurd (cc)
 
-module _ (es : List EntryOf) (no_unknown : (item : Fault) → IsUnknownType es item → ⊥) (no_other : (item : Fault) → IsNoObject es item → ⊥) where
+module _ (es : List EntryOf) (no_unknown : (fault : Fault) → IsUnknownType es fault → ⊥) (no_other : (fault : Fault) → IsNoObject es fault → ⊥) where
   -- the type of a root operation is used where it is named
   root_used : (d : TypeSystemOf Span) (r : RootOf Span) → Contains (roots_in d) r → (defines_built_in d ≡ false) × Contains (used_types d) (root_use r)
   root_used (schema extends description directives roots place) r c = (refl, to_map root_use roots r c)
@@ -144,7 +144,7 @@ module _ (es : List EntryOf) (no_unknown : (item : Fault) → IsUnknownType es i
       by_kind (k, known) = by_test k known (same_kind k kind.Object) refl
 
   -- there is a root for queries
-  module _ (no_missing : (item : Fault) → HasNoQueryRoot es item → ⊥) where
+  module _ (no_missing : (fault : Fault) → HasNoQueryRoot es fault → ⊥) where
     from_named : (text : Text) → named_root es Query ≡ Some text → is_object es text ≡ true → (t : Text) × (root_of es Query ≡ Some t)
     from_named text e is = (text, ap (λ (o : Option Text). option_and_then (λ (t : Text). if is_object es t then Some t else None) o) e ∙ object_root es text is)
 

@@ -62,7 +62,7 @@ named_end : (c : Text) (o : Option (FieldDefinitionOf Span)) → option_map (λ 
 named_end c None h = absurd (cc)
 named_end c (Some f) h = (f, refl, same_Some (base_name f.type_ref) c h)
 
-module _ (es : List EntryOf) (no_bad : (item : Fault) → IsBadImplementation es item → ⊥) where
+module _ (es : List EntryOf) (no_bad : (fault : Fault) → IsBadImplementation es fault → ⊥) where
   further_possible : (sub super object : Text) → IsSubtypeName es sub super → IsPossible es sub object → IsPossible es super object
   further_possible sub super object equal p = p
   further_possible sub super object (possible q) p = subst (λ t. IsPossible es super t) (only_itself p (object_kind q)) q
@@ -79,7 +79,7 @@ module _ (es : List EntryOf) (no_bad : (item : Fault) → IsBadImplementation es
   may_be_fewer sub super object k known (unknown_super e) h = absurd (cc)
   may_be_fewer sub super object k known (subtype s) h = fewer_objects sub super object s h
 
-  module _ (no_unknown : (item : Fault) → IsUnknownType es item → ⊥) where
+  module _ (no_unknown : (fault : Fault) → IsUnknownType es fault → ⊥) where
     -- the field that the object has
     record HasNamed (object text super : Text) : Type 0 where
       field : FieldDefinitionOf Span

@@ -1,21 +1,21 @@
--- A row is found by the digest of its call, or by its text.
-use Rattle.std.proofs.Common.{◌≡◌, ◌≤◌, ◌<◌, ◌==◌, ℕ, ◌+◌, zero, suc, List, [], ◌∷◌, ◌++◌, Bool, true, false, length, take, drop, get_or, refl, ap, sym, ◌∙◌, subst, Option, None, Some, max, arith, append-nil}
-use Rattle.std.specs.Prelude.{is_some, not, cond, ◌||◌, slice_get, find, if◌then◌else◌}
-use Rattle.std.specs.BTreeMap.{get}
+-- A row is found by the bucket of its call, or by its text.
+use Rattle.std.proofs.Common.{◌≡◌, ◌≤◌, ◌<◌, ◌==◌, ℕ, ◌+◌, ◌%◌, List, [], ◌∷◌, ◌++◌, Bool, true, false, length, take, drop, get_or, set, replicate, refl, ap, sym, ◌∙◌, subst, Option, None, Some, max, arith}
+use Rattle.std.specs.Prelude.{is_some, not, ◌||◌, slice_get, find, if◌then◌else◌}
 use Rattle.std.specs.Option.{option_map, option_or, IfSome}
-use Rattle.std.specs.Ordering.{nat_cmp}
 use Rattle.std.specs.Str.{bytes_eq}
-use Rattle.std.proofs.lemmas.Bool.{false≢true, and_parts, eqb-true, eq-eqb}
-use Rattle.std.proofs.lemmas.List.{drop_more, take_more}
+use Rattle.std.proofs.lemmas.Bool.{false≢true, eqb-true, eq-eqb}
+use Rattle.std.proofs.lemmas.Nat.{mod_below}
+use Rattle.std.proofs.lemmas.List.{drop_more, take_more, get_or-set_same, get_or-set_other, length-set, get_or-replicate, length-replicate, length-map, take_all}
 use Rattle.std.proofs.lemmas.List.Folds.{find-append}
 use Rattle.std.proofs.lemmas.Option.{slice_get_within, get_or_from_slice_get, slice_get-map, slice_get_read}
 use Rattle.gq_names.specs.UnderNames.{items_under, one_if}
+use Rattle.gq_meaning.specs.Values.{Text}
 use Rattle.gq_meaning.specs.Results.{Answer, Call}
-use Rattle.gq_meaning.specs.Helping.Depth.{depth}
+use Rattle.gq_meaning.specs.Depth.{depth}
 use Rattle.gq_meaning.proofs.TextLemmas.{text_same}
 use Rattle.gq_table.specs.Rows.{RowOf, row_of, same_call, deepest, repeats_after}
 use Rattle.gq_table.specs.Helping.CallTexts.{call_text}
-use Rattle.gq_table.specs.Helping.Index.{IsIndex, IsPutUnder, call_digest, has_digest, behind_first, row_numbered, first_of, result_if, result_among}
+use Rattle.gq_table.specs.Helping.Index.{IsIndex, IsPutUnder, bucket_of, is_in, behind_first, bucket_count, first_in, row_numbered, first_of, result_if, result_among}
 use Rattle.gq_table.specs.Views.{rows_view, row_view}
 use Rattle.gq_table.specs.declared.index.Index.{Index}
 use Rattle.gq_table.specs.declared.table.Row.{Row}
@@ -29,12 +29,16 @@ row_more r rs call = by_test (same_call call r.call)
     by_test true = refl
     by_test false = refl
 
--- a row whose call has another digest
-other_digest : (r : RowOf) (call : Call) → has_digest (call_digest call) r ≡ false → same_call call r.call ≡ false
-other_digest r call e = by_test (same_call call r.call) refl
+-- calls that are one are in one bucket
+buckets_alike : (count : ℕ) (a b : Call) → same_call a b ≡ true → bucket_of count a ≡ bucket_of count b
+buckets_alike count a b e = ap (λ (n : ℕ). n % count) (digests_alike a b e)
+
+-- a row in another bucket
+other_bucket : (count : ℕ) (r : RowOf) (call : Call) → is_in count (bucket_of count call) r ≡ false → same_call call r.call ≡ false
+other_bucket count r call e = by_test (same_call call r.call) refl
   where
     by_test : (b : Bool) → same_call call r.call ≡ b → b ≡ false
-    by_test true h = absurd (false≢true (sym e ∙ eq-eqb (call_digest r.call) (call_digest call) (sym (digests_alike call r.call h))))
+    by_test true h = absurd (false≢true (sym e ∙ eq-eqb (bucket_of count r.call) (bucket_of count call) (sym (buckets_alike count call r.call h))))
     by_test false h = refl
 
 chosen : (b : Bool) (x : Answer) (o : Option Answer) → first_of (if b then Some x else None) o ≡ (if b then Some x else o)
@@ -49,33 +53,11 @@ first_grouped : (a b c : Option Answer) → first_of (first_of a b) c ≡ first_
 first_grouped None b c = refl
 first_grouped (Some x) b c = refl
 
--- a row of a call is the first one of its digest, or stands behind it
 module _ (call : Call) where
-  abbrev digest : ℕ
-  digest = call_digest call
-
-  pub in_two : (rows : List RowOf) → row_of rows call ≡ first_of (result_if call (find (has_digest digest) rows)) (row_of (behind_first digest rows) call)
-  in_two [] = refl
-  in_two (r ∷ rs) = row_more r rs call ∙ by_test (has_digest digest r) refl (in_two rs)
-    where
-      by_test : (b : Bool) → has_digest digest r ≡ b → row_of rs call ≡ first_of (result_if call (find (has_digest digest) rs)) (row_of (behind_first digest rs) call) → (if same_call call r.call then Some r.result else row_of rs call)
-          ≡ first_of (result_if call (if b then Some r else find (has_digest digest) rs)) (row_of (if b then rs else behind_first digest rs) call)
-      by_test true h later = sym (chosen (same_call call r.call) r.result (row_of rs call))
-      by_test false h later = ap (λ (b : Bool). if b then Some r.result else row_of rs call) (other_digest r call h) ∙ later
-
-  -- where no row has the digest
-  none_behind : (rows : List RowOf) → find (has_digest digest) rows ≡ None → row_of (behind_first digest rows) call ≡ None
-  none_behind [] e = refl
-  none_behind (r ∷ rs) e = by_test (has_digest digest r) (none_behind rs) e
-    where
-      by_test : (b : Bool) → (find (has_digest digest) rs ≡ None → row_of (behind_first digest rs) call ≡ None) → (if b then Some r else find (has_digest digest) rs) ≡ None → row_of (if b then rs else behind_first digest rs) call ≡ None
-      by_test true later e = cc
-      by_test false later e = later e
-
-  -- one row more
   abbrev now : RowOf → Option Answer
   now r = result_if call (Some r)
 
+  -- one row more
   row_pushed : (rows : List RowOf) (r : RowOf) → row_of (rows ++ r ∷ []) call ≡ first_of (row_of rows call) (now r)
   row_pushed [] r = row_more r [] call
   row_pushed (x ∷ rows) r = row_more x (rows ++ r ∷ []) call ∙ by_test (same_call call x.call) (row_pushed rows r) ∙ ap (λ (o : Option Answer). first_of o (now r)) (sym (row_more x rows call))
@@ -84,51 +66,102 @@ module _ (call : Call) where
       by_test true later = refl
       by_test false later = later
 
-  behind_pushed : (rows : List RowOf) (r : RowOf) →
-      row_of (behind_first digest (rows ++ r ∷ [])) call ≡ first_of (row_of (behind_first digest rows) call) (if is_some (find (has_digest digest) rows) then now r else None)
-  behind_pushed [] r = by_test (has_digest digest r)
-    where
-      by_test : (b : Bool) → row_of (if b then [] else []) call ≡ None
-      by_test true = refl
-      by_test false = refl
-  behind_pushed (x ∷ rows) r = by_test (has_digest digest x) (row_pushed rows r) (behind_pushed rows r)
-    where
-      by_test : (b : Bool) → row_of (rows ++ r ∷ []) call ≡ first_of (row_of rows call) (now r)
-          → row_of (behind_first digest (rows ++ r ∷ [])) call ≡ first_of (row_of (behind_first digest rows) call) (if is_some (find (has_digest digest) rows) then now r else None) → row_of (if b then rows ++ r ∷ [] else behind_first digest (rows ++ r ∷ [])) call
-          ≡ first_of (row_of (if b then rows else behind_first digest rows) call) (if is_some (if b then Some x else find (has_digest digest) rows) then now r else None)
-      by_test true here later = here
-      by_test false here later = later
-
   among_append : (rows : List RowOf) (ns ms : List ℕ) → result_among rows call (ns ++ ms) ≡ first_of (result_among rows call ns) (result_among rows call ms)
   among_append rows [] ms = refl
   among_append rows (n ∷ ns) ms =
       ap (first_of (result_if call (slice_get rows n))) (among_append rows ns ms) ∙ sym (first_grouped (result_if call (slice_get rows n)) (result_among rows call ns) (result_among rows call ms))
 
+-- a row of a call is the first one in its bucket, or stands behind it
+module _ (count : ℕ) (call : Call) where
+  abbrev bucket : ℕ
+  bucket = bucket_of count call
+
+  abbrev here : RowOf → Bool
+  here r = is_in count bucket r
+
+  abbrev behind : List RowOf → List RowOf
+  behind rows = behind_first count bucket rows
+
+  pub in_two : (rows : List RowOf) → row_of rows call ≡ first_of (result_if call (find here rows)) (row_of (behind rows) call)
+  in_two [] = refl
+  in_two (r ∷ rs) = row_more r rs call ∙ by_test (here r) refl (in_two rs)
+    where
+      by_test : (b : Bool) → here r ≡ b → row_of rs call ≡ first_of (result_if call (find here rs)) (row_of (behind rs) call) → (if same_call call r.call then Some r.result else row_of rs call)
+          ≡ first_of (result_if call (if b then Some r else find here rs)) (row_of (if b then rs else behind rs) call)
+      by_test true h later = sym (chosen (same_call call r.call) r.result (row_of rs call))
+      by_test false h later = ap (λ (b : Bool). if b then Some r.result else row_of rs call) (other_bucket count r call h) ∙ later
+
+  -- where no row is in the bucket
+  none_behind : (rows : List RowOf) → find here rows ≡ None → row_of (behind rows) call ≡ None
+  none_behind [] e = refl
+  none_behind (r ∷ rs) e = by_test (here r) (none_behind rs) e
+    where
+      by_test : (b : Bool) → (find here rs ≡ None → row_of (behind rs) call ≡ None) → (if b then Some r else find here rs) ≡ None → row_of (if b then rs else behind rs) call ≡ None
+      by_test true later e = cc
+      by_test false later e = later e
+
+  -- one row more
+  behind_pushed : (rows : List RowOf) (r : RowOf) → row_of (behind (rows ++ r ∷ [])) call ≡ first_of (row_of (behind rows) call) (if is_some (find here rows) then now call r else None)
+  behind_pushed [] r = by_test (here r)
+    where
+      by_test : (b : Bool) → row_of (if b then [] else []) call ≡ None
+      by_test true = refl
+      by_test false = refl
+  behind_pushed (x ∷ rows) r = by_test (here x) (row_pushed call rows r) (behind_pushed rows r)
+    where
+      by_test : (b : Bool) → row_of (rows ++ r ∷ []) call ≡ first_of (row_of rows call) (now call r)
+          → row_of (behind (rows ++ r ∷ [])) call ≡ first_of (row_of (behind rows) call) (if is_some (find here rows) then now call r else None) → row_of (if b then rows ++ r ∷ [] else behind (rows ++ r ∷ [])) call
+          ≡ first_of (row_of (if b then rows else behind rows) call) (if is_some (if b then Some x else find here rows) then now call r else None)
+      by_test true at_once later = at_once
+      by_test false at_once later = later
+
+-- no row is in any bucket
+pub no_rows : (index : Index) (count : ℕ) → 0 < count → index.firsts.items ≡ replicate count None → ((text : Text) → items_under index.others text ≡ []) → (rows : List RowOf) → IsIndex index rows []
+no_rows index count some free empty rows = record {
+  buckets = subst (λ n. 0 < n) (sym same_count) some;
+  firsts = λ bucket h. ap (λ (os : List (Option ℕ)). row_numbered rows (get_or os bucket None)) free ∙ ap (row_numbered rows) (get_or-replicate count bucket None None (subst (λ n. bucket < n) same_count h));
+  others = λ call. ap (result_among rows call) (empty (call_text call));
+}
+  where
+    same_count : bucket_count index ≡ count
+    same_count = ap length free ∙ length-replicate count None
+
 -- ---- a call is looked for
 
 module _ (index : Index) (rows these : List RowOf) (holds : IsIndex index rows these) (call : Call) where
-  found_first : row_of these call ≡ first_of (result_if call (row_numbered rows (get nat_cmp index.of_digests (call_digest call)))) (row_of (behind_first (call_digest call) these) call)
-  found_first = in_two call these ∙ ap (λ (o : Option RowOf). first_of (result_if call o) (row_of (behind_first (call_digest call) these) call)) (sym (holds.of_digests (call_digest call)))
+  abbrev its : ℕ
+  its = bucket_of (bucket_count index) call
 
-  pub none_found : row_numbered rows (get nat_cmp index.of_digests (call_digest call)) ≡ None → row_of these call ≡ None
-  none_found none =
-      found_first ∙ ap (λ (o : Option RowOf). first_of (result_if call o) (row_of (behind_first (call_digest call) these) call)) none
-      ∙ none_behind call these (sym (holds.of_digests (call_digest call)) ∙ none)
+  abbrev first_row : Option RowOf
+  first_row = row_numbered rows (first_in index its)
 
-  pub found_here : (r : RowOf) (x : Answer) → row_numbered rows (get nat_cmp index.of_digests (call_digest call)) ≡ Some r → result_if call (Some r) ≡ Some x → row_of these call ≡ Some x
-  found_here r x at is =
-      found_first ∙ ap (λ (o : Option RowOf). first_of (result_if call o) (row_of (behind_first (call_digest call) these) call)) at
-      ∙ ap (λ (o : Option Answer). first_of o (row_of (behind_first (call_digest call) these) call)) is
+  abbrev other : Option Answer
+  other = row_of (behind_first (bucket_count index) its these) call
 
-  pub found_other : (r : RowOf) → row_numbered rows (get nat_cmp index.of_digests (call_digest call)) ≡ Some r → result_if call (Some r) ≡ None →
-      row_of these call ≡ result_among rows call (items_under index.others (call_text call))
-  found_other r at is =
-      found_first ∙ ap (λ (o : Option RowOf). first_of (result_if call o) (row_of (behind_first (call_digest call) these) call)) at
-      ∙ ap (λ (o : Option Answer). first_of o (row_of (behind_first (call_digest call) these) call)) is ∙ sym (holds.others call)
+  first_is : first_row ≡ find (is_in (bucket_count index) its) these
+  first_is = holds.firsts its (mod_below _ (bucket_count index) holds.buckets)
+
+  found_first : row_of these call ≡ first_of (result_if call first_row) other
+  found_first = in_two (bucket_count index) call these ∙ ap (λ (o : Option RowOf). first_of (result_if call o) other) (sym first_is)
+
+  pub none_found : first_row ≡ None → row_of these call ≡ None
+  none_found none = found_first ∙ ap (λ (o : Option RowOf). first_of (result_if call o) other) none ∙ none_behind (bucket_count index) call these (sym first_is ∙ none)
+
+  pub found_here : (r : RowOf) (x : Answer) → first_row ≡ Some r → result_if call (Some r) ≡ Some x → row_of these call ≡ Some x
+  found_here r x at is = found_first ∙ ap (λ (o : Option RowOf). first_of (result_if call o) other) at ∙ ap (λ (o : Option Answer). first_of o other) is
+
+  pub found_other : (r : RowOf) → first_row ≡ Some r → result_if call (Some r) ≡ None → row_of these call ≡ result_among rows call (items_under index.others (call_text call))
+  found_other r at is = found_first ∙ ap (λ (o : Option RowOf). first_of (result_if call o) other) at ∙ ap (λ (o : Option Answer). first_of o other) is ∙ sym (holds.others call)
 
 -- ---- a row is put
 
 module _ (old new : Index) (rows these : List RowOf) (r : RowOf) (number : ℕ) (holds : IsIndex old rows these) where
+  abbrev count : ℕ
+  count = bucket_count old
+
+  abbrev its_bucket : ℕ
+  its_bucket = bucket_of count r.call
+
   abbrev none : Option Answer
   none = None
 
@@ -140,57 +173,68 @@ module _ (old new : Index) (rows these : List RowOf) (r : RowOf) (number : ℕ) 
   no_answer true = refl
   no_answer false = refl
 
-  -- by its digest, which no row has
-  pub index_by_digest : find (has_digest (call_digest r.call)) these ≡ None → slice_get rows number ≡ Some r →
-      ((d : ℕ) → get nat_cmp new.of_digests d ≡ cond (call_digest r.call == d) (Some number) (get nat_cmp old.of_digests d)) → new.others ≡ old.others → IsIndex new rows (these ++ r ∷ [])
-  index_by_digest free at sets kept = record { of_digests = digests; others = texts }
+  -- in its bucket, in which no row is
+  pub index_in_bucket : find (is_in count its_bucket) these ≡ None → slice_get rows number ≡ Some r → new.firsts.items ≡ set old.firsts.items its_bucket (Some number) → new.others ≡ old.others → IsIndex new rows (these ++ r ∷ [])
+  index_in_bucket free at sets kept = record { buckets = subst (λ n. 0 < n) (sym same_count) holds.buckets; firsts = firsts; others = texts }
     where
-      by_digest : (d : ℕ) (b : Bool) → (call_digest r.call == d) ≡ b → row_numbered rows (cond b (Some number) (get nat_cmp old.of_digests d)) ≡ option_or (find (has_digest d) these) (if b then Some r else None)
-      by_digest d true e = at ∙ ap (λ (o : Option RowOf). option_or o (Some r)) (sym (subst (λ n. find (has_digest n) these ≡ None) (eqb-true (call_digest r.call) d e) free))
-      by_digest d false e = holds.of_digests d ∙ or_none (find (has_digest d) these)
+      same_count : bucket_count new ≡ count
+      same_count = ap length sets ∙ length-set old.firsts.items its_bucket (Some number)
 
-      digests : (d : ℕ) → row_numbered rows (get nat_cmp new.of_digests d) ≡ find (has_digest d) (these ++ r ∷ [])
-      digests d = ap (row_numbered rows) (sets d) ∙ by_digest d (call_digest r.call == d) refl ∙ sym (find-append (has_digest d) these (r ∷ []))
+      by_bucket : (d : ℕ) (b : Bool) → d < count → (its_bucket == d) ≡ b → row_numbered rows (get_or (set old.firsts.items its_bucket (Some number)) d None) ≡ option_or (find (is_in count d) these) (if b then Some r else None)
+      by_bucket d true h e = let is : its_bucket ≡ d = eqb-true its_bucket d e in
+          ap (row_numbered rows) (subst (λ n. get_or (set old.firsts.items its_bucket (Some number)) n None ≡ Some number) is (get_or-set_same old.firsts.items its_bucket (Some number) None (mod_below _ count holds.buckets)))
+          ∙ at ∙ ap (λ (o : Option RowOf). option_or o (Some r)) (sym (subst (λ n. find (is_in count n) these ≡ None) is free))
+      by_bucket d false h e = ap (row_numbered rows) (get_or-set_other old.firsts.items its_bucket d (Some number) None (λ is. false≢true (sym e ∙ eq-eqb its_bucket d (sym is)))) ∙ holds.firsts d h ∙ or_none (find (is_in count d) these)
 
-      nothing_new : (call : Call) (b : Bool) → same_call call r.call ≡ b → (if is_some (find (has_digest (call_digest call)) these) then (if b then Some r.result else None) else None) ≡ None
-      nothing_new call true e = ap (λ (o : Option RowOf). if is_some o then Some r.result else None) (subst (λ n. find (has_digest n) these ≡ None) (sym (digests_alike call r.call e)) free)
-      nothing_new call false e = no_answer (is_some (find (has_digest (call_digest call)) these))
+      firsts : (d : ℕ) → d < bucket_count new → row_numbered rows (first_in new d) ≡ find (is_in (bucket_count new) d) (these ++ r ∷ [])
+      firsts d h =
+          ap (λ (os : List (Option ℕ)). row_numbered rows (get_or os d None)) sets ∙ by_bucket d (its_bucket == d) (subst (λ n. d < n) same_count h) refl ∙ sym (find-append (is_in count d) these (r ∷ []))
+          ∙ ap (λ n. find (is_in n d) (these ++ r ∷ [])) (sym same_count)
 
-      texts : (call : Call) → result_among rows call (items_under new.others (call_text call)) ≡ row_of (behind_first (call_digest call) (these ++ r ∷ [])) call
+      nothing_new : (call : Call) (b : Bool) → same_call call r.call ≡ b → (if is_some (find (is_in count (bucket_of count call)) these) then (if b then Some r.result else None) else None) ≡ None
+      nothing_new call true e = ap (λ (o : Option RowOf). if is_some o then Some r.result else None) (subst (λ n. find (is_in count n) these ≡ None) (sym (buckets_alike count call r.call e)) free)
+      nothing_new call false e = no_answer (is_some (find (is_in count (bucket_of count call)) these))
+
+      texts : (call : Call) → result_among rows call (items_under new.others (call_text call)) ≡ row_of (behind_first (bucket_count new) (bucket_of (bucket_count new) call) (these ++ r ∷ [])) call
       texts call =
-          ap (λ u. result_among rows call (items_under u (call_text call))) kept ∙ holds.others call ∙ sym (first_none (row_of (behind_first (call_digest call) these) call))
-          ∙ ap (first_of (row_of (behind_first (call_digest call) these) call)) (sym (nothing_new call (same_call call r.call) refl)) ∙ sym (behind_pushed call these r)
+          ap (λ u. result_among rows call (items_under u (call_text call))) kept ∙ holds.others call ∙ sym (first_none (row_of (behind_first count (bucket_of count call) these) call))
+          ∙ ap (first_of (row_of (behind_first count (bucket_of count call) these) call)) (sym (nothing_new call (same_call call r.call) refl)) ∙ sym (behind_pushed count call these r)
+          ∙ ap (λ n. row_of (behind_first n (bucket_of n call) (these ++ r ∷ [])) call) (sym same_count)
 
-  -- by its text, since another row has its digest
-  pub index_by_text : (x : RowOf) → find (has_digest (call_digest r.call)) these ≡ Some x → slice_get rows number ≡ Some r →
-      new.of_digests ≡ old.of_digests → IsPutUnder r.call number old.others new.others → IsIndex new rows (these ++ r ∷ [])
-  index_by_text x taken at kept put = record { of_digests = digests; others = texts }
+  -- by its text, since another row is in its bucket
+  pub index_by_text : (x : RowOf) → find (is_in count its_bucket) these ≡ Some x → slice_get rows number ≡ Some r → new.firsts ≡ old.firsts → IsPutUnder r.call number old.others new.others → IsIndex new rows (these ++ r ∷ [])
+  index_by_text x taken at kept put = record { buckets = subst (λ n. 0 < n) (sym same_count) holds.buckets; firsts = firsts; others = texts }
     where
-      by_digest : (d : ℕ) (b : Bool) → (call_digest r.call == d) ≡ b → find (has_digest d) these ≡ option_or (find (has_digest d) these) (if b then Some r else None)
-      by_digest d true e = let is : find (has_digest d) these ≡ Some x = subst (λ n. find (has_digest n) these ≡ Some x) (eqb-true (call_digest r.call) d e) taken in
-          is ∙ ap (λ (o : Option RowOf). option_or o (Some r)) (sym is)
-      by_digest d false e = or_none (find (has_digest d) these)
+      same_count : bucket_count new ≡ count
+      same_count = ap (λ v. length v.items) kept
 
-      digests : (d : ℕ) → row_numbered rows (get nat_cmp new.of_digests d) ≡ find (has_digest d) (these ++ r ∷ [])
-      digests d = ap (λ m. row_numbered rows (get nat_cmp m d)) kept ∙ holds.of_digests d ∙ by_digest d (call_digest r.call == d) refl ∙ sym (find-append (has_digest d) these (r ∷ []))
+      by_bucket : (d : ℕ) (b : Bool) → (its_bucket == d) ≡ b → find (is_in count d) these ≡ option_or (find (is_in count d) these) (if b then Some r else None)
+      by_bucket d true e = let is : find (is_in count d) these ≡ Some x = subst (λ n. find (is_in count n) these ≡ Some x) (eqb-true its_bucket d e) taken in
+          is ∙ ap (λ (o : Option RowOf). option_or o (Some r)) (sym is)
+      by_bucket d false e = or_none (find (is_in count d) these)
+
+      firsts : (d : ℕ) → d < bucket_count new → row_numbered rows (first_in new d) ≡ find (is_in (bucket_count new) d) (these ++ r ∷ [])
+      firsts d h =
+          ap (λ v. row_numbered rows (get_or v.items d None)) kept ∙ holds.firsts d (subst (λ n. d < n) same_count h) ∙ by_bucket d (its_bucket == d) refl ∙ sym (find-append (is_in count d) these (r ∷ []))
+          ∙ ap (λ n. find (is_in n d) (these ++ r ∷ [])) (sym same_count)
 
       one_more : (call : Call) (b : Bool) → result_among rows call (one_if b number) ≡ (if b then result_if call (Some r) else None)
       one_more call true = ap (λ o. first_of (result_if call o) None) at ∙ first_none (result_if call (Some r))
       one_more call false = refl
 
       same_more : (call : Call) (b : Bool) → same_call call r.call ≡ b →
-          (if bytes_eq (call_text call) (call_text r.call) then (if b then Some r.result else None) else None) ≡ (if is_some (find (has_digest (call_digest call)) these) then (if b then Some r.result else None) else None)
+          (if bytes_eq (call_text call) (call_text r.call) then (if b then Some r.result else None) else None) ≡ (if is_some (find (is_in count (bucket_of count call)) these) then (if b then Some r.result else None) else None)
       same_more call true e =
           ap (λ (b : Bool). if b then Some r.result else None) (text_same _ _ (call_alike call r.call e))
-          ∙ sym (ap (λ (o : Option RowOf). if is_some o then Some r.result else None) (subst (λ n. find (has_digest n) these ≡ Some x) (sym (digests_alike call r.call e)) taken))
-      same_more call false e = no_answer (bytes_eq (call_text call) (call_text r.call)) ∙ sym (no_answer (is_some (find (has_digest (call_digest call)) these)))
+          ∙ sym (ap (λ (o : Option RowOf). if is_some o then Some r.result else None) (subst (λ n. find (is_in count n) these ≡ Some x) (sym (buckets_alike count call r.call e)) taken))
+      same_more call false e = no_answer (bytes_eq (call_text call) (call_text r.call)) ∙ sym (no_answer (is_some (find (is_in count (bucket_of count call)) these)))
 
-      texts : (call : Call) → result_among rows call (items_under new.others (call_text call)) ≡ row_of (behind_first (call_digest call) (these ++ r ∷ [])) call
+      texts : (call : Call) → result_among rows call (items_under new.others (call_text call)) ≡ row_of (behind_first (bucket_count new) (bucket_of (bucket_count new) call) (these ++ r ∷ [])) call
       texts call =
           ap (result_among rows call) (put (call_text call)) ∙ among_append call rows (items_under old.others (call_text call)) (one_if (bytes_eq (call_text call) (call_text r.call)) number)
           ∙ ap (λ (o : Option Answer). first_of o (result_among rows call (one_if (bytes_eq (call_text call) (call_text r.call)) number))) (holds.others call)
-          ∙ ap (first_of (row_of (behind_first (call_digest call) these) call)) (one_more call (bytes_eq (call_text call) (call_text r.call)) ∙ same_more call (same_call call r.call) refl)
-          ∙ sym (behind_pushed call these r)
+          ∙ ap (first_of (row_of (behind_first count (bucket_of count call) these) call)) (one_more call (bytes_eq (call_text call) (call_text r.call)) ∙ same_more call (same_call call r.call) refl)
+          ∙ sym (behind_pushed count call these r) ∙ ap (λ n. row_of (behind_first n (bucket_of n call) (these ++ r ∷ [])) call) (sym same_count)
 
 -- a row's result nests no deeper than the deepest
 within : (rows : List RowOf) (call : Call) (a : Answer) → row_of rows call ≡ Some a → depth a.below ≤ deepest rows
@@ -229,6 +273,10 @@ module _ (rows : List RowOf) (n : ℕ) (r : RowOf) (whole : Bool) (at : slice_ge
 -- the row at a place
 pub row_at_place : (rows : List Row) (n : ℕ) (row : Row) → n < length rows → row ≡ get_or rows n row → slice_get (rows_view rows) n ≡ Some (row_view row)
 row_at_place rows n row inside is = slice_get-map row_view rows n ∙ ap (option_map row_view) (slice_get_read rows (length rows) n row refl inside is)
+
+-- past the last row all are taken
+pub all_taken : (rows : List Row) (n : ℕ) → length rows ≤ n → take n (rows_view rows) ≡ rows_view rows
+all_taken rows n h = take_all n (rows_view rows) (subst (λ m. m ≤ n) (sym (length-map rows row_view)) h)
 
 pub is_old : (old new : Bool) → new ≡ not old → new ≡ false → old ≡ true
 is_old true new is e = refl

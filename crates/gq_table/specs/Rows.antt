@@ -6,7 +6,7 @@ use Rattle.gq_tree.specs.Forest.{agree}
 use Rattle.gq_meaning.specs.Values as value
 use Rattle.gq_meaning.specs.Values.{Text, Leaf, Says, Part}
 use Rattle.gq_meaning.specs.Results.{Answer, Call}
-use Rattle.gq_meaning.specs.Helping.Depth.{depth}
+use Rattle.gq_meaning.specs.Depth.{depth}
 
 pub record RowOf : Type 0 where
   pub call : Call

@@ -1,13 +1,11 @@
-//! How a row of a table is found by its call: by a number made of the object and the field, and where rows share one, by
-//! texts.
-ghost use Rattle.std.specs.Prelude.{◌≡◌, List, ◌++◌, ◌∷◌, [], Some, true, not, is_some, slice_get, take, IfOk};
-ghost use Rattle.std.specs.BTreeMap.{get};
+//! How a row of a table is found by its call: in a bucket, by a number made of the object and the field, and where rows
+//! share one, by texts.
+ghost use Rattle.std.specs.Prelude.{◌≡◌, ◌<◌, List, ◌++◌, ◌∷◌, [], Some, true, not, is_some, slice_get, take, IfOk};
 ghost use Rattle.std.specs.Option.{option_map};
-ghost use Rattle.std.specs.Ordering.{nat_cmp};
 ghost use Rattle.gq_names.specs.UnderNames.{items_under};
 ghost use Rattle.gq_table.specs.Rows.{RowOf, row_of};
 ghost use Rattle.gq_table.specs.Helping.CallTexts.{call_text};
-ghost use Rattle.gq_table.specs.Helping.Index.{text_digest, call_digest, row_numbered, result_if, result_among, IsIndex, IsPutUnder};
+ghost use Rattle.gq_table.specs.Helping.Index.{text_digest, call_digest, bucket_of, bucket_count, first_in, row_numbered, result_if, result_among, IsIndex, IsPutUnder};
 ghost use Rattle.gq_table.specs.Views.{answer_view, rows_view, row_view, call_of};
 
 use crate::calls::{Call, call_text, same_call};
@@ -16,12 +14,11 @@ use crate::table::Row;
 use gq_names::ByName;
 use gq_text::NoMemory;
 use std::alloc::Global;
-use std::collections::BTreeMap;
 
-/// The numbers of rows: of each digest that of the first row with it, and those of the others under texts.
+/// The numbers of rows: of each bucket that of the first row in it, and those of the others under texts.
 #[derive(Drop)]
 pub(crate) struct Index {
-    of_digests: BTreeMap<u64, usize>,
+    firsts: Vec<Option<usize>>,
     others: ByName<usize>,
 }
 
@@ -43,6 +40,13 @@ fn call_digest(call: Call) -> u64
     let number = call.number.wrapping_mul(11400714819323198485);
     let object = text_digest(number, call.type_name);
     text_digest(object.wrapping_mul(11400714819323198485), call.field)
+}
+
+/// How many buckets so many rows get: most rows have one of their own.
+fn buckets_for(rows: usize) -> usize
+    ensures { 0 < result }
+{
+    rows.saturating_mul(8).saturating_add(1)
 }
 
 fn row_at(rows: &[Row], number: usize) -> Option<&Row>
@@ -118,21 +122,31 @@ fn put_under(
 }
 
 impl Index {
-    /// The index of no rows. It takes no memory.
-    pub(crate) fn new(alloc: Global) -> Index
-        ensures { (rows : List RowOf) → IsIndex result rows [] }
+    /// The index of no rows, with buckets for so many.
+    pub(crate) fn new(alloc: Global, rows: usize) -> Result<Index, NoMemory>
+        ensures { IfOk result (λ index. (rows : List RowOf) → IsIndex index rows []) }
     {
-        Index {
-            of_digests: BTreeMap::new(alloc),
+        Ok(Index {
+            firsts: vec![in alloc; None; buckets_for(rows)]?,
             others: ByName::new(alloc),
-        }
+        })
     }
 
-    /// The first row with that digest.
-    fn first<'a>(&self, rows: &'a [Row], digest: u64) -> Option<&'a Row>
-        ensures { option_map (λ r. row_view r.now) result ≡ row_numbered (rows_view rows.now) (get nat_cmp self.now.of_digests digest) }
+    /// The bucket of a call.
+    fn bucket(&self, call: Call) -> usize
+        requires { 0 < bucket_count self.now }
+        ensures is { result ≡ bucket_of (bucket_count self.now) (call_of call.entry) }
+        ensures within { result < bucket_count self.now }
     {
-        let number = *self.of_digests.get(&digest)?;
+        (call_digest(call) % self.firsts.len() as u64) as usize
+    }
+
+    /// The first row in that bucket.
+    fn first<'a>(&self, rows: &'a [Row], bucket: usize) -> Option<&'a Row>
+        requires { bucket < bucket_count self.now }
+        ensures { option_map (λ r. row_view r.now) result ≡ row_numbered (rows_view rows.now) (first_in self.now bucket) }
+    {
+        let number = self.firsts[bucket]?;
         row_at(rows, number)
     }
 
@@ -146,7 +160,7 @@ impl Index {
         requires { IsIndex self.now (rows_view rows.now) (rows_view rows.now) }
         ensures { IfOk result (λ o. option_map (λ r. answer_view r.now) o ≡ row_of (rows_view rows.now) (call_of call.entry)) }
     {
-        let Some(first) = self.first(rows, call_digest(call)) else {
+        let Some(first) = self.first(rows, self.bucket(call)) else {
             return Ok(None);
         };
         match result_of(first, call) {
@@ -169,14 +183,14 @@ impl Index {
         ensures index { IfOk result (λ is_new. is_new ≡ true → IsIndex self.new (rows_view rows.now) (take number (rows_view rows.now) ++ row_view row.now ∷ [])) }
     {
         let call = row.call();
-        let digest = call_digest(call);
-        match self.first(rows, digest) {
+        let bucket = self.bucket(call);
+        match self.first(rows, bucket) {
             Some(first) => match result_of(first, call) {
                 Some(_) => Ok(false),
                 None => put_under(alloc, rows, &mut self.others, number, call),
             },
             None => {
-                self.of_digests.insert(digest, number)?;
+                self.firsts[bucket] = Some(number);
                 Ok(true)
             }
         }

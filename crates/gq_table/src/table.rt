@@ -1,7 +1,7 @@
 //! Tables of what resolvers answer (GraphQL, October 2021, section 6.4.2).
 ghost use Rattle.std.specs.Prelude.{◌≡◌, ◌≤◌, Some, None, not, is_some, IfSome, IfOk, IfErr};
 ghost use Rattle.std.specs.Option.{option_map};
-ghost use Rattle.gq_meaning.specs.Helping.Depth.{depth};
+ghost use Rattle.gq_meaning.specs.Depth.{depth};
 ghost use Rattle.gq_table.specs.Rows.{row_of, deepest, has_repeated_call};
 ghost use Rattle.serde_json.specs.View.{view};
 ghost use Rattle.gq_table.specs.Json.{unless_repeated, rows_of_json};
@@ -30,8 +30,8 @@ pub struct Row {
     pub result: Outcome,
 }
 
-/// Rows, no two of one call. A row is found by a hash of its object and field; where rows share one, by a hash of the whole
-/// call.
+/// Rows, no two of one call. A row is found by a hash of its object and field; where rows share a bucket, by a hash of the
+/// whole call.
 #[derive(Drop)]
 pub struct Table {
     rows: Vec<Row>,
@@ -127,7 +127,7 @@ fn index_of(alloc: Global, rows: &[Row]) -> Result<Option<Index>, NoMemory>
     ensures some { IfOk result (λ o. is_some o ≡ not (has_repeated_call (rows_view rows.now))) }
     ensures is { IfOk result (λ o. IfSome o (λ index. IsIndex index (rows_view rows.now) (rows_view rows.now))) }
 {
-    let mut index = Index::new(alloc);
+    let mut index = Index::new(alloc, rows.len())?;
     for (number, row) in rows.iter().enumerate() {
         if !index.put(alloc, rows, number, row)? {
             return Ok(None);

@@ -1,3 +1,3 @@
 pub mod Renameables
 pub mod Targets
-pub mod Views
+pub mod Helping

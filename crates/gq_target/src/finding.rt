@@ -4,7 +4,7 @@ ghost use Rattle.std.specs.Option.{option_map};
 ghost use Rattle.gq_tree.specs.Views.{document_view};
 ghost use Rattle.gq_target.specs.Renameables.{renameables};
 ghost use Rattle.gq_target.specs.Targets.{holds, ends_at, target};
-ghost use Rattle.gq_target.specs.Views.{renameable_view, renameables_view};
+ghost use Rattle.gq_target.specs.Helping.Views.{renameable_view, renameables_view};
 
 use crate::renameables::{Renameable, renameables};
 use crate::target::Target;

@@ -5,7 +5,7 @@ ghost use Rattle.gq_tree.specs.Forest.{labels, labels_in};
 ghost use Rattle.gq_tree.specs.Views.{name_of, value_view, values_view, entry_view, entries_view, argument_view, directive_view, variable_view, sel_view, sels_view, def_view, document_view};
 ghost use Rattle.gq_rewrite.specs.Renamed.{next_number};
 ghost use Rattle.gq_target.specs.Renameables.{fragment_target, variable_target, part_renameables, value_renameables, argument_renameables, directive_renameables, head_renameables, selection_renameables, defined_renameables, renameables_in, renameables};
-ghost use Rattle.gq_target.specs.Views.{renameables_view};
+ghost use Rattle.gq_target.specs.Helping.Views.{renameables_view};
 
 use crate::target::TargetKind;
 use gq_text::{NoMemory, Span};

@@ -15,9 +15,9 @@ use Rattle.gq_types.specs.Kinds.{kind_of, same_kind}
 use Rattle.gq_types.specs.Joined.{is_schema, is_type_named, kind_named, type_number, owner_of, owner, joined, judged}
 use Rattle.gq_values.specs.Literals.{default_at}
 use Rattle.gq_values.specs.LiteralFaults.{IsLiteralFault}
-use Rattle.gq_values.specs.Helping.LiteralPlaces.{literal_faults}
+use Rattle.gq_values.specs.LiteralPlaces.{literal_faults}
 use Rattle.gq_values.specs.DirectiveFaults.{IsDirectiveFault}
-use Rattle.gq_values.specs.Helping.DirectivePlaces.{directive_faults}
+use Rattle.gq_values.specs.DirectivePlaces.{directive_faults}
 use Rattle.gq_values.proofs.LiteralRules.{literal_faults_are}
 use Rattle.gq_values.proofs.DirectiveRules.{directive_faults_are}
 use Rattle.gq_type_system.specs.Helping.Walk.{at_each_number}

@@ -1,7 +1,6 @@
 -- What only helps to prove that the code does what the definitions say. No contract of a public call is about it.
 pub mod BadExtensionPlaces
 pub mod DefaultValuesPlaces
-pub mod DefinedTwicePlaces
 pub mod DirectivesAndDefaultsPlaces
 pub mod EmptyOrRepeatedPlaces
 pub mod EndlessInputsPlaces
@@ -12,5 +11,6 @@ pub mod ReservedNamePlaces
 pub mod RootTypesPlaces
 pub mod SchemaFaultsPlaces
 pub mod UnknownTypePlaces
+pub mod UsesViews
 pub mod Walk
 pub mod WrongKindPlaces

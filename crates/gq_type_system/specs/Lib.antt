@@ -1,6 +1,5 @@
 pub mod BadExtension
 pub mod Uses
-pub mod UsesViews
 pub mod DefinedTwice
 pub mod ReservedName
 pub mod UnknownType
@@ -13,4 +12,5 @@ pub mod EndlessInputs
 pub mod SchemaFaults
 pub mod Implementations
 pub mod DirectivesAndDefaults
+pub mod DefinedTwicePlaces
 pub mod Helping

@@ -3,7 +3,7 @@ ghost use Rattle.std.specs.Prelude.{◌≡◌, ◌++◌, OnOk, IfOk, map};
 ghost use Rattle.gq_tree.specs.Views.{directive_view, input_view, type_system_view};
 ghost use Rattle.gq_types.specs.Entries.{entry_view, entries_view};
 ghost use Rattle.gq_types.specs.Look.{types_view};
-ghost use Rattle.gq_values.specs.Helping.DirectivePlaces.{directive_texts};
+ghost use Rattle.gq_values.specs.DirectivePlaces.{directive_texts};
 ghost use Rattle.gq_type_system.specs.Helping.Groups.{at_number};
 ghost use Rattle.gq_type_system.specs.DirectivesAndDefaults.{sites_in, own_names, all_inputs, told};
 ghost use Rattle.gq_type_system.specs.Helping.DirectivesAndDefaultsPlaces.{site_view, sites_view, inputs_view, group_view, site_fault, site_faults, default_fault, default_faults, inner_faults, own_faults, group_faults, itself, group_of, group_faults_of, outer_faults, all_faults, bad_directives_and_defaults};
@@ -235,11 +235,11 @@ fn add_outer_faults(alloc: Global, types: &Types, faults: &mut Vec<Fault>) -> Re
 }
 
 /// Adds these faults behind the others, each under the code of this rule.
-fn put_told(faults: &[Fault], items: &mut Vec<Fault>) -> Result<(), NoMemory>
-    ensures { OnOk result (items.new.items ≡ items.old.items ++ map told faults.now) }
+fn put_told(found: &[Fault], faults: &mut Vec<Fault>) -> Result<(), NoMemory>
+    ensures { OnOk result (faults.new.items ≡ faults.old.items ++ map told found.now) }
 {
-    for fault in faults {
-        items.push(Fault {
+    for fault in found {
+        faults.push(Fault {
             file: fault.file,
             start: fault.start,
             code: Code::BadDirectiveOrDefault,
@@ -255,12 +255,12 @@ fn put_told(faults: &[Fault], items: &mut Vec<Fault>) -> Result<(), NoMemory>
 pub fn add_bad_directives_and_defaults(
     alloc: Global,
     types: &Types,
-    items: &mut Vec<Fault>,
+    faults: &mut Vec<Fault>,
 ) -> Result<(), NoMemory>
-    ensures { OnOk result (items.new.items ≡ items.old.items ++ bad_directives_and_defaults (types_view types.now)) }
+    ensures { OnOk result (faults.new.items ≡ faults.old.items ++ bad_directives_and_defaults (types_view types.now)) }
 {
-    let mut faults = Vec::new(alloc);
-    add_inner_faults(alloc, types, &mut faults)?;
-    add_outer_faults(alloc, types, &mut faults)?;
-    put_told(&faults, items)
+    let mut found = Vec::new(alloc);
+    add_inner_faults(alloc, types, &mut found)?;
+    add_outer_faults(alloc, types, &mut found)?;
+    put_told(&found, faults)
 }

@@ -6,7 +6,7 @@ ghost use Rattle.gq_types.specs.Entries.{entry_view};
 ghost use Rattle.gq_types.specs.Look.{types_view};
 ghost use Rattle.gq_type_system.specs.Helping.ReservedNamePlaces.{reserved_name, reserved_names_in, reserved_names};
 ghost use Rattle.gq_type_system.specs.Uses.{defined_names};
-ghost use Rattle.gq_type_system.specs.UsesViews.{names_view};
+ghost use Rattle.gq_type_system.specs.Helping.UsesViews.{names_view};
 
 use crate::judged::is_judged;
 use crate::uses::put_defined_names;

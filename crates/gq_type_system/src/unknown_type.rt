@@ -3,7 +3,7 @@ ghost use Rattle.std.specs.Prelude.{◌≡◌, ◌++◌, OnOk};
 ghost use Rattle.gq_tree.specs.Views.{type_system_view};
 ghost use Rattle.gq_types.specs.Look.{types_view};
 ghost use Rattle.gq_type_system.specs.Uses.{used_types};
-ghost use Rattle.gq_type_system.specs.UsesViews.{use_view, uses_view};
+ghost use Rattle.gq_type_system.specs.Helping.UsesViews.{use_view, uses_view};
 ghost use Rattle.gq_type_system.specs.Helping.UnknownTypePlaces.{unknown_type, unknown_types_in, unknown_types};
 
 use crate::judged::is_judged;

@@ -4,7 +4,7 @@ ghost use Rattle.gq_tree.specs.Views.{name_of, input_view, field_definition_view
 ghost use Rattle.gq_type_system.specs.Uses.{field_names, names_in_body, defined_names, input_use, field_uses, uses_in_body, used_types, named_uses, root_use};
 ghost use Rattle.gq_tree.specs.NamedTypes.{named_type};
 ghost use Rattle.gq_type_system.specs.declared.uses.Wants.TheVariants.{InterfaceType};
-ghost use Rattle.gq_type_system.specs.UsesViews.{names_view, use_view, uses_view};
+ghost use Rattle.gq_type_system.specs.Helping.UsesViews.{names_view, use_view, uses_view};
 
 use gq_text::NoMemory;
 use gq_tree::{

@@ -5,7 +5,7 @@ ghost use Rattle.gq_tree.specs.Views.{type_system_view};
 ghost use Rattle.gq_types.specs.Joined.{kind_named};
 ghost use Rattle.gq_types.specs.Look.{types_view};
 ghost use Rattle.gq_type_system.specs.Uses.{used_types};
-ghost use Rattle.gq_type_system.specs.UsesViews.{use_view, uses_view};
+ghost use Rattle.gq_type_system.specs.Helping.UsesViews.{use_view, uses_view};
 ghost use Rattle.gq_type_system.specs.WrongKind.{suits};
 ghost use Rattle.gq_type_system.specs.Helping.WrongKindPlaces.{wrong_kind, wrong_kinds_in, wrong_kinds};
 

@@ -13,11 +13,11 @@ use Rattle.gq_types.specs.declared.entry.Entry.{Entry}
 use Rattle.gq_types.specs.declared.parts.Place.{Place}
 use Rattle.gq_types.specs.Arguments.{arguments_in, directive_arguments}
 use Rattle.gq_types.specs.Entries.{Text, EntryOf, entry_view, entries_view}
-use Rattle.gq_types.specs.Index.{argument_lists, arguments_at, AreNamesOfEach, AreArgumentNames}
+use Rattle.gq_types.specs.Helping.Index.{argument_lists, arguments_at, AreNamesOfEach, AreArgumentNames}
 use Rattle.gq_types.specs.Joined.{body_in, fields_in_body, is_directive_named, directive_number}
 use Rattle.gq_types.specs.Names.{directive_named}
-use Rattle.gq_types.specs.RequiredNames.{AreNamesOf}
-use Rattle.gq_types.specs.Tables.{stands_at, lists_of}
+use Rattle.gq_types.specs.Helping.RequiredNames.{AreNamesOf}
+use Rattle.gq_types.specs.Helping.Tables.{stands_at, lists_of}
 use Rattle.gq_types.proofs.PartsLemmas.{each_push}
 use Rattle.gq_types.proofs.Searches.{find_through}
 use Rattle.gq_types.proofs.TableLemmas.{view_got}

@@ -9,7 +9,7 @@ use Rattle.gq_types.specs.declared.parts.Parts.{Parts}
 use Rattle.gq_types.specs.Entries.{Text, EntryOf, Numbered, numbered_from}
 use Rattle.gq_types.specs.Look.{joined_numbers}
 use Rattle.gq_types.specs.LookUps.{declares_in, object_name, is_first, is_implementer, implementers}
-use Rattle.gq_types.specs.Tables.{AreParts, lists_in, parts_at}
+use Rattle.gq_types.specs.Helping.Tables.{AreParts, lists_in, parts_at}
 use Rattle.gq_types.specs.Helping.PossiblePlaces.{object_at}
 use Rattle.gq_names.specs.UnderNames.{one_if}
 use Rattle.gq_types.specs.Declarers.{declaring_from, declarers_from, declarers}

@@ -15,9 +15,9 @@ use Rattle.gq_types.specs.declared.entry.Entry.{Entry}
 use Rattle.gq_types.specs.declared.roots.RootNames.{RootNames}
 use Rattle.gq_types.specs.Directives.{locations_in, stands_at_location}
 use Rattle.gq_types.specs.Entries.{Text, EntryOf, entry_view, entries_view}
-use Rattle.gq_types.specs.Index.{AreLocationsOf, AreLocations, AreRoots}
+use Rattle.gq_types.specs.Helping.Index.{AreLocationsOf, AreLocations, AreRoots}
 use Rattle.gq_types.specs.Joined.{is_directive_named, directive_number}
-use Rattle.gq_types.specs.Tables.{lists_of, EachAt, first_root_at}
+use Rattle.gq_types.specs.Helping.Tables.{lists_of, EachAt, first_root_at}
 use Rattle.gq_types.proofs.PartsLemmas.{each_push}
 use Rattle.gq_types.proofs.Searches.{find_through}
 use Rattle.gq_types.proofs.TableLemmas.{view_got}

@@ -7,7 +7,7 @@ use Rattle.std.proofs.lemmas.List.{drop_all, take_all, get_or-set_same, get_or-s
 use Rattle.gq_types.specs.Entries.{EntryOf, Numbered, numbered_from}
 use Rattle.gq_types.specs.Joined.{owner, owner_of}
 use Rattle.gq_types.specs.Look.{owner_at, joined_numbers}
-use Rattle.gq_types.specs.Tables.{lists_of, AreJoined}
+use Rattle.gq_types.specs.Helping.Tables.{lists_of, AreJoined}
 
 -- those of some entries
 abbrev numbers_owned : List EntryOf → ℕ → List Numbered → List ℕ

@@ -16,8 +16,8 @@ use Rattle.gq_types.specs.Look.{joined_numbers}
 use Rattle.gq_types.specs.LookUps.{field_in, declares_in}
 use Rattle.gq_types.specs.Names.{input_named, has_value, has_member}
 use Rattle.gq_types.specs.Roots.{roots_in, entry_for}
-use Rattle.gq_types.specs.Tables.{places_from, Lists, no_parts, add_body, add_entry, parts_at, stands_at, root_at, first_root_at}
-use Rattle.gq_types.specs.UnderName.{under_name}
+use Rattle.gq_types.specs.Helping.Tables.{places_from, Lists, no_parts, add_body, add_entry, parts_at, stands_at, root_at, first_root_at}
+use Rattle.gq_types.specs.Helping.UnderName.{under_name}
 use Rattle.gq_types.proofs.Searches.{find_through, position_map, any_map}
 
 -- numbered entries that stand at their numbers

@@ -11,7 +11,7 @@ use Rattle.gq_tree.specs.Views.{name_of, field_definition_view, input_view, enum
 use Rattle.gq_types.specs.declared.parts.Place.{Place}
 use Rattle.gq_types.specs.Entries.{Text, EntryOf}
 use Rattle.gq_types.specs.Joined.{body_in}
-use Rattle.gq_types.specs.Tables.{places_from, Lists, add_body, add_entry, EachAt}
+use Rattle.gq_types.specs.Helping.Tables.{places_from, Lists, add_body, add_entry, EachAt}
 
 -- the names and places of what the code reads
 fields_seen : (fs : List FieldDefinition) → map (λ f. f.name.text) (map field_definition_view fs) ≡ map (λ f. f.name.text) fs

@@ -16,7 +16,7 @@ use Rattle.gq_types.specs.Look.{joined_numbers}
 use Rattle.gq_types.specs.LookUps.{parts_of_entry}
 use Rattle.gq_types.specs.Names.{argument_named}
 use Rattle.gq_types.specs.Required.{is_required, is_missing, is_missing_by, is_any_missing}
-use Rattle.gq_types.specs.RequiredNames.{required_after, inputs_among}
+use Rattle.gq_types.specs.Helping.RequiredNames.{required_after, inputs_among}
 use Rattle.gq_types.proofs.Gathered.{nothing_in, first, only, and_parts, and_both, not_true, not_false, from_any, to_any, found, tested}
 use Rattle.gq_types.proofs.PartLookups.{Stand, joined_stand}
 

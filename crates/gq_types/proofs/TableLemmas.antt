@@ -10,8 +10,8 @@ use Rattle.gq_types.specs.declared.table.Table.{Table}
 use Rattle.gq_types.specs.Entries.{Text, EntryOf, entry_view, entries_view}
 use Rattle.gq_types.specs.Joined.{is_type_named, is_directive_named, kind_in, type_number, kind_named, directive_number}
 use Rattle.gq_types.specs.Names.{directive_named}
-use Rattle.gq_types.specs.Tables.{type_key, directive_key, directive_in, at_most_one, names_in, numbers_in, AreNames}
-use Rattle.gq_types.specs.UnderName.{under_name}
+use Rattle.gq_types.specs.Helping.Tables.{type_key, directive_key, directive_in, at_most_one, names_in, numbers_in, AreNames}
+use Rattle.gq_types.specs.Helping.UnderName.{under_name}
 use Rattle.std.proofs.lemmas.List.{length-map}
 use Rattle.std.proofs.lemmas.Option.{slice_get-map, slice_get_read}
 use Rattle.gq_types.proofs.Searches.{position_cons, through_cons, find_through, position_agree, and_then_again}

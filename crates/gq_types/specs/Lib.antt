@@ -6,16 +6,12 @@ pub mod Names
 pub mod Possible
 pub mod Roots
 pub mod Look
-pub mod UnderName
-pub mod Tables
 pub mod Declarers
 pub mod Laws
 pub mod LookUps
 pub mod Subtypes
 pub mod Arguments
 pub mod Required
-pub mod RequiredNames
-pub mod Index
 pub mod Directives
 pub mod Helping
 pub mod SubtypesTests

@@ -2,9 +2,9 @@
 ghost use Rattle.std.specs.Prelude.{◌≡◌, ◌∷◌, [], IfOk, map};
 ghost use Rattle.gq_tree.specs.Views.{input_view, field_definition_view, type_system_view};
 ghost use Rattle.gq_types.specs.Entries.{entries_view};
-ghost use Rattle.gq_types.specs.Index.{argument_lists, AreNamesOfEach, AreArgumentNames};
-ghost use Rattle.gq_types.specs.RequiredNames.{AreNamesOf};
-ghost use Rattle.gq_types.specs.Tables.{lists_of};
+ghost use Rattle.gq_types.specs.Helping.Index.{argument_lists, AreNamesOfEach, AreArgumentNames};
+ghost use Rattle.gq_types.specs.Helping.RequiredNames.{AreNamesOf};
+ghost use Rattle.gq_types.specs.Helping.Tables.{lists_of};
 
 use crate::entry::Entry;
 use crate::entry_parts::fields_of;

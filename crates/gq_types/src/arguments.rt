@@ -8,7 +8,7 @@ ghost use Rattle.gq_types.specs.Arguments.{argument_texts};
 ghost use Rattle.gq_types.specs.Look.{input_of};
 ghost use Rattle.gq_types.specs.Names.{argument_named};
 ghost use Rattle.gq_types.specs.Required.{is_missing, is_missing_by, is_any_missing};
-ghost use Rattle.gq_types.specs.RequiredNames.{AreNamesOf};
+ghost use Rattle.gq_types.specs.Helping.RequiredNames.{AreNamesOf};
 
 use crate::argument_names::ArgumentNames;
 use crate::required::{is_any_lacking, is_required};

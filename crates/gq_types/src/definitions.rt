@@ -7,7 +7,7 @@ ghost use Rattle.gq_types.specs.Kinds.{kind_of};
 ghost use Rattle.gq_types.specs.Joined.{type_number, kind_in, kind_named, directive_number, is_schema, schema_number, owner_of_extension};
 ghost use Rattle.gq_types.specs.Look.{text_of, owner_at, directive_of};
 ghost use Rattle.gq_types.specs.Names.{directive_named};
-ghost use Rattle.gq_types.specs.Tables.{at_most_one, type_key, directive_key, directive_in, AreNames};
+ghost use Rattle.gq_types.specs.Helping.Tables.{at_most_one, type_key, directive_key, directive_in, AreNames};
 
 use crate::entry::{Entry, TypeKind};
 use crate::table::Table;
@@ -32,7 +32,7 @@ impl Model for Definitions {
     ghost use Rattle.gq_types.specs.contracts.entry.Entry as entry;
     ghost use Rattle.gq_types.specs.declared.entry.Entry.{Entry};
     ghost use Rattle.gq_types.specs.Entries.{entries_view};
-    ghost use Rattle.gq_types.specs.Tables.{AreDefinitions};
+    ghost use Rattle.gq_types.specs.Helping.Tables.{AreDefinitions};
 
     ghost Value = { List Entry };
 

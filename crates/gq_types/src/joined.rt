@@ -1,7 +1,7 @@
 //! Which entries belong to which.
 ghost use Rattle.std.specs.Prelude.{◌≡◌, ◌++◌, ◌∷◌, ◌+◌, ◌<◌, [], ℕ, IfOk, OnOk, length, get_or, set};
 ghost use Rattle.gq_types.specs.Entries.{entries_view};
-ghost use Rattle.gq_types.specs.Tables.{lists_of, AreJoined};
+ghost use Rattle.gq_types.specs.Helping.Tables.{lists_of, AreJoined};
 
 use crate::definitions::Definitions;
 use gq_text::NoMemory;

@@ -5,8 +5,8 @@ ghost use Rattle.gq_tree.specs.Same.{location_number, same_locations};
 ghost use Rattle.gq_tree.specs.Views.{type_system_view};
 ghost use Rattle.gq_types.specs.Directives.{locations_in};
 ghost use Rattle.gq_types.specs.Entries.{entries_view};
-ghost use Rattle.gq_types.specs.Index.{AreLocationsOf, AreLocations};
-ghost use Rattle.gq_types.specs.Tables.{lists_of};
+ghost use Rattle.gq_types.specs.Helping.Index.{AreLocationsOf, AreLocations};
+ghost use Rattle.gq_types.specs.Helping.Tables.{lists_of};
 
 use crate::entry::Entry;
 use gq_text::NoMemory;

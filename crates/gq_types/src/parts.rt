@@ -1,7 +1,7 @@
 //! The parts of types: fields, input fields, values, members and interfaces.
 ghost use Rattle.std.specs.Prelude.{◌≡◌, ◌++◌, [], IfOk, OnOk, map, get_or};
 ghost use Rattle.gq_types.specs.Entries.{entries_view};
-ghost use Rattle.gq_types.specs.Tables.{lists_of, places_from, no_parts, add_body, add_entry, parts_at, lists_in, AreJoined, AreParts};
+ghost use Rattle.gq_types.specs.Helping.Tables.{lists_of, places_from, no_parts, add_body, add_entry, parts_at, lists_in, AreJoined, AreParts};
 ghost use Rattle.gq_tree.specs.Views.{body_view};
 
 use crate::entry::Entry;

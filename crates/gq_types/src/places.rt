@@ -4,7 +4,7 @@ ghost use Rattle.gq_tree.specs.Views.{input_view, type_system_view};
 ghost use Rattle.gq_types.specs.Entries.{entries_view};
 ghost use Rattle.gq_types.specs.Joined.{body_in, fields_in_body, inputs_in_body};
 ghost use Rattle.gq_types.specs.Look.{field_of, input_of};
-ghost use Rattle.gq_types.specs.Tables.{stands_at};
+ghost use Rattle.gq_types.specs.Helping.Tables.{stands_at};
 
 use crate::entry::Entry;
 use crate::entry_parts::fields_of;

@@ -8,8 +8,8 @@ ghost use Rattle.gq_types.specs.Entries.{entries_view};
 ghost use Rattle.gq_types.specs.Joined.{inputs_in_body};
 ghost use Rattle.gq_types.specs.LookUps.{parts_of_entry};
 ghost use Rattle.gq_types.specs.Required.{is_non_null, is_required};
-ghost use Rattle.gq_types.specs.RequiredNames.{required_after, inputs_among, AreRequired};
-ghost use Rattle.gq_types.specs.Tables.{lists_of, AreJoined};
+ghost use Rattle.gq_types.specs.Helping.RequiredNames.{required_after, inputs_among, AreRequired};
+ghost use Rattle.gq_types.specs.Helping.Tables.{lists_of, AreJoined};
 
 use crate::entry::Entry;
 use crate::parts::numbers_at;

@@ -4,10 +4,10 @@ ghost use Rattle.std.specs.Option.{option_map};
 ghost use Rattle.gq_tree.specs.Same.{same_kinds};
 ghost use Rattle.gq_tree.specs.Views.{root_view, type_system_view};
 ghost use Rattle.gq_types.specs.Entries.{entries_view};
-ghost use Rattle.gq_types.specs.Index.{root_name, AreRoots};
+ghost use Rattle.gq_types.specs.Helping.Index.{root_name, AreRoots};
 ghost use Rattle.gq_types.specs.Look.{text_of};
 ghost use Rattle.gq_types.specs.Roots.{default_name, roots_in};
-ghost use Rattle.gq_types.specs.Tables.{root_at, first_root_at};
+ghost use Rattle.gq_types.specs.Helping.Tables.{root_at, first_root_at};
 
 use crate::entry::Entry;
 use gq_text::{NoMemory, SmallText};

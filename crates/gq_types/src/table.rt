@@ -1,6 +1,6 @@
 //! Names, and what is kept under each.
 ghost use Rattle.std.specs.Prelude.{◌≡◌, ◌++◌, ◌∷◌, [], OnOk};
-ghost use Rattle.gq_types.specs.UnderName.{under_name};
+ghost use Rattle.gq_types.specs.Helping.UnderName.{under_name};
 
 use gq_names::NameList;
 use gq_text::NoMemory;

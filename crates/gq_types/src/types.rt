@@ -10,12 +10,12 @@ ghost use Rattle.gq_types.specs.Look.{types_view, owner_at, text_of, field_of, i
 ghost use Rattle.gq_types.specs.LookUps.{field_in, declares_in};
 ghost use Rattle.gq_types.specs.Names.{field_named, input_named, has_value, has_member, declares, directive_named};
 ghost use Rattle.gq_types.specs.Required.{is_field_missing};
-ghost use Rattle.gq_types.specs.RequiredNames.{required_after};
-ghost use Rattle.gq_types.specs.Index.{arguments_at};
+ghost use Rattle.gq_types.specs.Helping.RequiredNames.{required_after};
+ghost use Rattle.gq_types.specs.Helping.Index.{arguments_at};
 ghost use Rattle.gq_types.specs.Roots.{root_of, default_root, entry_for, is_object};
 ghost use Rattle.gq_types.specs.Declarers.{declarers};
 ghost use Rattle.gq_types.specs.Directives.{stands_at_location};
-ghost use Rattle.gq_types.specs.Tables.{lists_in, parts_at, stands_at};
+ghost use Rattle.gq_types.specs.Helping.Tables.{lists_in, parts_at, stands_at};
 
 use crate::arguments::Arguments;
 use crate::built_in::built_in;
@@ -64,7 +64,7 @@ impl Model for Types {
     ghost use Rattle.gq_types.specs.contracts.entry.Entry as entry;
     ghost use Rattle.gq_types.specs.declared.entry.Entry.{Entry};
     ghost use Rattle.gq_types.specs.Entries.{entries_view};
-    ghost use Rattle.gq_types.specs.Index.{IsIndex};
+    ghost use Rattle.gq_types.specs.Helping.Index.{IsIndex};
 
     ghost Value = { List Entry };
 

@@ -1,9 +1,9 @@
 //! What is kept of definitions for their uses, so that a use costs what is given at it.
 ghost use Rattle.std.specs.Prelude.{◌≡◌, IfOk};
 ghost use Rattle.gq_types.specs.Entries.{entries_view};
-ghost use Rattle.gq_types.specs.Index.{AreUses};
+ghost use Rattle.gq_types.specs.Helping.Index.{AreUses};
 ghost use Rattle.gq_types.specs.Joined.{schema_number};
-ghost use Rattle.gq_types.specs.Tables.{lists_of, AreJoined};
+ghost use Rattle.gq_types.specs.Helping.Tables.{lists_of, AreJoined};
 
 use crate::argument_names::{ArgumentNames, all_argument_names};
 use crate::entry::Entry;

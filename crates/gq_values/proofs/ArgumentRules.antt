@@ -12,9 +12,9 @@ use Rattle.gq_types.specs.Entries.{EntryOf}
 use Rattle.gq_types.specs.Names.{argument_named}
 use Rattle.gq_types.specs.Required.{is_any_missing}
 use Rattle.gq_found.specs.FaultPlaces.{fault_at}
-use Rattle.gq_values.specs.Helping.LiteralPlaces.{texts}
+use Rattle.gq_values.specs.LiteralPlaces.{texts}
 use Rattle.gq_values.specs.ArgumentFaults.{argument_names, argument_at, IsArgumentFault, unknown_argument, argument_not_unique, argument_missing, fault_in_value}
-use Rattle.gq_values.specs.Helping.ArgumentPlaces.{repeated_arguments, unknown_argument_at, unknown_arguments, missing_among, known_faults, value_faults_under, value_faults_of, argument_value_faults, argument_faults}
+use Rattle.gq_values.specs.ArgumentPlaces.{repeated_arguments, unknown_argument_at, unknown_arguments, missing_among, known_faults, value_faults_under, value_faults_of, argument_value_faults, argument_faults}
 use Rattle.gq_values.proofs.LiteralRules.{from_any_missing, to_any_missing, literal_faults_are}
 use Rattle.gq_types.proofs.Gathered.{only, from_if, to_if, from_flat, to_flat, from_map_as as from_map, to_map_as as to_map}
 

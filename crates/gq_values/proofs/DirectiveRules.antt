@@ -14,11 +14,11 @@ use Rattle.gq_found.specs.declared.fault.Fault.{Fault}
 use Rattle.gq_types.specs.Entries.{Text, EntryOf}
 use Rattle.gq_types.specs.Names.{directive_named}
 use Rattle.gq_found.specs.FaultPlaces.{fault_at}
-use Rattle.gq_values.specs.Helping.ArgumentPlaces.{argument_faults}
+use Rattle.gq_values.specs.ArgumentPlaces.{argument_faults}
 use Rattle.gq_types.specs.Arguments.{directive_arguments}
 use Rattle.gq_types.specs.Directives.{locations_in}
 use Rattle.gq_values.specs.DirectiveFaults.{is_repeatable, IsDirectiveFault, unknown_directive, directive_in_wrong_place, directive_repeated, fault_in_arguments}
-use Rattle.gq_values.specs.Helping.DirectivePlaces.{place_faults, faults_of_directive, faults_of_directives, repetition_at, repetitions, directive_faults}
+use Rattle.gq_values.specs.DirectivePlaces.{place_faults, faults_of_directive, faults_of_directives, repetition_at, repetitions, directive_faults}
 use Rattle.gq_values.proofs.ArgumentRules.{argument_faults_are}
 use Rattle.gq_types.proofs.Gathered.{only, from_flat, to_flat}
 

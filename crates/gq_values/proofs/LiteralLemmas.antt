@@ -13,7 +13,7 @@ use Rattle.gq_found.specs.declared.fault.Fault.{Fault}
 use Rattle.gq_types.specs.Entries.{EntryOf}
 use Rattle.gq_values.specs.Literals.{Expected, part_at, items_at, field_at}
 use Rattle.gq_values.proofs.Steps.{both_done}
-use Rattle.gq_values.specs.Helping.LiteralPlaces.{own_faults, faults_in, literal_faults, item_faults, value_faults}
+use Rattle.gq_values.specs.LiteralPlaces.{own_faults, faults_in, literal_faults, item_faults, value_faults}
 
 -- an item of a list literal has no key
 at_item : (es : List EntryOf) (file : ℕ) (reading : Expected) (v : Value) → (key : Option (NameOf Span)) → key ≡ None →

@@ -25,7 +25,7 @@ use Rattle.gq_types.specs.Required.{is_required, is_missing, is_missing_by, is_a
 use Rattle.gq_values.specs.Literals.{fits, fits_kind, Expected, at_type, at_any, part_at, StandsIn, here, within, after, is_input_object, input_object_at}
 use Rattle.gq_found.specs.FaultPlaces.{fault_at, fault_over}
 use Rattle.gq_values.specs.LiteralFaults.{entry_names, HasNone, literal_place, first_byte, IsFaultOf, wrong_value, unknown_field, field_not_unique, field_missing, IsLiteralFault}
-use Rattle.gq_values.specs.Helping.LiteralPlaces.{texts, repeated_fields, unknown_field_at, unknown_fields, missing_fields, field_faults, names_in, entry_faults, type_faults, own_faults, faults_in, literal_faults}
+use Rattle.gq_values.specs.LiteralPlaces.{texts, repeated_fields, unknown_field_at, unknown_fields, missing_fields, field_faults, names_in, entry_faults, type_faults, own_faults, faults_in, literal_faults}
 use Rattle.gq_types.proofs.Gathered.{only, from_if, to_if, found as from_find, from_any, to_any, from_flat, to_flat, from_map_as as from_map, to_map_as as to_map}
 
 -- a name that is not among the texts of names

@@ -3,4 +3,6 @@ pub mod ExpectedTypes
 pub mod LiteralFaults
 pub mod ArgumentFaults
 pub mod DirectiveFaults
-pub mod Helping
+pub mod ArgumentPlaces
+pub mod DirectivePlaces
+pub mod LiteralPlaces

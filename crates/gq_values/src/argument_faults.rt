@@ -2,9 +2,9 @@
 ghost use Rattle.std.specs.Prelude.{◌≡◌, ◌++◌, OnOk, map, Some, None};
 ghost use Rattle.gq_tree.specs.Views.{name_of, input_view, argument_view};
 ghost use Rattle.gq_types.specs.Look.{types_view};
-ghost use Rattle.gq_values.specs.Helping.LiteralPlaces.{texts};
+ghost use Rattle.gq_values.specs.LiteralPlaces.{texts};
 ghost use Rattle.gq_values.specs.ArgumentFaults.{argument_names};
-ghost use Rattle.gq_values.specs.Helping.ArgumentPlaces.{definitions_view, repeated_arguments, unknown_arguments, missing_among, known_faults, value_faults_of, argument_value_faults, argument_faults};
+ghost use Rattle.gq_values.specs.ArgumentPlaces.{definitions_view, repeated_arguments, unknown_arguments, missing_among, known_faults, value_faults_of, argument_value_faults, argument_faults};
 
 use crate::expected_type::ExpectedType;
 use crate::literal_faults::add_literal_faults;

@@ -4,7 +4,7 @@ ghost use Rattle.gq_tree.specs.Views.{type_view, value_view};
 ghost use Rattle.gq_types.specs.Joined.{kind_named};
 ghost use Rattle.gq_values.specs.Literals.{digits_from, is_int_32, is_null, is_list, is_built_in_scalar, fits_built_in, fits_enum, fits_kind, fits};
 ghost use Rattle.gq_types.specs.Look.{types_view};
-ghost use Rattle.gq_values.specs.Helping.LiteralPlaces.{fits_input_object};
+ghost use Rattle.gq_values.specs.LiteralPlaces.{fits_input_object};
 
 use gq_tree::{TypeRef, Value};
 use gq_types::{TypeKind, Types};

@@ -7,11 +7,11 @@ ghost use Rattle.gq_found.specs.declared.fault.Fault.{Fault};
 ghost use Rattle.gq_types.specs.Entries.{Text, EntryOf};
 ghost use Rattle.gq_values.specs.Literals.{Expected};
 ghost use Rattle.gq_values.specs.LiteralFaults.{IsLiteralFault};
-ghost use Rattle.gq_values.specs.Helping.LiteralPlaces.{literal_faults};
+ghost use Rattle.gq_values.specs.LiteralPlaces.{literal_faults};
 ghost use Rattle.gq_values.specs.ArgumentFaults.{IsArgumentFault};
-ghost use Rattle.gq_values.specs.Helping.ArgumentPlaces.{argument_faults};
+ghost use Rattle.gq_values.specs.ArgumentPlaces.{argument_faults};
 ghost use Rattle.gq_values.specs.DirectiveFaults.{IsDirectiveFault};
-ghost use Rattle.gq_values.specs.Helping.DirectivePlaces.{directive_faults};
+ghost use Rattle.gq_values.specs.DirectivePlaces.{directive_faults};
 
 /// What is told of a literal is the faults of section 5.6 in it.
 pub fn literal_faults_are()

@@ -25,7 +25,7 @@ use Rattle.gq_variables.specs.Helping.VariablePlaces.{variable_texts, use_texts,
 use Rattle.gq_variables.proofs.UseLemmas.{reached_are}
 use Rattle.gq_variables.proofs.RuleLemmas.{not_unique_are, not_of_input_type_are, not_defined_are, not_used_are, not_allowed_are}
 
-module _ (x : ExecutableOf) (o : OperationOf) (uses : List UseOf) (are : (u : UseOf) → Contains uses u ↔ ReachesUse x o u) (item : Fault) where
+module _ (x : ExecutableOf) (o : OperationOf) (uses : List UseOf) (are : (u : UseOf) → Contains uses u ↔ ReachesUse x o u) (fault : Fault) where
   abbrev Unique : List Fault
   Unique = not_unique o.file (repeated_variables [] o.variables)
 
@@ -41,38 +41,38 @@ module _ (x : ExecutableOf) (o : OperationOf) (uses : List UseOf) (are : (u : Us
   abbrev Allowed : List Fault
   Allowed = not_allowed x.entries o.variables (repeated_variables [] o.variables) uses
 
-  from_definitions : Contains (Unique ++ Input) item → IsFaultOfOperation x o item
-  from_definitions c = elim (Contains-append_cases Unique Input item c) [
-    | inl a ↦ rule.not_unique ((not_unique_are o item).0 a)
-    | inr b ↦ rule.not_of_input_type ((not_of_input_type_are x.entries o item).0 b)
+  from_definitions : Contains (Unique ++ Input) fault → IsFaultOfOperation x o fault
+  from_definitions c = elim (Contains-append_cases Unique Input fault c) [
+    | inl a ↦ rule.not_unique ((not_unique_are o fault).0 a)
+    | inr b ↦ rule.not_of_input_type ((not_of_input_type_are x.entries o fault).0 b)
   ]
 
-  from_uses : Contains (Defined ++ (Used ++ Allowed)) item → IsFaultOfOperation x o item
-  from_uses c = elim (Contains-append_cases Defined (Used ++ Allowed) item c) [
-    | inl a ↦ rule.not_defined ((not_defined_are x o uses are item).0 a)
-    | inr d ↦ elim (Contains-append_cases Used Allowed item d) [
-      | inl a ↦ rule.not_used ((not_used_are x o uses are item).0 a)
-      | inr b ↦ rule.not_allowed ((not_allowed_are x o uses are item).0 b)
+  from_uses : Contains (Defined ++ (Used ++ Allowed)) fault → IsFaultOfOperation x o fault
+  from_uses c = elim (Contains-append_cases Defined (Used ++ Allowed) fault c) [
+    | inl a ↦ rule.not_defined ((not_defined_are x o uses are fault).0 a)
+    | inr d ↦ elim (Contains-append_cases Used Allowed fault d) [
+      | inl a ↦ rule.not_used ((not_used_are x o uses are fault).0 a)
+      | inr b ↦ rule.not_allowed ((not_allowed_are x o uses are fault).0 b)
     ]
   ]
 
-  from_all : Contains (operation_faults x.entries o uses) item → IsFaultOfOperation x o item
-  from_all c = elim (Contains-append_cases (Unique ++ Input) (Defined ++ (Used ++ Allowed)) item c) [ inl a ↦ from_definitions a | inr b ↦ from_uses b ]
+  from_all : Contains (operation_faults x.entries o uses) fault → IsFaultOfOperation x o fault
+  from_all c = elim (Contains-append_cases (Unique ++ Input) (Defined ++ (Used ++ Allowed)) fault c) [ inl a ↦ from_definitions a | inr b ↦ from_uses b ]
 
-  of_definitions : Contains (Unique ++ Input) item → Contains (operation_faults x.entries o uses) item
-  of_definitions c = Contains-append_left (Unique ++ Input) (Defined ++ (Used ++ Allowed)) item c
+  of_definitions : Contains (Unique ++ Input) fault → Contains (operation_faults x.entries o uses) fault
+  of_definitions c = Contains-append_left (Unique ++ Input) (Defined ++ (Used ++ Allowed)) fault c
 
-  of_uses : Contains (Defined ++ (Used ++ Allowed)) item → Contains (operation_faults x.entries o uses) item
-  of_uses c = Contains-append_right (Unique ++ Input) (Defined ++ (Used ++ Allowed)) item c
+  of_uses : Contains (Defined ++ (Used ++ Allowed)) fault → Contains (operation_faults x.entries o uses) fault
+  of_uses c = Contains-append_right (Unique ++ Input) (Defined ++ (Used ++ Allowed)) fault c
 
-  to_all : IsFaultOfOperation x o item → Contains (operation_faults x.entries o uses) item
-  to_all (rule.not_unique w) = of_definitions (Contains-append_left Unique Input item ((not_unique_are o item).1 w))
-  to_all (rule.not_of_input_type w) = of_definitions (Contains-append_right Unique Input item ((not_of_input_type_are x.entries o item).1 w))
-  to_all (rule.not_defined w) = of_uses (Contains-append_left Defined (Used ++ Allowed) item ((not_defined_are x o uses are item).1 w))
-  to_all (rule.not_used w) = of_uses (Contains-append_right Defined (Used ++ Allowed) item (Contains-append_left Used Allowed item ((not_used_are x o uses are item).1 w)))
-  to_all (rule.not_allowed w) = of_uses (Contains-append_right Defined (Used ++ Allowed) item (Contains-append_right Used Allowed item ((not_allowed_are x o uses are item).1 w)))
+  to_all : IsFaultOfOperation x o fault → Contains (operation_faults x.entries o uses) fault
+  to_all (rule.not_unique w) = of_definitions (Contains-append_left Unique Input fault ((not_unique_are o fault).1 w))
+  to_all (rule.not_of_input_type w) = of_definitions (Contains-append_right Unique Input fault ((not_of_input_type_are x.entries o fault).1 w))
+  to_all (rule.not_defined w) = of_uses (Contains-append_left Defined (Used ++ Allowed) fault ((not_defined_are x o uses are fault).1 w))
+  to_all (rule.not_used w) = of_uses (Contains-append_right Defined (Used ++ Allowed) fault (Contains-append_left Used Allowed fault ((not_used_are x o uses are fault).1 w)))
+  to_all (rule.not_allowed w) = of_uses (Contains-append_right Defined (Used ++ Allowed) fault (Contains-append_right Used Allowed fault ((not_allowed_are x o uses are fault).1 w)))
 
-  faults_are : Contains (operation_faults x.entries o uses) item ↔ IsFaultOfOperation x o item
+  faults_are : Contains (operation_faults x.entries o uses) fault ↔ IsFaultOfOperation x o fault
   faults_are = (from_all, to_all)
 
 -- what is put for an operation
@@ -108,38 +108,38 @@ module _ (x : ExecutableOf) where
       uses : List UseOf
       uses = reached_uses x.entries x.fragments o numbers
 
-      exactly : (item : Fault) → Contains (operation_faults x.entries o uses) item ↔ IsFaultAt x number item
-      exactly item =
-          let are = faults_are x o uses (reached_are x o numbers sound complete) item in (
+      exactly : (fault : Fault) → Contains (operation_faults x.entries o uses) fault ↔ IsFaultAt x number fault
+      exactly fault =
+          let are = faults_are x o uses (reached_are x o numbers sound complete) fault in (
             λ c. record { operation = o; at = at; fault = are.0 c },
-            λ w. are.1 (subst (λ p. IsFaultOfOperation x p item) (same_Some w.operation o (sym w.at ∙ at)) w.fault),
+            λ w. are.1 (subst (λ p. IsFaultOfOperation x p fault) (same_Some w.operation o (sym w.at ∙ at)) w.fault),
           )
 
   -- one more
   pub puts_more : (number : ℕ) (old middle new : List Fault) → AddsExactly (IsFaultBefore x number) old middle → AddsExactly (IsFaultAt x number) middle new → AddsExactly (IsFaultBefore x (number + 1)) old new
   puts_more number old middle new before now =
-      puts_as (λ item. IsFaultBefore x number item ⊎ IsFaultAt x number item) (IsFaultBefore x (number + 1)) old new same
+      puts_as (λ fault. IsFaultBefore x number fault ⊎ IsFaultAt x number fault) (IsFaultBefore x (number + 1)) old new same
       (puts_both (IsFaultBefore x number) (IsFaultAt x number) old middle new before now)
     where
-      by_place : (item : Fault) (w : IsFaultBefore x (number + 1) item) → (w.earlier < number) ⊎ (w.earlier ≡ number) → IsFaultBefore x number item ⊎ IsFaultAt x number item
-      by_place item w (inl less) = inl (record { earlier = w.earlier; is_earlier = less; fault = w.fault })
-      by_place item w (inr is) = inr (subst (λ n. IsFaultAt x n item) is w.fault)
+      by_place : (fault : Fault) (w : IsFaultBefore x (number + 1) fault) → (w.earlier < number) ⊎ (w.earlier ≡ number) → IsFaultBefore x number fault ⊎ IsFaultAt x number fault
+      by_place fault w (inl less) = inl (record { earlier = w.earlier; is_earlier = less; fault = w.fault })
+      by_place fault w (inr is) = inr (subst (λ n. IsFaultAt x n fault) is w.fault)
 
-      same : (item : Fault) → (IsFaultBefore x number item ⊎ IsFaultAt x number item) ↔ IsFaultBefore x (number + 1) item
-      same item = (
+      same : (fault : Fault) → (IsFaultBefore x number fault ⊎ IsFaultAt x number fault) ↔ IsFaultBefore x (number + 1) fault
+      same fault = (
         λ s. elim s [
           | inl w ↦ record { earlier = w.earlier; is_earlier = omega (arith, w.is_earlier); fault = w.fault }
           | inr w ↦ record { earlier = number; is_earlier = omega arith; fault = w }
         ],
-        λ w. by_place item w (below_or_at w.earlier number w.is_earlier),
+        λ w. by_place fault w (below_or_at w.earlier number w.is_earlier),
       )
 
   -- those of all operations
   pub puts_all : (number : ℕ) (old new : List Fault) → length x.operations ≤ number → AddsExactly (IsFaultBefore x number) old new → AddsExactly (IsVariableFault x) old new
   puts_all number old new end before = puts_as (IsFaultBefore x number) (IsVariableFault x) old new same before
     where
-      same : (item : Fault) → IsFaultBefore x number item ↔ IsVariableFault x item
-      same item = (
+      same : (fault : Fault) → IsFaultBefore x number fault ↔ IsVariableFault x fault
+      same fault = (
         λ w. record {
           operation = w.fault.operation;
           stands = (w.earlier, slice_get_within x.operations w.earlier w.fault.operation w.fault.at, get_or_from_slice_get x.operations w.earlier w.fault.operation w.fault.operation w.fault.at);

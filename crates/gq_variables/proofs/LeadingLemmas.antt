@@ -22,7 +22,7 @@ use Rattle.gq_spreads.proofs.RowLemmas.{operation_rows_below, fragment_rows_belo
 use Rattle.gq_spreads.proofs.ReachLemmas.{to_reached, from_reached}
 use Rattle.gq_variables.specs.Uses.{UseOf}
 use Rattle.gq_variables.specs.Helping.UsesPlaces.{fragment_uses, row_at}
-use Rattle.gq_variables.specs.Leading.{numbers_with_uses, LeadToUses, AreLeading}
+use Rattle.gq_variables.specs.Helping.Leading.{numbers_with_uses, LeadToUses, AreLeading}
 
 -- a row with a use has its number
 not_empty : (us : List UseOf) (u : UseOf) → Contains us u → not (nat_eq (length us) 0) ≡ true

@@ -6,6 +6,4 @@ pub mod AllVariableUsesDefined
 pub mod AllVariablesUsed
 pub mod AllVariableUsagesAreAllowed
 pub mod VariableFaults
-pub mod Views
-pub mod Leading
 pub mod Helping

@@ -5,7 +5,7 @@ ghost use Rattle.gq_tree.specs.Views.{type_view, variable_view};
 ghost use Rattle.gq_types.specs.Look.{types_view};
 ghost use Rattle.gq_variables.specs.AllVariableUsagesAreAllowed.{is_known};
 ghost use Rattle.gq_variables.specs.Helping.VariablePlaces.{is_wrong_at, is_wrong_for, first_is_wrong, is_misused, not_allowed_at, not_allowed};
-ghost use Rattle.gq_variables.specs.Views.{place_view, use_view, uses_view, variables_view};
+ghost use Rattle.gq_variables.specs.Helping.Views.{place_view, use_view, uses_view, variables_view};
 
 use crate::compatible::is_allowed;
 use crate::uses::{Place, Use};

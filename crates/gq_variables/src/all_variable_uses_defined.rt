@@ -2,7 +2,7 @@
 ghost use Rattle.std.specs.Prelude.{◌≡◌, ◌++◌, OnOk, map};
 ghost use Rattle.gq_tree.specs.Views.{variable_view};
 ghost use Rattle.gq_variables.specs.Helping.VariablePlaces.{variable_texts, not_defined_at, not_defined};
-ghost use Rattle.gq_variables.specs.Views.{use_view, uses_view};
+ghost use Rattle.gq_variables.specs.Helping.Views.{use_view, uses_view};
 
 use crate::uses::Use;
 use crate::variables::Variables;

@@ -2,7 +2,7 @@
 ghost use Rattle.std.specs.Prelude.{◌≡◌, ◌++◌, IfOk, OnOk, map};
 ghost use Rattle.gq_tree.specs.Views.{variable_view};
 ghost use Rattle.gq_variables.specs.Helping.VariablePlaces.{use_texts, not_used_at, not_used};
-ghost use Rattle.gq_variables.specs.Views.{uses_view};
+ghost use Rattle.gq_variables.specs.Helping.Views.{uses_view};
 
 use crate::uses::Use;
 use gq_found::{Code, Fault, add_fault_at};

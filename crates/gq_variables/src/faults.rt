@@ -6,11 +6,11 @@ ghost use Rattle.gq_types.specs.Look.{types_view};
 ghost use Rattle.gq_document.specs.Definitions.{operation_view, operations_view, fragments_view};
 ghost use Rattle.gq_document.specs.Executable.{executable_view};
 ghost use Rattle.gq_spreads.specs.Spreads.{AreSpreads};
-ghost use Rattle.gq_variables.specs.Leading.{AreLeading};
+ghost use Rattle.gq_variables.specs.Helping.Leading.{AreLeading};
 ghost use Rattle.gq_variables.specs.Helping.UsesPlaces.{operation_uses, fragment_uses, row_at};
 ghost use Rattle.gq_variables.specs.VariableFaults.{IsVariableFault};
 ghost use Rattle.gq_variables.specs.Helping.VariablePlaces.{definition_faults, use_faults, operation_faults, IsFaultAt};
-ghost use Rattle.gq_variables.specs.Views.{uses_view, rows_view, variables_view};
+ghost use Rattle.gq_variables.specs.Helping.Views.{uses_view, rows_view, variables_view};
 
 use crate::all_variable_usages_are_allowed::add_not_allowed;
 use crate::all_variable_uses_defined::add_not_defined;

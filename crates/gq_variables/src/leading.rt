@@ -6,9 +6,9 @@ ghost use Rattle.gq_types.specs.Look.{types_view};
 ghost use Rattle.gq_document.specs.Definitions.{fragments_view};
 ghost use Rattle.gq_document.specs.Executable.{executable_view};
 ghost use Rattle.gq_spreads.specs.Spreads.{AreSpreads};
-ghost use Rattle.gq_variables.specs.Leading.{numbers_with_uses, LeadToUses, AreLeading};
+ghost use Rattle.gq_variables.specs.Helping.Leading.{numbers_with_uses, LeadToUses, AreLeading};
 ghost use Rattle.gq_variables.specs.Helping.UsesPlaces.{fragment_uses};
-ghost use Rattle.gq_variables.specs.Views.{rows_view};
+ghost use Rattle.gq_variables.specs.Helping.Views.{rows_view};
 
 use crate::uses::Use;
 use gq_document::Executable;

@@ -1,10 +1,10 @@
 //! The places in arguments and in literals (GraphQL, October 2021, sections 5.6 and 5.8.5).
 ghost use Rattle.std.specs.Prelude.{◌≡◌};
 ghost use Rattle.gq_types.specs.Look.{types_view, input_of};
-ghost use Rattle.gq_values.specs.Helping.ArgumentPlaces.{definitions_view};
+ghost use Rattle.gq_values.specs.ArgumentPlaces.{definitions_view};
 ghost use Rattle.gq_values.specs.ExpectedTypes.{expected_view};
 ghost use Rattle.gq_variables.specs.Uses.{is_defaulted, input_field_at, items_place, field_place, argument_place};
-ghost use Rattle.gq_variables.specs.Views.{place_view};
+ghost use Rattle.gq_variables.specs.Helping.Views.{place_view};
 
 use crate::uses::Place;
 use gq_tree::InputValueDefinition;

@@ -3,7 +3,7 @@ ghost use Rattle.std.specs.Prelude.{◌≡◌, ◌++◌, IfOk, OnOk, map, flat_m
 ghost use Rattle.gq_types.specs.Look.{types_view};
 ghost use Rattle.gq_document.specs.Definitions.{operation_view, fragments_view};
 ghost use Rattle.gq_variables.specs.Helping.UsesPlaces.{fragment_uses, operation_uses, row_at};
-ghost use Rattle.gq_variables.specs.Views.{uses_view, rows_view};
+ghost use Rattle.gq_variables.specs.Helping.Views.{uses_view, rows_view};
 
 use crate::selections::{fragment_uses, put_uses_of_operation};
 use crate::uses::Use;

@@ -4,10 +4,10 @@ ghost use Rattle.gq_tree.specs.Views.{argument_view, variable_view};
 ghost use Rattle.gq_types.specs.Look.{types_view, text_of};
 ghost use Rattle.gq_document.specs.Definitions.{operation_view, fragment_view};
 ghost use Rattle.gq_document.specs.Views.{selected_view, selections_view};
-ghost use Rattle.gq_values.specs.Helping.ArgumentPlaces.{definitions_view};
+ghost use Rattle.gq_values.specs.ArgumentPlaces.{definitions_view};
 ghost use Rattle.gq_variables.specs.Uses.{field_arguments};
 ghost use Rattle.gq_variables.specs.Helping.UsesPlaces.{argument_uses, uses_of_selection, selection_uses, variable_uses, operation_uses, fragment_uses};
-ghost use Rattle.gq_variables.specs.Views.{uses_view};
+ghost use Rattle.gq_variables.specs.Helping.Views.{uses_view};
 
 use crate::uses::Use;
 use crate::values::{put_uses_of_arguments, put_uses_of_directives};

@@ -2,9 +2,9 @@
 ghost use Rattle.std.specs.Prelude.{◌≡◌, ◌++◌, OnOk, map};
 ghost use Rattle.gq_tree.specs.Views.{value_view, argument_view, directive_view};
 ghost use Rattle.gq_types.specs.Look.{types_view};
-ghost use Rattle.gq_values.specs.Helping.ArgumentPlaces.{definitions_view};
+ghost use Rattle.gq_values.specs.ArgumentPlaces.{definitions_view};
 ghost use Rattle.gq_variables.specs.Helping.UsesPlaces.{value_uses, item_uses, uses_of_field, field_uses, uses_of_argument, argument_uses, uses_of_directive, directive_uses};
-ghost use Rattle.gq_variables.specs.Views.{place_view, uses_view};
+ghost use Rattle.gq_variables.specs.Helping.Views.{place_view, uses_view};
 
 use crate::places::{argument_place, field_place, items_place};
 use crate::uses::{Place, Use};

@@ -1,7 +1,7 @@
 //! Variables of one name (GraphQL, October 2021, section 5.8.1).
 ghost use Rattle.std.specs.Prelude.{◌≡◌, ◌++◌, OnOk};
 ghost use Rattle.gq_variables.specs.Helping.VariablePlaces.{not_unique};
-ghost use Rattle.gq_variables.specs.Views.{variables_view};
+ghost use Rattle.gq_variables.specs.Helping.Views.{variables_view};
 
 use gq_found::{Code, Fault, add_fault_at};
 use gq_text::NoMemory;

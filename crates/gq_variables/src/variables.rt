@@ -5,7 +5,7 @@ ghost use Rattle.std.specs.List.{list_any};
 ghost use Rattle.std.specs.Str.{bytes_eq};
 ghost use Rattle.gq_tree.specs.Views.{variable_view};
 ghost use Rattle.gq_variables.specs.Helping.VariablePlaces.{variable_texts, repeated_variables};
-ghost use Rattle.gq_variables.specs.Views.{variables_view};
+ghost use Rattle.gq_variables.specs.Helping.Views.{variables_view};
 
 use gq_names::NameList;
 use gq_text::NoMemory;

@@ -9,7 +9,7 @@ abbrev pub first_key : List Found → List ℕ
 first_key [] = []
 first_key (found ∷ rest) = found.key
 
--- an fault of that key starts there, at `last` or behind it
+-- a fault of that key starts there, at `last` or behind it
 pub record StartsAt (key text : List ℕ) (last start : ℕ) (found : Found) : Type 0 where
   pub of_key : found.key ≡ key
   pub behind : last ≤ start

@@ -7,7 +7,7 @@ use Rattle.gq_tree.specs.Views.{entry_view}
 use Rattle.gq_coerce.specs.declared.forms.Form.{Form}
 use Rattle.gq_coerce.specs.declared.forms.Form.TheVariants as form
 use Rattle.gq_coerce.specs.Literals.{Says}
-use Rattle.gq_coerce.specs.Views.{bare}
+use Rattle.gq_coerce.specs.Helping.Views.{bare}
 
 -- no variable, no list and not null
 abbrev pub is_single : Says → Bool

@@ -6,7 +6,7 @@ use Rattle.gq_found.specs.declared.fault.Fault.{Fault}
 use Rattle.gq_tree.specs.Plain.{InputOf, Head, field, spread, inline}
 use Rattle.gq_types.specs.Entries.{Text, EntryOf}
 use Rattle.gq_document.specs.Selections.{selected_field, SelectedOf}
-use Rattle.gq_values.specs.Helping.ArgumentPlaces.{argument_faults}
+use Rattle.gq_values.specs.ArgumentPlaces.{argument_faults}
 
 -- the arguments of the definition of the field, where it is known
 abbrev pub defined_arguments : List EntryOf → Option Text → Text → Option (List (InputOf Span))

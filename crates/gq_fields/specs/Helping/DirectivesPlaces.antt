@@ -2,7 +2,7 @@
 use Rattle.std.specs.Prelude.{List, []}
 use Rattle.gq_found.specs.declared.fault.Fault.{Fault}
 use Rattle.gq_types.specs.Entries.{EntryOf}
-use Rattle.gq_values.specs.Helping.DirectivePlaces.{directive_faults}
+use Rattle.gq_values.specs.DirectivePlaces.{directive_faults}
 use Rattle.gq_fields.specs.Directives.{Site}
 
 abbrev pub wrong_directives_at : List EntryOf → Site → List Fault

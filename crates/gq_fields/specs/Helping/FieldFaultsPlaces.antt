@@ -4,7 +4,7 @@ use Rattle.gq_text.specs.declared.place.Span.{Span}
 use Rattle.gq_found.specs.declared.fault.Fault.{Fault}
 use Rattle.gq_tree.specs.Plain.{NameOf, Val, VariableOf}
 use Rattle.gq_types.specs.Entries.{Text, EntryOf}
-use Rattle.gq_values.specs.Helping.ArgumentPlaces.{argument_faults}
+use Rattle.gq_values.specs.ArgumentPlaces.{argument_faults}
 use Rattle.gq_document.specs.Definitions.{OperationOf, FragmentOf}
 use Rattle.gq_document.specs.Selections.{SelectedOf, selected_field, operation_selections, fragment_selections}
 use Rattle.gq_document.specs.Executable.{ExecutableOf}

@@ -5,7 +5,7 @@ use Rattle.gq_found.specs.declared.fault.Fault.{Fault}
 use Rattle.gq_tree.specs.Plain.{TypeOf, VariableOf, Val}
 use Rattle.gq_types.specs.Entries.{EntryOf}
 use Rattle.gq_values.specs.Literals.{default_at}
-use Rattle.gq_values.specs.Helping.LiteralPlaces.{literal_faults}
+use Rattle.gq_values.specs.LiteralPlaces.{literal_faults}
 
 abbrev pub wrong_value_of : List EntryOf → ℕ → TypeOf Span → Option (Val Span) → List Fault
 wrong_value_of es file t None = []

@@ -8,7 +8,7 @@ use Rattle.gq_lex.specs.declared.token.BadKind.TheVariants.{Char}
 use Rattle.gq_lex.specs.declared.lexer.Class.{Class}
 use Rattle.gq_lex.specs.declared.lexer.Class.TheVariants.{Blank, Mark, Hash, Dot, Letter, Figure, Quotation, Sign, Other}
 use Rattle.gq_lex.specs.Bytes.{is_white_space, is_line_terminator, is_name_start, is_name_continue, is_comment_byte, is_digit, punctuator}
-use Rattle.gq_lex.specs.Helping.Scanning.{Piece, number_at, quoted_at}
+use Rattle.gq_lex.specs.Scanning.{Piece, number_at, quoted_at}
 use Rattle.gq_lex.specs.Strings.{is_quote}
 use Rattle.gq_lex.specs.Tokens.{IsIgnored, IsToken, IsStuck, fault_kind}
 

@@ -1,5 +1,5 @@
 -- Groups of selection sets whose fields stand together, computed.
-use Rattle.std.specs.Prelude.{◌≡◌, ℕ, ◌<◌, ◌≤◌, ◌⊎◌, Bool, true, false, List, [], ◌∷◌, ◌++◌, Option, Some, All, Contains, length, take, position, slice_get, slice_index_or}
+use Rattle.std.specs.Prelude.{◌≡◌, ℕ, ◌<◌, ◌≤◌, Bool, true, false, List, [], ◌∷◌, ◌++◌, Option, Some, All, Contains, length, take, position, slice_get, slice_index_or}
 use Rattle.std.specs.Option.{option_map}
 use Rattle.std.specs.Str.{bytes_eq}
 use Rattle.gq_tree.specs.Plain.{erase_values}
@@ -112,10 +112,6 @@ pub record IsTested (es : List EntryOf) (rows : List RowOf) (number : ℕ) : Typ
 pub record AreTested (es : List EntryOf) (rows : List RowOf) (marks : List Bool) : Type 0 where
   pub count : length marks ≡ length rows
   pub tested : (n : ℕ) → slice_index_or marks n false ≡ true → IsTested es rows n
-
--- what is marked now was marked, or is one of the numbers
-abbrev pub AreMarked : List ℕ → (old new : List Bool) → Type 0
-AreMarked numbers old new = (n : ℕ) → slice_index_or new n false ≡ true → Contains numbers n ⊎ (slice_index_or old n false ≡ true)
 
 -- a group need not be looked at: nothing is in it, an earlier one is the same, or it is one set that is marked
 pub data IsKnown (groups : List (List ℕ)) (marks : List Bool) (place : ℕ) : Type 0 where

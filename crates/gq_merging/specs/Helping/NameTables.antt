@@ -6,7 +6,7 @@ use Rattle.gq_types.specs.Entries.{Text}
 use Rattle.gq_document.specs.FieldSets.{key}
 use Rattle.gq_merging.specs.Helping.PairTables.{MetOf}
 use Rattle.gq_merging.specs.Helping.SetTables.{MemberOf}
-use Rattle.gq_merging.specs.Views.{members_view}
+use Rattle.gq_merging.specs.Helping.Views.{members_view}
 use Rattle.gq_merging.specs.declared.by_name.FieldsByName.{FieldsByName}
 
 -- names, and for each a list of fields

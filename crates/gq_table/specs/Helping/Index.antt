@@ -1,7 +1,5 @@
 -- What a table keeps beside its rows. No contract of a public call is about it.
-use Rattle.std.specs.Prelude.{◌≡◌, ◌==◌, ◌+◌, ◌*◌, ◌%◌, ◌^◌, ℕ, Bool, List, [], ◌∷◌, ◌++◌, Option, Some, None, if◌then◌else◌, find, slice_get, option_and_then}
-use Rattle.std.specs.BTreeMap.{get}
-use Rattle.std.specs.Ordering.{nat_cmp}
+use Rattle.std.specs.Prelude.{◌≡◌, ◌<◌, ◌==◌, ◌+◌, ◌*◌, ◌%◌, ◌^◌, ℕ, Bool, List, [], ◌∷◌, ◌++◌, Option, Some, None, if◌then◌else◌, find, length, slice_get, slice_index_or, option_and_then}
 use Rattle.std.specs.Str.{bytes_eq}
 use Rattle.gq_names.specs.UnderNames.{UnderNames, items_under, one_if}
 use Rattle.gq_meaning.specs.Values.{Text}
@@ -23,13 +21,17 @@ spread_out number = number * 11400714819323198485 % 2 ^ 64
 abbrev pub call_digest : Call → ℕ
 call_digest c = text_digest (spread_out (text_digest (spread_out c.number) c.type_name)) c.field
 
-abbrev pub has_digest : ℕ → RowOf → Bool
-has_digest digest r = call_digest r.call == digest
+-- the bucket of a call among so many
+abbrev pub bucket_of : ℕ → Call → ℕ
+bucket_of count c = call_digest c % count
 
--- the rows behind the first one with that digest
-abbrev pub behind_first : ℕ → List RowOf → List RowOf
-behind_first digest [] = []
-behind_first digest (r ∷ rs) = if has_digest digest r then rs else behind_first digest rs
+abbrev pub is_in : ℕ → ℕ → RowOf → Bool
+is_in count bucket r = bucket_of count r.call == bucket
+
+-- the rows behind the first one in that bucket
+abbrev pub behind_first : ℕ → ℕ → List RowOf → List RowOf
+behind_first count bucket [] = []
+behind_first count bucket (r ∷ rs) = if is_in count bucket r then rs else behind_first count bucket rs
 
 -- the row with that number
 abbrev pub row_numbered : List RowOf → Option ℕ → Option RowOf
@@ -49,10 +51,19 @@ abbrev pub result_among : List RowOf → Call → List ℕ → Option Answer
 result_among rows call [] = None
 result_among rows call (n ∷ ns) = first_of (result_if call (slice_get rows n)) (result_among rows call ns)
 
--- of each digest the first of these rows that has it, and the others under the texts of their calls
+-- how many buckets there are
+abbrev pub bucket_count : Index → ℕ
+bucket_count index = length index.firsts.items
+
+-- the number of the first row in a bucket
+abbrev pub first_in : Index → ℕ → Option ℕ
+first_in index bucket = slice_index_or index.firsts.items bucket None
+
+-- of each bucket the first of these rows that is in it, and the others under the texts of their calls
 pub record IsIndex (index : Index) (rows these : List RowOf) : Type 0 where
-  pub of_digests : (digest : ℕ) → row_numbered rows (get nat_cmp index.of_digests digest) ≡ find (has_digest digest) these
-  pub others : (call : Call) → result_among rows call (items_under index.others (call_text call)) ≡ row_of (behind_first (call_digest call) these) call
+  pub buckets : 0 < bucket_count index
+  pub firsts : (bucket : ℕ) → bucket < bucket_count index → row_numbered rows (first_in index bucket) ≡ find (is_in (bucket_count index) bucket) these
+  pub others : (call : Call) → result_among rows call (items_under index.others (call_text call)) ≡ row_of (behind_first (bucket_count index) (bucket_of (bucket_count index) call) these) call
 
 -- a number was put under the text of a call, behind those that are there
 abbrev pub IsPutUnder : Call → ℕ → UnderNames ℕ → UnderNames ℕ → Type 0

@@ -12,8 +12,8 @@ use Rattle.gq_types.specs.Entries.{Text, EntryOf, Numbered, entry_view}
 use Rattle.gq_types.specs.BuiltIn.{defines_built_in}
 use Rattle.gq_types.specs.Joined.{joined, judged}
 use Rattle.gq_values.specs.Literals.{default_at}
-use Rattle.gq_values.specs.Helping.LiteralPlaces.{literal_faults}
-use Rattle.gq_values.specs.Helping.DirectivePlaces.{directive_faults}
+use Rattle.gq_values.specs.LiteralPlaces.{literal_faults}
+use Rattle.gq_values.specs.DirectivePlaces.{directive_faults}
 use Rattle.gq_type_system.specs.declared.directive_sites.DirectiveSite.{DirectiveSite}
 use Rattle.gq_type_system.specs.DirectivesAndDefaults.{Site, sites_in, own_site, own_names, all_inputs, told}
 use Rattle.gq_type_system.specs.Helping.Walk.{at_each_number}

@@ -14,10 +14,10 @@ use Rattle.gq_meaning.specs.Results as result
 use Rattle.gq_meaning.specs.Results.{Answer}
 use Rattle.gq_meaning.specs.Expand.{Asked, sets_of}
 use Rattle.gq_meaning.specs.Response.{is_unfit, is_non_null, keys_after, of_key}
-use Rattle.gq_meaning.specs.Helping.Answered.{is_null}
+use Rattle.gq_meaning.specs.Answered.{is_null}
 use Rattle.gq_meaning.proofs.Height.{height}
 use Rattle.gq_meaning.proofs.Ranks.{height_over, fields_rank, fields_less, key_rank, key_less, key_there}
-use Rattle.gq_meaning.specs.Helping.Depth.{depth}
+use Rattle.gq_meaning.specs.Depth.{depth}
 use Rattle.gq_meaning.proofs.Weights.{weight, lighter_group}
 use Rattle.gq_answer.specs.World.{given_by, definitions_in, deepest_in}
 use Rattle.gq_response.specs.Views.{step_view, path_view, errors_view, data_view}

@@ -6,7 +6,7 @@ use Rattle.gq_meaning.specs.Response.{keys_after, indexes}
 use Rattle.gq_answer.proofs.Loops.{IsSoFar}
 use Rattle.gq_meaning.specs.Expand.{sets_of}
 use Rattle.gq_meaning.proofs.Height.{height}
-use Rattle.gq_meaning.specs.Helping.Depth.{depth}
+use Rattle.gq_meaning.specs.Depth.{depth}
 use Rattle.gq_meaning.proofs.Weights.{weight}
 use Rattle.gq_table.specs.Views.{answer_view, answers_view}
 use Rattle.gq_answer.specs.World.{definitions_in, deepest_in}

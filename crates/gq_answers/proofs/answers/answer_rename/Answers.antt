@@ -2,7 +2,7 @@ use Rattle.std.proofs.Common.{◌≡◌, ◌⊎◌, ℕ, inr, Err, subst}
 use Rattle.std.proofs.lemmas.Result.{IfOk-weaker}
 use Rattle.gq_rename.specs.declared.refusal.Refusal.TheVariants.{NoMemory}
 use Rattle.gq_rename.specs.Rename.{IsRenameAnswer}
-use Rattle.gq_answers.specs.Results.{IsEditByPosition}
+use Rattle.gq_answers.specs.Helping.Results.{IsEditByPosition}
 use Rattle.gq_answers.proofs.Renaming.{offset-asked, tells_edit, tells_refused}
 use Rattle.gq_answers.proofs.answers.answer_rename.Goals as goal
 

@@ -1,5 +1,5 @@
 use Rattle.std.proofs.Common.{◌≡◌, All, take}
-use Rattle.gq_answers.specs.Rows.{first_file}
+use Rattle.gq_answers.specs.Helping.Rows.{first_file}
 use Rattle.gq_answers.proofs.locations.row_len.Given as goal
 
 abbrev pub invariant-loop-count : goal.invariant-loop-count

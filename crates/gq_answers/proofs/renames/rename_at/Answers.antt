@@ -1,6 +1,6 @@
 use Rattle.std.proofs.Common.{subst}
 use Rattle.std.proofs.lemmas.Result.{err_from_is_err_and}
-use Rattle.gq_answers.specs.Results.{IsRenameResult}
+use Rattle.gq_answers.specs.Helping.Results.{IsRenameResult}
 use Rattle.gq_answers.proofs.Renaming.{refused_project}
 use Rattle.gq_answers.proofs.renames.rename_at.Goals as goal
 

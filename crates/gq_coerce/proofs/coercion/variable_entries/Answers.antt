@@ -1,6 +1,6 @@
 use Rattle.std.proofs.Common.{◌≡◌, ◌+◌, ◌-◌, cond, Some, None, ap, sym, ◌∙◌, subst, arith, refl}
 use Rattle.gq_coerce.specs.Coerced.{entries_of}
-use Rattle.gq_coerce.specs.Views.{coerced_view, setting_view}
+use Rattle.gq_coerce.specs.Helping.Views.{coerced_view, setting_view}
 use Rattle.gq_coerce.specs.Helping.Order.{in_order}
 use Rattle.gq_coerce.proofs.Loops.{AreFrom, entries_begin, entries_more, entries_fault, entries_end}
 use Rattle.gq_coerce.proofs.RawReadings.{variable_of, variables_read, variable_reads}

@@ -1,5 +1,5 @@
 use Rattle.std.proofs.Common.{◌≤◌, length}
-use Rattle.gq_coerce.specs.Views.{setting_view}
+use Rattle.gq_coerce.specs.Helping.Views.{setting_view}
 use Rattle.gq_coerce.specs.Helping.Order.{in_order}
 use Rattle.gq_coerce.proofs.Loops.{AreFrom}
 use Rattle.gq_coerce.proofs.RawReadings.{variable_of}

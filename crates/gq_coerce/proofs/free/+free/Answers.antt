@@ -3,7 +3,7 @@ use Rattle.gq_tree.specs.Plain.{Val}
 use Rattle.gq_table.specs.Views.{value_view}
 use Rattle.gq_coerce.specs.Coerced.{null_value, items_of, entries_of, list_value, object_value}
 use Rattle.gq_coerce.specs.Literals.{at_any}
-use Rattle.gq_coerce.specs.Views.{coerced_view, setting_view}
+use Rattle.gq_coerce.specs.Helping.Views.{coerced_view, setting_view}
 use Rattle.gq_coerce.specs.Helping.Readings.{read_value}
 use Rattle.gq_coerce.specs.Helping.Order.{in_order}
 use Rattle.gq_coerce.proofs.FormLemmas.{list_form, object_form}

@@ -2,7 +2,7 @@ use Rattle.std.proofs.Common.{map, ◌≤◌, length}
 use Rattle.gq_table.specs.Views.{value_view}
 use Rattle.gq_coerce.specs.Coerced.{null_value}
 use Rattle.gq_coerce.specs.Literals.{at_any}
-use Rattle.gq_coerce.specs.Views.{setting_view}
+use Rattle.gq_coerce.specs.Helping.Views.{setting_view}
 use Rattle.gq_coerce.specs.Helping.Order.{in_order}
 use Rattle.gq_coerce.proofs.Loops.{IsSoFar, AreFrom}
 use Rattle.gq_coerce.proofs.Readings.{item_part, field_part}

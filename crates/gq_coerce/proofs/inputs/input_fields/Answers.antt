@@ -3,7 +3,7 @@ use Rattle.std.specs.Prelude.{flat_map}
 use Rattle.std.proofs.lemmas.Result.{IfOk-weaker}
 use Rattle.gq_types.specs.Look.{types_view}
 use Rattle.gq_coerce.specs.Helping.Inputs.{inputs_at}
-use Rattle.gq_coerce.specs.Views.{inputs_view}
+use Rattle.gq_coerce.specs.Helping.Views.{inputs_view}
 use Rattle.gq_coerce.specs.Literals.{input_fields}
 use Rattle.gq_coerce.proofs.InputLemmas.{fields_are}
 use Rattle.gq_coerce.proofs.inputs.input_fields.Goals as goal

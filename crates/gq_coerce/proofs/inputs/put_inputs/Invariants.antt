@@ -1,6 +1,6 @@
 use Rattle.std.proofs.Common.{◌≡◌, ◌++◌, drop, map}
 use Rattle.gq_tree.specs.Views.{input_view}
-use Rattle.gq_coerce.specs.Views.{inputs_view}
+use Rattle.gq_coerce.specs.Helping.Views.{inputs_view}
 use Rattle.gq_coerce.proofs.inputs.put_inputs.Given as goal
 
 abbrev pub invariant-loop-input : goal.invariant-loop-input

@@ -12,7 +12,7 @@ use Rattle.gq_table.specs.Views.{value_view as given_value}
 use Rattle.gq_table.proofs.Trees.{view_null}
 use Rattle.gq_coerce.specs.Coerced.{absent, fault, given, null_value, items_of, entries_of, list_value, object_value}
 use Rattle.gq_coerce.specs.Literals.{at_type, at_name, read_all, missing_item, or_default, input_fields, inputs_from, literal_value, unless_null}
-use Rattle.gq_coerce.specs.Views.{bare, coerced_view, setting_view, variables_in, inputs_view, part_view, value_seen, type_seen}
+use Rattle.gq_coerce.specs.Helping.Views.{bare, coerced_view, setting_view, variables_in, inputs_view, part_view, value_seen, type_seen}
 use Rattle.gq_coerce.specs.Helping.Heights.{given_weight, default_weight, height_of}
 use Rattle.gq_coerce.specs.Helping.Wrapping.{wrapped_to}
 use Rattle.gq_coerce.specs.Helping.Readings.{item_after}

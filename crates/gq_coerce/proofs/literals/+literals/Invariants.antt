@@ -6,7 +6,7 @@ use Rattle.gq_tree.specs.Views.{value_view, type_view}
 use Rattle.gq_types.specs.Look.{types_view}
 use Rattle.gq_table.specs.Views.{value_view as given_value}
 use Rattle.gq_coerce.specs.Literals.{at_type, missing_item}
-use Rattle.gq_coerce.specs.Views.{bare, setting_view, inputs_view, part_view, value_seen}
+use Rattle.gq_coerce.specs.Helping.Views.{bare, setting_view, inputs_view, part_view, value_seen}
 use Rattle.gq_coerce.specs.Helping.Heights.{height, height_of, deepest, weight, default_weight, given_weight}
 use Rattle.gq_coerce.specs.Helping.Order.{in_order}
 use Rattle.gq_coerce.proofs.Loops.{IsSoFar, AreFrom}

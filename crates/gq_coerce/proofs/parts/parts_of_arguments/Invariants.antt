@@ -1,7 +1,7 @@
 use Rattle.std.proofs.Common.{◌≡◌, ◌++◌, drop, map}
 use Rattle.gq_tree.specs.Plain.{erase_values}
 use Rattle.gq_tree.specs.Views.{argument_view}
-use Rattle.gq_coerce.specs.Views.{part_view}
+use Rattle.gq_coerce.specs.Helping.Views.{part_view}
 use Rattle.gq_coerce.proofs.parts.parts_of_arguments.Given as goal
 
 abbrev pub invariant-loop-argument : goal.invariant-loop-argument

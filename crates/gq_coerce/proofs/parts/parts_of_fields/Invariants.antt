@@ -1,7 +1,7 @@
 use Rattle.std.proofs.Common.{◌≡◌, ◌++◌, drop, map}
 use Rattle.gq_tree.specs.Plain.{erase_values}
 use Rattle.gq_tree.specs.Views.{entry_view}
-use Rattle.gq_coerce.specs.Views.{part_view}
+use Rattle.gq_coerce.specs.Helping.Views.{part_view}
 use Rattle.gq_coerce.proofs.parts.parts_of_fields.Given as goal
 
 abbrev pub invariant-loop-field : goal.invariant-loop-field

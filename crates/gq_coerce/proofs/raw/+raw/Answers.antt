@@ -8,7 +8,7 @@ use Rattle.gq_table.proofs.Trees.{view_leaf, view_enum, view_list, view_object}
 use Rattle.gq_coerce.specs.Coerced.{fault, given, alone, items_of, entries_of, list_value, object_value}
 use Rattle.gq_coerce.specs.Literals.{inputs_from}
 use Rattle.gq_coerce.specs.Variables.{at_name, read_all, input_value}
-use Rattle.gq_coerce.specs.Views.{coerced_view, setting_view, inputs_view, type_seen}
+use Rattle.gq_coerce.specs.Helping.Views.{coerced_view, setting_view, inputs_view, type_seen}
 use Rattle.gq_coerce.specs.Helping.Order.{in_order}
 use Rattle.gq_coerce.proofs.Trees.{unnamed_view}
 use Rattle.gq_coerce.proofs.Loops.{AreFrom, items_fault, items_end, entries_more, entries_fault, entries_end}

@@ -2,7 +2,7 @@ use Rattle.std.proofs.Common.{◌+◌, ◌*◌, map, ◌≤◌, length}
 use Rattle.gq_tree.specs.Views.{type_view}
 use Rattle.gq_table.specs.Views.{value_view, values_view, entries_view}
 use Rattle.gq_coerce.specs.Coerced.{fault}
-use Rattle.gq_coerce.specs.Views.{setting_view, raw_seen}
+use Rattle.gq_coerce.specs.Helping.Views.{setting_view, raw_seen}
 use Rattle.gq_coerce.specs.Helping.Heights.{height, raw_weight}
 use Rattle.gq_coerce.specs.Helping.Order.{in_order}
 use Rattle.gq_coerce.proofs.Loops.{IsSoFar, AreFrom}

@@ -1,7 +1,7 @@
 use Rattle.std.proofs.Common.{◌≡◌, ◌∙◌, subst, [], List, ℕ}
 use Rattle.std.specs.Prelude.{IfSome, IfNone, unwrap_or}
 use Rattle.std.proofs.lemmas.Result.{IfOk-weaker}
-use Rattle.gq_lex.specs.Helping.Decoding.{raw_at}
+use Rattle.gq_lex.specs.Decoding.{raw_at}
 use Rattle.gq_lex.specs.Tokens.{IsToken}
 use Rattle.gq_lex.specs.declared.token.Kind.TheVariants.{BlockString}
 use Rattle.gq_lex.specs.Values.{IsBlockStringValue, block_value}

@@ -1,6 +1,6 @@
 use Rattle.std.proofs.Common.{◌≡◌, inl, inr, true, false, Some, Err, ap, ◌∙◌}
 use Rattle.gq_desk.specs.declared.driving.DriveFault.TheVariants as drive
-use Rattle.gq_crew.specs.Inbox.{seen_in, Steps, fault_at, ended_as}
+use Rattle.gq_crew.specs.Helping.Inbox.{seen_in, Steps, fault_at, ended_as}
 use Rattle.gq_crew.proofs.Driven.{drives, fails}
 use Rattle.gq_crew.proofs.run.serve.Goals as goal
 

@@ -1,7 +1,7 @@
 use Rattle.gq_events.specs.Machine.{State}
 use Rattle.std.proofs.Common.{◌≡◌, Some}
 use Rattle.gq_desk.specs.Faults.{of_desk}
-use Rattle.gq_desk.specs.Turns.{BreaksTurn}
+use Rattle.gq_desk.specs.Helping.Turns.{BreaksTurn}
 use Rattle.gq_desk.proofs.Drives.{of_fault, took_turn, broke_turn, broke_step}
 use Rattle.gq_desk.proofs.driving.take_turn.Goals as goal
 

@@ -1,7 +1,7 @@
 use Rattle.std.proofs.Common.{◌≡◌, ◌++◌}
 use Rattle.std.specs.Prelude.{codes}
 use Rattle.gq_events.specs.Rules.{failed}
-use Rattle.gq_desk.specs.Settling.{refused_each}
+use Rattle.gq_desk.specs.Helping.Settling.{refused_each}
 use Rattle.gq_desk.proofs.jobs.refuse_at_shutdown.Given as goal
 
 abbrev pub invariant-loop-job : goal.invariant-loop-job

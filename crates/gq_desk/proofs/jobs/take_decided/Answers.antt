@@ -2,7 +2,7 @@ use Rattle.std.proofs.Common.{sym, ◌∙◌}
 use Rattle.gq_events.specs.declared.effect.Effect.TheVariants as effect
 use Rattle.gq_events.specs.Documents.{docs_of}
 use Rattle.gq_events.specs.Rules.{decides}
-use Rattle.gq_desk.specs.Settling.{is_result_of}
+use Rattle.gq_desk.specs.Helping.Settling.{is_result_of}
 use Rattle.gq_desk.proofs.Settled.{of_its_number}
 use Rattle.gq_desk.proofs.Taking.{none_passes, all_stay, taken_in, left_in}
 use Rattle.gq_desk.proofs.jobs.take_decided.Goals as goal

@@ -1,5 +1,5 @@
 use Rattle.std.proofs.Common.{◌≡◌, ◌++◌, drop}
-use Rattle.gq_edit.specs.Ends.{ends_of}
+use Rattle.gq_edit.specs.Helping.Ends.{ends_of}
 use Rattle.gq_edit.proofs.positions.ends_in_order.Given as goal
 
 abbrev pub invariant-loop-replacement : goal.invariant-loop-replacement

@@ -1,5 +1,5 @@
 use Rattle.std.proofs.Common.{◌≡◌, ◌++◌, ◌*◌, drop}
-use Rattle.gq_edit.specs.Ends.{placed}
+use Rattle.gq_edit.specs.Helping.Ends.{placed}
 use Rattle.gq_edit.proofs.positions.text_edits.Given as goal
 
 abbrev pub invariant-loop-index : goal.invariant-loop-index

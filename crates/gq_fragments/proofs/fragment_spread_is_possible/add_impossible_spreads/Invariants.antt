@@ -3,7 +3,7 @@ use Rattle.gq_types.specs.Look.{types_view}
 use Rattle.gq_document.specs.Definitions.{fragments_view}
 use Rattle.gq_document.specs.Views.{selections_view}
 use Rattle.gq_fragments.specs.Helping.FragmentPlaces.{impossible_spreads}
-use Rattle.gq_fragments.specs.SharedObjectsPlaces.{AreAnswers}
+use Rattle.gq_fragments.specs.Helping.SharedObjectsPlaces.{AreAnswers}
 use Rattle.gq_fragments.proofs.fragment_spread_is_possible.add_impossible_spreads.Given as goal
 
 abbrev pub invariant-loop-selected : goal.invariant-loop-selected

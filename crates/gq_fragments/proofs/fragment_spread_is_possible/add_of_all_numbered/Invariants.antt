@@ -4,7 +4,7 @@ use Rattle.gq_types.specs.Look.{types_view}
 use Rattle.gq_document.specs.Definitions.{fragments_view}
 use Rattle.gq_document.specs.Views.{selected_view}
 use Rattle.gq_fragments.specs.Helping.FragmentPlaces.{impossible_among}
-use Rattle.gq_fragments.specs.SharedObjectsPlaces.{AreAnswers}
+use Rattle.gq_fragments.specs.Helping.SharedObjectsPlaces.{AreAnswers}
 use Rattle.gq_fragments.proofs.fragment_spread_is_possible.add_of_all_numbered.Given as goal
 
 abbrev pub invariant-loop-number : goal.invariant-loop-number

@@ -1,6 +1,6 @@
 use Rattle.std.proofs.Common.{arith, sym, ◌∙◌}
 use Rattle.std.proofs.lemmas.List.Sums.{prefix_len-drop_yes, prefix_len-drop_no, prefix_len-drop_all}
-use Rattle.gq_lex.specs.Helping.Decoding.{is_line_byte}
+use Rattle.gq_lex.specs.Decoding.{is_line_byte}
 use Rattle.gq_lex.proofs.bytes.line_len.Goals as goal
 
 pub loop-i-preserved : goal.loop-i-preserved

@@ -1,6 +1,6 @@
 use Rattle.std.proofs.Common.{◌≡◌, ◌+◌, drop}
 use Rattle.std.specs.List.{prefix_len}
-use Rattle.gq_lex.specs.Helping.Decoding.{is_line_byte}
+use Rattle.gq_lex.specs.Decoding.{is_line_byte}
 use Rattle.gq_lex.proofs.bytes.line_len.Given as goal
 
 abbrev pub invariant-loop-i : goal.invariant-loop-i

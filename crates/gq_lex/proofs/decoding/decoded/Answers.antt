@@ -1,6 +1,6 @@
 use Rattle.std.proofs.Common.{◌≡◌, ◌+◌, ◌++◌, List, ℕ, Some, None, cond, eqb, sym, ap, ◌∙◌, arith, length, drop}
-use Rattle.gq_lex.specs.Helping.Scanning.{step_at}
-use Rattle.gq_lex.specs.Helping.Decoding.{value_at, with_front, decoded}
+use Rattle.gq_lex.specs.Scanning.{step_at}
+use Rattle.gq_lex.specs.Decoding.{value_at, with_front, decoded}
 use Rattle.gq_lex.proofs.Decodings.{Onward, left_ends, left_goes, left_fails, left_all}
 use Rattle.gq_lex.proofs.decoding.decoded.Goals as goal
 

@@ -1,5 +1,5 @@
 use Rattle.std.proofs.Common.{◌≡◌, ◌-◌, ◌≤◌, length, drop}
-use Rattle.gq_lex.specs.Helping.Decoding.{decoded, with_front}
+use Rattle.gq_lex.specs.Decoding.{decoded, with_front}
 use Rattle.gq_lex.proofs.decoding.decoded.Given as goal
 
 -- what was decoded and what is left give the whole

@@ -1,6 +1,6 @@
 use Rattle.std.proofs.Common.{◌≡◌, ℕ, List, Ok, Err, IfOk, IfErr, subst, sym, ap, ◌∙◌, drop, arith, length, ◌<◌, length-drop}
 use Rattle.gq_lex.specs.Helping.Reading.{piece_at, Found, IsFaulty}
-use Rattle.gq_lex.specs.Helping.Scanning.{Piece}
+use Rattle.gq_lex.specs.Scanning.{Piece}
 use Rattle.gq_lex.proofs.Pieces.{Answers, answers}
 use Rattle.gq_lex.proofs.lexer.front.Goals as goal
 

@@ -1,5 +1,5 @@
 use Rattle.std.proofs.Common.{◌≡◌, ◌≤◌, length, drop}
-use Rattle.gq_lex.specs.Helping.Decoding.{texts_of}
+use Rattle.gq_lex.specs.Decoding.{texts_of}
 use Rattle.gq_lex.specs.Values.{common_indent}
 use Rattle.gq_lex.proofs.lines.common_indent.Given as goal
 

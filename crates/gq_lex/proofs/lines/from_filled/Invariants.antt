@@ -1,5 +1,5 @@
 use Rattle.std.proofs.Common.{◌≡◌, ◌-◌, ◌≤◌, length, drop}
-use Rattle.gq_lex.specs.Helping.Decoding.{texts_of}
+use Rattle.gq_lex.specs.Decoding.{texts_of}
 use Rattle.gq_lex.specs.Values.{from_filled}
 use Rattle.gq_lex.proofs.lines.from_filled.Given as goal
 

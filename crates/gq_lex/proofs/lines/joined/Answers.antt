@@ -1,6 +1,6 @@
 use Rattle.std.proofs.Common.{◌++◌, List, ℕ, flat_map, sym, ap, ◌∙◌}
 use Rattle.std.specs.List.{join_with_byte}
-use Rattle.gq_lex.specs.Helping.Decoding.{texts_of, behind_line_feed}
+use Rattle.gq_lex.specs.Decoding.{texts_of, behind_line_feed}
 use Rattle.gq_lex.proofs.Cutting.{joined_first}
 use Rattle.gq_lex.proofs.lines.joined.Goals as goal
 

@@ -1,6 +1,6 @@
 use Rattle.std.proofs.Common.{◌≤◌, ◌++◌, ◌∷◌, [], List, ℕ, length, take, ap, subst, ◌∙◌}
 use Rattle.std.specs.List.{prefix_len}
-use Rattle.gq_lex.specs.Helping.Decoding.{texts_of, is_line_byte, terminator_len}
+use Rattle.gq_lex.specs.Decoding.{texts_of, is_line_byte, terminator_len}
 use Rattle.gq_lex.proofs.Cutting.{lines_start, lines_onward, within_more}
 use Rattle.gq_lex.proofs.lines.lines.Goals as goal
 

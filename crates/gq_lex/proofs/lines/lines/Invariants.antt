@@ -1,5 +1,5 @@
 use Rattle.std.proofs.Common.{◌≡◌, ◌-◌, ◌≤◌, ◌++◌, length, drop}
-use Rattle.gq_lex.specs.Helping.Decoding.{texts_of, later_lines}
+use Rattle.gq_lex.specs.Decoding.{texts_of, later_lines}
 use Rattle.gq_lex.specs.Values.{lines}
 use Rattle.gq_lex.proofs.lines.lines.Given as goal
 

@@ -1,5 +1,5 @@
 use Rattle.std.proofs.Common.{◌≡◌, ◌++◌, drop, flat_map}
-use Rattle.gq_lex.specs.Helping.Decoding.{texts_of, behind_line_feed}
+use Rattle.gq_lex.specs.Decoding.{texts_of, behind_line_feed}
 use Rattle.gq_lex.proofs.lines.push_lines.Given as goal
 
 abbrev pub invariant-loop-line : goal.invariant-loop-line

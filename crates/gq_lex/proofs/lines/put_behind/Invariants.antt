@@ -1,5 +1,5 @@
 use Rattle.std.proofs.Common.{◌≡◌, ◌++◌, drop, map}
-use Rattle.gq_lex.specs.Helping.Decoding.{texts_of}
+use Rattle.gq_lex.specs.Decoding.{texts_of}
 use Rattle.gq_lex.proofs.lines.put_behind.Given as goal
 
 abbrev pub invariant-loop-line : goal.invariant-loop-line

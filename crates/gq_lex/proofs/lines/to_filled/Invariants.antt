@@ -1,5 +1,5 @@
 use Rattle.std.proofs.Common.{◌≡◌, ◌≤◌, length, take}
-use Rattle.gq_lex.specs.Helping.Decoding.{texts_of, to_filled}
+use Rattle.gq_lex.specs.Decoding.{texts_of, to_filled}
 use Rattle.gq_lex.proofs.lines.to_filled.Given as goal
 
 abbrev pub invariant-loop-end : goal.invariant-loop-end

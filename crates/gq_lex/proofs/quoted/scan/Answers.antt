@@ -1,5 +1,5 @@
 use Rattle.std.proofs.Common.{◌≡◌, ◌+◌, ◌≤◌, Some, sym, ap, ◌∙◌, arith, length}
-use Rattle.gq_lex.specs.Helping.Scanning.{step_at, scan}
+use Rattle.gq_lex.specs.Scanning.{step_at, scan}
 use Rattle.gq_lex.proofs.Quotes.{Onward, left_first, left_ends, left_goes, left_fails, left_all}
 use Rattle.gq_lex.proofs.quoted.scan.Goals as goal
 

@@ -1,5 +1,5 @@
 use Rattle.std.proofs.Common.{◌≡◌, ◌-◌, ◌≤◌, length, drop}
-use Rattle.gq_lex.specs.Helping.Scanning.{grown, scan}
+use Rattle.gq_lex.specs.Scanning.{grown, scan}
 use Rattle.gq_lex.proofs.quoted.scan.Given as goal
 
 -- what is left gives the whole

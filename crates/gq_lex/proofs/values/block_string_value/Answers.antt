@@ -1,6 +1,6 @@
 use Rattle.std.proofs.Common.{◌≡◌, IsUtf8, option_map, sym, ap, subst, ◌∙◌}
 use Rattle.std.proofs.lemmas.Option.{IfSome_then}
-use Rattle.gq_lex.specs.Helping.Decoding.{raw_at}
+use Rattle.gq_lex.specs.Decoding.{raw_at}
 use Rattle.gq_lex.specs.Values.{block_value}
 use Rattle.gq_lex.proofs.Decodings.{raw_told, IsRaw}
 use Rattle.gq_lex.proofs.BlockUtf8.{block_value_utf8}

@@ -1,6 +1,6 @@
 use Rattle.std.proofs.Common.{option_map, sym, ap, subst, ◌∙◌}
 use Rattle.std.proofs.lemmas.Option.{IfSome_then}
-use Rattle.gq_lex.specs.Helping.Decoding.{string_at}
+use Rattle.gq_lex.specs.Decoding.{string_at}
 use Rattle.gq_lex.specs.Values.{IsStringValue}
 use Rattle.gq_lex.proofs.Decodings.{string_told}
 use Rattle.gq_lex.proofs.Utf8.{string_utf8}

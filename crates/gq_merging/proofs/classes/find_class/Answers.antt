@@ -2,7 +2,7 @@ use Rattle.std.proofs.Common.{List, sym, ◌∙◌, ap}
 use Rattle.std.specs.List.{position}
 use Rattle.std.specs.Str.{bytes_eq}
 use Rattle.gq_document.specs.FieldSets.{key}
-use Rattle.gq_merging.specs.Views.{field_at}
+use Rattle.gq_merging.specs.Helping.Views.{field_at}
 use Rattle.gq_merging.specs.declared.rows.Member.{Member}
 use Rattle.gq_merging.proofs.ClassLemmas.{position_keys}
 use Rattle.gq_merging.proofs.classes.find_class.Goals as goal

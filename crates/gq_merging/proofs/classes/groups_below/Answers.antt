@@ -2,8 +2,8 @@ use Rattle.std.proofs.Common.{rules, ◌≤◌, length, subst}
 use Rattle.std.proofs.lemmas.List.{take_all}
 use Rattle.gq_types.specs.Look.{types_view}
 use Rattle.gq_merging.specs.Helping.GroupTables.{HaveClasses}
-use Rattle.gq_merging.specs.Views.{members_view, rows_view}
-use Rattle.gq_merging.specs.GroupViews.{classes_view}
+use Rattle.gq_merging.specs.Helping.Views.{members_view, rows_view}
+use Rattle.gq_merging.specs.Helping.GroupViews.{classes_view}
 use Rattle.gq_merging.proofs.ClassLemmas.{settled_classes}
 use Rattle.gq_merging.proofs.classes.groups_below.Goals as goal
 

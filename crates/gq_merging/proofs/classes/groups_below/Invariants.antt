@@ -1,8 +1,8 @@
 use Rattle.std.proofs.Common.{take}
 use Rattle.gq_types.specs.Look.{types_view}
 use Rattle.gq_merging.specs.Helping.GroupTables.{AreClasses, HaveClasses}
-use Rattle.gq_merging.specs.Views.{members_view, rows_view}
-use Rattle.gq_merging.specs.GroupViews.{classes_view, AreKeyed}
+use Rattle.gq_merging.specs.Helping.Views.{members_view, rows_view}
+use Rattle.gq_merging.specs.Helping.GroupViews.{classes_view, AreKeyed}
 use Rattle.gq_merging.proofs.classes.groups_below.Given as goal
 
 abbrev pub invariant-loop-member : goal.invariant-loop-member

@@ -1,7 +1,7 @@
 use Rattle.std.proofs.Common.{sym}
 use Rattle.gq_tree.specs.Views.{type_view}
 use Rattle.gq_types.specs.Look.{types_view}
-use Rattle.gq_merging.specs.Views.{field_at}
+use Rattle.gq_merging.specs.Helping.Views.{field_at}
 use Rattle.gq_merging.proofs.ClassLemmas.{known_shapes}
 use Rattle.gq_merging.proofs.classes.have_one_shape.Goals as goal
 

@@ -1,4 +1,4 @@
-use Rattle.gq_merging.specs.Views.{rows_view}
+use Rattle.gq_merging.specs.Helping.Views.{rows_view}
 use Rattle.gq_merging.proofs.ClassLemmas.{under_fragment, under_itself, member_through}
 use Rattle.gq_merging.proofs.classes.number_of_same.Goals as goal
 

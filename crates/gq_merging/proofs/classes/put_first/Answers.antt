@@ -2,8 +2,8 @@ use Rattle.std.proofs.Common.{◌≡◌, ◌∷◌, [], ◌++◌, ◌∙◌, ap}
 use Rattle.std.specs.Option.{option_map}
 use Rattle.gq_types.specs.Look.{types_view}
 use Rattle.gq_document.specs.FieldSets.{key}
-use Rattle.gq_merging.specs.Views.{field_at, member_view, rows_view}
-use Rattle.gq_merging.specs.GroupViews.{classes_view}
+use Rattle.gq_merging.specs.Helping.Views.{field_at, member_view, rows_view}
+use Rattle.gq_merging.specs.Helping.GroupViews.{classes_view}
 use Rattle.gq_merging.proofs.ClassLemmas.{firsts_push, groups_push, keys_push, keyed_push, classes_first, takes_first}
 use Rattle.gq_merging.proofs.classes.put_first.Goals as goal
 

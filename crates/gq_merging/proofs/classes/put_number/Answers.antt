@@ -1,4 +1,4 @@
-use Rattle.gq_merging.specs.Views.{rows_view}
+use Rattle.gq_merging.specs.Helping.Views.{rows_view}
 use Rattle.gq_merging.proofs.ClassLemmas.{under_pushed, under_none}
 use Rattle.gq_merging.proofs.classes.put_number.Goals as goal
 

@@ -2,8 +2,8 @@ use Rattle.std.proofs.Common.{rules, ◌<◌, length, refl}
 use Rattle.gq_types.specs.Look.{types_view}
 use Rattle.gq_document.specs.FieldSets.{key}
 use Rattle.gq_merging.specs.Helping.GroupTables.{SayTheSame}
-use Rattle.gq_merging.specs.Views.{field_at, member_view, rows_view}
-use Rattle.gq_merging.specs.GroupViews.{classes_view}
+use Rattle.gq_merging.specs.Helping.Views.{field_at, member_view, rows_view}
+use Rattle.gq_merging.specs.Helping.GroupViews.{classes_view}
 use Rattle.gq_merging.proofs.ClassLemmas.{places_within, group_at, member_at, group_in_range, groups_set, classes_other, takes_other}
 use Rattle.gq_merging.proofs.classes.put_other.Goals as goal
 

@@ -6,7 +6,7 @@ use Rattle.gq_merging.specs.Helping.Comparisons.{may_differ}
 use Rattle.gq_merging.specs.FieldsMerge.{Differ}
 use Rattle.gq_merging.specs.Helping.SearchTables.{IsEarliest}
 use Rattle.gq_merging.specs.Helping.SetTables.{MemberOf}
-use Rattle.gq_merging.specs.Views.{field_at, member_view, members_view, look_view}
+use Rattle.gq_merging.specs.Helping.Views.{field_at, member_view, members_view, look_view}
 use Rattle.gq_merging.proofs.CliqueLemmas.{alone_none, no_first, no_second, two_tell_all}
 use Rattle.gq_merging.proofs.cliques.add_faults_among.Goals as goal
 

@@ -1,5 +1,5 @@
 use Rattle.std.proofs.Common.{rules, ◌≡◌, ◌<◌, length, get_or}
-use Rattle.gq_merging.specs.Views.{member_view, look_view}
+use Rattle.gq_merging.specs.Helping.Views.{member_view, look_view}
 use Rattle.gq_merging.proofs.CliqueLemmas.{with_more, with_none}
 use Rattle.gq_merging.proofs.cliques.add_faults_with.Goals as goal
 

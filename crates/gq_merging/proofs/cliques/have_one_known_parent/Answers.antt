@@ -3,7 +3,7 @@ use Rattle.std.proofs.lemmas.List.{take_all}
 use Rattle.gq_types.specs.Look.{types_view, text_of}
 use Rattle.gq_merging.specs.FieldsMerge.{can_coincide}
 use Rattle.gq_merging.specs.Helping.SetTables.{MemberOf}
-use Rattle.gq_merging.specs.Views.{members_view}
+use Rattle.gq_merging.specs.Helping.Views.{members_view}
 use Rattle.gq_merging.proofs.ClassSearch.{one_parent, one_parent_more}
 use Rattle.gq_merging.proofs.cliques.have_one_known_parent.Goals as goal
 

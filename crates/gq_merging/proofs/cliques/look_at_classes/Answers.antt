@@ -1,8 +1,8 @@
 use Rattle.std.proofs.Common.{rules, ◌≡◌, ◌<◌, length, get_or, subst}
 use Rattle.gq_merging.specs.Helping.PairTables.{AreMet}
 use Rattle.gq_merging.specs.Helping.SearchTables.{Searched}
-use Rattle.gq_merging.specs.GroupViews.{groups_view}
-use Rattle.gq_merging.specs.Views.{members_view, look_view}
+use Rattle.gq_merging.specs.Helping.GroupViews.{groups_view}
+use Rattle.gq_merging.specs.Helping.Views.{members_view, look_view}
 use Rattle.gq_merging.proofs.ClassSearch.{seen, lists_more, no_lists}
 use Rattle.gq_merging.proofs.cliques.look_at_classes.Goals as goal
 

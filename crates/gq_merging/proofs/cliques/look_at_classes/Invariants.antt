@@ -1,7 +1,7 @@
 use Rattle.std.proofs.Common.{map, take}
 use Rattle.gq_merging.specs.Helping.SearchTables.{AreMetInOne, Searched}
-use Rattle.gq_merging.specs.GroupViews.{groups_view}
-use Rattle.gq_merging.specs.Views.{members_view, look_view}
+use Rattle.gq_merging.specs.Helping.GroupViews.{groups_view}
+use Rattle.gq_merging.specs.Helping.Views.{members_view, look_view}
 use Rattle.gq_merging.proofs.cliques.look_at_classes.Given as goal
 
 abbrev pub invariant-loop-list : goal.invariant-loop-list

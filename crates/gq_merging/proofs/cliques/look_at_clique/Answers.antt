@@ -1,5 +1,5 @@
-use Rattle.gq_merging.specs.GroupViews.{groups_view}
-use Rattle.gq_merging.specs.Views.{members_view, look_view}
+use Rattle.gq_merging.specs.Helping.GroupViews.{groups_view}
+use Rattle.gq_merging.specs.Helping.Views.{members_view, look_view}
 use Rattle.gq_merging.proofs.GrowLemmas.{searched_clique}
 use Rattle.gq_merging.proofs.cliques.look_at_clique.Goals as goal
 

@@ -2,9 +2,9 @@ use Rattle.std.proofs.Common.{rules, ◌≡◌, ◌<◌, ◌++◌, length, get_o
 use Rattle.std.proofs.lemmas.List.Elements.{Contains-get_or}
 use Rattle.gq_merging.specs.Helping.PairTables.{AreMet}
 use Rattle.gq_merging.specs.Helping.SearchTables.{IsClique, Searched}
-use Rattle.gq_merging.specs.SearchViews.{list_with}
-use Rattle.gq_merging.specs.GroupViews.{groups_view}
-use Rattle.gq_merging.specs.Views.{members_view, look_view}
+use Rattle.gq_merging.specs.Helping.SearchViews.{list_with}
+use Rattle.gq_merging.specs.Helping.GroupViews.{groups_view}
+use Rattle.gq_merging.specs.Helping.Views.{members_view, look_view}
 use Rattle.gq_merging.proofs.ClassSearch.{lists_more, no_lists}
 use Rattle.gq_merging.proofs.cliques.look_at_lists.Goals as goal
 

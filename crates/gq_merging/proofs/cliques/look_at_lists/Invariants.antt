@@ -1,8 +1,8 @@
 use Rattle.std.proofs.Common.{map, take}
 use Rattle.gq_merging.specs.Helping.SearchTables.{AreMetInOne, Searched}
-use Rattle.gq_merging.specs.SearchViews.{list_with}
-use Rattle.gq_merging.specs.GroupViews.{groups_view}
-use Rattle.gq_merging.specs.Views.{look_view}
+use Rattle.gq_merging.specs.Helping.SearchViews.{list_with}
+use Rattle.gq_merging.specs.Helping.GroupViews.{groups_view}
+use Rattle.gq_merging.specs.Helping.Views.{look_view}
 use Rattle.gq_merging.proofs.cliques.look_at_lists.Given as goal
 
 abbrev pub invariant-loop-list : goal.invariant-loop-list

@@ -1,9 +1,9 @@
 use Rattle.std.proofs.Common.{map}
 use Rattle.gq_merging.specs.Helping.PairTables.{AreMet}
 use Rattle.gq_merging.specs.Helping.SearchTables.{AreMetInOne}
-use Rattle.gq_merging.specs.SearchViews.{list_with}
-use Rattle.gq_merging.specs.GroupViews.{groups_view}
-use Rattle.gq_merging.specs.Views.{members_view, look_view}
+use Rattle.gq_merging.specs.Helping.SearchViews.{list_with}
+use Rattle.gq_merging.specs.Helping.GroupViews.{groups_view}
+use Rattle.gq_merging.specs.Helping.Views.{members_view, look_view}
 use Rattle.gq_merging.proofs.GrowLemmas.{searched_both}
 use Rattle.gq_merging.proofs.cliques.look_at_others.Goals as goal
 

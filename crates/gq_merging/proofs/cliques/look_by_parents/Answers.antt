@@ -3,9 +3,9 @@ use Rattle.gq_types.specs.Look.{types_view}
 use Rattle.gq_merging.specs.Helping.NameTables.{by_name_view}
 use Rattle.gq_merging.specs.Helping.ParentTables.{AreByParent}
 use Rattle.gq_merging.specs.Helping.SearchTables.{IsClique}
-use Rattle.gq_merging.specs.SearchViews.{AreCliquesWith}
-use Rattle.gq_merging.specs.GroupViews.{groups_view}
-use Rattle.gq_merging.specs.Views.{members_view, look_view}
+use Rattle.gq_merging.specs.Helping.SearchViews.{AreCliquesWith}
+use Rattle.gq_merging.specs.Helping.GroupViews.{groups_view}
+use Rattle.gq_merging.specs.Helping.Views.{members_view, look_view}
 use Rattle.gq_merging.proofs.ClassSearch.{seen, others_clique, cliques_with, met_with}
 use Rattle.gq_merging.proofs.cliques.look_by_parents.Goals as goal
 

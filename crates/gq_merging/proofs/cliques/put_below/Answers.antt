@@ -1,5 +1,5 @@
 use Rattle.std.proofs.Common.{rules, ◌≡◌, ◌++◌, ◌∷◌, []}
-use Rattle.gq_merging.specs.Views.{member_view, rows_view}
+use Rattle.gq_merging.specs.Helping.Views.{member_view, rows_view}
 use Rattle.gq_merging.proofs.GrowLemmas.{below_put, below_passed}
 use Rattle.gq_merging.proofs.cliques.put_below.Goals as goal
 

@@ -2,8 +2,8 @@ use Rattle.std.proofs.Common.{rules, ◌≡◌, ◌++◌, ◌∷◌, [], ap, ◌
 use Rattle.std.proofs.lemmas.Bool.Decides.{nat_tests}
 use Rattle.std.proofs.lemmas.List.{map-append, nil_from_length}
 use Rattle.gq_merging.specs.Helping.SearchTables.{AreBelowThese}
-use Rattle.gq_merging.specs.GroupViews.{groups_view}
-use Rattle.gq_merging.specs.Views.{members_view, rows_view}
+use Rattle.gq_merging.specs.Helping.GroupViews.{groups_view}
+use Rattle.gq_merging.specs.Helping.Views.{members_view, rows_view}
 use Rattle.gq_merging.proofs.GrowLemmas.{grows_one, grows_not, in_group_below, nothing_below}
 use Rattle.gq_merging.proofs.cliques.put_group.Goals as goal
 

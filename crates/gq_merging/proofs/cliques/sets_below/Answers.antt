@@ -4,7 +4,7 @@ use Rattle.std.proofs.lemmas.List.Elements.{All-nil}
 use Rattle.gq_merging.specs.Helping.SetTables.{MemberOf}
 use Rattle.gq_merging.specs.Helping.GroupTables.{IsOfGroup}
 use Rattle.gq_merging.specs.Helping.SearchTables.{IsBelowOne}
-use Rattle.gq_merging.specs.Views.{members_view, rows_view}
+use Rattle.gq_merging.specs.Helping.Views.{members_view, rows_view}
 use Rattle.gq_merging.proofs.ClassLemmas.{members_more}
 use Rattle.gq_merging.proofs.GrowLemmas.{below_none}
 use Rattle.gq_merging.proofs.cliques.sets_below.Goals as goal

@@ -1,7 +1,7 @@
 use Rattle.std.proofs.Common.{rules, ◌≡◌, true}
 use Rattle.gq_types.specs.Look.{types_view, text_of}
 use Rattle.gq_merging.specs.FieldsMerge.{can_coincide}
-use Rattle.gq_merging.specs.Views.{field_at}
+use Rattle.gq_merging.specs.Helping.Views.{field_at}
 use Rattle.gq_merging.proofs.CompareLemmas.{names_apart, arguments_apart}
 use Rattle.gq_merging.proofs.comparing.calls_differ.Goals as goal
 

@@ -1,7 +1,7 @@
 use Rattle.std.proofs.Common.{IsTrue, ◌↔◌, sym, subst}
 use Rattle.gq_types.specs.Look.{types_view}
 use Rattle.gq_merging.specs.FieldsMerge.{Differ}
-use Rattle.gq_merging.specs.Views.{field_at}
+use Rattle.gq_merging.specs.Helping.Views.{field_at}
 use Rattle.gq_merging.proofs.CompareLemmas.{shapes_apart}
 use Rattle.gq_merging.proofs.comparing.differ.Goals as goal
 

@@ -3,7 +3,7 @@ use Rattle.std.specs.Option.{option_map}
 use Rattle.gq_types.specs.Look.{types_view}
 use Rattle.gq_merging.specs.Helping.Comparisons.{may_differ}
 use Rattle.gq_merging.specs.Helping.SearchTables.{IsEarliest}
-use Rattle.gq_merging.specs.Views.{member_view, members_view}
+use Rattle.gq_merging.specs.Helping.Views.{member_view, members_view}
 use Rattle.gq_merging.proofs.earliest.earliest_of.Given as goal
 
 abbrev pub invariant-loop-member : goal.invariant-loop-member

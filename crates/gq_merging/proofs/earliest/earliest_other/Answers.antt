@@ -4,7 +4,7 @@ use Rattle.std.proofs.lemmas.List.{take_all}
 use Rattle.gq_types.specs.Look.{types_view}
 use Rattle.gq_merging.specs.FieldsMerge.{Differ}
 use Rattle.gq_merging.specs.Helping.SearchTables.{IsEarliest}
-use Rattle.gq_merging.specs.Views.{field_at, member_view, members_view}
+use Rattle.gq_merging.specs.Helping.Views.{field_at, member_view, members_view}
 use Rattle.gq_merging.proofs.EarliestLemmas.{earliest_more}
 use Rattle.gq_merging.proofs.earliest.earliest_other.Goals as goal
 

@@ -3,7 +3,7 @@ use Rattle.std.specs.Option.{option_map}
 use Rattle.gq_types.specs.Look.{types_view}
 use Rattle.gq_merging.specs.FieldsMerge.{Differ}
 use Rattle.gq_merging.specs.Helping.SearchTables.{IsEarliest}
-use Rattle.gq_merging.specs.Views.{field_at, member_view, members_view}
+use Rattle.gq_merging.specs.Helping.Views.{field_at, member_view, members_view}
 use Rattle.gq_merging.proofs.earliest.earliest_other.Given as goal
 
 abbrev pub invariant-loop-member : goal.invariant-loop-member

@@ -1,6 +1,6 @@
 use Rattle.std.proofs.Common.{rules, ◌<◌, ◌≤◌, [], length, get_or, ap, subst, arith}
 use Rattle.gq_merging.specs.Helping.PairTables.{IsStart, Gains}
-use Rattle.gq_merging.specs.Views.{look_view}
+use Rattle.gq_merging.specs.Helping.Views.{look_view}
 use Rattle.gq_merging.proofs.FoundLemmas.{met_found}
 use Rattle.gq_merging.proofs.MemberSteps.{spreads_inside}
 use Rattle.gq_merging.proofs.SearchLemmas.{search_starts, search_next, search_ends, number_within, few}

@@ -1,5 +1,5 @@
 use Rattle.std.proofs.Common.{◌-◌}
-use Rattle.gq_merging.specs.Views.{look_view}
+use Rattle.gq_merging.specs.Helping.Views.{look_view}
 use Rattle.gq_merging.proofs.SearchLemmas.{Search}
 use Rattle.gq_merging.proofs.faults.add_faults_by_pairs.Given as goal
 

@@ -1,6 +1,6 @@
 use Rattle.std.proofs.Common.{◌*◌, length, refl, ◌∙◌, sym}
 use Rattle.gq_document.specs.Executable.{executable_view}
-use Rattle.gq_merging.specs.Views.{rows_view}
+use Rattle.gq_merging.specs.Helping.Views.{rows_view}
 use Rattle.gq_merging.proofs.MemberSteps.{passes_alike, count_alike}
 use Rattle.gq_merging.proofs.GroupSearch.{sets_there}
 use Rattle.gq_merging.proofs.FaultLemmas.{puts_all}

@@ -1,6 +1,6 @@
 use Rattle.std.proofs.Common.{take}
 use Rattle.gq_merging.specs.Helping.PairTables.{AreMet, Looked}
-use Rattle.gq_merging.specs.Views.{members_view, look_view}
+use Rattle.gq_merging.specs.Helping.Views.{members_view, look_view}
 use Rattle.gq_merging.proofs.faults.look_among.Given as goal
 
 abbrev pub invariant-loop-member : goal.invariant-loop-member

@@ -1,6 +1,6 @@
 use Rattle.std.proofs.Common.{rules, ◌≡◌, ◌<◌, length, get_or}
 use Rattle.gq_merging.specs.Helping.NameTables.{by_name_view}
-use Rattle.gq_merging.specs.Views.{look_view}
+use Rattle.gq_merging.specs.Helping.Views.{look_view}
 use Rattle.gq_merging.proofs.LookLemmas.{look_keyed_more}
 use Rattle.gq_merging.proofs.faults.look_among_keyed.Goals as goal
 

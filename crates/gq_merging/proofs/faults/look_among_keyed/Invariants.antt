@@ -1,7 +1,7 @@
 use Rattle.std.proofs.Common.{take}
 use Rattle.gq_merging.specs.Helping.NameTables.{AreMetByKey, by_name_view}
 use Rattle.gq_merging.specs.Helping.PairTables.{Looked}
-use Rattle.gq_merging.specs.Views.{members_view, look_view}
+use Rattle.gq_merging.specs.Helping.Views.{members_view, look_view}
 use Rattle.gq_merging.proofs.faults.look_among_keyed.Given as goal
 
 abbrev pub invariant-loop-member : goal.invariant-loop-member

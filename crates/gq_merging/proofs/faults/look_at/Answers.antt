@@ -2,7 +2,7 @@ use Rattle.std.proofs.Common.{rules, ◌≡◌, false, true, ◌∙◌, sym}
 use Rattle.std.specs.Str.{bytes_eq}
 use Rattle.std.specs.Cmp.Lexicographic.{bytes_decides}
 use Rattle.gq_document.specs.FieldSets.{key}
-use Rattle.gq_merging.specs.Views.{field_at, member_view, look_view}
+use Rattle.gq_merging.specs.Helping.Views.{field_at, member_view, look_view}
 use Rattle.gq_merging.proofs.LookLemmas.{look_one, look_apart}
 use Rattle.gq_merging.proofs.faults.look_at.Goals as goal
 

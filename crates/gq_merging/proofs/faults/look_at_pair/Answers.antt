@@ -1,6 +1,6 @@
 use Rattle.std.proofs.Common.{rules, ◌/◌, ◌%◌, Contains, length, subst}
 use Rattle.gq_merging.specs.Helping.PairTables.{IsGiven, IsNumber, Gains}
-use Rattle.gq_merging.specs.Views.{look_view}
+use Rattle.gq_merging.specs.Helping.Views.{look_view}
 use Rattle.gq_merging.proofs.LookLemmas.{gains_after}
 use Rattle.gq_merging.proofs.PairNumbers.{right_below}
 use Rattle.gq_merging.proofs.faults.look_at_pair.Goals as goal

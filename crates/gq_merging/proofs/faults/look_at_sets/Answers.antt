@@ -1,7 +1,7 @@
 use Rattle.std.proofs.lemmas.Result.{on_ok_weaker}
 use Rattle.gq_merging.specs.Helping.NameTables.{by_name_view}
 use Rattle.gq_merging.specs.Helping.SetTables.{members_at}
-use Rattle.gq_merging.specs.Views.{members_view, rows_view, look_view}
+use Rattle.gq_merging.specs.Helping.Views.{members_view, rows_view, look_view}
 use Rattle.gq_merging.proofs.LookLemmas.{look_all_keyed, looked_alike}
 use Rattle.gq_merging.proofs.faults.look_at_sets.Goals as goal
 

@@ -1,7 +1,7 @@
 use Rattle.std.proofs.Common.{◌≡◌, [], ap, ◌∙◌}
 use Rattle.gq_document.specs.FieldSets.{key}
 use Rattle.gq_merging.specs.Helping.NameTables.{by_name_view, fields_with}
-use Rattle.gq_merging.specs.Views.{field_at, member_view, members_view, look_view}
+use Rattle.gq_merging.specs.Helping.Views.{field_at, member_view, members_view, look_view}
 use Rattle.gq_merging.proofs.LookLemmas.{look_keyed, look_unkeyed}
 use Rattle.gq_merging.proofs.faults.look_by_key.Goals as goal
 

@@ -1,5 +1,5 @@
 use Rattle.std.proofs.Common.{rules, ◌≡◌, ◌<◌, ◌∷◌, [], length, get_or}
-use Rattle.gq_merging.specs.Views.{member_view, look_view}
+use Rattle.gq_merging.specs.Helping.Views.{member_view, look_view}
 use Rattle.gq_merging.proofs.LookLemmas.{look_right_more}
 use Rattle.gq_merging.proofs.faults.look_with.Goals as goal
 

@@ -4,7 +4,7 @@ use Rattle.std.proofs.lemmas.Option.{same_Some}
 use Rattle.gq_reach.specs.Reach.{row}
 use Rattle.gq_merging.specs.Helping.GroupTables.{AreReached}
 use Rattle.gq_merging.specs.Helping.SetTables.{members_at}
-use Rattle.gq_merging.specs.Views.{rows_view}
+use Rattle.gq_merging.specs.Helping.Views.{rows_view}
 use Rattle.gq_merging.proofs.ClassLemmas.{group_at, group_in_range}
 use Rattle.gq_merging.proofs.MemberSteps.{count_alike, lone_members}
 use Rattle.gq_merging.proofs.groups.look_at.Goals as goal

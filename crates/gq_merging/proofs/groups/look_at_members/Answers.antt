@@ -2,8 +2,8 @@ use Rattle.std.proofs.Common.{rules, ◌≡◌, ◌++◌, ◌<◌, length, arith
 use Rattle.std.proofs.lemmas.List.{map-append, length-map}
 use Rattle.gq_types.specs.Look.{types_view}
 use Rattle.gq_merging.specs.Helping.GroupTables.{AreBelow, AreSettled}
-use Rattle.gq_merging.specs.Views.{members_view, rows_view}
-use Rattle.gq_merging.specs.GroupViews.{groups_view}
+use Rattle.gq_merging.specs.Helping.Views.{members_view, rows_view}
+use Rattle.gq_merging.specs.Helping.GroupViews.{groups_view}
 use Rattle.gq_merging.proofs.MemberLemmas.{get_below}
 use Rattle.gq_merging.proofs.GroupLemmas.{test_goes_on}
 use Rattle.gq_merging.proofs.groups.look_at_members.Goals as goal

@@ -3,7 +3,7 @@ use denote.Param.Send.{sendable}
 use Rattle.std.proofs.Crossing.{crosses}
 use Rattle.gq_types.specs.Look.{types_view}
 use Rattle.gq_merging.specs.Helping.GroupTables.{AreTested}
-use Rattle.gq_merging.specs.Views.{rows_view}
+use Rattle.gq_merging.specs.Helping.Views.{rows_view}
 use Rattle.gq_merging.proofs.Crossing.{Tables-sync}
 use Rattle.gq_merging.proofs.ThreadLemmas.{both_tested}
 use Rattle.gq_merging.proofs.groups.marks_by_threads.Goals as goal

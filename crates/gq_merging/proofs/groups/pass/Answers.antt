@@ -2,8 +2,8 @@ use Rattle.std.proofs.Common.{◌<◌, length, arith, subst}
 use Rattle.std.proofs.lemmas.List.{length-map}
 use Rattle.gq_types.specs.Look.{types_view}
 use Rattle.gq_merging.specs.Helping.GroupTables.{IsKnown}
-use Rattle.gq_merging.specs.Views.{rows_view}
-use Rattle.gq_merging.specs.GroupViews.{groups_view}
+use Rattle.gq_merging.specs.Helping.Views.{rows_view}
+use Rattle.gq_merging.specs.Helping.GroupViews.{groups_view}
 use Rattle.gq_merging.proofs.GroupLemmas.{passes_known}
 use Rattle.gq_merging.proofs.groups.pass.Goals as goal
 

@@ -2,8 +2,8 @@ use Rattle.std.proofs.Common.{rules, ◌≡◌, ◌<◌, ◌≤◌, ◌∷◌, [
 use Rattle.std.proofs.lemmas.List.{length-map, map-append}
 use Rattle.gq_types.specs.Look.{types_view}
 use Rattle.gq_merging.specs.Helping.GroupTables.{IsTest, ArePassed}
-use Rattle.gq_merging.specs.Views.{row_view, rows_view}
-use Rattle.gq_merging.specs.GroupViews.{groups_view}
+use Rattle.gq_merging.specs.Helping.Views.{row_view, rows_view}
+use Rattle.gq_merging.specs.Helping.GroupViews.{groups_view}
 use Rattle.gq_merging.proofs.GroupLemmas.{test_begins, test_passed, test_ends}
 use Rattle.gq_merging.proofs.groups.tested_from.Goals as goal
 

@@ -1,7 +1,7 @@
 use Rattle.gq_types.specs.Look.{types_view}
 use Rattle.gq_merging.specs.Helping.GroupTables.{IsTest}
-use Rattle.gq_merging.specs.Views.{rows_view}
-use Rattle.gq_merging.specs.GroupViews.{groups_view}
+use Rattle.gq_merging.specs.Helping.Views.{rows_view}
+use Rattle.gq_merging.specs.Helping.GroupViews.{groups_view}
 use Rattle.gq_merging.proofs.groups.tested_from.Given as goal
 
 abbrev pub invariant-loop-done : goal.invariant-loop-done

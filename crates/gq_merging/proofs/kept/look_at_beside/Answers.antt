@@ -6,8 +6,8 @@ use Rattle.gq_document.specs.FieldSets.{key}
 use Rattle.gq_merging.specs.Helping.NameTables.{by_name_view, fields_with}
 use Rattle.gq_merging.specs.Helping.PairTables.{AreMet}
 use Rattle.gq_merging.specs.Helping.SearchTables.{AreOfOneKey, Searched}
-use Rattle.gq_merging.specs.GroupViews.{groups_view}
-use Rattle.gq_merging.specs.Views.{field_at, member_view, members_view, look_view}
+use Rattle.gq_merging.specs.Helping.GroupViews.{groups_view}
+use Rattle.gq_merging.specs.Helping.Views.{field_at, member_view, members_view, look_view}
 use Rattle.gq_merging.proofs.KeptLemmas.{first_none, first_there, alone_searched, none_beside, beside_of_one_key, beside_searched}
 use Rattle.gq_merging.proofs.kept.look_at_beside.Goals as goal
 

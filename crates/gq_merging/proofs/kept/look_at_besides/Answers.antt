@@ -2,8 +2,8 @@ use Rattle.std.proofs.Common.{rules, ◌≡◌, ◌<◌, length, get_or, subst}
 use Rattle.gq_merging.specs.Helping.SearchTables.{Searched}
 use Rattle.gq_merging.specs.Helping.KeptTables.{AreMetBeside}
 use Rattle.gq_merging.specs.Helping.NameTables.{by_name_view}
-use Rattle.gq_merging.specs.GroupViews.{groups_view}
-use Rattle.gq_merging.specs.Views.{members_view, look_view}
+use Rattle.gq_merging.specs.Helping.GroupViews.{groups_view}
+use Rattle.gq_merging.specs.Helping.Views.{members_view, look_view}
 use Rattle.gq_merging.proofs.KeptLemmas.{lists_more_beside, no_lists_beside}
 use Rattle.gq_merging.proofs.kept.look_at_besides.Goals as goal
 

@@ -2,8 +2,8 @@ use Rattle.std.proofs.Common.{map, take}
 use Rattle.gq_merging.specs.Helping.SearchTables.{Searched}
 use Rattle.gq_merging.specs.Helping.KeptTables.{AreMetBesideOne}
 use Rattle.gq_merging.specs.Helping.NameTables.{by_name_view}
-use Rattle.gq_merging.specs.GroupViews.{groups_view}
-use Rattle.gq_merging.specs.Views.{members_view, look_view}
+use Rattle.gq_merging.specs.Helping.GroupViews.{groups_view}
+use Rattle.gq_merging.specs.Helping.Views.{members_view, look_view}
 use Rattle.gq_merging.proofs.kept.look_at_besides.Given as goal
 
 abbrev pub invariant-loop-list : goal.invariant-loop-list

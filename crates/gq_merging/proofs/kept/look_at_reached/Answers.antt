@@ -2,8 +2,8 @@ use Rattle.std.proofs.Common.{◌≡◌, ap, sym, ◌∙◌, map}
 use Rattle.std.specs.List.{flat_map}
 use Rattle.gq_merging.specs.Helping.NameTables.{by_name_view}
 use Rattle.gq_merging.specs.Helping.SetTables.{members_at}
-use Rattle.gq_merging.specs.GroupViews.{groups_view}
-use Rattle.gq_merging.specs.Views.{members_view, rows_view, look_view}
+use Rattle.gq_merging.specs.Helping.GroupViews.{groups_view}
+use Rattle.gq_merging.specs.Helping.Views.{members_view, rows_view, look_view}
 use Rattle.gq_merging.proofs.ClassSearch.{seen, seen_of_one_key}
 use Rattle.gq_merging.proofs.KeptLemmas.{group_table, group_searched}
 use Rattle.gq_merging.proofs.kept.look_at_reached.Goals as goal

@@ -2,8 +2,8 @@ use Rattle.std.proofs.Common.{IfSome, subst}
 use Rattle.gq_merging.specs.Helping.NameTables.{by_name_view}
 use Rattle.gq_merging.specs.Helping.SearchTables.{AreInGroup, Searched}
 use Rattle.gq_merging.specs.Helping.KeptTables.{IsTableOf, tables_view}
-use Rattle.gq_merging.specs.GroupViews.{groups_view}
-use Rattle.gq_merging.specs.Views.{rows_view, look_view}
+use Rattle.gq_merging.specs.Helping.GroupViews.{groups_view}
+use Rattle.gq_merging.specs.Helping.Views.{rows_view, look_view}
 use Rattle.gq_merging.proofs.KeptLemmas.{kept_put}
 use Rattle.gq_merging.proofs.kept.table_of.Goals as goal
 

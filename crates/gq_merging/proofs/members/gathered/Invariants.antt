@@ -1,7 +1,7 @@
 use Rattle.std.proofs.Common.{◌≡◌, ◌++◌, drop}
 use Rattle.std.specs.List.{flat_map}
 use Rattle.gq_merging.specs.Helping.SetTables.{members_at}
-use Rattle.gq_merging.specs.Views.{members_view, rows_view}
+use Rattle.gq_merging.specs.Helping.Views.{members_view, rows_view}
 use Rattle.gq_merging.proofs.members.gathered.Given as goal
 
 abbrev pub invariant-loop-number : goal.invariant-loop-number

@@ -1,7 +1,7 @@
 use Rattle.std.proofs.Common.{rules, ◌++◌, sym, ap, ◌∙◌, ◌<◌, ◌≤◌, length, get_or}
 use Rattle.std.proofs.lemmas.List.{map-append}
 use Rattle.std.proofs.lemmas.Option.{slice_get-get_or, slice_get_past}
-use Rattle.gq_merging.specs.Views.{members_view, member_view}
+use Rattle.gq_merging.specs.Helping.Views.{members_view, member_view}
 use Rattle.gq_merging.proofs.MemberSteps.{members_of_row, members_past, append_nothing}
 use Rattle.gq_merging.proofs.members.put_members.Goals as goal
 

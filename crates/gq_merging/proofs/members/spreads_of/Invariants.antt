@@ -1,7 +1,7 @@
 use Rattle.std.proofs.Common.{◌≡◌, ◌++◌, drop}
 use Rattle.std.specs.List.{flat_map}
 use Rattle.gq_merging.specs.Helping.SetTables.{spreads_at}
-use Rattle.gq_merging.specs.Views.{rows_view}
+use Rattle.gq_merging.specs.Helping.Views.{rows_view}
 use Rattle.gq_merging.proofs.members.spreads_of.Given as goal
 
 abbrev pub invariant-loop-number : goal.invariant-loop-number

@@ -1,7 +1,7 @@
 use Rattle.std.proofs.Common.{rules, ◌≡◌, true}
 use Rattle.gq_types.specs.Look.{types_view}
 use Rattle.gq_merging.specs.FieldsMerge.{leads_on}
-use Rattle.gq_merging.specs.Views.{met_view, look_view, field_at}
+use Rattle.gq_merging.specs.Helping.Views.{met_view, look_view, field_at}
 use Rattle.gq_merging.proofs.LookLemmas.{below_led}
 use Rattle.gq_merging.proofs.pairs.put_below.Goals as goal
 

@@ -3,7 +3,7 @@ use Rattle.std.proofs.lemmas.List.{length-map}
 use Rattle.gq_document.specs.Executable.{executable_view}
 use Rattle.gq_tree.specs.Views.{sels_view}
 use Rattle.gq_merging.specs.Helping.SetTables.{own_spreads}
-use Rattle.gq_merging.specs.Views.{set_at, sets_at, row_view, rows_view}
+use Rattle.gq_merging.specs.Helping.Views.{set_at, sets_at, row_view, rows_view}
 use Rattle.gq_merging.proofs.Worklist.{Listing, listing_starts, listing_ends}
 use Rattle.gq_merging.proofs.RowSteps.{rows_go_on, rows_wait}
 use Rattle.gq_merging.proofs.rows.all_rows.Goals as goal

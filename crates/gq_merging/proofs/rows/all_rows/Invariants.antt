@@ -1,7 +1,7 @@
 use Rattle.std.proofs.Common.{drop, length}
 use Rattle.gq_document.specs.Executable.{executable_view}
 use Rattle.gq_merging.specs.Helping.SetTables.{IsEmptyAt, weights}
-use Rattle.gq_merging.specs.Views.{sets_at, rows_view}
+use Rattle.gq_merging.specs.Helping.Views.{sets_at, rows_view}
 use Rattle.gq_merging.proofs.Worklist.{Listing}
 use Rattle.gq_merging.proofs.rows.all_rows.Given as goal
 

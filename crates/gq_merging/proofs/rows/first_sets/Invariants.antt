@@ -2,7 +2,7 @@ use Rattle.std.proofs.Common.{◌≡◌, ◌++◌, drop, map}
 use Rattle.gq_types.specs.Look.{types_view}
 use Rattle.gq_document.specs.Definitions.{operations_view, fragments_view}
 use Rattle.gq_document.specs.FieldSets.{operation_set, fragment_set}
-use Rattle.gq_merging.specs.Views.{sets_at}
+use Rattle.gq_merging.specs.Helping.Views.{sets_at}
 use Rattle.gq_merging.proofs.rows.first_sets.Given as goal
 
 abbrev pub invariant-loop-fragment : goal.invariant-loop-fragment

@@ -2,7 +2,7 @@ use Rattle.std.proofs.Common.{◌≡◌, ◌∙◌, ◌+◌, [], take, take-suc,
 use Rattle.std.proofs.lemmas.List.{map-append}
 use Rattle.gq_types.specs.Look.{types_view}
 use Rattle.gq_merging.specs.Helping.SetTables.{AreNumbered}
-use Rattle.gq_merging.specs.Views.{field_at, fields_at, sets_at, member_view, members_view}
+use Rattle.gq_merging.specs.Helping.Views.{field_at, fields_at, sets_at, member_view, members_view}
 use Rattle.gq_merging.proofs.Numbered.{one_numbered}
 use Rattle.gq_merging.proofs.rows.numbered.Goals as goal
 

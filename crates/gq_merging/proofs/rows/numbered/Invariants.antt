@@ -1,7 +1,7 @@
 use Rattle.std.proofs.Common.{take}
 use Rattle.gq_types.specs.Look.{types_view}
 use Rattle.gq_merging.specs.Helping.SetTables.{AreNumbered, IsEmptyAt}
-use Rattle.gq_merging.specs.Views.{fields_at, sets_at, members_view}
+use Rattle.gq_merging.specs.Helping.Views.{fields_at, sets_at, members_view}
 use Rattle.gq_merging.proofs.rows.numbered.Given as goal
 
 abbrev pub invariant-loop-field : goal.invariant-loop-field

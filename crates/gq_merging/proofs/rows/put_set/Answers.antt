@@ -6,7 +6,7 @@ use Rattle.gq_tree.specs.Views.{sels_view}
 use Rattle.gq_types.specs.Look.{types_view}
 use Rattle.gq_document.specs.FieldSets.{SetOf}
 use Rattle.gq_merging.specs.Helping.SetTables.{IsEmptyAt}
-use Rattle.gq_merging.specs.Views.{field_at, set_at, sets_at}
+use Rattle.gq_merging.specs.Helping.Views.{field_at, set_at, sets_at}
 use Rattle.gq_merging.proofs.Numbered.{empty_here, empty_longer, put_shared}
 use Rattle.gq_merging.proofs.rows.put_set.Goals as goal
 use Rattle.gq_merging.proofs.rows.put_set.Goals.{then-is_empty+in_default, else-is_empty}

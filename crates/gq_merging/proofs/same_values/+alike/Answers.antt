@@ -1,12 +1,14 @@
-use Rattle.std.proofs.Common.{rules, ◌≡◌, ◌↔◌, ◌<◌, ◌+◌, ◌∙◌, IsTrue, true, length, map, get_or, set, sym, ap, subst}
+use Rattle.std.proofs.Common.{rules, ◌≡◌, ◌↔◌, ◌<◌, ◌≤◌, ◌+◌, ◌∙◌, IsTrue, true, length, map, get_or, set, sym, ap, subst, arith}
 use Rattle.std.proofs.lemmas.Result.{IfOk-weaker}
 use Rattle.std.specs.List.{list_all}
-use Rattle.gq_tree.specs.Views.{values_view, entry_view}
+use Rattle.gq_tree.specs.Views.{value_view, values_view}
 use Rattle.gq_merging.specs.SameArguments.{AreInOrder}
+use Rattle.gq_merging.specs.Helping.Entries.{entry_seen, entries_seen}
 use Rattle.gq_merging.specs.Helping.Marks.{IsAmongFirst, MarksSame}
-use Rattle.gq_merging.proofs.MarkLemmas.{stands_seen, marks_begin, marks_set, marks_kept, found_none, found_here, found_kept, all_more_seen, sets_marked_seen}
+use Rattle.gq_merging.proofs.EntryLemmas.{stands_seen, size_at}
+use Rattle.gq_merging.proofs.MarkLemmas.{marks_begin, marks_set, marks_kept, found_none, found_here, found_kept, all_more_at, sets_marked_at_end}
 use Rattle.gq_merging.proofs.IdentityLemmas.{variables_alike, ints_alike, floats_alike, strings_alike, booleans_alike, nulls_alike, enums_alike, lists_alike, objects_alike, no_variable, no_int, no_float, no_string, no_boolean, no_null, no_enum, no_list, no_object, order_apart, order_goes_on, order_stops, order_ends}
-use Rattle.gq_merging.proofs.same_values.+alike.Goals.{mark_fields-then-same, mark_fields-else-same}
+use Rattle.gq_merging.proofs.same_values.+alike.Goals.{mark_entries-then-same, mark_entries-else-same}
 use Rattle.gq_merging.proofs.same_values.+alike.Goals as goal
 
 pub are_identical-returns-in-Variable-Variable : goal.are_identical-returns-in-Variable-Variable
@@ -46,9 +48,9 @@ are_identical-returns-in-List-List t c =
 
 pub are_identical-returns-in-Object-Object : goal.are_identical-returns-in-Object-Object
 are_identical-returns-in-Object-Object t c =
-    IfOk-weaker c.have_same_fields.result _ _
+    IfOk-weaker c.have_same_entries.result _ _
     (λ is. objects_alike c.in-Object-Object.left c.in-Object-Object.right c.in-Object-Object.span-0 c.in-Object-Object.span-1 c.args.left.now c.args.right.now c.deref-in-Object-Object.result.now c.deref-in-Object-Object-2.result.now is c.in-Object-Object.is-0 c.in-Object-Object.is-1 c.deref-in-Object-Object.ensures.value c.deref-in-Object-Object-2.ensures.value)
-    c.have_same_fields.ensures
+    c.have_same_entries.ensures
 
 pub are_identical-returns-in_default : goal.are_identical-returns-in_default
 are_identical-returns-in_default t c = no_variable c.in_default.field-0-0 c.args.left.now c.args.right.now c.in_default.is-0 c.in_default.not-Variable-1
@@ -91,6 +93,14 @@ are_in_order-returns-then-not-same t c =
     order_stops c.args.left.now c.args.right.now i c.index-left-i.result c.index-right-i.result c.in_ok-same.same inside other_inside read other_read c.in_ok-same.ensures
     (AreInOrder (values_view c.args.left.now) (values_view c.args.right.now)) c.if-not-same.true c.loop-i.invariant
 
+pub are_in_order-are_identical-requires : goal.are_in_order-are_identical-requires
+are_in_order-are_identical-requires t c =
+    let i = c.loop-i.i in
+    let inside : i < length c.args.left.now = search rules in
+    let read : get_or c.args.left.now i c.index-left-i.result ≡ c.index-left-i.result = search rules in
+    let less = size_at (map value_view c.args.left.now) i (value_view c.index-left-i.result) (stands_seen value_view c.args.left.now i c.index-left-i.result inside read) in
+    (omega (arith, less, c.decreases), tt)
+
 pub are_in_order-loop-i-preserved : goal.are_in_order-loop-i-preserved
 are_in_order-loop-i-preserved t c =
     let i = c.loop-i.i in
@@ -107,36 +117,37 @@ are_in_order-returns t c =
     let as_many : length c.args.left.now ≡ length c.args.right.now = search rules in
     order_ends c.args.left.now c.args.right.now c.loop-i.i (AreInOrder (values_view c.args.left.now) (values_view c.args.right.now)) as_many c.loop-i-test.false c.loop-i.invariant
 
-pub have_same_fields-loop-field-preserved : goal.have_same_fields-loop-field-preserved
-have_same_fields-loop-field-preserved t c =
-    let i = c.loop-field.field-index in
-    let inside : i < length c.args.left.now = search rules in
-    let read : get_or c.args.left.now i c.field-item.result ≡ c.field-item.result = search rules in
-    all_more_seen entry_view c.args.left.now (map entry_view c.args.right.now) i c.field-item.result c.loop-field.marks.items c.mark_fields.new.marks.items inside read
-    c.loop-field.invariant (c.in_ok-found.ensures.found.0 c.if-not-found.false) c.in_ok-found.ensures.marks
+pub have_same_entries-mark_entries-requires : goal.have_same_entries-mark_entries-requires
+have_same_entries-mark_entries-requires t c =
+    let less = size_at (entries_seen c.args.left) c.loop-i.i (entry_seen c.at.result) c.at.ensures in
+    (omega (arith, less, c.decreases), c.loop-i.invariant.as_many)
 
-pub have_same_fields-returns : goal.have_same_fields-returns
-have_same_fields-returns t c =
-    sets_marked_seen entry_view c.args.left.now (map entry_view c.args.right.now) c.loop-field.field-index c.loop-field.marks.items c.are_all_marked.result
-    c.loop-field-test.false c.loop-field.invariant (c.are_all_marked.ensures ∙ ap (list_all (λ m. m)) c.deref.ensures.value)
+pub have_same_entries-loop-i-preserved : goal.have_same_entries-loop-i-preserved
+have_same_entries-loop-i-preserved t c =
+    all_more_at (entries_seen c.args.left) (entries_seen c.args.right) c.loop-i.i (entry_seen c.at.result) c.loop-i.marks.items c.mark_entries.new.marks.items c.at.ensures
+    c.loop-i.invariant (c.in_ok-found.ensures.found.0 c.if-not-found.false) c.in_ok-found.ensures.marks
 
-pub mark_fields-loop-i-init : goal.mark_fields-loop-i-init
-mark_fields-loop-i-init t c = record {
-  found = found_none (entry_view c.args.field.now) (map entry_view c.args.others.now);
-  marks = marks_begin (entry_view c.args.field.now) (map entry_view c.args.others.now) c.args.marks.now.items;
+pub have_same_entries-returns : goal.have_same_entries-returns
+have_same_entries-returns t c =
+    let end : length (entries_seen c.args.left) ≤ c.loop-i.i = search rules in
+    sets_marked_at_end (entries_seen c.args.left) (entries_seen c.args.right) c.loop-i.i c.loop-i.marks.items c.are_all_marked.result
+    end c.loop-i.invariant (c.are_all_marked.ensures ∙ ap (list_all (λ m. m)) c.deref.ensures.value)
+
+pub mark_entries-loop-i-init : goal.mark_entries-loop-i-init
+mark_entries-loop-i-init t c = record {
+  found = found_none (entry_seen c.args.entry) (entries_seen c.args.others);
+  marks = marks_begin (entry_seen c.args.entry) (entries_seen c.args.others) c.args.marks.now.items;
 }
 
-pub mark_fields-loop-i-preserved : goal.mark_fields-loop-i-preserved
-mark_fields-loop-i-preserved t c =
+pub mark_entries-loop-i-preserved : goal.mark_entries-loop-i-preserved
+mark_entries-loop-i-preserved t c =
     let i = c.loop-i.i in
-    let a = entry_view c.args.field.now in
-    let b = entry_view c.index-others-i.result in
-    let bs = map entry_view c.args.others.now in
-    let inside : i < length c.args.others.now = search rules in
-    let read : get_or c.args.others.now i c.index-others-i.result ≡ c.index-others-i.result = search rules in
-    let stands = stands_seen entry_view c.args.others.now i c.index-others-i.result inside read in
+    let a = entry_seen c.args.entry in
+    let b = entry_seen c.at.result in
+    let bs = entries_seen c.args.others in
+    let stands = c.at.ensures in
     elim c.if-same.branch [
-      | mark_fields-then-same w ↦
+      | mark_entries-then-same w ↦
           let marked : c.if-same.marks.items ≡ set c.loop-i.marks.items i true = search rules in
           let found : c.if-same.found ≡ true = search rules in
           let has_mark : i < length c.loop-i.marks.items = search rules in
@@ -145,7 +156,7 @@ mark_fields-loop-i-preserved t c =
             found = subst (λ f. IsTrue f ↔ IsAmongFirst a bs (i + 1)) (sym found) (found_here a bs i b stands is);
             marks = subst (λ v. MarksSame a bs (i + 1) c.args.marks.now.items v) (sym marked) (marks_set a bs i b stands c.args.marks.now.items c.loop-i.marks.items is has_mark c.loop-i.invariant.marks);
           }
-      | mark_fields-else-same w ↦
+      | mark_entries-else-same w ↦
           let marked : c.if-same.marks.items ≡ c.loop-i.marks.items = search rules in
           let found : c.if-same.found ≡ c.loop-i.found = search rules in
           record {

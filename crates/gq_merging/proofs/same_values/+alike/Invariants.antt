@@ -1,17 +1,35 @@
-use Rattle.std.proofs.Common.{◌↔◌, IsTrue, drop, take, map}
-use Rattle.gq_tree.specs.Views.{values_view, entry_view}
+use Rattle.std.proofs.Common.{◌↔◌, ◌+◌, ◌*◌, IsTrue, drop, take}
+use Rattle.gq_tree.specs.Forest.{row}
+use Rattle.gq_tree.specs.Views.{value_view, values_view}
 use Rattle.gq_merging.specs.SameArguments.{AreInOrder}
+use Rattle.gq_merging.specs.Helping.Entries.{entry_seen, entries_seen}
 use Rattle.gq_merging.specs.Helping.Marks.{IsAmongFirst, MarksSame, AllFound}
+use Rattle.gq_merging.proofs.EntryLemmas.{size}
 use Rattle.gq_merging.proofs.same_values.+alike.Given as goal
+
+abbrev pub decreases-are_identical : goal.decreases-are_identical
+decreases-are_identical l = 4 * size (value_view l.left.now).below + 1
+
+abbrev pub decreases-are_in_order : goal.decreases-are_in_order
+decreases-are_in_order l = 4 * size (values_view l.left.now)
+
+abbrev pub decreases-have_same_entries : goal.decreases-have_same_entries
+decreases-have_same_entries l = 4 * size (row (entries_seen l.left))
+
+abbrev pub decreases-is_same_entry : goal.decreases-is_same_entry
+decreases-is_same_entry l = 4 * size (entry_seen l.left).below + 2
+
+abbrev pub decreases-mark_entries : goal.decreases-mark_entries
+decreases-mark_entries l = 4 * size (entry_seen l.entry).below + 3
 
 abbrev pub invariant-are_in_order-loop-i : goal.invariant-are_in_order-loop-i
 invariant-are_in_order-loop-i l = AreInOrder (values_view (drop l.i l.left)) (values_view (drop l.i l.right)) ↔ AreInOrder (values_view l.left) (values_view l.right)
 
-abbrev pub invariant-have_same_fields-loop-field : goal.invariant-have_same_fields-loop-field
-invariant-have_same_fields-loop-field l = AllFound (map entry_view (take l.field-index l.left)) (map entry_view l.right) l.marks.items
+abbrev pub invariant-have_same_entries-loop-i : goal.invariant-have_same_entries-loop-i
+invariant-have_same_entries-loop-i l = AllFound (take l.i (entries_seen l.left)) (entries_seen l.right) l.marks.items
 
-abbrev pub invariant-mark_fields-loop-i : goal.invariant-mark_fields-loop-i
-invariant-mark_fields-loop-i l = record {
-  found : IsTrue l.found ↔ IsAmongFirst (entry_view l.field) (map entry_view l.others) l.i;
-  marks : MarksSame (entry_view l.field) (map entry_view l.others) l.i l.fn.marks.items l.marks.items;
+abbrev pub invariant-mark_entries-loop-i : goal.invariant-mark_entries-loop-i
+invariant-mark_entries-loop-i l = record {
+  found : IsTrue l.found ↔ IsAmongFirst (entry_seen l.entry) (entries_seen l.others) l.i;
+  marks : MarksSame (entry_seen l.entry) (entries_seen l.others) l.i l.fn.marks.items l.marks.items;
 }

@@ -2,8 +2,8 @@ use Rattle.std.proofs.Common.{rules, ◌≡◌, ◌+◌, ◌<◌, ◌++◌, ◌�
 use Rattle.std.specs.Prelude.{slice_index_or}
 use Rattle.std.proofs.lemmas.List.{map-append, length-map}
 use Rattle.gq_merging.specs.Helping.SearchTables.{AreFirst}
-use Rattle.gq_merging.specs.GroupViews.{groups_view}
-use Rattle.gq_merging.specs.Views.{row_view, rows_view}
+use Rattle.gq_merging.specs.Helping.GroupViews.{groups_view}
+use Rattle.gq_merging.specs.Helping.Views.{row_view, rows_view}
 use Rattle.gq_merging.proofs.GroupSearch.{first_none, first_stays, first_passed}
 use Rattle.gq_merging.proofs.search.first_groups.Goals as goal
 use Rattle.gq_merging.proofs.search.first_groups.Goals.{then-not-passed-number+in_ok-vec+in_ok-push, else-not-passed-number}

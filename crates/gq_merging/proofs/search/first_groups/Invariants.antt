@@ -1,6 +1,6 @@
 use Rattle.gq_merging.specs.Helping.SearchTables.{AreFirst}
-use Rattle.gq_merging.specs.GroupViews.{groups_view}
-use Rattle.gq_merging.specs.Views.{rows_view}
+use Rattle.gq_merging.specs.Helping.GroupViews.{groups_view}
+use Rattle.gq_merging.specs.Helping.Views.{rows_view}
 use Rattle.gq_merging.proofs.search.first_groups.Given as goal
 
 abbrev pub invariant-loop-number : goal.invariant-loop-number

@@ -5,8 +5,8 @@ use Rattle.gq_merging.specs.Helping.NameTables.{by_name_view, AreByKey}
 use Rattle.gq_merging.specs.Helping.SetTables.{members_at, spreads_at}
 use Rattle.gq_merging.specs.Helping.SearchTables.{AreInGroup, Searched}
 use Rattle.gq_merging.specs.Helping.KeptTables.{AreKept, AreMetBesideOne, IsTableAt, IsTableOf, tables_view}
-use Rattle.gq_merging.specs.GroupViews.{groups_view}
-use Rattle.gq_merging.specs.Views.{members_view, rows_view, look_view}
+use Rattle.gq_merging.specs.Helping.GroupViews.{groups_view}
+use Rattle.gq_merging.specs.Helping.Views.{members_view, rows_view, look_view}
 use Rattle.gq_merging.proofs.ClassLemmas.{group_at}
 use Rattle.gq_merging.proofs.ClassSearch.{seen, seen_of_one_key}
 use Rattle.gq_merging.proofs.KeptLemmas.{spreads_have_rows, by_their_keys, table_within, table_here, kept_on, group_told}

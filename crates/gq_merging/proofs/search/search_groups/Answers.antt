@@ -2,8 +2,8 @@ use Rattle.std.proofs.Common.{rules, ◌≡◌, ◌≤◌, [], length, sym, arit
 use Rattle.std.proofs.lemmas.List.{length-map}
 use Rattle.gq_merging.specs.Helping.SearchTables.{Search}
 use Rattle.gq_merging.specs.Helping.KeptTables.{tables_view}
-use Rattle.gq_merging.specs.GroupViews.{groups_view}
-use Rattle.gq_merging.specs.Views.{row_view, look_view}
+use Rattle.gq_merging.specs.Helping.GroupViews.{groups_view}
+use Rattle.gq_merging.specs.Helping.Views.{row_view, look_view}
 use Rattle.gq_merging.proofs.KeptLemmas.{none_kept}
 use Rattle.gq_merging.proofs.GroupSearch.{search_starts, search_ends}
 use Rattle.gq_merging.proofs.search.search_groups.Goals as goal

@@ -1,7 +1,7 @@
 use Rattle.gq_merging.specs.Helping.SearchTables.{Search}
 use Rattle.gq_merging.specs.Helping.KeptTables.{AreKept, tables_view}
-use Rattle.gq_merging.specs.GroupViews.{groups_view}
-use Rattle.gq_merging.specs.Views.{look_view}
+use Rattle.gq_merging.specs.Helping.GroupViews.{groups_view}
+use Rattle.gq_merging.specs.Helping.Views.{look_view}
 use Rattle.gq_merging.proofs.search.search_groups.Given as goal
 
 abbrev pub invariant-loop-done : goal.invariant-loop-done

@@ -2,8 +2,8 @@ use Rattle.std.proofs.Common.{◌+◌, ◌<◌, [], append-nil, length, sym, ari
 use Rattle.std.proofs.lemmas.List.{length-map}
 use Rattle.gq_merging.specs.Helping.SearchTables.{WasThere}
 use Rattle.gq_merging.specs.Helping.KeptTables.{tables_view}
-use Rattle.gq_merging.specs.GroupViews.{groups_view}
-use Rattle.gq_merging.specs.Views.{row_view, look_view}
+use Rattle.gq_merging.specs.Helping.GroupViews.{groups_view}
+use Rattle.gq_merging.specs.Helping.Views.{row_view, look_view}
 use Rattle.gq_merging.proofs.MemberLemmas.{get_below}
 use Rattle.gq_merging.proofs.KeptLemmas.{kept_still}
 use Rattle.gq_merging.proofs.GroupSearch.{search_known, search_next, search_same}

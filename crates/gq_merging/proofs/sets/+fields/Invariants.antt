@@ -2,7 +2,7 @@ use Rattle.std.proofs.Common.{◌≡◌, ◌++◌, drop}
 use Rattle.gq_tree.specs.Views.{sels_view}
 use Rattle.gq_types.specs.Look.{text_of}
 use Rattle.gq_merging.specs.Helping.SetTables.{own_fields}
-use Rattle.gq_merging.specs.Views.{fields_at}
+use Rattle.gq_merging.specs.Helping.Views.{fields_at}
 use Rattle.gq_merging.proofs.sets.+fields.Given as goal
 
 abbrev pub invariant-put_fields-loop-selection : goal.invariant-put_fields-loop-selection

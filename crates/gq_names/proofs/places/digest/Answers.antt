@@ -1,6 +1,6 @@
 use Rattle.std.proofs.Common.{sym, ◌∙◌, ap, arith}
 use Rattle.std.proofs.lemmas.List.{drop_more, drop_all}
-use Rattle.gq_names.specs.Places.{digest_from}
+use Rattle.gq_names.specs.Helping.Places.{digest_from}
 use Rattle.gq_names.proofs.places.digest.Goals as goal
 
 pub loop-byte-preserved : goal.loop-byte-preserved

@@ -1,5 +1,5 @@
 use Rattle.std.proofs.Common.{◌≡◌, drop}
-use Rattle.gq_names.specs.Places.{digest, digest_from}
+use Rattle.gq_names.specs.Helping.Places.{digest, digest_from}
 use Rattle.gq_names.proofs.places.digest.Given as goal
 
 -- the bytes that are left make the text's number of this one

@@ -1,8 +1,8 @@
 use Rattle.gq_tree.specs.Views.{def_view}
 use Rattle.gq_parse.specs.Grammar.{IsFragmentDefinition}
 use Rattle.gq_parse.specs.Documents.{IsDefinition, a_fragment}
-use Rattle.gq_parse.specs.Phrases.{Lacks}
-use Rattle.gq_parse.specs.Parts.{IsOperationOrTypeSystem}
+use Rattle.gq_parse.specs.Helping.Phrases.{Lacks}
+use Rattle.gq_parse.specs.Helping.Parts.{IsOperationOrTypeSystem}
 use Rattle.gq_parse.proofs.Results.{found_weaker, none_weaker}
 use Rattle.gq_parse.proofs.MadeDefinitions.{no_fragment, not_fragment, other_definition}
 use Rattle.gq_parse.proofs.definitions.definition.Goals as goal

@@ -1,7 +1,7 @@
 use Rattle.std.proofs.Common.{◌-◌, ◌≤◌, length, map}
 use Rattle.gq_tree.specs.Views.{def_view}
 use Rattle.gq_parse.specs.Documents.{IsDefinition}
-use Rattle.gq_parse.specs.From.{from}
+use Rattle.gq_parse.specs.Helping.From.{from}
 use Rattle.gq_parse.proofs.Fronts.{Front}
 use Rattle.gq_parse.proofs.definitions.document.Given as goal
 

@@ -1,8 +1,8 @@
 use Rattle.std.proofs.Common.{inl, inr}
 use Rattle.gq_tree.specs.Views.{def_view}
 use Rattle.gq_parse.specs.Grammar.{IsOperationDefinition}
-use Rattle.gq_parse.specs.Phrases.{Lacks}
-use Rattle.gq_parse.specs.Parts.{IsTypeSystem, IsOperationOrTypeSystem}
+use Rattle.gq_parse.specs.Helping.Phrases.{Lacks}
+use Rattle.gq_parse.specs.Helping.Parts.{IsTypeSystem, IsOperationOrTypeSystem}
 use Rattle.gq_parse.proofs.Results.{found_weaker, none_weaker}
 use Rattle.gq_parse.proofs.MadeDefinitions.{no_operation}
 use Rattle.gq_parse.proofs.definitions.operation_or_type_system.Goals as goal

@@ -1,5 +1,5 @@
 use Rattle.std.proofs.lemmas.Result.{err_from_is_err_and}
-use Rattle.gq_parse.specs.Parts.{of_type_system}
+use Rattle.gq_parse.specs.Helping.Parts.{of_type_system}
 use Rattle.gq_parse.proofs.MadeDefinitions.{no_type_system}
 use Rattle.gq_parse.proofs.definitions.type_system.Goals as goal
 

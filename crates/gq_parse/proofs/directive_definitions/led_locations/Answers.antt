@@ -2,7 +2,7 @@ use Rattle.std.proofs.Common.{List, Vec, Global}
 use Rattle.gq_lex.specs.declared.token.Kind.TheVariants as kind
 use Rattle.gq_tree.specs.declared.type_system.DirectiveLocation.{DirectiveLocation}
 use Rattle.gq_parse.specs.TypeSystem.{Separated, Delimited, plain, IsLocation}
-use Rattle.gq_parse.specs.Phrases.{Lacks}
+use Rattle.gq_parse.specs.Helping.Phrases.{Lacks}
 use Rattle.gq_parse.proofs.Results.{found_weaker, none_weaker}
 use Rattle.gq_parse.proofs.MadeNames.{led_by, not_led_behind, not_led}
 use Rattle.gq_parse.proofs.directive_definitions.led_locations.Goals as goal

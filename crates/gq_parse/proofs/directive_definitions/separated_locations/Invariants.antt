@@ -1,7 +1,7 @@
 use Rattle.std.proofs.Common.{◌-◌, ◌≤◌, length}
 use Rattle.gq_lex.specs.declared.token.Kind.TheVariants as kind
 use Rattle.gq_parse.specs.TypeSystem.{IsLocation}
-use Rattle.gq_parse.specs.From.{from}
+use Rattle.gq_parse.specs.Helping.From.{from}
 use Rattle.gq_parse.proofs.Fronts.{Front}
 use Rattle.gq_parse.proofs.MadeNames.{Followed}
 use Rattle.gq_parse.proofs.directive_definitions.separated_locations.Given as goal

@@ -1,19 +1,8 @@
-use Rattle.std.proofs.Common.{arith, sym, ◌∙◌, false-eqb, ap, map}
-use Rattle.std.proofs.lemmas.Bool.{eqb-true}
-use Rattle.gq_tree.specs.Views.{field_definition_view}
-use Rattle.gq_parse.proofs.Fronts.{enclosed_some, enclosed_empty, enclosed_none, no_items, some_items}
 use Rattle.gq_parse.proofs.UniqueTypeSystem.{unique_field, field_never}
 use Rattle.gq_parse.proofs.fields.field_definitions.Goals as goal
 
-pub returns-then-is_empty-clause-none : goal.returns-then-is_empty-clause-none
-returns-then-is_empty-clause-none c =
-    let empty = no_items field_definition_view _ (omega (arith, c.in_ok-fields-in-Some.fields.ok.0, eqb-true _ _ (sym c.is_empty.ensures ∙ c.if-is_empty.true))) in
-    λ e. enclosed_empty _ unique_field field_never c.in-Some.ensures.found c.in_ok-fields-in-Some.ensures.found empty
+pub optional_many-requires-clause-unique : goal.optional_many-requires-clause-unique
+optional_many-requires-clause-unique c = unique_field
 
-pub returns-else-is_empty-clause-found : goal.returns-else-is_empty-clause-found
-returns-else-is_empty-clause-found c =
-    let some = some_items field_definition_view _ (omega (arith, c.in_ok-fields-in-Some.fields.ok.0, false-eqb _ _ (sym c.if-is_empty.false ∙ c.is_empty.ensures))) in
-    enclosed_some _ c.in-Some.ensures.found c.in_ok-fields-in-Some.ensures.found some
-
-pub returns-in-None-clause-found : goal.returns-in-None-clause-found
-returns-in-None-clause-found c = enclosed_none _ (ap (map field_definition_view) c.new.ensures.items) c.in-None.ensures.none
+pub optional_many-requires-clause-apart : goal.optional_many-requires-clause-apart
+optional_many-requires-clause-apart c = field_never

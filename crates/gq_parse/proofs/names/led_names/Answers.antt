@@ -5,7 +5,7 @@ use Rattle.gq_tree.specs.Plain.{NameOf}
 use Rattle.gq_tree.specs.Views.{name_of}
 use Rattle.gq_parse.specs.Grammar.{IsName}
 use Rattle.gq_parse.specs.TypeSystem.{Separated, Delimited, plain}
-use Rattle.gq_parse.specs.Phrases.{Lacks}
+use Rattle.gq_parse.specs.Helping.Phrases.{Lacks}
 use Rattle.gq_parse.proofs.Results.{found_weaker, none_weaker}
 use Rattle.gq_parse.proofs.MadeNames.{led_by, not_led_behind, not_led}
 use Rattle.gq_parse.proofs.names.led_names.Goals as goal

@@ -6,7 +6,7 @@ use Rattle.gq_tree.specs.Plain.{NameOf}
 use Rattle.gq_tree.specs.Views.{name_of}
 use Rattle.gq_parse.specs.Grammar.{IsName}
 use Rattle.gq_parse.specs.TypeSystem.{Delimited, IsMembers}
-use Rattle.gq_parse.specs.Phrases.{Lacks}
+use Rattle.gq_parse.specs.Helping.Phrases.{Lacks}
 use Rattle.gq_parse.proofs.Results.{found_weaker, none_weaker}
 use Rattle.gq_parse.proofs.MadeNames.{members_of, members_none, members_missing}
 use Rattle.gq_parse.proofs.names.members.Goals as goal

@@ -1,7 +1,7 @@
 use Rattle.std.proofs.Common.{◌-◌, ◌≤◌, length, map}
 use Rattle.gq_tree.specs.Views.{name_of}
 use Rattle.gq_parse.specs.Grammar.{IsName}
-use Rattle.gq_parse.specs.From.{from}
+use Rattle.gq_parse.specs.Helping.From.{from}
 use Rattle.gq_parse.proofs.Fronts.{Front}
 use Rattle.gq_parse.proofs.MadeNames.{Followed}
 use Rattle.gq_parse.proofs.names.separated_names.Given as goal

@@ -1,9 +1,9 @@
 use Rattle.std.specs.Option.{option_map}
 use Rattle.gq_tree.specs.Views.{literal_view, type_system_view}
-use Rattle.gq_parse.specs.From.{from}
-use Rattle.gq_parse.specs.Phrases.{Lacks}
+use Rattle.gq_parse.specs.Helping.From.{from}
+use Rattle.gq_parse.specs.Helping.Phrases.{Lacks}
 use Rattle.std.proofs.Common.{inl, inr}
-use Rattle.gq_parse.specs.Parts.{IsSchemaDescribed, IsDirectiveOrType, IsDescribed}
+use Rattle.gq_parse.specs.Helping.Parts.{IsSchemaDescribed, IsDirectiveOrType, IsDescribed}
 use Rattle.gq_parse.proofs.Results.{found_weaker, none_weaker}
 use Rattle.gq_parse.proofs.MadeTypeSystem.{schema_word_defines, no_schema_defined}
 use Rattle.gq_parse.proofs.type_system.described.Goals as goal

@@ -1,9 +1,9 @@
 use Rattle.std.specs.Option.{option_map}
 use Rattle.gq_tree.specs.Views.{literal_view, type_system_view}
-use Rattle.gq_parse.specs.From.{from}
-use Rattle.gq_parse.specs.Phrases.{Lacks}
+use Rattle.gq_parse.specs.Helping.From.{from}
+use Rattle.gq_parse.specs.Helping.Phrases.{Lacks}
 use Rattle.std.proofs.Common.{inl, inr}
-use Rattle.gq_parse.specs.Parts.{IsDirectiveDescribed, IsTypeDescribed, IsDirectiveOrType}
+use Rattle.gq_parse.specs.Helping.Parts.{IsDirectiveDescribed, IsTypeDescribed, IsDirectiveOrType}
 use Rattle.gq_parse.proofs.Results.{found_weaker, none_weaker}
 use Rattle.gq_parse.proofs.MadeTypeSystem.{directive_word_defines, no_directive_defined}
 use Rattle.gq_parse.proofs.type_system.directive_or_type.Goals as goal

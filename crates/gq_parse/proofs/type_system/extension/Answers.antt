@@ -1,8 +1,8 @@
 use Rattle.gq_tree.specs.Views.{type_system_view}
-use Rattle.gq_parse.specs.From.{from}
-use Rattle.gq_parse.specs.Phrases.{Lacks}
+use Rattle.gq_parse.specs.Helping.From.{from}
+use Rattle.gq_parse.specs.Helping.Phrases.{Lacks}
 use Rattle.std.proofs.Common.{inl, inr}
-use Rattle.gq_parse.specs.Parts.{IsSchemaExtended, IsTypeExtended, IsExtended}
+use Rattle.gq_parse.specs.Helping.Parts.{IsSchemaExtended, IsTypeExtended, IsExtended}
 use Rattle.gq_parse.proofs.Results.{found_weaker, none_weaker}
 use Rattle.gq_parse.proofs.MadeTypeSystem.{schema_word_extends, another_word_extends}
 use Rattle.gq_parse.proofs.type_system.extension.Goals as goal

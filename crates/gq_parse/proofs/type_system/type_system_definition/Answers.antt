@@ -1,9 +1,9 @@
 use Rattle.std.specs.Option.{option_map}
 use Rattle.gq_tree.specs.Views.{literal_view, type_system_view}
-use Rattle.gq_parse.specs.From.{from}
-use Rattle.gq_parse.specs.Phrases.{Lacks}
+use Rattle.gq_parse.specs.Helping.From.{from}
+use Rattle.gq_parse.specs.Helping.Phrases.{Lacks}
 use Rattle.gq_parse.specs.TypeSystem.{IsTypeSystemDefinition}
-use Rattle.gq_parse.specs.Parts.{IsExtended, IsDescribed}
+use Rattle.gq_parse.specs.Helping.Parts.{IsExtended, IsDescribed}
 use Rattle.gq_parse.proofs.Results.{found_weaker, none_weaker}
 use Rattle.gq_parse.proofs.MadeTypeSystem.{extends, extends_only, defines, defines_only}
 use Rattle.gq_parse.proofs.type_system.type_system_definition.Goals as goal

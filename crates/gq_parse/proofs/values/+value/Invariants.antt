@@ -1,8 +1,8 @@
 use Rattle.std.proofs.Common.{◌+◌, ◌-◌, ◌*◌, ◌≤◌, length, map}
 use Rattle.gq_tree.specs.Views.{value_view, entry_view}
 use Rattle.gq_parse.specs.Grammar.{IsArgument}
-use Rattle.gq_parse.specs.From.{from}
-use Rattle.gq_parse.specs.Phrases.{IsLoneValue}
+use Rattle.gq_parse.specs.Helping.From.{from}
+use Rattle.gq_parse.specs.Helping.Phrases.{IsLoneValue}
 use Rattle.gq_parse.proofs.Fronts.{Front}
 use Rattle.gq_parse.proofs.values.+value.Given as goal
 

@@ -6,7 +6,7 @@ use Rattle.gq_spans.specs.Views.{mention_view}
 use Rattle.gq_query.specs.Asked.{asked, AtMention}
 use Rattle.gq_query.specs.Definitions.{IsDefinitionOf}
 use Rattle.gq_query.specs.Order.{AreExactly}
-use Rattle.gq_query.specs.Views.{definitions_view}
+use Rattle.gq_query.specs.Helping.Views.{definitions_view}
 use Rattle.gq_query.proofs.Exact.{at_mention, at_none, asked_in}
 use Rattle.gq_query.proofs.definitions.definition_in.Goals as goal
 

@@ -5,7 +5,7 @@ use Rattle.gq_index.specs.Occurrences.{executables}
 use Rattle.gq_spans.specs.declared.mention.MentionKind.TheVariants as kind
 use Rattle.gq_spans.specs.Views.{mention_view}
 use Rattle.gq_query.specs.Schemas.{BySchema}
-use Rattle.gq_query.specs.Views.{definitions_view}
+use Rattle.gq_query.specs.Helping.Views.{definitions_view}
 use Rattle.gq_query.specs.Words.{condition_told}
 use Rattle.gq_query.proofs.Defining.{told_by_kind}
 use Rattle.gq_query.proofs.hovers.told_of.Goals as goal

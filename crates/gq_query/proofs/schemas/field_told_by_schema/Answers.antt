@@ -2,7 +2,7 @@ use Rattle.std.proofs.Common.{subst}
 use Rattle.gq_schema.specs.SchemaResults.{IsFaultOf}
 use Rattle.gq_types.specs.Look.{types_view}
 use Rattle.gq_spans.specs.Views.{mention_view}
-use Rattle.gq_query.specs.Views.{definitions_view}
+use Rattle.gq_query.specs.Helping.Views.{definitions_view}
 use Rattle.gq_query.specs.Words.{field_told}
 use Rattle.gq_query.proofs.Telling.{by_schema, without_schema}
 use Rattle.gq_query.proofs.schemas.field_told_by_schema.Goals as goal

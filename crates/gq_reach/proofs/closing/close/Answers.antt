@@ -1,6 +1,6 @@
 use Rattle.std.proofs.Common.{rules, ◌≡◌, ◌<◌, ◌≤◌, length, drop, get_or, subst, arith}
 use Rattle.gq_reach.specs.Reach.{row}
-use Rattle.gq_reach.specs.Found.{Grown}
+use Rattle.gq_reach.specs.Helping.Found.{Grown}
 use Rattle.gq_reach.proofs.Searching.{search_continues, search_next, search_closes, longer_same, longer_next, few, in_range, row_read}
 use Rattle.gq_reach.proofs.closing.close.Goals as goal
 

@@ -1,6 +1,6 @@
 use Rattle.std.proofs.Common.{take}
 use Rattle.gq_reach.specs.Reach.{NoneTwice}
-use Rattle.gq_reach.specs.Found.{Grown}
+use Rattle.gq_reach.specs.Helping.Found.{Grown}
 use Rattle.gq_reach.proofs.gathered.put_all.Given as goal
 
 abbrev pub invariant-loop-number : goal.invariant-loop-number

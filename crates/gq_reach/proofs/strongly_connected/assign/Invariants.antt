@@ -1,5 +1,5 @@
 use Rattle.std.proofs.Common.{◌≡◌, take, length}
-use Rattle.gq_reach.specs.Mutual.{Assigned}
+use Rattle.gq_reach.specs.Helping.Mutual.{Assigned}
 use Rattle.gq_reach.proofs.strongly_connected.assign.Given as goal
 
 abbrev pub invariant-loop-number : goal.invariant-loop-number

@@ -3,7 +3,7 @@ use Rattle.std.specs.declared.vec.Vec.{Vec}
 use Rattle.std.specs.declared.alloc.Global.{Global}
 use Rattle.gq_reach.specs.Reach.{row, InRange}
 use Rattle.gq_reach.specs.Components.{Led}
-use Rattle.gq_reach.specs.Mutual.{Gathered}
+use Rattle.gq_reach.specs.Helping.Mutual.{Gathered}
 use Rattle.gq_reach.proofs.Turning.{turned_in_range}
 use Rattle.gq_reach.proofs.Grouping.{Groups, groups_next, groups_end, group_range}
 use Rattle.gq_reach.proofs.strongly_connected.components.Goals as goal

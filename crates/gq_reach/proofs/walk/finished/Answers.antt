@@ -1,6 +1,6 @@
 use Rattle.std.proofs.Common.{rules, ◌≡◌, [], length, replicate, sym, subst, arith}
-use Rattle.gq_reach.specs.Found.{Marked}
-use Rattle.gq_reach.specs.Finished.{Walk}
+use Rattle.gq_reach.specs.Helping.Found.{Marked}
+use Rattle.gq_reach.specs.Helping.Finished.{Walk}
 use Rattle.gq_reach.proofs.Walking.{walk_starts, all_more}
 use Rattle.gq_reach.proofs.walk.finished.Goals as goal
 

@@ -1,6 +1,6 @@
 use Rattle.std.proofs.Common.{ℕ, ◌<◌, []}
 use Rattle.std.specs.Prelude.{Contains}
-use Rattle.gq_reach.specs.Finished.{Walk}
+use Rattle.gq_reach.specs.Helping.Finished.{Walk}
 use Rattle.gq_reach.proofs.walk.finished.Given as goal
 
 abbrev pub invariant-loop-number : goal.invariant-loop-number

@@ -1,6 +1,6 @@
 use Rattle.std.proofs.Common.{rules, ◌≡◌, ◌<◌, ◌≤◌, ◌+◌, ◌*◌, ◌∷◌, [], ◌++◌, length, set, ap, sym, ◌∙◌, subst}
 use Rattle.std.specs.Prelude.{Contains}
-use Rattle.gq_reach.specs.Finished.{Walk, entries_left}
+use Rattle.gq_reach.specs.Helping.Finished.{Walk, entries_left}
 use Rattle.gq_reach.proofs.Walking.{walk_passes, walk_finishes, passes_fewer, keeps_pushed, keeps_finished, Entry, entry, all_passed}
 use Rattle.gq_reach.proofs.walk.step.Goals as goal
 

@@ -1,6 +1,6 @@
 use Rattle.std.proofs.Common.{rules, ◌≡◌, ◌∷◌, [], ◌++◌, ap, sym, ◌∙◌, subst, append-nil, List, ℕ}
 use Rattle.std.specs.Prelude.{Contains}
-use Rattle.gq_reach.specs.Finished.{Walk}
+use Rattle.gq_reach.specs.Helping.Finished.{Walk}
 use Rattle.gq_reach.proofs.Walking.{walk_opens}
 use Rattle.gq_reach.proofs.walk.walk.Goals as goal
 

@@ -1,6 +1,6 @@
 use Rattle.std.proofs.Common.{ℕ, ◌+◌, ◌*◌, ◌++◌, ◌∷◌, [], length}
 use Rattle.std.specs.Prelude.{Contains}
-use Rattle.gq_reach.specs.Finished.{Walk, entries_left}
+use Rattle.gq_reach.specs.Helping.Finished.{Walk, entries_left}
 use Rattle.gq_reach.proofs.walk.walk.Given as goal
 
 abbrev pub invariant-loop-top : goal.invariant-loop-top

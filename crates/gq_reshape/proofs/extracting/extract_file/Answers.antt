@@ -3,7 +3,7 @@ use Rattle.gq_text.specs.declared.place.Span.{Span}
 use Rattle.gq_project.specs.declared.document.Doc.{Doc}
 use Rattle.gq_types.specs.Look.{types_view}
 use Rattle.gq_select.specs.Touched.{Touches}
-use Rattle.gq_select.specs.Helping.TouchedPlace.{IsTouchedPlace}
+use Rattle.gq_select.specs.TouchedPlace.{IsTouchedPlace}
 use Rattle.gq_reshape.proofs.ExtractOffers.{no_token}
 use Rattle.gq_reshape.proofs.Quiet.{slice_is}
 use Rattle.gq_reshape.proofs.extracting.extract_file.Goals as goal

@@ -1,9 +1,9 @@
 use Rattle.std.proofs.Common.{◌∙◌, refl, ap, sym}
 use Rattle.gq_text.specs.declared.place.Span.{Span}
 use Rattle.gq_types.specs.Look.{types_view}
-use Rattle.gq_sets.specs.Helping.SetViews.{sets_view}
+use Rattle.gq_sets.specs.SetViews.{sets_view}
 use Rattle.gq_select.specs.Meant.{is_spread, meant, document_sets}
-use Rattle.gq_select.specs.Helping.Views.{standing_view}
+use Rattle.gq_select.specs.Views.{standing_view}
 use Rattle.gq_reshape.specs.Asks.{tree_at}
 use Rattle.gq_reshape.proofs.InlineOffers.{none_meant}
 use Rattle.gq_reshape.proofs.inlining.inline_at.Goals as goal

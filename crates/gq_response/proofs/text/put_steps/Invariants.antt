@@ -1,7 +1,7 @@
 use Rattle.std.proofs.Common.{◌≡◌, ◌++◌, map, drop}
 use Rattle.std.specs.Prelude.{string_bytes}
 use Rattle.gq_response.specs.Texts.{with_commas, step_text}
-use Rattle.gq_response.specs.Commas.{texts_from}
+use Rattle.gq_response.specs.Helping.Commas.{texts_from}
 use Rattle.gq_response.specs.Views.{path_view}
 use Rattle.gq_response.proofs.text.put_steps.Given as goal
 

@@ -1,7 +1,7 @@
 use Rattle.std.specs.Option.{option_map}
-use Rattle.gq_sets.specs.Helping.SetViews.{sets_view}
+use Rattle.gq_sets.specs.SetViews.{sets_view}
 use Rattle.gq_select.specs.Meant.{is_meant, meant}
-use Rattle.gq_select.specs.Helping.Views.{is_of_kind, standing_view}
+use Rattle.gq_select.specs.Views.{is_of_kind, standing_view}
 use Rattle.gq_select.proofs.MeantLemmas.{meant_later}
 use Rattle.gq_select.proofs.selecting.meant.Goals as goal
 

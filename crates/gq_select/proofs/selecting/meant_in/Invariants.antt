@@ -3,7 +3,7 @@ use Rattle.std.specs.Option.{option_map}
 use Rattle.gq_tree.specs.Views.{sels_view}
 use Rattle.gq_types.specs.Look.{text_of}
 use Rattle.gq_select.specs.Meant.{begins_last, is_meant, standing_in}
-use Rattle.gq_select.specs.Helping.Views.{is_of_kind, standing_view}
+use Rattle.gq_select.specs.Views.{is_of_kind, standing_view}
 use Rattle.gq_select.proofs.selecting.meant_in.Given as goal
 
 abbrev pub invariant-loop-selection : goal.invariant-loop-selection

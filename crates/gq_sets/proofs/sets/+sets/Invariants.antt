@@ -2,7 +2,7 @@ use Rattle.std.proofs.Common.{◌≡◌, ◌++◌, drop}
 use Rattle.gq_tree.specs.Views.{sels_view}
 use Rattle.gq_types.specs.Look.{types_view, text_of}
 use Rattle.gq_sets.specs.Sets.{sets_among}
-use Rattle.gq_sets.specs.Helping.SetViews.{sets_view}
+use Rattle.gq_sets.specs.SetViews.{sets_view}
 use Rattle.gq_sets.proofs.sets.+sets.Given as goal
 
 abbrev pub invariant-put_sets_among-loop-selection : goal.invariant-put_sets_among-loop-selection

@@ -2,7 +2,7 @@ use Rattle.std.proofs.Common.{◌≡◌, ◌++◌, drop, map, flat_map}
 use Rattle.gq_tree.specs.Views.{def_view}
 use Rattle.gq_types.specs.Look.{types_view}
 use Rattle.gq_sets.specs.Sets.{sets_of}
-use Rattle.gq_sets.specs.Helping.SetViews.{sets_view}
+use Rattle.gq_sets.specs.SetViews.{sets_view}
 use Rattle.gq_sets.proofs.sets.sets_in.Given as goal
 
 abbrev pub invariant-loop-definition : goal.invariant-loop-definition

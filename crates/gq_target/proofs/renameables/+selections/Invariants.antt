@@ -1,7 +1,7 @@
 use Rattle.std.proofs.Common.{◌≡◌, ◌++◌, drop}
 use Rattle.gq_tree.specs.Views.{sels_view}
 use Rattle.gq_target.specs.Renameables.{selection_renameables}
-use Rattle.gq_target.specs.Views.{renameables_view}
+use Rattle.gq_target.specs.Helping.Views.{renameables_view}
 use Rattle.gq_target.proofs.renameables.+selections.Given as goal
 
 abbrev pub invariant-put_selections-loop-selection : goal.invariant-put_selections-loop-selection

@@ -3,7 +3,7 @@ use Rattle.std.specs.List.{flat_map}
 use Rattle.gq_tree.specs.Forest.{labels}
 use Rattle.gq_tree.specs.Views.{values_view, entries_view}
 use Rattle.gq_target.specs.Renameables.{part_renameables}
-use Rattle.gq_target.specs.Views.{renameables_view}
+use Rattle.gq_target.specs.Helping.Views.{renameables_view}
 use Rattle.gq_target.proofs.renameables.+values.Given as goal
 
 abbrev pub invariant-put_items-loop-value : goal.invariant-put_items-loop-value

@@ -2,7 +2,7 @@ use Rattle.std.proofs.Common.{◌≡◌, ◌++◌, drop, map}
 use Rattle.std.specs.List.{flat_map}
 use Rattle.gq_tree.specs.Views.{variable_view}
 use Rattle.gq_target.specs.Renameables.{defined_renameables}
-use Rattle.gq_target.specs.Views.{renameables_view}
+use Rattle.gq_target.specs.Helping.Views.{renameables_view}
 use Rattle.gq_target.proofs.renameables.put_all_defined.Given as goal
 
 abbrev pub invariant-loop-definition : goal.invariant-loop-definition

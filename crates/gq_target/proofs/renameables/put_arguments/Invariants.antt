@@ -1,7 +1,7 @@
 use Rattle.std.proofs.Common.{◌≡◌, ◌++◌, drop, map}
 use Rattle.gq_tree.specs.Views.{argument_view}
 use Rattle.gq_target.specs.Renameables.{argument_renameables}
-use Rattle.gq_target.specs.Views.{renameables_view}
+use Rattle.gq_target.specs.Helping.Views.{renameables_view}
 use Rattle.gq_target.proofs.renameables.put_arguments.Given as goal
 
 abbrev pub invariant-loop-argument : goal.invariant-loop-argument

@@ -1,7 +1,7 @@
 use Rattle.std.proofs.Common.{◌≡◌, ◌++◌, ◌+◌, ◌≤◌, drop, map}
 use Rattle.gq_tree.specs.Views.{def_view}
 use Rattle.gq_target.specs.Renameables.{renameables}
-use Rattle.gq_target.specs.Views.{renameables_view}
+use Rattle.gq_target.specs.Helping.Views.{renameables_view}
 use Rattle.gq_target.proofs.renameables.renameables.Given as goal
 
 abbrev pub invariant-loop-definition : goal.invariant-loop-definition

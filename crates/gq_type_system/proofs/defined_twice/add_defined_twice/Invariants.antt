@@ -2,7 +2,7 @@ use Rattle.std.proofs.Common.{◌≡◌, ◌++◌, drop, flat_map}
 use Rattle.gq_types.specs.Look.{types_view}
 use Rattle.gq_types.specs.Entries.{entries_view}
 use Rattle.gq_type_system.specs.Helping.Walk.{judged_from}
-use Rattle.gq_type_system.specs.Helping.DefinedTwicePlaces.{defined_twice_at, all_defined_twice}
+use Rattle.gq_type_system.specs.DefinedTwicePlaces.{defined_twice_at, all_defined_twice}
 use Rattle.gq_type_system.proofs.defined_twice.add_defined_twice.Given as goal
 
 abbrev pub invariant-loop-number : goal.invariant-loop-number

@@ -1,6 +1,6 @@
 use Rattle.std.proofs.Common.{◌≡◌, ◌++◌, drop, map}
 use Rattle.gq_tree.specs.Views.{directive_view}
-use Rattle.gq_values.specs.Helping.DirectivePlaces.{directive_texts}
+use Rattle.gq_values.specs.DirectivePlaces.{directive_texts}
 use Rattle.gq_type_system.proofs.directives_and_defaults.put_names.Given as goal
 
 abbrev pub invariant-loop-directive : goal.invariant-loop-directive

@@ -1,6 +1,6 @@
 use Rattle.std.proofs.Common.{◌≡◌, ◌++◌, drop}
 use Rattle.gq_type_system.specs.Helping.ReservedNamePlaces.{reserved_names_in}
-use Rattle.gq_type_system.specs.UsesViews.{names_view}
+use Rattle.gq_type_system.specs.Helping.UsesViews.{names_view}
 use Rattle.gq_type_system.proofs.reserved_name.add_reserved_names_in.Given as goal
 
 abbrev pub invariant-loop-name : goal.invariant-loop-name

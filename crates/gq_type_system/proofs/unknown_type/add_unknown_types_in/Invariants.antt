@@ -1,7 +1,7 @@
 use Rattle.std.proofs.Common.{◌≡◌, ◌++◌, drop}
 use Rattle.gq_types.specs.Look.{types_view}
 use Rattle.gq_type_system.specs.Helping.UnknownTypePlaces.{unknown_types_in}
-use Rattle.gq_type_system.specs.UsesViews.{uses_view}
+use Rattle.gq_type_system.specs.Helping.UsesViews.{uses_view}
 use Rattle.gq_type_system.proofs.unknown_type.add_unknown_types_in.Given as goal
 
 abbrev pub invariant-loop-one : goal.invariant-loop-one

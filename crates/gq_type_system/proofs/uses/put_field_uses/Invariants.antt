@@ -1,6 +1,6 @@
 use Rattle.std.proofs.Common.{◌≡◌, ◌++◌, drop, map, flat_map}
 use Rattle.gq_tree.specs.Views.{field_definition_view}
-use Rattle.gq_type_system.specs.UsesViews.{uses_view}
+use Rattle.gq_type_system.specs.Helping.UsesViews.{uses_view}
 use Rattle.gq_type_system.specs.Uses.{field_uses}
 use Rattle.gq_type_system.proofs.uses.put_field_uses.Given as goal
 

@@ -1,6 +1,6 @@
 use Rattle.std.proofs.Common.{◌≡◌, ◌++◌, drop, map}
 use Rattle.gq_tree.specs.Views.{input_view}
-use Rattle.gq_type_system.specs.UsesViews.{names_view}
+use Rattle.gq_type_system.specs.Helping.UsesViews.{names_view}
 use Rattle.gq_type_system.proofs.uses.put_input_names.Given as goal
 
 abbrev pub invariant-loop-input : goal.invariant-loop-input

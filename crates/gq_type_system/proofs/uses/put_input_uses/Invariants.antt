@@ -1,6 +1,6 @@
 use Rattle.std.proofs.Common.{◌≡◌, ◌++◌, drop, map}
 use Rattle.gq_tree.specs.Views.{input_view}
-use Rattle.gq_type_system.specs.UsesViews.{uses_view}
+use Rattle.gq_type_system.specs.Helping.UsesViews.{uses_view}
 use Rattle.gq_type_system.specs.Uses.{input_use}
 use Rattle.gq_type_system.proofs.uses.put_input_uses.Given as goal
 

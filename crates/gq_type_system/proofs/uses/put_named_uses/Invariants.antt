@@ -1,6 +1,6 @@
 use Rattle.std.proofs.Common.{◌≡◌, ◌++◌, drop, map}
 use Rattle.gq_tree.specs.Views.{name_of}
-use Rattle.gq_type_system.specs.UsesViews.{uses_view}
+use Rattle.gq_type_system.specs.Helping.UsesViews.{uses_view}
 use Rattle.gq_type_system.specs.Uses.{named_uses}
 use Rattle.gq_type_system.proofs.uses.put_named_uses.Given as goal
 

@@ -1,7 +1,7 @@
 use Rattle.std.proofs.Common.{◌≡◌, length}
 use Rattle.gq_types.specs.Entries.{entries_view}
-use Rattle.gq_types.specs.Index.{AreArgumentNames}
-use Rattle.gq_types.specs.Tables.{lists_of}
+use Rattle.gq_types.specs.Helping.Index.{AreArgumentNames}
+use Rattle.gq_types.specs.Helping.Tables.{lists_of}
 use Rattle.gq_types.proofs.argument_names.all_argument_names.Given as goal
 
 -- each entry so far has its names

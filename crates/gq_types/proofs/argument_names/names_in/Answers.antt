@@ -1,7 +1,7 @@
 use Rattle.std.proofs.Common.{◌∷◌, [], map, ap, sym, ◌∙◌, subst}
 use Rattle.std.proofs.lemmas.Result.{IfOk-weaker}
 use Rattle.gq_tree.specs.Views.{input_view, type_system_view}
-use Rattle.gq_types.specs.Index.{argument_lists, AreNamesOfEach}
+use Rattle.gq_types.specs.Helping.Index.{argument_lists, AreNamesOfEach}
 use Rattle.gq_types.specs.Joined.{body_in, fields_in_body}
 use Rattle.gq_types.proofs.argument_names.names_in.Goals as goal
 

@@ -1,7 +1,7 @@
 use Rattle.std.proofs.Common.{◌+◌, ap, subst, ◌∙◌, map}
 use Rattle.std.proofs.lemmas.List.{length_push}
 use Rattle.gq_tree.specs.Views.{input_view}
-use Rattle.gq_types.specs.RequiredNames.{AreNamesOf}
+use Rattle.gq_types.specs.Helping.RequiredNames.{AreNamesOf}
 use Rattle.gq_types.proofs.ArgumentNameLemmas.{field_pushed}
 use Rattle.gq_types.proofs.argument_names.names_of_fields.Goals as goal
 

@@ -1,6 +1,6 @@
 use Rattle.std.proofs.Common.{◌≡◌, length, map}
 use Rattle.gq_tree.specs.Views.{field_definition_view}
-use Rattle.gq_types.specs.Index.{AreNamesOfEach}
+use Rattle.gq_types.specs.Helping.Index.{AreNamesOfEach}
 use Rattle.gq_types.proofs.argument_names.names_of_fields.Given as goal
 
 -- each field so far has its names

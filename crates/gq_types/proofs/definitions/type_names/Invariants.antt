@@ -1,6 +1,6 @@
 use Rattle.std.proofs.Common.{◌≡◌, ◌++◌, drop}
 use Rattle.gq_types.specs.Entries.{entries_view}
-use Rattle.gq_types.specs.Tables.{type_key, names_in, numbers_in}
+use Rattle.gq_types.specs.Helping.Tables.{type_key, names_in, numbers_in}
 use Rattle.gq_types.proofs.definitions.type_names.Given as goal
 
 -- what is noted, and what the other entries add

@@ -1,5 +1,5 @@
 use Rattle.std.proofs.Common.{◌≡◌, ℕ, [], length, get_or}
-use Rattle.gq_types.specs.Tables.{lists_of}
+use Rattle.gq_types.specs.Helping.Tables.{lists_of}
 use Rattle.gq_types.proofs.joined.empty_lists.Given as goal
 
 abbrev pub invariant-loop-number : goal.invariant-loop-number

@@ -1,7 +1,7 @@
 use Rattle.std.proofs.Common.{◌≡◌, ◌<◌, ◌∷◌, ◌++◌, [], length, get_or, set, ap, subst, sym, ◌∙◌, arith}
 use Rattle.std.proofs.lemmas.List.{length-map, length-set}
 use Rattle.gq_types.specs.Entries.{entry_view, entries_view}
-use Rattle.gq_types.specs.Tables.{lists_of}
+use Rattle.gq_types.specs.Helping.Tables.{lists_of}
 use Rattle.gq_types.proofs.JoinedLemmas.{joined_more, written_back, joined_all, joined_none}
 use Rattle.gq_types.proofs.joined.joined_numbers.Goals as goal
 

@@ -1,6 +1,6 @@
 use Rattle.std.proofs.Common.{◌≡◌, ◌+◌, length}
 use Rattle.gq_types.specs.Entries.{entries_view}
-use Rattle.gq_types.specs.Tables.{lists_of}
+use Rattle.gq_types.specs.Helping.Tables.{lists_of}
 use Rattle.gq_types.proofs.JoinedLemmas.{AreJoinedBelow}
 use Rattle.gq_types.proofs.joined.joined_numbers.Given as goal
 

@@ -2,8 +2,8 @@ use Rattle.std.proofs.Common.{◌≡◌, length}
 use Rattle.std.specs.Prelude.{Some, slice_get}
 use Rattle.gq_types.specs.Directives.{locations_in}
 use Rattle.gq_types.specs.Entries.{EntryOf, entries_view}
-use Rattle.gq_types.specs.Index.{AreLocationsOf}
-use Rattle.gq_types.specs.Tables.{lists_of, EachAt}
+use Rattle.gq_types.specs.Helping.Index.{AreLocationsOf}
+use Rattle.gq_types.specs.Helping.Tables.{lists_of, EachAt}
 use Rattle.gq_types.proofs.locations.all_locations.Given as goal
 
 -- each entry so far has its locations

@@ -1,5 +1,5 @@
 use Rattle.std.proofs.Common.{◌++◌, drop}
-use Rattle.gq_types.specs.Index.{AreLocationsOf}
+use Rattle.gq_types.specs.Helping.Index.{AreLocationsOf}
 use Rattle.gq_types.proofs.locations.distinct.Given as goal
 
 -- what was kept, and what is left

@@ -1,5 +1,5 @@
 use Rattle.std.proofs.Common.{◌≡◌, ◌++◌, drop, map}
-use Rattle.gq_types.specs.Tables.{places_from}
+use Rattle.gq_types.specs.Helping.Tables.{places_from}
 use Rattle.gq_types.proofs.parts.add_fields.Given as goal
 
 -- what was put, and what the other fields add

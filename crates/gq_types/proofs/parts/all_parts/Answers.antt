@@ -2,7 +2,7 @@ use Rattle.std.proofs.Common.{◌≡◌, ◌+◌, length, ap, sym, ◌∙◌}
 use Rattle.std.proofs.lemmas.List.{length_push}
 use Rattle.gq_types.specs.Entries.{entries_view}
 use Rattle.gq_types.specs.Look.{joined_numbers}
-use Rattle.gq_types.specs.Tables.{lists_in, parts_at}
+use Rattle.gq_types.specs.Helping.Tables.{lists_in, parts_at}
 use Rattle.gq_types.proofs.PartsLemmas.{each_push}
 use Rattle.gq_types.proofs.parts.all_parts.Goals as goal
 

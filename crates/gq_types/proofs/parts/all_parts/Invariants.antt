@@ -1,7 +1,7 @@
 use Rattle.std.proofs.Common.{◌≡◌, length}
 use Rattle.gq_types.specs.Entries.{entries_view}
 use Rattle.gq_types.specs.Look.{joined_numbers}
-use Rattle.gq_types.specs.Tables.{EachAt, lists_in, parts_at}
+use Rattle.gq_types.specs.Helping.Tables.{EachAt, lists_in, parts_at}
 use Rattle.gq_types.proofs.parts.all_parts.Given as goal
 
 -- each entry so far has its parts

@@ -1,7 +1,7 @@
 use Rattle.std.proofs.Common.{◌≡◌, drop}
 use Rattle.std.specs.List.{fold}
 use Rattle.gq_types.specs.Entries.{entries_view}
-use Rattle.gq_types.specs.Tables.{add_entry, lists_in, parts_at}
+use Rattle.gq_types.specs.Helping.Tables.{add_entry, lists_in, parts_at}
 use Rattle.gq_types.proofs.parts.parts_of.Given as goal
 
 abbrev pub invariant-loop-number : goal.invariant-loop-number

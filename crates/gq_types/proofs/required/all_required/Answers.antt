@@ -3,7 +3,7 @@ use Rattle.std.proofs.lemmas.List.{length_push}
 use Rattle.gq_types.specs.Entries.{entries_view}
 use Rattle.gq_types.specs.Joined.{inputs_of}
 use Rattle.gq_types.specs.Look.{joined_numbers}
-use Rattle.gq_types.specs.RequiredNames.{required_after, inputs_among}
+use Rattle.gq_types.specs.Helping.RequiredNames.{required_after, inputs_among}
 use Rattle.gq_types.proofs.PartsLemmas.{each_push}
 use Rattle.gq_types.proofs.RequiredLemmas.{required_of}
 use Rattle.gq_types.proofs.required.all_required.Goals as goal

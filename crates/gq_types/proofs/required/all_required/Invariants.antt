@@ -1,8 +1,8 @@
 use Rattle.std.proofs.Common.{◌≡◌, [], length, map}
 use Rattle.gq_types.specs.Entries.{entries_view}
 use Rattle.gq_types.specs.Joined.{inputs_of}
-use Rattle.gq_types.specs.RequiredNames.{required_after}
-use Rattle.gq_types.specs.Tables.{EachAt}
+use Rattle.gq_types.specs.Helping.RequiredNames.{required_after}
+use Rattle.gq_types.specs.Helping.Tables.{EachAt}
 use Rattle.gq_types.proofs.required.all_required.Given as goal
 
 -- each entry so far has its names

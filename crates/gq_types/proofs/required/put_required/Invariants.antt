@@ -1,7 +1,7 @@
 use Rattle.std.proofs.Common.{◌≡◌, ◌++◌, drop, map}
 use Rattle.gq_tree.specs.Views.{input_view}
 use Rattle.gq_types.specs.Arguments.{argument_texts}
-use Rattle.gq_types.specs.RequiredNames.{required_after}
+use Rattle.gq_types.specs.Helping.RequiredNames.{required_after}
 use Rattle.gq_types.proofs.required.put_required.Given as goal
 
 -- what was put, and what the others add

@@ -1,6 +1,6 @@
 use Rattle.std.proofs.Common.{◌≡◌, ◌++◌, [], drop}
 use Rattle.gq_types.specs.Entries.{entries_view}
-use Rattle.gq_types.specs.RequiredNames.{required_after, inputs_among}
+use Rattle.gq_types.specs.Helping.RequiredNames.{required_after, inputs_among}
 use Rattle.gq_types.proofs.required.required_among.Given as goal
 
 -- what was put, and what the other entries add

@@ -1,7 +1,7 @@
 use Rattle.std.proofs.Common.{◌≡◌, ◌++◌, drop, map, Some}
 use Rattle.gq_tree.specs.Views.{argument_view, input_view}
 use Rattle.gq_types.specs.Look.{types_view}
-use Rattle.gq_values.specs.Helping.ArgumentPlaces.{argument_value_faults}
+use Rattle.gq_values.specs.ArgumentPlaces.{argument_value_faults}
 use Rattle.gq_values.proofs.argument_faults.add_faults_of_known_values.Given as goal
 
 abbrev pub invariant-loop-argument : goal.invariant-loop-argument

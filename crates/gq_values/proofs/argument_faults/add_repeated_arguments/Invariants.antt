@@ -1,8 +1,8 @@
 use Rattle.std.proofs.Common.{◌≡◌, ◌++◌, drop, map}
 use Rattle.gq_tree.specs.Views.{argument_view}
-use Rattle.gq_values.specs.Helping.LiteralPlaces.{texts}
+use Rattle.gq_values.specs.LiteralPlaces.{texts}
 use Rattle.gq_values.specs.ArgumentFaults.{argument_names}
-use Rattle.gq_values.specs.Helping.ArgumentPlaces.{repeated_arguments}
+use Rattle.gq_values.specs.ArgumentPlaces.{repeated_arguments}
 use Rattle.gq_values.proofs.argument_faults.add_repeated_arguments.Given as goal
 
 abbrev pub invariant-loop-argument : goal.invariant-loop-argument

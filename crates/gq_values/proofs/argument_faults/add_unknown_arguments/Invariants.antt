@@ -1,7 +1,7 @@
 use Rattle.std.proofs.Common.{◌≡◌, ◌++◌, drop, map}
 use Rattle.gq_tree.specs.Views.{argument_view, input_view}
 use Rattle.gq_values.specs.ArgumentFaults.{argument_names}
-use Rattle.gq_values.specs.Helping.ArgumentPlaces.{unknown_arguments}
+use Rattle.gq_values.specs.ArgumentPlaces.{unknown_arguments}
 use Rattle.gq_values.proofs.argument_faults.add_unknown_arguments.Given as goal
 
 abbrev pub invariant-loop-argument : goal.invariant-loop-argument

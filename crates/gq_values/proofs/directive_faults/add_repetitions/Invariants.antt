@@ -1,7 +1,7 @@
 use Rattle.std.proofs.Common.{◌≡◌, ◌++◌, drop, map}
 use Rattle.gq_tree.specs.Views.{directive_view}
 use Rattle.gq_types.specs.Look.{types_view}
-use Rattle.gq_values.specs.Helping.DirectivePlaces.{repetitions, directive_texts}
+use Rattle.gq_values.specs.DirectivePlaces.{repetitions, directive_texts}
 use Rattle.gq_values.proofs.directive_faults.add_repetitions.Given as goal
 
 abbrev pub invariant-loop-directive : goal.invariant-loop-directive

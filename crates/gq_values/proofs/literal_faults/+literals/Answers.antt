@@ -3,7 +3,7 @@ use Rattle.std.proofs.lemmas.Result.{on_ok_weaker}
 use Rattle.gq_tree.specs.Views.{value_view}
 use Rattle.gq_types.specs.Look.{types_view}
 use Rattle.gq_values.specs.ExpectedTypes.{expected_view}
-use Rattle.gq_values.specs.Helping.LiteralPlaces.{literal_faults, item_faults, faults_of_field, value_faults}
+use Rattle.gq_values.specs.LiteralPlaces.{literal_faults, item_faults, faults_of_field, value_faults}
 use Rattle.gq_values.proofs.Steps.{turn_done}
 use Rattle.gq_values.proofs.LiteralLemmas.{list_done, object_done}
 use Rattle.gq_values.proofs.literal_faults.+literals.Goals as goal

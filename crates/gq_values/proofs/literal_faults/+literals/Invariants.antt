@@ -1,7 +1,7 @@
 use Rattle.std.proofs.Common.{◌≡◌, ◌++◌, drop}
 use Rattle.gq_types.specs.Look.{types_view}
 use Rattle.gq_values.specs.ExpectedTypes.{expected_view}
-use Rattle.gq_values.specs.Helping.LiteralPlaces.{item_faults, value_faults}
+use Rattle.gq_values.specs.LiteralPlaces.{item_faults, value_faults}
 use Rattle.gq_values.proofs.literal_faults.+literals.Given as goal
 
 abbrev pub invariant-put_item_faults-loop-value : goal.invariant-put_item_faults-loop-value

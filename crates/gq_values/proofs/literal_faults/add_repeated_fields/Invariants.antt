@@ -1,7 +1,7 @@
 use Rattle.std.proofs.Common.{◌≡◌, ◌++◌, drop}
 use Rattle.gq_tree.specs.Views.{entries_view}
 use Rattle.gq_values.specs.LiteralFaults.{entry_names}
-use Rattle.gq_values.specs.Helping.LiteralPlaces.{texts, repeated_fields}
+use Rattle.gq_values.specs.LiteralPlaces.{texts, repeated_fields}
 use Rattle.gq_values.proofs.literal_faults.add_repeated_fields.Given as goal
 
 abbrev pub invariant-loop-field : goal.invariant-loop-field

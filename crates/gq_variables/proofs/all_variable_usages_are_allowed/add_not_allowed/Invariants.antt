@@ -2,7 +2,7 @@ use Rattle.std.proofs.Common.{◌≡◌, ◌++◌, drop, map}
 use Rattle.gq_tree.specs.Views.{variable_view}
 use Rattle.gq_types.specs.Look.{types_view}
 use Rattle.gq_variables.specs.Helping.VariablePlaces.{not_allowed}
-use Rattle.gq_variables.specs.Views.{uses_view, variables_view}
+use Rattle.gq_variables.specs.Helping.Views.{uses_view, variables_view}
 use Rattle.gq_variables.proofs.all_variable_usages_are_allowed.add_not_allowed.Given as goal
 
 abbrev pub invariant-loop-one : goal.invariant-loop-one

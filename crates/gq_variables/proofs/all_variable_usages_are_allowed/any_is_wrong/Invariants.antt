@@ -2,7 +2,7 @@ use Rattle.std.proofs.Common.{◌≡◌, drop}
 use Rattle.std.specs.List.{list_any}
 use Rattle.gq_types.specs.Look.{types_view}
 use Rattle.gq_variables.specs.Helping.VariablePlaces.{is_wrong_for}
-use Rattle.gq_variables.specs.Views.{use_view, variables_view}
+use Rattle.gq_variables.specs.Helping.Views.{use_view, variables_view}
 use Rattle.gq_variables.proofs.all_variable_usages_are_allowed.any_is_wrong.Given as goal
 
 abbrev pub invariant-loop-variable : goal.invariant-loop-variable

@@ -1,7 +1,7 @@
 use Rattle.std.proofs.Common.{◌≡◌, ◌++◌, drop, map}
 use Rattle.gq_tree.specs.Views.{variable_view}
 use Rattle.gq_variables.specs.Helping.VariablePlaces.{variable_texts, not_defined}
-use Rattle.gq_variables.specs.Views.{uses_view}
+use Rattle.gq_variables.specs.Helping.Views.{uses_view}
 use Rattle.gq_variables.proofs.all_variable_uses_defined.add_not_defined.Given as goal
 
 abbrev pub invariant-loop-one : goal.invariant-loop-one

@@ -1,6 +1,6 @@
 use Rattle.std.proofs.Common.{◌≡◌, ◌++◌, drop}
 use Rattle.gq_variables.specs.Helping.VariablePlaces.{use_texts}
-use Rattle.gq_variables.specs.Views.{uses_view}
+use Rattle.gq_variables.specs.Helping.Views.{uses_view}
 use Rattle.gq_variables.proofs.all_variables_used.used_names.Given as goal
 
 abbrev pub invariant-loop-one : goal.invariant-loop-one

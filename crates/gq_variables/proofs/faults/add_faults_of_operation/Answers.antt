@@ -5,7 +5,7 @@ use Rattle.gq_types.specs.Look.{types_view}
 use Rattle.gq_document.specs.Definitions.{operation_view}
 use Rattle.gq_variables.specs.Helping.UsesPlaces.{operation_uses, row_at}
 use Rattle.gq_variables.specs.Helping.VariablePlaces.{repeated_variables}
-use Rattle.gq_variables.specs.Views.{uses_view, rows_view, variables_view}
+use Rattle.gq_variables.specs.Helping.Views.{uses_view, rows_view, variables_view}
 use Rattle.gq_variables.proofs.FaultLemmas.{operation_put}
 use Rattle.gq_variables.proofs.faults.add_faults_of_operation.Goals as goal
 

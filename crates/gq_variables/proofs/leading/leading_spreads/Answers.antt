@@ -3,8 +3,8 @@ use Rattle.std.specs.Prelude.{All, filter, slice_index_or}
 use Rattle.gq_reach.specs.Reach.{row, InRange}
 use Rattle.gq_document.specs.Executable.{executable_view}
 use Rattle.gq_spreads.proofs.RowLemmas.{operation_rows_below, fragments_in_range}
-use Rattle.gq_variables.specs.Leading.{LeadToUses}
-use Rattle.gq_variables.specs.Views.{rows_view}
+use Rattle.gq_variables.specs.Helping.Leading.{LeadToUses}
+use Rattle.gq_variables.specs.Helping.Views.{rows_view}
 use Rattle.gq_variables.proofs.LeadingLemmas.{Kept, are_leading}
 use Rattle.gq_variables.proofs.leading.leading_spreads.Goals as goal
 

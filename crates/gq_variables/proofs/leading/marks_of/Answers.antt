@@ -5,8 +5,8 @@ use Rattle.gq_reach.specs.Reach.{InRange}
 use Rattle.gq_reach.specs.Transposed.{Transposed}
 use Rattle.gq_reach.specs.Components.{Also}
 use Rattle.gq_reach.proofs.Turning.{turned_in_range}
-use Rattle.gq_variables.specs.Leading.{numbers_with_uses}
-use Rattle.gq_variables.specs.Views.{rows_view}
+use Rattle.gq_variables.specs.Helping.Leading.{numbers_with_uses}
+use Rattle.gq_variables.specs.Helping.Views.{rows_view}
 use Rattle.gq_variables.proofs.LeadingLemmas.{numbers_below, lead_to_uses}
 use Rattle.gq_variables.proofs.leading.marks_of.Goals as goal
 

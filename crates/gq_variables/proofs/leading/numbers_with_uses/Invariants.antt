@@ -1,6 +1,6 @@
 use Rattle.std.proofs.Common.{◌≡◌, ◌++◌, drop}
-use Rattle.gq_variables.specs.Leading.{numbers_with_uses}
-use Rattle.gq_variables.specs.Views.{rows_view}
+use Rattle.gq_variables.specs.Helping.Leading.{numbers_with_uses}
+use Rattle.gq_variables.specs.Helping.Views.{rows_view}
 use Rattle.gq_variables.proofs.leading.numbers_with_uses.Given as goal
 
 abbrev pub invariant-loop-number : goal.invariant-loop-number

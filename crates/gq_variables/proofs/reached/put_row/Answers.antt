@@ -2,7 +2,7 @@ use Rattle.std.proofs.Common.{List, ◌++◌, Option, ap, sym, ◌∙◌, append
 use Rattle.std.specs.Option.{option_map, option_map_or}
 use Rattle.std.proofs.lemmas.Option.{slice_get-map, slice_get_past}
 use Rattle.gq_variables.specs.Uses.{UseOf}
-use Rattle.gq_variables.specs.Views.{uses_view}
+use Rattle.gq_variables.specs.Helping.Views.{uses_view}
 use Rattle.gq_variables.specs.declared.uses.Use.{Use}
 use Rattle.gq_variables.proofs.reached.put_row.Goals as goal
 

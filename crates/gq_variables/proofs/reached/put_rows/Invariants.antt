@@ -1,6 +1,6 @@
 use Rattle.std.proofs.Common.{◌≡◌, ◌++◌, drop, flat_map}
 use Rattle.gq_variables.specs.Helping.UsesPlaces.{row_at}
-use Rattle.gq_variables.specs.Views.{uses_view, rows_view}
+use Rattle.gq_variables.specs.Helping.Views.{uses_view, rows_view}
 use Rattle.gq_variables.proofs.reached.put_rows.Given as goal
 
 abbrev pub invariant-loop-number : goal.invariant-loop-number

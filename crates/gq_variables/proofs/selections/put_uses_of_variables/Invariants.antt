@@ -2,7 +2,7 @@ use Rattle.std.proofs.Common.{◌≡◌, ◌++◌, drop, map}
 use Rattle.gq_tree.specs.Views.{variable_view}
 use Rattle.gq_types.specs.Look.{types_view}
 use Rattle.gq_variables.specs.Helping.UsesPlaces.{variable_uses}
-use Rattle.gq_variables.specs.Views.{uses_view}
+use Rattle.gq_variables.specs.Helping.Views.{uses_view}
 use Rattle.gq_variables.proofs.selections.put_uses_of_variables.Given as goal
 
 abbrev pub invariant-loop-variable : goal.invariant-loop-variable

@@ -1,6 +1,6 @@
 use Rattle.std.proofs.lemmas.Result.{on_ok_weaker}
 use Rattle.gq_types.specs.Look.{types_view}
-use Rattle.gq_variables.specs.Views.{place_view, uses_view}
+use Rattle.gq_variables.specs.Helping.Views.{place_view, uses_view}
 use Rattle.gq_variables.proofs.LiteralUseLemmas.{list_done, object_done}
 use Rattle.gq_variables.proofs.values.+literals.Goals as goal
 

@@ -1,7 +1,7 @@
 use Rattle.std.proofs.Common.{◌≡◌, ◌++◌, drop}
 use Rattle.gq_types.specs.Look.{types_view}
 use Rattle.gq_variables.specs.Helping.UsesPlaces.{item_uses, field_uses}
-use Rattle.gq_variables.specs.Views.{place_view, uses_view}
+use Rattle.gq_variables.specs.Helping.Views.{place_view, uses_view}
 use Rattle.gq_variables.proofs.values.+literals.Given as goal
 
 abbrev pub invariant-put_uses_of_items-loop-value : goal.invariant-put_uses_of_items-loop-value

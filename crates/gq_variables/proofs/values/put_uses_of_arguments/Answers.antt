@@ -1,10 +1,10 @@
 use Rattle.std.proofs.Common.{◌++◌, map}
-use Rattle.gq_values.specs.Helping.ArgumentPlaces.{definitions_view}
+use Rattle.gq_values.specs.ArgumentPlaces.{definitions_view}
 use Rattle.gq_tree.specs.Views.{argument_view}
 use Rattle.gq_types.specs.Look.{types_view}
 use Rattle.gq_values.proofs.Steps.{turn_seen}
 use Rattle.gq_variables.specs.Helping.UsesPlaces.{uses_of_argument, argument_uses}
-use Rattle.gq_variables.specs.Views.{uses_view}
+use Rattle.gq_variables.specs.Helping.Views.{uses_view}
 use Rattle.gq_variables.proofs.values.put_uses_of_arguments.Goals as goal
 
 pub loop-argument-preserved : goal.loop-argument-preserved

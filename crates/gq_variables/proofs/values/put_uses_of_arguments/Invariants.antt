@@ -1,9 +1,9 @@
 use Rattle.std.proofs.Common.{◌≡◌, ◌++◌, drop, map}
-use Rattle.gq_values.specs.Helping.ArgumentPlaces.{definitions_view}
+use Rattle.gq_values.specs.ArgumentPlaces.{definitions_view}
 use Rattle.gq_tree.specs.Views.{argument_view}
 use Rattle.gq_types.specs.Look.{types_view}
 use Rattle.gq_variables.specs.Helping.UsesPlaces.{argument_uses}
-use Rattle.gq_variables.specs.Views.{uses_view}
+use Rattle.gq_variables.specs.Helping.Views.{uses_view}
 use Rattle.gq_variables.proofs.values.put_uses_of_arguments.Given as goal
 
 abbrev pub invariant-loop-argument : goal.invariant-loop-argument

@@ -3,7 +3,7 @@ use Rattle.gq_tree.specs.Views.{directive_view}
 use Rattle.gq_types.specs.Look.{types_view}
 use Rattle.gq_values.proofs.Steps.{turn_seen}
 use Rattle.gq_variables.specs.Helping.UsesPlaces.{uses_of_directive, directive_uses}
-use Rattle.gq_variables.specs.Views.{uses_view}
+use Rattle.gq_variables.specs.Helping.Views.{uses_view}
 use Rattle.gq_variables.proofs.values.put_uses_of_directives.Goals as goal
 
 pub loop-directive-preserved : goal.loop-directive-preserved

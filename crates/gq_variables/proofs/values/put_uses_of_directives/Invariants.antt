@@ -2,7 +2,7 @@ use Rattle.std.proofs.Common.{◌≡◌, ◌++◌, drop, map}
 use Rattle.gq_tree.specs.Views.{directive_view}
 use Rattle.gq_types.specs.Look.{types_view}
 use Rattle.gq_variables.specs.Helping.UsesPlaces.{directive_uses}
-use Rattle.gq_variables.specs.Views.{uses_view}
+use Rattle.gq_variables.specs.Helping.Views.{uses_view}
 use Rattle.gq_variables.proofs.values.put_uses_of_directives.Given as goal
 
 abbrev pub invariant-loop-directive : goal.invariant-loop-directive

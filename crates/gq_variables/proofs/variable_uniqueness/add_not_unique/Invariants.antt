@@ -1,6 +1,6 @@
 use Rattle.std.proofs.Common.{◌≡◌, ◌++◌, drop}
 use Rattle.gq_variables.specs.Helping.VariablePlaces.{not_unique}
-use Rattle.gq_variables.specs.Views.{variables_view}
+use Rattle.gq_variables.specs.Helping.Views.{variables_view}
 use Rattle.gq_variables.proofs.variable_uniqueness.add_not_unique.Given as goal
 
 abbrev pub invariant-loop-one : goal.invariant-loop-one

@@ -1,7 +1,7 @@
 use Rattle.std.proofs.Common.{◌≡◌, ◌++◌, drop, map}
 use Rattle.gq_tree.specs.Views.{variable_view}
 use Rattle.gq_variables.specs.Helping.VariablePlaces.{variable_texts, repeated_variables}
-use Rattle.gq_variables.specs.Views.{variables_view}
+use Rattle.gq_variables.specs.Helping.Views.{variables_view}
 use Rattle.gq_variables.proofs.variables.put_repeated.Given as goal
 
 abbrev pub invariant-loop-variable : goal.invariant-loop-variable

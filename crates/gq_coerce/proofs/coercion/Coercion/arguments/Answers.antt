@@ -3,7 +3,7 @@ use Rattle.gq_tree.specs.Plain.{erase_values}
 use Rattle.gq_tree.specs.Views.{input_view, argument_view}
 use Rattle.gq_types.specs.Look.{types_view}
 use Rattle.gq_table.specs.Views.{entries_view}
-use Rattle.gq_coerce.specs.Views.{inputs_view, part_view}
+use Rattle.gq_coerce.specs.Helping.Views.{inputs_view, part_view}
 use Rattle.gq_coerce.proofs.CoercionLemmas.{arguments_done}
 use Rattle.gq_coerce.proofs.coercion.Coercion.arguments.Goals as goal
 

@@ -1,7 +1,7 @@
 use Rattle.std.proofs.Common.{rules, ap, ◌≡◌, None, length}
 use Rattle.std.proofs.lemmas.List.{nil_from_length}
 use Rattle.gq_rpc.specs.Frames.{contents}
-use Rattle.gq_crew.specs.Inbox.{seen}
+use Rattle.gq_crew.specs.Helping.Inbox.{seen}
 use Rattle.gq_crew.proofs.Reading.{Fills-once, Ready-once, read_smaller}
 use Rattle.gq_crew.proofs.inbox.Pending.fill.Goals as goal
 

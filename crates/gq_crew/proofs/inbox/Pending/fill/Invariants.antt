@@ -1,4 +1,4 @@
-use Rattle.gq_crew.specs.Inbox.{seen, Ready, Fills}
+use Rattle.gq_crew.specs.Helping.Inbox.{seen, Ready, Fills}
 use Rattle.gq_crew.proofs.Bounds.{to_read}
 use Rattle.gq_crew.proofs.inbox.Pending.fill.Given as goal
 

@@ -1,7 +1,7 @@
 use Rattle.std.proofs.Common.{rules, ◌≡◌, ◌<◌, length, get_or, sym, subst, take}
 use Rattle.gq_document.specs.FieldSets.{key}
 use Rattle.gq_merging.specs.Helping.NameTables.{AreByKey, by_name_view}
-use Rattle.gq_merging.specs.Views.{members_view}
+use Rattle.gq_merging.specs.Helping.Views.{members_view}
 use Rattle.gq_merging.proofs.ClassLemmas.{members_more}
 use Rattle.gq_merging.proofs.by_name.FieldsByName.by_key.Goals as goal
 

@@ -2,7 +2,7 @@ use Rattle.std.proofs.Common.{rules, ◌≡◌, ◌<◌, ◌∷◌, [], ◌++◌
 use Rattle.std.specs.List.{position}
 use Rattle.std.specs.Str.{bytes_eq}
 use Rattle.gq_merging.specs.Helping.NameTables.{by_name_view}
-use Rattle.gq_merging.specs.Views.{member_view, members_view}
+use Rattle.gq_merging.specs.Helping.Views.{member_view, members_view}
 use Rattle.gq_merging.proofs.NameLemmas.{listed_first, listed_other, list_there, list_set, list_pushed, place_there}
 use Rattle.gq_merging.proofs.by_name.FieldsByName.put.Goals as goal
 

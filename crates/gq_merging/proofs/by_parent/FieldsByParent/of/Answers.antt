@@ -2,7 +2,7 @@ use Rattle.std.proofs.Common.{rules, ◌≡◌, ◌<◌, [], length, get_or, sym
 use Rattle.gq_types.specs.Look.{types_view}
 use Rattle.gq_merging.specs.Helping.NameTables.{by_name_view}
 use Rattle.gq_merging.specs.Helping.ParentTables.{parent_text, AreByParent}
-use Rattle.gq_merging.specs.Views.{members_view}
+use Rattle.gq_merging.specs.Helping.Views.{members_view}
 use Rattle.gq_merging.proofs.ClassLemmas.{members_more}
 use Rattle.gq_merging.proofs.ParentLemmas.{none_by_parent}
 use Rattle.gq_merging.proofs.by_parent.FieldsByParent.of.Goals as goal

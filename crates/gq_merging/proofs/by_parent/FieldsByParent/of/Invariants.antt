@@ -2,7 +2,7 @@ use Rattle.std.proofs.Common.{take}
 use Rattle.gq_types.specs.Look.{types_view}
 use Rattle.gq_merging.specs.Helping.NameTables.{by_name_view}
 use Rattle.gq_merging.specs.Helping.ParentTables.{AreByParent}
-use Rattle.gq_merging.specs.Views.{members_view}
+use Rattle.gq_merging.specs.Helping.Views.{members_view}
 use Rattle.gq_merging.proofs.by_parent.FieldsByParent.of.Given as goal
 
 abbrev pub invariant-loop-member : goal.invariant-loop-member

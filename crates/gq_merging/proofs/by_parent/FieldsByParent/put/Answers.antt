@@ -6,7 +6,7 @@ use Rattle.gq_types.specs.LookUps.{has_kind}
 use Rattle.gq_types.specs.declared.entry.TypeKind.TheVariants as kind
 use Rattle.gq_merging.specs.Helping.NameTables.{by_name_view}
 use Rattle.gq_merging.specs.Helping.ParentTables.{parent_text, AreByParent}
-use Rattle.gq_merging.specs.Views.{member_view, members_view}
+use Rattle.gq_merging.specs.Helping.Views.{member_view, members_view}
 use Rattle.gq_merging.proofs.ParentLemmas.{by_parent_unknown, by_parent_object, by_parent_other, by_parent_neither, text_is}
 use Rattle.gq_merging.proofs.by_parent.FieldsByParent.put.Goals as goal
 

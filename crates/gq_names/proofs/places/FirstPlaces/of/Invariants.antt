@@ -1,5 +1,5 @@
 use Rattle.std.proofs.Common.{take}
-use Rattle.gq_names.specs.Places.{FindFirstPlaces}
+use Rattle.gq_names.specs.Helping.Places.{FindFirstPlaces}
 use Rattle.gq_names.proofs.places.FirstPlaces.of.Given as goal
 
 -- the places of the names before this one

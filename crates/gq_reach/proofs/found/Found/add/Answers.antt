@@ -1,5 +1,5 @@
 use Rattle.std.proofs.Common.{rules, ◌≡◌, ◌∷◌, [], ◌++◌, true, false, get_or, set, sym, subst}
-use Rattle.gq_reach.specs.Found.{Marked}
+use Rattle.gq_reach.specs.Helping.Found.{Marked}
 use Rattle.gq_reach.proofs.Marking.{visit_marked, added_new}
 use Rattle.gq_reach.proofs.found.Found.add.Goals as goal
 

@@ -1,5 +1,5 @@
 use Rattle.std.proofs.Common.{◌≡◌, take, length}
-use Rattle.gq_reach.specs.Found.{Marked, Grown}
+use Rattle.gq_reach.specs.Helping.Found.{Marked, Grown}
 use Rattle.gq_reach.proofs.found.Found.add_all.Given as goal
 
 abbrev pub invariant-loop-number : goal.invariant-loop-number

@@ -1,7 +1,7 @@
-use Rattle.std.proofs.Common.{◌≡◌, ◌≤◌, sym, ◌∙◌, ap}
+use Rattle.std.proofs.Common.{◌≡◌, ◌≤◌, ◌∙◌, ap}
 use Rattle.std.specs.Option.{IfSome, option_map}
 use Rattle.std.proofs.lemmas.Result.{IfOk-weaker}
-use Rattle.gq_meaning.specs.Helping.Depth.{depth}
+use Rattle.gq_meaning.specs.Depth.{depth}
 use Rattle.gq_table.specs.Rows.{deepest, row_of}
 use Rattle.gq_table.specs.Views.{answer_view, rows_view, call_of}
 use Rattle.gq_table.proofs.IndexLemmas.{within_deepest}

@@ -1,4 +1,4 @@
-use Rattle.gq_types.specs.Tables.{lists_in}
+use Rattle.gq_types.specs.Helping.Tables.{lists_in}
 use Rattle.gq_types.proofs.PartsLemmas.{object_adds, interface_adds, union_adds, enum_adds, input_adds}
 use Rattle.gq_types.proofs.parts.Parts.add_body.Goals as goal
 

@@ -2,7 +2,7 @@ use Rattle.std.proofs.Common.{ap}
 use Rattle.gq_tree.specs.Views.{type_system_view}
 use Rattle.gq_types.specs.Entries.{entry_view, entries_view}
 use Rattle.gq_types.specs.Joined.{body_in}
-use Rattle.gq_types.specs.Tables.{lists_in}
+use Rattle.gq_types.specs.Helping.Tables.{lists_in}
 use Rattle.gq_types.proofs.PartsLemmas.{other_adds}
 use Rattle.gq_types.proofs.TableLemmas.{view_got}
 use Rattle.gq_types.proofs.parts.Parts.add_entry.Goals as goal

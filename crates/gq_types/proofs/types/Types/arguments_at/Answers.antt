@@ -2,8 +2,8 @@ use Rattle.std.proofs.Common.{ap, ◌∙◌, map, length, refl}
 use Rattle.std.proofs.lemmas.Option.{slice_get_read}
 use Rattle.gq_tree.specs.Views.{input_view}
 use Rattle.gq_types.specs.Entries.{entries_view}
-use Rattle.gq_types.specs.Index.{arguments_at}
-use Rattle.gq_types.specs.Tables.{lists_of}
+use Rattle.gq_types.specs.Helping.Index.{arguments_at}
+use Rattle.gq_types.specs.Helping.Tables.{lists_of}
 use Rattle.gq_types.proofs.ArgumentNameLemmas.{names_there, list_there}
 use Rattle.gq_types.proofs.types.Types.arguments_at.Goals as goal
 

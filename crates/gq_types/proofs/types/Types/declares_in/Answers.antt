@@ -1,6 +1,6 @@
 use Rattle.std.proofs.Common.{sym, ◌∙◌}
 use Rattle.gq_types.specs.Look.{types_view, joined_numbers}
-use Rattle.gq_types.specs.Tables.{lists_in, parts_at}
+use Rattle.gq_types.specs.Helping.Tables.{lists_in, parts_at}
 use Rattle.gq_types.proofs.PartLookups.{interface_is}
 use Rattle.gq_types.proofs.PastLast.{no_interface}
 use Rattle.gq_types.proofs.types.Types.declares_in.Goals as goal

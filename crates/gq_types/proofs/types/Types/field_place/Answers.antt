@@ -2,7 +2,7 @@ use Rattle.std.proofs.Common.{ap, sym, ◌∙◌}
 use Rattle.std.specs.Option.{option_and_then}
 use Rattle.gq_types.specs.Joined.{fields_in_body}
 use Rattle.gq_types.specs.Look.{types_view, joined_numbers}
-use Rattle.gq_types.specs.Tables.{lists_in, parts_at, stands_at}
+use Rattle.gq_types.specs.Helping.Tables.{lists_in, parts_at, stands_at}
 use Rattle.gq_types.proofs.PartLookups.{field_is}
 use Rattle.gq_types.proofs.PastLast.{no_field}
 use Rattle.gq_types.proofs.types.Types.field_place.Goals as goal

@@ -1,6 +1,6 @@
 use Rattle.std.proofs.Common.{◌∙◌}
 use Rattle.gq_types.specs.Look.{types_view}
-use Rattle.gq_types.specs.Tables.{lists_in}
+use Rattle.gq_types.specs.Helping.Tables.{lists_in}
 use Rattle.gq_types.proofs.PartLookups.{value_is}
 use Rattle.gq_types.proofs.types.Types.has_value.Goals as goal
 

@@ -2,7 +2,7 @@ use Rattle.std.proofs.Common.{ap, sym, ◌∙◌}
 use Rattle.std.specs.Option.{option_and_then}
 use Rattle.gq_types.specs.Joined.{inputs_in_body}
 use Rattle.gq_types.specs.Look.{types_view, input_of}
-use Rattle.gq_types.specs.Tables.{lists_in, stands_at}
+use Rattle.gq_types.specs.Helping.Tables.{lists_in, stands_at}
 use Rattle.gq_types.proofs.PartLookups.{input_is}
 use Rattle.gq_types.proofs.types.Types.input_field.Goals as goal
 

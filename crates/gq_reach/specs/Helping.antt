@@ -1,0 +1,4 @@
+-- What only helps to prove that the code does what the definitions say. No contract of a public call is about it.
+pub mod Finished
+pub mod Found
+pub mod Mutual

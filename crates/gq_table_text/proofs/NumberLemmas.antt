@@ -1,0 +1,39 @@
+-- Natural numbers in digits alone.
+use Rattle.std.proofs.Common.{◌≡◌, ◌==◌, ◌<◌, ◌^◌, ◌&&◌, ℕ, List, Bool, true, false, drop, get_or, Some, refl, sym, ◌∙◌, ap, arith}
+use Rattle.std.specs.Prelude.{slice_index, if◌then◌else◌, nat_lt, option_map}
+use Rattle.std.proofs.lemmas.Bool.{eqb-true}
+use Rattle.std.proofs.lemmas.Grind.{common_steps}
+use Rattle.json.specs.Json as seen
+use Rattle.json.specs.Find.{as_number}
+use Rattle.fast_float.specs.Text.{Parts, IsInteger, scan, digits_of, minus}
+use Rattle.serde_json.specs.Data.{unsigned, number}
+use Rattle.serde_json.specs.Read.{is_integer, float_of, number_from, number_of}
+use Rattle.gq_table_text.specs.Helping.ReadAs.{IsNatural}
+
+in_digits : (p : Parts) → IsInteger p → digits_of p < 2 ^ 64 → number_from false p ≡ Some (unsigned (digits_of p))
+in_digits p i low = ap (λ (b : Bool). if b then Some (unsigned (digits_of p)) else float_of false p) test
+  where
+    test : (is_integer p && nat_lt (digits_of p) (2 ^ 64)) ≡ true
+    test = grind (arith, common_steps, i.0, i.1, i.2, low)
+
+number_is : (s : List ℕ) → (get_or s 0 0 ≡ 45 → ⊥) → IsInteger (scan s) → digits_of (scan s) < 2 ^ 64 → number_of s ≡ Some (unsigned (digits_of (scan s)))
+unfolding number_of
+number_is s other i low = by_sign (slice_index s 0 == minus) refl
+  where
+    by_sign : (b : Bool) → (slice_index s 0 == minus) ≡ b → (if b then number_from true (scan (drop 1 s)) else number_from false (scan s)) ≡ Some (unsigned (digits_of (scan s)))
+    by_sign true e = absurd (other (eqb-true (slice_index s 0) minus e))
+    by_sign false e = in_digits (scan s) i low
+
+pub natural_seen : (j : seen.Json) (bytes text : List ℕ) (n : ℕ) → Some text ≡ as_number j → bytes ≡ text → (get_or bytes 0 0 ≡ 45 → ⊥) →
+    IsInteger (scan bytes) → digits_of (scan bytes) < 2 ^ 64 → n ≡ digits_of (scan bytes) → n < 2 ^ 63 → IsNatural j n
+natural_seen seen.null bytes text n e same other i low is below = cc
+natural_seen (seen.boolean b) bytes text n e same other i low is below = cc
+natural_seen (seen.number s) bytes text n e same other i low is below =
+    let here : bytes ≡ s = cc in
+    record {
+      is = ap (option_map number) (ap number_of (sym here) ∙ number_is bytes other i low ∙ ap (λ m. Some (unsigned m)) (sym is));
+      low = below;
+    }
+natural_seen (seen.string s) bytes text n e same other i low is below = cc
+natural_seen (seen.array js) bytes text n e same other i low is below = cc
+natural_seen (seen.object ms) bytes text n e same other i low is below = cc

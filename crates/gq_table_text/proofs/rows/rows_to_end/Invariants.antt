@@ -1,0 +1,11 @@
+use Rattle.std.proofs.Common.{length}
+use Rattle.gq_table.specs.Views.{rows_view}
+use Rattle.gq_table_text.specs.Helping.ReadAs.{AreReadBefore}
+use Rattle.gq_table_text.proofs.rows.rows_to_end.Given as goal
+
+-- where the tokens that are left can be read, all can
+abbrev pub invariant-loop-alloc : goal.invariant-loop-alloc
+invariant-loop-alloc l = AreReadBefore l.fn.reader l.reader (rows_view l.rows.items)
+
+abbrev pub decreases-loop-alloc : goal.decreases-loop-alloc
+decreases-loop-alloc l = length l.reader

@@ -1,0 +1,10 @@
+//! Tables read row by row from the bytes of a file, where their rows are written as they mostly are.
+#![tactic(auto)]
+
+mod arguments;
+mod leaves;
+mod outcomes;
+mod row;
+pub mod rows;
+
+pub use rows::read_in_rows;

@@ -1,0 +1,69 @@
+-- What a type system keeps of its entries. No contract of a public call speaks of it.
+use Rattle.std.specs.Prelude.{◌≡◌, ℕ, List, [], ◌∷◌, Option, Some, length, map, option_and_then, slice_get, Vec}
+use Rattle.std.specs.List.{list_any}
+use Rattle.gq_text.specs.declared.place.Span.{Span}
+use Rattle.gq_tree.specs.declared.tree.OperationKind.{OperationKind}
+use Rattle.gq_tree.specs.declared.tree.OperationKind.TheVariants as kind
+use Rattle.gq_tree.specs.declared.type_system.DirectiveLocation.{DirectiveLocation}
+use Rattle.gq_tree.specs.Plain.{InputOf, TypeSystemOf, schema, type_definition, directive_definition}
+use Rattle.gq_tree.specs.Same.{same_locations}
+use Rattle.gq_types.specs.declared.argument_names.ArgumentNames.{ArgumentNames}
+use Rattle.gq_types.specs.declared.parts.Parts.{Parts}
+use Rattle.gq_types.specs.declared.parts.Place.{Place}
+use Rattle.gq_types.specs.declared.roots.RootNames.{RootNames}
+use Rattle.gq_types.specs.declared.uses.Uses.{Uses}
+use Rattle.gq_types.specs.Directives.{locations_in}
+use Rattle.gq_types.specs.Entries.{Text, EntryOf}
+use Rattle.gq_names.specs.UnderNames.{UnderNames, items_under}
+use Rattle.gq_types.specs.Declarers.{declaring_from}
+use Rattle.gq_types.specs.Joined.{fields_in_body, schema_number}
+use Rattle.gq_types.specs.Look.{joined_numbers}
+use Rattle.gq_types.specs.Helping.RequiredNames.{AreRequired, AreNamesOf}
+use Rattle.gq_types.specs.Helping.Tables.{lists_of, AreJoined, AreParts, EachAt, first_root_at}
+
+-- the arguments of each field that it defines, or of the directive
+abbrev pub argument_lists : TypeSystemOf Span → List (List (InputOf Span))
+argument_lists (schema extends description directives roots place) = []
+argument_lists (type_definition extends description name directives body place) = map (λ f. f.arguments) (fields_in_body body)
+argument_lists (directive_definition description name arguments repeatable locations place) = arguments ∷ []
+
+-- those at a place
+abbrev pub arguments_at : List EntryOf → Place → Option (List (InputOf Span))
+arguments_at es place = option_and_then (λ e. slice_get (argument_lists e.definition) place.index) (slice_get es place.entry)
+
+-- names that are kept are those of the arguments at their place
+abbrev pub AreNamesOfEach : List (List (InputOf Span)) → List ArgumentNames → Type 0
+AreNamesOfEach lists names = EachAt (λ i n. (arguments : List (InputOf Span)) → slice_get lists i ≡ Some arguments → AreNamesOf arguments n) names
+
+abbrev pub AreArgumentNames : List EntryOf → List (List ArgumentNames) → Type 0
+AreArgumentNames es lists = EachAt (λ k names. (e : EntryOf) → slice_get es k ≡ Some e → AreNamesOfEach (argument_lists e.definition) names) lists
+
+-- locations that are kept are those of the directive, each at least once
+abbrev pub AreLocationsOf : List DirectiveLocation → List DirectiveLocation → Type 0
+AreLocationsOf all kept = (location : DirectiveLocation) → list_any (same_locations location) kept ≡ list_any (same_locations location) all
+
+pub record AreLocations (es : List EntryOf) (lists : List (List DirectiveLocation)) : Type 0 where
+  pub count : length lists ≡ length es
+  pub each : EachAt (λ k kept. (e : EntryOf) → slice_get es k ≡ Some e → AreLocationsOf (locations_in e.definition) kept) lists
+
+-- what is kept under a kind of operation
+abbrev pub root_name : RootNames → OperationKind → Option Text
+root_name names kind.Query = names.query
+root_name names kind.Mutation = names.mutation
+root_name names kind.Subscription = names.subscription
+
+abbrev pub AreRoots : List EntryOf → List ℕ → RootNames → Type 0
+AreRoots es numbers names = (kind : OperationKind) → root_name names kind ≡ first_root_at es kind numbers
+
+-- what is kept for the uses of definitions
+pub record AreUses (es : List EntryOf) (uses : Uses) : Type 0 where
+  pub required_are : AreRequired es uses.required.items
+  pub arguments_are : AreArgumentNames es (lists_of uses.arguments.items)
+  pub locations_are : AreLocations es (lists_of uses.locations.items)
+  pub roots_are : AreRoots es (joined_numbers es (schema_number es)) uses.roots
+
+pub record IsIndex {Z : Type 0} (es : List EntryOf) (joined : List (Vec ℕ Z)) (parts : List Parts) (declarers : UnderNames ℕ) (uses : Uses) : Type 0 where
+  pub joined_are : AreJoined es (lists_of joined)
+  pub parts_are : AreParts es parts
+  pub declarers_are : (text : Text) → items_under declarers text ≡ declaring_from 0 (map (λ p. p.interfaces) parts) text
+  pub uses_are : AreUses es uses
