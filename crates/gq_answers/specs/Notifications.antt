@@ -2,7 +2,7 @@
 use Rattle.std.specs.Prelude.{◌≡◌, ℕ, List, map, zip, Some}
 use Rattle.gq_project.specs.declared.document.Doc.{Doc}
 use Rattle.gq_found.specs.Codes.{text_of}
-use Rattle.gq_words.specs.Words.{words_of}
+use Rattle.gq_check.specs.Words.{words_of}
 use Rattle.gq_found.specs.declared.found.Found.{Found}
 use Rattle.gq_diagnostics.specs.Diagnostics.{AreDiagnostics}
 use Rattle.gq_rpc.specs.declared.messages.Diagnostic.{Diagnostic}

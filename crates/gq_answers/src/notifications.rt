@@ -4,12 +4,12 @@ ghost use Rattle.gq_edit.specs.Workspace.{AreTexts};
 ghost use Rattle.gq_answers.specs.Notifications.{diagnostic_in, diagnostics_in, messages_of, AreDiagnosticsMessages};
 
 use crate::places::Places;
+use gq_check::words;
 use gq_diagnostics::diagnostics;
 use gq_found::Found;
 use gq_project::{Doc, Project};
 use gq_rpc::{Diagnostic, Outgoing, PublishDiagnosticsParams};
 use gq_text::{Items, NoMemory, OwnedText, Span};
-use gq_words::words;
 use std::alloc::Global;
 
 /// The notifications that tell all that is wrong with each document (LSP 3.17, "PublishDiagnostics Notification"), in the

@@ -6,7 +6,7 @@ use Rattle.gq_text.specs.declared.place.Position.{Position}
 use Rattle.gq_project.specs.Documents.{has_key}
 use Rattle.gq_project.specs.declared.document.Doc.{Doc}
 use Rattle.gq_found.specs.Codes.{text_of}
-use Rattle.gq_words.specs.Words.{words_of}
+use Rattle.gq_check.specs.Words.{words_of}
 use Rattle.gq_found.specs.declared.found.Found.{Found}
 
 -- the text of the document of that key

@@ -3,6 +3,7 @@
 #![tactic(auto)]
 
 pub mod checking;
+pub mod code_words;
 pub mod exec_fault;
 pub mod executing;
 pub mod fault;
@@ -12,8 +13,8 @@ mod judging;
 mod lines;
 
 pub use checking::{check, check_by_threads};
+pub use code_words::words;
 pub use exec_fault::ExecFault;
 pub use executing::exec;
 pub use fault::CheckFault;
 pub use files::File;
-pub use gq_words::words;

@@ -4,10 +4,10 @@ ghost use Rattle.gq_text.specs.Place.{pos};
 ghost use Rattle.gq_check.specs.Lines.{text_at, line_at, line_of, lines_of};
 ghost use Rattle.gq_check.specs.Helping.Starts.{AreStarts, first_key};
 
+use crate::code_words::words;
 use gq_found::Found;
 use gq_project::Project;
 use gq_text::{NoMemory, Position, positions_in};
-use gq_words::words;
 use std::alloc::Global;
 
 /// A line for each of the faults, in order.

@@ -6,6 +6,3 @@ pub mod laws;
 pub mod run;
 
 pub use run::{Ended, RunFault, run_one};
-
-#[cfg(test)]
-mod tests;

@@ -3,4 +3,3 @@ pub mod FragmentCut
 pub mod Constant
 pub mod VariableCut
 pub mod GroupLemmas
-pub mod TreeLemmas

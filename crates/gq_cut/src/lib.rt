@@ -6,6 +6,3 @@ mod group;
 pub mod renames;
 
 pub use renames::{fragment_edit, variable_edit};
-
-#[cfg(test)]
-mod tests;

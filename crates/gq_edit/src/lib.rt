@@ -13,6 +13,3 @@ pub use gq_text::Replacement;
 pub use positions::to_positions;
 pub use replacements::{Replacements, replaced_fits, replaced_text};
 pub use workspace::{TextDocumentEdit, TextEdit, WorkspaceEdit};
-
-#[cfg(test)]
-mod tests;

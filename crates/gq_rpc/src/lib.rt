@@ -30,6 +30,3 @@ pub use messages::{
 };
 pub use reads::{decode, read_message};
 pub use writes::encode;
-
-#[cfg(test)]
-mod tests;

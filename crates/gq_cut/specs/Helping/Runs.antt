@@ -1,5 +1,5 @@
 -- The edits of documents from places in the order of documents, computed.
-use Rattle.std.specs.Prelude.{ℕ, ◌+◌, ◌==◌, Bool, true, false, List, [], ◌∷◌, ◌++◌, map, take, drop, slice_get}
+use Rattle.std.specs.Prelude.{ℕ, ◌+◌, ◌==◌, Bool, List, [], ◌∷◌, ◌++◌, map, take, drop, slice_get}
 use Rattle.std.specs.List.{prefix_len, flat_map}
 use Rattle.std.specs.Option.{option_map_or}
 use Rattle.gq_text.specs.declared.place.Span.{Span}
@@ -8,8 +8,6 @@ use Rattle.gq_tree.specs.Plain.{NameOf, Def}
 use Rattle.gq_project.specs.declared.document.Doc.{Doc}
 use Rattle.gq_edit.specs.declared.edit.DocumentEdit.{DocumentEdit}
 use Rattle.gq_edit.specs.Replacements.{AreDisjoint}
-use Rattle.gq_read.specs.declared.reader.Parsed.{Parsed}
-use Rattle.gq_read.specs.declared.reader.Parsed.TheVariants as reading
 use Rattle.gq_types.specs.Entries.{Text}
 use Rattle.gq_index.specs.declared.occurrence.Occurrence.{Occurrence}
 use Rattle.gq_index.specs.Occurrences.{DefinitionOf, definitions_in, uses_in}
@@ -58,9 +56,3 @@ variable_occurrences d text = occurrences_in_file d.file (definitions_in d.defin
 -- in the definitions of these numbers
 abbrev pub group_occurrences : List DefinitionOf → List ℕ → Text → List Occurrence
 group_occurrences ds group text = flat_map (λ n. option_map_or (λ d. variable_occurrences d text) (slice_get ds n) []) group
-
--- whether a text has a tree
-abbrev pub is_tree : Parsed → Bool
-is_tree (reading.Tree document) = true
-is_tree (reading.Syntax place) = false
-is_tree (reading.Limit place) = false

@@ -1,0 +1,2 @@
+-- What only helps to prove that the tests return.
+pub mod Trees

@@ -1,0 +1,4 @@
+mod cuts;
+mod edits;
+mod messages;
+mod runs;
