@@ -1,4 +1,3 @@
 mod names;
 mod texts;
-mod trees;
 mod words;

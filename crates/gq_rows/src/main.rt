@@ -2,11 +2,15 @@
 //! is answered otherwise, and then, for each file, how many rows it has.
 #![tactic(auto)]
 
+mod arguments;
 mod checks;
 mod documents;
 mod faults;
+mod frames;
+mod graphs;
 mod indexes;
 mod literals;
+mod messages;
 mod no_answer;
 mod pictures;
 mod printed;

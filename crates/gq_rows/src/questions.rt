@@ -1,11 +1,15 @@
 //! What a file of rows asks of each of them.
+use crate::arguments::{tell_fragment_names, tell_same_arguments, tell_same_values};
 use crate::checks::{tell_check, tell_execution, tell_report, tell_validity};
 use crate::documents::{
     tell_definitions, tell_readings, tell_readings_by_threads, tell_selections,
 };
 use crate::faults::{Rules, tell_faults};
+use crate::frames::{tell_frames, tell_key};
+use crate::graphs::tell_graph;
 use crate::indexes::tell_index;
 use crate::literals::tell_literals;
+use crate::messages::tell_message;
 use crate::no_answer::NoAnswer;
 use crate::row::Row;
 use crate::schemas::{tell_answer, tell_schema};
@@ -42,6 +46,13 @@ pub enum Question {
     Tree,
     Place,
     Changes,
+    SameArguments,
+    SameValues,
+    FragmentNames,
+    Graph,
+    Frames,
+    Message,
+    Key,
 }
 
 impl Question {
@@ -77,6 +88,13 @@ impl Question {
             "trees" => Question::Tree,
             "positions" => Question::Place,
             "changes" => Question::Changes,
+            "same_arguments" => Question::SameArguments,
+            "same_values" => Question::SameValues,
+            "fragment_names" => Question::FragmentNames,
+            "graphs" => Question::Graph,
+            "frames" => Question::Frames,
+            "messages" => Question::Message,
+            "keys" => Question::Key,
             _ => return None,
         })
     }
@@ -114,6 +132,13 @@ impl Question {
             Question::Tree => tell_tree(alloc, row, telling),
             Question::Place => tell_place(alloc, row, telling),
             Question::Changes => tell_changed(alloc, row, telling),
+            Question::SameArguments => tell_same_arguments(alloc, row, telling),
+            Question::SameValues => tell_same_values(alloc, row, telling),
+            Question::FragmentNames => tell_fragment_names(alloc, row, telling),
+            Question::Graph => tell_graph(alloc, row, telling),
+            Question::Frames => tell_frames(alloc, row, telling),
+            Question::Message => tell_message(alloc, row, telling),
+            Question::Key => tell_key(alloc, row, telling),
         }
     }
 }

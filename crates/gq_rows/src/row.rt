@@ -75,6 +75,12 @@ impl<'t> Row<'t> {
         self.entries.last().ok_or(NoAnswer)?.text(alloc)
     }
 
+    /// The bytes of its last text.
+    pub fn asked_bytes(&self, alloc: Global) -> Result<Vec<u8>, NoAnswer> {
+        let entry = self.entries.last().ok_or(NoAnswer)?;
+        entry.bytes(alloc)?.ok_or(NoAnswer)
+    }
+
     /// The name of a text, with a colon behind it; nothing of a text without a name.
     pub fn put_key(&self, number: usize, telling: &mut Telling) {
         if let Some(entry) = self.entries.get(number) {
