@@ -13,6 +13,7 @@ import glob
 import os
 import re
 import sys
+import textwrap
 
 TOP = os.path.dirname(os.path.dirname(os.path.abspath(__file__)))
 # title, crate, source file, function
@@ -208,19 +209,31 @@ def below(starts):
     return order, seen
 
 
+def in_order(files):
+    """The files by their crates, as `gq_check Checks, Faults; gq_rules Validity`."""
+    runs = []
+    for crate, inside in files:
+        if not runs or runs[-1][0] != crate:
+            runs.append((crate, []))
+        runs[-1][1].append(inside)
+    return "; ".join(f"{crate} {', '.join(names)}" for crate, names in runs)
+
+
 def page():
     text = [
         "# Definitions",
         "",
-        "Where the server offers an edit for a valid project at stated versions, applying it to those texts gives a valid project in which every operation has, for every",
-        "resolver table and all variables, renamed alike, the same data, key order and error paths; and over every list of changes and worker results, each edit answered",
-        "is exactly its request's at the versions it names. The first two parts of this page are this sentence: as a law of lists of events, and as the claim `headline` of",
-        "`drive`, which the program calls, in each of its clauses on what comes of the events.",
+        "Where the server offers an edit for a valid project at stated versions, applying it to those texts gives a valid",
+        "project in which every operation has, for every resolver table and all variables, renamed alike, the same data, key",
+        "order and error paths; and over every list of changes and worker results, each edit answered is exactly its request's",
+        "at the versions it names. The first two parts of this page are this sentence: as a law of lists of events, and as what",
+        "`drive` ensures, which the program calls (`headline` of `Drives`, `FailsAt` and `TakesTooMany`, however it ends).",
         "",
-        "What a reader must believe, by theorem. The proofs show that the code meets the contracts; that the contracts say what is meant is for a reader",
-        "to see, and these are the definitions that they use, from the top down, and no others. `crate File` is `crates/crate/specs/File.antt`. A theorem is the",
-        "contract of a public function; what an earlier theorem has brought is not told again. Beside these stand the types of the code that they name",
-        "(tokens, trees, documents, messages), and the words of the toolchain's library (lists, numbers, texts).",
+        "What a reader must believe, by theorem. A theorem is the contract of a public function. The proofs show that the code",
+        "meets it; that it says what is meant is for a reader to see. Each part of this page names the files of definitions that",
+        "one contract uses, from the top down, and no others (`gq_check Checks` is `crates/gq_check/specs/Checks.antt`). Below",
+        "it stands what they hold, but for definitions that an earlier part has told. Beside these stand the types of the code",
+        "that they name (tokens, trees, documents, messages), and the words of the toolchain's library (lists, numbers, texts).",
         "",
         "This page is written by `python3 scripts/definitions.py` from the files themselves.",
     ]
@@ -228,14 +241,16 @@ def page():
     for title, crate, source, function in THEOREMS:
         order, seen = below(wanted(*contract(crate, source, function), None))
         new = seen - told
-        told |= seen
-        text += ["", f"## {title}", "", f"`{function}` of {crate} (`crates/{crate}/src/{source}.rt`): {len(seen)} definitions, {len(new)} of them new here.", ""]
+        text += ["", f"## {title}", "", f"`{function}` of {crate} (`crates/{crate}/src/{source}.rt`): {len(seen)} definitions in {len(order)} files. To be read, in order:", ""]
+        text += textwrap.wrap(in_order(order) + ".", 118, break_long_words=False)
+        text += ["", "What they hold:" if not told else f"{len(new)} of the definitions are not told above:", ""]
         text += ["| File | What it holds | Definitions |", "|---|---|---|"]
         for one in order:
             names = [name for name in specs(*one).defined if (*one, name) in new]
             if names:
                 head = " ".join(specs(*one).head).replace("|", "\\|")
                 text.append(f"| {one[0]} {one[1]} | {head} | {', '.join(f'`{name}`' for name in names)} |")
+        told |= seen
     return "\n".join(text) + "\n"
 
 
