@@ -1,3 +1,2 @@
-mod names;
 mod texts;
 mod words;

@@ -4,6 +4,7 @@
 
 mod arguments;
 mod checks;
+mod codes;
 mod documents;
 mod faults;
 mod frames;
@@ -11,9 +12,11 @@ mod graphs;
 mod indexes;
 mod literals;
 mod messages;
+mod names;
 mod no_answer;
 mod pictures;
 mod printed;
+mod projects;
 mod questions;
 mod row;
 mod schemas;

@@ -1,6 +1,7 @@
 //! What a file of rows asks of each of them.
 use crate::arguments::{tell_fragment_names, tell_same_arguments, tell_same_values};
 use crate::checks::{tell_check, tell_execution, tell_report, tell_validity};
+use crate::codes::tell_code;
 use crate::documents::{
     tell_definitions, tell_readings, tell_readings_by_threads, tell_selections,
 };
@@ -10,7 +11,9 @@ use crate::graphs::tell_graph;
 use crate::indexes::tell_index;
 use crate::literals::tell_literals;
 use crate::messages::tell_message;
+use crate::names::{tell_items, tell_names, tell_repeated, tell_spelling};
 use crate::no_answer::NoAnswer;
+use crate::projects::tell_steps;
 use crate::row::Row;
 use crate::schemas::{tell_answer, tell_schema};
 use crate::spreads::tell_spreads;
@@ -53,6 +56,12 @@ pub enum Question {
     Frames,
     Message,
     Key,
+    Names,
+    RepeatedNames,
+    ItemsByName,
+    NameSpelling,
+    Project,
+    Code,
 }
 
 impl Question {
@@ -95,6 +104,12 @@ impl Question {
             "frames" => Question::Frames,
             "messages" => Question::Message,
             "keys" => Question::Key,
+            "names" => Question::Names,
+            "repeated_names" => Question::RepeatedNames,
+            "items_by_name" => Question::ItemsByName,
+            "name_spellings" => Question::NameSpelling,
+            "projects" => Question::Project,
+            "codes" => Question::Code,
             _ => return None,
         })
     }
@@ -139,6 +154,12 @@ impl Question {
             Question::Frames => tell_frames(alloc, row, telling),
             Question::Message => tell_message(alloc, row, telling),
             Question::Key => tell_key(alloc, row, telling),
+            Question::Names => tell_names(alloc, row, telling),
+            Question::RepeatedNames => tell_repeated(alloc, row, telling),
+            Question::ItemsByName => tell_items(alloc, row, telling),
+            Question::NameSpelling => tell_spelling(alloc, row, telling),
+            Question::Project => tell_steps(alloc, row, telling),
+            Question::Code => tell_code(alloc, row, telling),
         }
     }
 }

@@ -1,5 +1,3 @@
 mod check;
 mod found;
 mod graphs;
-mod projects;
-mod rewriting;
