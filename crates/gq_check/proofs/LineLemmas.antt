@@ -9,10 +9,11 @@ use Rattle.std.proofs.lemmas.List.{flat_map_more, get_or-map, length-map, take_m
 use Rattle.std.proofs.lemmas.List.Concat.{flat_map-append}
 use Rattle.std.proofs.lemmas.List.Elements.{All-cons, All-nil, All-head, All-tail}
 use Rattle.gq_text.specs.Place.{pos}
+use Rattle.gq_text.specs.declared.place.PositionEncoding.TheVariants.{Utf16}
 use Rattle.gq_text.specs.declared.place.Position.{Position}
 use Rattle.gq_project.specs.Documents.{has_key}
 use Rattle.gq_project.specs.declared.document.Doc.{Doc}
-use Rattle.gq_found.specs.declared.found.Found.{Found}
+use Rattle.gq_fault.specs.declared.found.Found.{Found}
 use Rattle.gq_check.specs.Lines.{text_in, text_at, line_at, line_of, lines_of}
 use Rattle.gq_check.specs.Helping.Starts.{StartsAt, AreStarts, first_key}
 
@@ -64,7 +65,7 @@ module _ (key text : List ℕ) where
   starts-few last (f ∷ fs) (start ∷ starts) h = let few = starts-few start fs starts h.1 in omega (arith, few)
 
   pub starts-one : (last : ℕ) (found : List Found) (starts : List ℕ) (i d : ℕ) (e : Found) → AreStarts key text last found starts → i < length starts
-      → (get_or found i e).key ≡ key × (pos text (get_or starts i d) ≡ pos text (get_or found i e).span.start)
+      → (get_or found i e).key ≡ key × (pos Utf16 text (get_or starts i d) ≡ pos Utf16 text (get_or found i e).span.start)
   starts-one last found [] i d e h lt = absurd (omega arith)
   starts-one last [] (start ∷ starts) i d e h lt = absurd h
   starts-one last (f ∷ fs) (start ∷ starts) zero d e h lt = (h.0.of_key, h.0.same)
@@ -96,7 +97,7 @@ fits-text_at (d ∷ ds) key all = by_test (has_key key d) (All-head (λ (doc : D
 
 -- one more line
 pub lines-more : (documents : List Doc) (found : List Found) (i : ℕ) (item : Found) (old new before : List ℕ) (position : Position) → i < length found → item ≡ get_or found i item
-    → before ≡ old ++ lines_of documents (take i found) → new ≡ before ++ line_at item position → position ≡ pos (text_at documents item.key) item.span.start
+    → before ≡ old ++ lines_of documents (take i found) → new ≡ before ++ line_at item position → position ≡ pos Utf16 (text_at documents item.key) item.span.start
     → new ≡ old ++ lines_of documents (take (i + 1) found)
 lines-more documents found i item old new before position lt is so_far written at =
     let more : take (i + 1) found ≡ take i found ++ item ∷ [] = take_more found i item lt ∙ ap (λ (f : Found). take i found ++ f ∷ []) (sym is) in
@@ -104,22 +105,22 @@ lines-more documents found i item old new before position lt is so_far written a
     line ∙ ap (λ (xs : List ℕ). xs ++ line_of documents item) so_far ∙ flat_map_more (line_of documents) old (take i found) item ∙ ap (λ (fs : List Found). old ++ lines_of documents fs) (sym more)
 
 -- there are as many positions as starts, and no more than faults
-pub positions-fit : (key text : List ℕ) (found : List Found) (starts : List ℕ) (positions : List Position) → AreStarts key text 0 found starts → positions ≡ map (pos text) starts
+pub positions-fit : (key text : List ℕ) (found : List Found) (starts : List ℕ) (positions : List Position) → AreStarts key text 0 found starts → positions ≡ map (pos Utf16 text) starts
     → (length positions ≡ length starts) × (length positions ≤ length found)
 positions-fit key text found starts positions h are =
     let few = starts-few key text 0 found starts h in
     let same = ap length are in
-    let mapped = length-map starts (pos text) in
+    let mapped = length-map starts (pos Utf16 text) in
     (omega arith, omega arith)
 
 -- the position that was found for a fault is that of its start
 pub position-at : (documents : List Doc) (found : List Found) (text key : List ℕ) (starts : List ℕ) (positions : List Position) (i : ℕ) (item : Found) (d : Position) → AreStarts (first_key found) text 0 found starts
-    → text ≡ text_at documents key → key ≡ first_key found → positions ≡ map (pos text) starts → i < length starts → item ≡ get_or found i item → get_or positions i d ≡ pos (text_at documents item.key) item.span.start
+    → text ≡ text_at documents key → key ≡ first_key found → positions ≡ map (pos Utf16 text) starts → i < length starts → item ≡ get_or found i item → get_or positions i d ≡ pos Utf16 (text_at documents item.key) item.span.start
 position-at documents found text key starts positions i item d h of_text of_key are lt is =
     let one = starts-one (first_key found) text 0 found starts i 0 item h lt in
     let same_key : key ≡ item.key = of_key ∙ sym one.0 ∙ ap (λ (f : Found). f.key) (sym is) in
-    ap (λ (ps : List Position). get_or ps i d) are ∙ get_or-map (pos text) starts i 0 d lt ∙ one.1 ∙ ap (λ (f : Found). pos text f.span.start) (sym is)
-    ∙ ap (λ (t : List ℕ). pos t item.span.start) (of_text ∙ ap (text_at documents) same_key)
+    ap (λ (ps : List Position). get_or ps i d) are ∙ get_or-map (pos Utf16 text) starts i 0 d lt ∙ one.1 ∙ ap (λ (f : Found). pos Utf16 text f.span.start) (sym is)
+    ∙ ap (λ (t : List ℕ). pos Utf16 t item.span.start) (of_text ∙ ap (text_at documents) same_key)
 
 -- the lines of the front, and then those of the others
 pub lines-run : (documents : List Doc) (rest others : List Found) (count : ℕ) (old new whole : List ℕ) → others ≡ drop count rest → new ≡ old ++ lines_of documents (take count rest) → old ++ lines_of documents rest ≡ whole

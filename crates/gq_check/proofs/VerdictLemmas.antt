@@ -1,7 +1,7 @@
 -- A report that is told, and a fault that is told.
 use Rattle.std.proofs.Common.{◌≡◌, ℕ, Bool, false, List, Option, None, Result, Ok, Err, IfOk, IfErr, codes, refl, sym, ap, subst, ◌∙◌}
 use Rattle.gq_project.specs.declared.document.Doc.{Doc}
-use Rattle.gq_found.specs.declared.found.Found.{Found}
+use Rattle.gq_fault.specs.declared.found.Found.{Found}
 use Rattle.gq_rules.specs.declared.report.Report.{Report}
 use Rattle.gq_rules.specs.declared.valid.Invalid.{Invalid}
 use Rattle.gq_rules.specs.declared.valid.Why.{Why}

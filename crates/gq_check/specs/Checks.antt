@@ -2,7 +2,7 @@
 use Rattle.std.specs.Prelude.{◌≡◌, ℕ, List, [], Bool, true, false, Option, None, codes}
 use Rattle.std.specs.Io.KnownBytes.{Appends}
 use Rattle.gq_rpc.specs.Devices.{Sent}
-use Rattle.gq_found.specs.declared.found.Found.{Found}
+use Rattle.gq_fault.specs.declared.found.Found.{Found}
 use Rattle.gq_rules.specs.Validity.{IsReportOf, IsValid, IsInvalid}
 use Rattle.gq_check.specs.declared.fault.CheckFault.{CheckFault}
 use Rattle.gq_check.specs.declared.fault.CheckFault.TheVariants.{Device}

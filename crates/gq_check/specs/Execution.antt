@@ -2,14 +2,14 @@
 use Rattle.std.specs.Prelude.{◌≡◌, ℕ, List, [], ◌++◌, Option, Some, None, codes, is_none, option_and_then, if◌then◌else◌}
 use Rattle.std.specs.Option.{option_map, option_or}
 use Rattle.gq_rpc.specs.Decoding.{body_value}
-use Rattle.gq_found.specs.declared.found.Found.{Found}
+use Rattle.gq_fault.specs.declared.found.Found.{Found}
 use Rattle.gq_rules.specs.Validity.{IsValid, IsInvalid, IsReportOf}
 use Rattle.gq_table.specs.Rows.{RowOf}
 use Rattle.gq_table.specs.Json.{rows_of_json, variables_of_json}
 use Rattle.gq_meaning.specs.Values.{Text, Values}
 use Rattle.gq_response.specs.Responses.{ResponseOf}
 use Rattle.gq_response.specs.Texts.{response_text}
-use Rattle.gq_exec.specs.Executed.{IsExecuted}
+use Rattle.gq_law_rewrites.specs.Executed.{IsExecuted}
 use Rattle.gq_check.specs.declared.fault.CheckFault.TheVariants.{TooMany, TooLarge, Device, NoMemory}
 use Rattle.gq_check.specs.declared.exec_fault.ExecFault.{ExecFault}
 use Rattle.gq_check.specs.declared.exec_fault.ExecFault.TheVariants.{BadTable, BadVariables, Check}

@@ -47,7 +47,7 @@ bytes_in (Some bytes) = bytes.items
 
 -- the document that a file is
 abbrev pub doc_of : File → Doc
-doc_of file = record { key = file.name; uri = file.name; version = pos 1; text = bytes_in file.bytes }
+doc_of file = record { key = file.name; uri = file.name; version = Some (pos 1); text = bytes_in file.bytes }
 
 -- these documents with those of files
 abbrev pub documents_of_each : List Doc → List File → List Doc

@@ -1,7 +1,6 @@
 pub mod Faults
 pub mod Files
 pub mod Lines
-pub mod Words
 pub mod Checks
 pub mod Execution
 pub mod Helping

@@ -3,22 +3,19 @@ ghost use Rattle.std.specs.Prelude.{◌≡◌};
 ghost use Rattle.gq_check.specs.Faults.{fault_line};
 
 use gq_text::NoMemory;
-use thiserror::Error;
+use std::error::Error;
+use std::fmt;
 
 /// Why files are not checked. It is printed as its name.
-#[derive(Clone, Copy, Debug, PartialEq, Eq, Error)]
+#[derive(Clone, Copy, Debug, PartialEq, Eq)]
 pub enum CheckFault {
     /// More than 4,096 names are given.
-    #[error("TooMany")]
     TooMany,
     /// A file has more than 4 MiB.
-    #[error("TooLarge")]
     TooLarge,
     /// A file cannot be read or is not UTF-8, or a write fails.
-    #[error("Device")]
     Device,
     /// A growth was refused.
-    #[error("NoMemory")]
     NoMemory,
 }
 
@@ -35,6 +32,15 @@ impl CheckFault {
         }
     }
 }
+
+impl fmt::Display for CheckFault {
+    fn fmt<W: fmt::Write>(&self, f: &mut fmt::Formatter<W>) -> fmt::Result {
+        let line = self.line().trim_end();
+        f.write_str(line.strip_prefix("gqls: ").unwrap_or(line))
+    }
+}
+
+impl Error for CheckFault {}
 
 impl From<NoMemory> for CheckFault {
     ghost use Rattle.std.specs.Prelude.{◌≡◌};

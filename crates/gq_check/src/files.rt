@@ -82,7 +82,7 @@ fn read_document(alloc: Global, file: &File) -> Result<Doc, CheckFault>
     Ok(Doc {
         key: file.name.copied(alloc)?,
         uri: file.name.copied(alloc)?,
-        version: 1,
+        version: Some(1),
         text: OwnedText::from_str(alloc, text)?,
     })
 }

@@ -3,7 +3,6 @@
 #![tactic(auto)]
 
 pub mod checking;
-pub mod code_words;
 pub mod exec_fault;
 pub mod executing;
 pub mod fault;
@@ -13,7 +12,6 @@ mod judging;
 mod lines;
 
 pub use checking::{check, check_by_threads};
-pub use code_words::words;
 pub use exec_fault::ExecFault;
 pub use executing::exec;
 pub use fault::CheckFault;

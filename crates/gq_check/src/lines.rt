@@ -4,10 +4,10 @@ ghost use Rattle.gq_text.specs.Place.{pos};
 ghost use Rattle.gq_check.specs.Lines.{text_at, line_at, line_of, lines_of};
 ghost use Rattle.gq_check.specs.Helping.Starts.{AreStarts, first_key};
 
-use crate::code_words::words;
-use gq_found::Found;
+use gq_diagnostics::words;
+use gq_fault::Found;
 use gq_project::Project;
-use gq_text::{NoMemory, Position, positions_in};
+use gq_text::{NoMemory, Position, PositionEncoding, positions_in};
 use std::alloc::Global;
 
 /// A line for each of the faults, in order.
@@ -45,7 +45,7 @@ fn write_run(
 {
     let text = text_of(project, found[0].key.as_str());
     let starts = front_starts(alloc, text, found)?;
-    let positions = positions_in(alloc, text, &starts)?;
+    let positions = positions_in(alloc, PositionEncoding::Utf16, text, &starts)?;
     for (index, position) in positions.iter().enumerate() {
         write_line(&found[index], *position, lines)?;
     }
@@ -56,10 +56,7 @@ fn write_run(
 fn text_of<'a>(project: &'a Project, key: &str) -> &'a str
     ensures { result.now ≡ text_at project.now key.now }
 {
-    match project.get(key) {
-        Some(doc) => doc.text.as_str(),
-        None => "",
-    }
+    project.text(key).unwrap_or("")
 }
 
 /// Where the faults at the front start that have the key of the first and never start before the one in front of them: a

@@ -10,7 +10,7 @@ use Rattle.gq_tree.specs.declared.value.Value.{Value}
 use Rattle.gq_tree.specs.declared.value.ObjectField.{ObjectField}
 use Rattle.gq_tree.specs.declared.value.Value.TheVariants as variant
 use Rattle.gq_tree.proofs.Trees.{view_list, view_object}
-use Rattle.gq_meaning.specs.Response.{item_of}
+use Rattle.gq_tree.specs.Wrapping.{item_of}
 use Rattle.gq_tree.specs.NamedTypes.{base_name}
 use Rattle.gq_meaning.specs.Values.{Text, Values}
 use Rattle.gq_types.specs.Entries.{EntryOf}

@@ -13,13 +13,13 @@ use Rattle.gq_tree.specs.declared.type_system.InputValueDefinition.{InputValueDe
 use Rattle.gq_meaning.specs.Values as value
 use Rattle.gq_meaning.specs.Values.{Text}
 use Rattle.gq_meaning.specs.Directives.{entry_of}
-use Rattle.gq_meaning.specs.Response.{item_of}
+use Rattle.gq_tree.specs.Wrapping.{item_of}
 use Rattle.gq_tree.specs.NamedTypes.{base_name}
 use Rattle.std.specs.Prelude.{◌||◌, not, is_none, find, option_and_then}
 use Rattle.std.specs.List.{list_any}
 use Rattle.gq_types.specs.Entries.{EntryOf}
 use Rattle.gq_types.specs.Names.{input_named}
-use Rattle.gq_values.specs.Literals.{is_built_in_scalar}
+use Rattle.gq_types.specs.BuiltIn.{is_built_in_scalar}
 use Rattle.gq_types.specs.Joined.{In, kind_named, inputs_of, type_number}
 use Rattle.gq_types.specs.declared.entry.TypeKind.{TypeKind}
 use Rattle.gq_types.specs.declared.entry.TypeKind.TheVariants as kind

@@ -9,12 +9,13 @@ use Rattle.gq_tree.specs.Plain.{Val, Vals, TypeOf, named, list_of, non_null, Inp
 use Rattle.gq_lex.specs.Decoding.{string_at, raw_at}
 use Rattle.gq_lex.specs.Values.{block_value}
 use Rattle.gq_types.specs.Entries.{EntryOf}
-use Rattle.gq_types.specs.Required.{is_non_null}
+use Rattle.gq_tree.specs.Wrapping.{is_non_null}
 use Rattle.gq_types.specs.declared.entry.TypeKind.{TypeKind}
 use Rattle.gq_types.specs.declared.entry.TypeKind.TheVariants as kind
 use Rattle.gq_types.specs.Joined.{kind_named, type_number, inputs_of, inputs_in_body, body_in}
 use Rattle.gq_types.specs.Names.{has_value}
-use Rattle.gq_values.specs.Literals.{is_int_32, is_built_in_scalar, is_list, is_object_literal}
+use Rattle.gq_types.specs.BuiltIn.{is_built_in_scalar}
+use Rattle.gq_values.specs.Literals.{is_int_32, is_list, is_object_literal}
 use Rattle.gq_meaning.specs.Values as value
 use Rattle.gq_meaning.specs.Values.{Text, Value, Values}
 use Rattle.gq_meaning.specs.Selected.{Arguments}
@@ -121,14 +122,10 @@ formed s (list_of item) says parts =
 formed s (non_null inner) says parts = formed s inner says parts
 
 -- null, and the null that a variable has, are faults where the type has none
-abbrev pub is_null_says : value.Says → Bool
-is_null_says value.null = true
-is_null_says _ = false
-
 abbrev pub unless_null : TypeOf Span → Coerced → Coerced
 unless_null t absent = absent
 unless_null t fault = fault
-unless_null t (given v) = if is_non_null t then (if is_null_says v.label.says then fault else given v) else given v
+unless_null t (given v) = if is_non_null t then (if value.is_null v.label.says then fault else given v) else given v
 
 abbrev pub at_type_value : Setting → TypeOf Span → Says → (ReadAt → List Part) → Coerced
 at_type_value s t (tree.variable n place) parts = unless_null t (variable_value s.variables n.text)

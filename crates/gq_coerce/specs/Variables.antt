@@ -11,7 +11,8 @@ use Rattle.gq_types.specs.declared.entry.TypeKind.{TypeKind}
 use Rattle.gq_types.specs.declared.entry.TypeKind.TheVariants as kind
 use Rattle.gq_types.specs.Joined.{kind_named}
 use Rattle.gq_types.specs.Names.{has_value}
-use Rattle.gq_values.specs.Literals.{is_int_32, is_built_in_scalar}
+use Rattle.gq_types.specs.BuiltIn.{is_built_in_scalar}
+use Rattle.gq_values.specs.Literals.{is_int_32}
 use Rattle.gq_meaning.specs.Values as value
 use Rattle.gq_meaning.specs.Values.{Text, Value, Values}
 use Rattle.gq_meaning.specs.Directives.{entry_of}

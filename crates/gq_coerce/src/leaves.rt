@@ -10,8 +10,8 @@ ghost use Rattle.gq_coerce.specs.Leaves.{at_built_in, at_enum, at_kind, leaf_at,
 use gq_table::Leaf;
 use gq_table::numbers::{decimal, is_int};
 use gq_text::{NoMemory, SmallText};
-use gq_types::{TypeKind, Types};
-use gq_values::fitting::{is_built_in_scalar, is_int_32};
+use gq_types::{TypeKind, Types, is_built_in_scalar};
+use gq_values::fitting::is_int_32;
 use std::alloc::Global;
 
 /// What a result is written as at the leaf type of that name, where it fits.

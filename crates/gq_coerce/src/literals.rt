@@ -18,12 +18,11 @@ use crate::inputs::input_fields;
 use crate::parts::{Part, names_of, part_named, parts_of_fields};
 use crate::scalars::{scalar_value, value_of_enum, variable_value};
 use crate::setting::{Setting, within};
-use crate::wrapping::{is_non_null, item_type, unless_null, wrapped_to};
+use crate::wrapping::{unless_null, wrapped_to};
 use gq_table::{Entry, Value};
 use gq_text::NoMemory;
 use gq_tree::{InputValueDefinition, TypeRef, Value as Literal, base_name};
-use gq_types::TypeKind;
-use gq_values::fitting::is_built_in_scalar;
+use gq_types::{TypeKind, is_built_in_scalar};
 use std::alloc::Global;
 
 /// A literal at a type.
@@ -42,7 +41,7 @@ pub(crate) fn literal_value(
             Ok(unless_null(type_ref, value))
         }
         Form::Null => Ok(unless_null(type_ref, Coerced::Given(Value::Null))),
-        Form::List(items) => match item_type(type_ref) {
+        Form::List(items) => match type_ref.item_type() {
             Some(item) => {
                 let items = list_items(alloc, setting, item, items)?;
                 Ok(list_of(items))
@@ -100,7 +99,7 @@ fn list_items(
 ) -> Result<Option<Vec<Value>>, NoMemory>
     ensures { IfOk result (λ o. option_map (λ vs. map given_value vs.items) o ≡ items_of (missing_item (type_view type_ref.now)) (read_all (setting_view setting.entry) (row (map bare items.now)) (at_type (type_view type_ref.now)))) }
 {
-    let has_null = !is_non_null(type_ref);
+    let has_null = !type_ref.is_non_null();
     let mut values = Vec::new(alloc);
     for item in items {
         let coerced = literal_value(alloc, setting, type_ref, item)?;
@@ -196,7 +195,7 @@ fn default_value(
             literal_value(alloc, within(setting), type_ref, literal)
         }
         None => {
-            if is_non_null(type_ref) {
+            if type_ref.is_non_null() {
                 return Ok(Coerced::Fault);
             }
             Ok(Coerced::Absent)

@@ -20,12 +20,11 @@ use crate::literals::or_default;
 use crate::raw_scalars::{enum_input, scalar_input};
 use crate::setting::Setting;
 use crate::values::{entry_named, entry_names};
-use crate::wrapping::{item_type, unless_null, wrapped_to};
+use crate::wrapping::{unless_null, wrapped_to};
 use gq_table::{Entry, Value};
 use gq_text::NoMemory;
 use gq_tree::{InputValueDefinition, TypeRef, Value as Literal, base_name};
-use gq_types::{TypeKind, Types};
-use gq_values::fitting::is_built_in_scalar;
+use gq_types::{TypeKind, Types, is_built_in_scalar};
 use std::alloc::Global;
 
 /// A value at a type.
@@ -43,7 +42,7 @@ pub(crate) fn raw_value(
         Value::Null => Ok(unless_null(type_ref, Coerced::Given(Value::Null))),
         Value::Leaf(_) => single(alloc, setting, type_ref, value),
         Value::Enum(_) => single(alloc, setting, type_ref, value),
-        Value::List(items) => match item_type(type_ref) {
+        Value::List(items) => match type_ref.item_type() {
             Some(item) => {
                 let items = raw_items(alloc, setting, item, items)?;
                 Ok(list_of(items))

@@ -11,11 +11,11 @@ use Rattle.gq_tree.specs.Plain.{Def}
 use Rattle.gq_project.specs.declared.document.Doc.{Doc}
 use Rattle.gq_project.specs.Documents.{has_key}
 use Rattle.gq_parse.specs.Derives.{Derives}
-use Rattle.gq_found.specs.declared.found.Found.{Found}
+use Rattle.gq_fault.specs.declared.found.Found.{Found}
 use Rattle.gq_types.specs.Entries.{Text, EntryOf}
 use Rattle.gq_types.proofs.Gathered.{nothing_in}
 use Rattle.gq_schema.specs.SchemaOf.{IsTypeSystemOf, HasNoFault, IsFaulty}
-use Rattle.gq_document.proofs.OneReading.{OneTree}
+use Rattle.gq_parse.proofs.OneReading.{OneTree}
 use Rattle.gq_completion.specs.declared.completion.Completion.{Completion}
 use Rattle.gq_completion.specs.declared.completion.CompletionKind.{CompletionKind}
 use Rattle.gq_completion.specs.Helping.Completed.{AreCompleted}

@@ -16,7 +16,7 @@ use Rattle.gq_types.proofs.Gathered.{nothing_in, first, later, only, cases_cons,
 use Rattle.gq_types.proofs.PartLemmas.{from_parts, to_parts}
 use Rattle.gq_document.specs.Selections.{FieldOf, typename, typename_field, is_composite_named, field_on, selected_field}
 use Rattle.gq_completion.specs.Completions.{IsFieldIn}
-use Rattle.gq_sets.specs.Sets.{SetOf}
+use Rattle.gq_document.specs.Sets.{SetOf}
 use Rattle.gq_completion.specs.Sets.{innermost, is_within_one}
 use Rattle.gq_completion.specs.Helping.FieldNames.{own_name, own_names_at, own_names, typename_on, names_on}
 

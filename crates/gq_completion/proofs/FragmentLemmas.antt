@@ -6,7 +6,7 @@ use Rattle.gq_text.specs.declared.place.Span.{Span}
 use Rattle.gq_tree.specs.Plain.{Def, operation, fragment, type_system}
 use Rattle.gq_project.specs.declared.document.Doc.{Doc}
 use Rattle.gq_parse.specs.Derives.{Derives}
-use Rattle.gq_document.proofs.OneReading.{OneTree}
+use Rattle.gq_parse.proofs.OneReading.{OneTree}
 use Rattle.gq_types.specs.Entries.{Text}
 use Rattle.gq_types.proofs.Gathered.{nothing_in, first, later, only, from_flat, to_flat}
 use Rattle.gq_completion.specs.Completions.{DefinesFragment, defines, HasFragment, IsFragmentName}

@@ -12,9 +12,9 @@ use Rattle.gq_types.specs.Roots.{root_of}
 use Rattle.gq_types.proofs.Gathered.{nothing_in, cases_cons}
 use Rattle.gq_document.specs.Selections.{parent_below}
 use Rattle.gq_completion.specs.Laws.{EnclosesAlone}
-use Rattle.gq_sets.specs.Sets.{SetOf, set_in, braces_in, sets_among, sets_of}
+use Rattle.gq_document.specs.Sets.{SetOf, set_in, braces_in, sets_among, sets_of}
 use Rattle.gq_completion.specs.Sets.{encloses, innermost}
-use Rattle.gq_sets.specs.Last.{find_last}
+use Rattle.gq_document.specs.Last.{find_last}
 
 -- an item of a list, and those behind it
 data At {A : Type 0} : List A → A → List A → Type 0 where

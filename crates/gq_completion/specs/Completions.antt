@@ -16,7 +16,7 @@ use Rattle.gq_completion.specs.declared.completion.Completion.{Completion}
 use Rattle.gq_completion.specs.declared.completion.CompletionKind.{CompletionKind}
 use Rattle.gq_completion.specs.declared.completion.CompletionKind.TheVariants.{Field, Variable, Fragment}
 use Rattle.gq_completion.specs.Tokens.{typed_from, kind_at, IsOtherVariable}
-use Rattle.gq_sets.specs.Sets.{SetOf}
+use Rattle.gq_document.specs.Sets.{SetOf}
 use Rattle.gq_completion.specs.Sets.{innermost, is_within_one}
 
 -- the definition defines a fragment of that name (section 2.8)

@@ -3,7 +3,7 @@ use Rattle.std.specs.Prelude.{◌≡◌, ℕ, true, false, List, Some, Contains}
 use Rattle.gq_text.specs.declared.place.Span.{Span}
 use Rattle.gq_tree.specs.Plain.{Def}
 use Rattle.gq_types.specs.Entries.{EntryOf}
-use Rattle.gq_sets.specs.Sets.{SetOf, sets_among}
+use Rattle.gq_document.specs.Sets.{SetOf, sets_among}
 use Rattle.gq_completion.specs.Sets.{encloses, innermost}
 
 -- its braces enclose the offset, and those of no set in it do

@@ -4,8 +4,8 @@ use Rattle.gq_text.specs.declared.place.Span.{Span}
 use Rattle.gq_tree.specs.Forest.{none, more}
 use Rattle.gq_tree.specs.Plain.{Head, field, spread, inline, Sels, Def}
 use Rattle.gq_types.specs.Entries.{EntryOf}
-use Rattle.gq_sets.specs.Last.{find_last}
-use Rattle.gq_sets.specs.Sets.{SetOf, sets_of}
+use Rattle.gq_document.specs.Last.{find_last}
+use Rattle.gq_document.specs.Sets.{SetOf, sets_of}
 
 -- the offset stands between the braces: at the end of `{`, at the start of `}`, or between the two
 abbrev pub encloses : ℕ → SetOf → Bool

@@ -1,7 +1,7 @@
 -- Where in the tokens of a text an offset stands, in bytes.
 use Rattle.std.specs.Prelude.{◌≡◌, ◌≢◌, ℕ, Bool, true, false, ◌&&◌, nat_lt, nat_le, List, ◌∷◌, ◌++◌, Option, Some, find}
 use Rattle.std.specs.Option.{option_map, option_map_or}
-use Rattle.gq_sets.specs.Last.{find_last}
+use Rattle.gq_document.specs.Last.{find_last}
 use Rattle.gq_lex.specs.declared.token.Kind.{Kind}
 use Rattle.gq_lex.specs.declared.token.Kind.TheVariants.{Name, Dollar, Spread}
 use Rattle.gq_lex.specs.Tokens.{Lexeme}

@@ -3,11 +3,11 @@ ghost use Rattle.std.specs.Prelude.{◌≡◌, ◌&&◌, nat_lt, IfOk};
 ghost use Rattle.std.specs.Option.{option_map};
 ghost use Rattle.gq_tree.specs.Views.{sel_view, sels_view, document_view};
 ghost use Rattle.gq_types.specs.Look.{types_view};
-ghost use Rattle.gq_sets.specs.SetViews.{set_view, sets_view};
-ghost use Rattle.gq_sets.specs.Last.{find_last};
+ghost use Rattle.gq_document.specs.SetViews.{set_view, sets_view};
+ghost use Rattle.gq_document.specs.Last.{find_last};
 ghost use Rattle.gq_completion.specs.Sets.{encloses, innermost, place_in, is_within_one};
 
-use gq_sets::{SetIn, sets_in};
+use gq_document::{SetIn, sets_in};
 use gq_text::{NoMemory, Span};
 use gq_tree::{Document, Selection};
 use gq_types::Types;

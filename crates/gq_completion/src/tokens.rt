@@ -2,7 +2,7 @@
 ghost use Rattle.std.specs.Prelude.{◌≡◌, map, nat_le};
 ghost use Rattle.std.specs.Option.{option_map};
 ghost use Rattle.gq_lex.specs.Tokens.{lexeme_of};
-ghost use Rattle.gq_sets.specs.Last.{find_last};
+ghost use Rattle.gq_document.specs.Last.{find_last};
 ghost use Rattle.gq_completion.specs.Tokens.{is_typed_at, typed_from, token_before, kind_behind, kind_at};
 
 use crate::completion::CompletionKind;

@@ -15,17 +15,17 @@ use Rattle.gq_tree.specs.Views.{document_view}
 use Rattle.gq_project.specs.declared.document.Doc.{Doc}
 use Rattle.gq_parse.specs.Derives.{Derives}
 use Rattle.gq_parse.proofs.UniqueDocuments.{same_document}
-use Rattle.gq_read.specs.declared.reader.Parsed.{Parsed}
-use Rattle.gq_read.specs.declared.reader.Parsed.TheVariants as reading
-use Rattle.gq_read.specs.Parsed.{IsParsed, AreParsed}
-use Rattle.gq_read.specs.Parsed as readings
-use Rattle.gq_document.specs.Definitions.{definitions_read, in_document, in_documents}
+use Rattle.gq_tree.specs.declared.parsed.Parsed.{Parsed}
+use Rattle.gq_tree.specs.declared.parsed.Parsed.TheVariants as reading
+use Rattle.gq_parse.specs.Parsed.{IsParsed, AreParsed}
+use Rattle.gq_parse.specs.Parsed as readings
+use Rattle.gq_tree.specs.Readings.{definitions_read, in_document, in_documents}
 use Rattle.gq_index.specs.declared.occurrence.Occurrence.{Occurrence}
 use Rattle.gq_index.specs.Occurrences.{DefinitionOf, AreExecutables, executable_in, executables, occurrences_of, fragment_occurrences}
-use Rattle.gq_rewrite.specs.Renamings.{Renaming, fragment_called}
-use Rattle.gq_rewrite.specs.Changed.{changed_in_document}
-use Rattle.gq_rewrite.specs.Projects.{AreTrees, none, more, number_behind}
-use Rattle.gq_rewrite.proofs.Called.{document_called}
+use Rattle.gq_renamed.specs.Renamings.{Renaming, fragment_called}
+use Rattle.gq_renamed.specs.Changed.{changed_in_document}
+use Rattle.gq_renamed.specs.Projects.{AreTrees, none, more, number_behind}
+use Rattle.gq_renamed.proofs.Called.{document_called}
 use Rattle.gq_cut.specs.Helping.Runs.{occurrences_at, changed_occurrences}
 
 pub one_tree : (text : List ℕ) (a b : List (Def Span)) → Derives text a → Derives text b → a ≡ b

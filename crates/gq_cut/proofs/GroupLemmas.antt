@@ -7,8 +7,8 @@ use Rattle.std.proofs.lemmas.Option.{slice_get_past}
 use Rattle.gq_text.specs.declared.place.Span.{Span}
 use Rattle.gq_types.specs.Entries.{Text}
 use Rattle.gq_index.specs.declared.occurrence.Occurrence.{Occurrence}
-use Rattle.gq_index.specs.Occurrences.{DefinitionOf, definition_places, definitions_in, uses_in, variable_definitions, variable_uses}
-use Rattle.gq_cut.specs.Helping.Runs.{occurrences_in_file, variable_occurrences}
+use Rattle.gq_index.specs.Occurrences.{DefinitionOf, definition_places, definitions_in, uses_in, variable_definitions, variable_uses, occurrences_in_file}
+use Rattle.gq_cut.specs.Helping.Runs.{variable_occurrences}
 
 -- what stands in the definition of a number, in the document of its place
 abbrev Both : List DefinitionOf → ℕ → Text → ℕ → Type 0

@@ -15,12 +15,12 @@ use Rattle.gq_edit.specs.declared.edit.DocumentEdit.{DocumentEdit}
 use Rattle.gq_edit.specs.Replacements.{AreDisjoint}
 use Rattle.gq_edit.specs.Edits.{AreInOrder}
 use Rattle.gq_index.specs.declared.occurrence.Occurrence.{Occurrence}
-use Rattle.gq_rewrite.specs.Renamings.{Renaming, MayName}
-use Rattle.gq_rewrite.specs.Changed.{changed_in_document, replacements_of}
-use Rattle.gq_rewrite.specs.Rewritten.{rename_replacements, Rewrites}
-use Rattle.gq_rewrite.specs.Projects.{AreTrees, none, more, edit_if_any, number_behind, rename_edits}
-use Rattle.gq_rewrite.proofs.Renaming.{renamed_texts_read}
-use Rattle.gq_rewrite.proofs.ProjectRenaming.{renamed_projects_read}
+use Rattle.gq_renamed.specs.Renamings.{Renaming, MayName}
+use Rattle.gq_renamed.specs.Changed.{changed_in_document, replacements_of}
+use Rattle.gq_renamed.specs.Rewritten.{rename_replacements, Rewrites}
+use Rattle.gq_renamed.specs.Projects.{AreTrees, none, more, edit_if_any, number_behind, rename_edits}
+use Rattle.gq_renamed.proofs.Renaming.{renamed_texts_read}
+use Rattle.gq_renamed.proofs.ProjectRenaming.{renamed_projects_read}
 use Rattle.gq_cut.specs.Helping.Runs.{stands_in, run, behind, replacements_at, edits_at, AreApart, occurrences_at, changed_occurrences}
 
 -- places of another document

@@ -13,18 +13,18 @@ use Rattle.gq_text.specs.declared.place.Span.{Span}
 use Rattle.gq_tree.specs.Forest.{labels, labels_in}
 use Rattle.gq_tree.specs.Plain.{NameOf, Says, Part, Val, DirectiveOf, VariableOf, Head, Sels, Def, variable, int, float, string, boolean, null, enum, list, object, field, spread, inline, operation, fragment, type_system}
 use Rattle.gq_project.specs.declared.document.Doc.{Doc}
-use Rattle.gq_read.specs.declared.reader.Parsed.{Parsed}
-use Rattle.gq_read.specs.Parsed.{AreParsed}
-use Rattle.gq_read.specs.Parsed as readings
-use Rattle.gq_document.specs.Definitions.{in_document}
+use Rattle.gq_tree.specs.declared.parsed.Parsed.{Parsed}
+use Rattle.gq_parse.specs.Parsed.{AreParsed}
+use Rattle.gq_parse.specs.Parsed as readings
+use Rattle.gq_tree.specs.Readings.{in_document}
 use Rattle.gq_index.specs.declared.occurrence.Occurrence.{Occurrence}
 use Rattle.gq_index.specs.VariableNames.{says_variable, part_variable, value_variables, argument_variables, directive_variables, head_variables, selection_variables, used_variables, defined_variables}
 use Rattle.gq_index.specs.Occurrences.{DefinitionOf, AreExecutables, executable_in, places_called, definitions_in, uses_in}
-use Rattle.gq_rewrite.specs.Renamings.{Renaming, variable_called, nothing_renamed, MayName}
-use Rattle.gq_rewrite.specs.Renamed.{next_number}
-use Rattle.gq_rewrite.specs.Changed.{changed_name, changed_in_says, changed_in_part, changed_in_value, changed_in_arguments, changed_in_directives, changed_in_head, changed_in_selections, changed_in_def, changed_in_document}
-use Rattle.gq_rewrite.specs.Projects.{AreTrees, none, more, number_behind}
-use Rattle.gq_rewrite.proofs.Regrammar.{nothing_in, nothing_in_arguments, nothing_in_directives}
+use Rattle.gq_renamed.specs.Renamings.{Renaming, variable_called, nothing_renamed, MayName}
+use Rattle.gq_renamed.specs.Renamed.{next_number}
+use Rattle.gq_renamed.specs.Changed.{changed_name, changed_in_says, changed_in_part, changed_in_value, changed_in_arguments, changed_in_directives, changed_in_head, changed_in_selections, changed_in_def, changed_in_document}
+use Rattle.gq_renamed.specs.Projects.{AreTrees, none, more, number_behind}
+use Rattle.gq_renamed.proofs.Regrammar.{nothing_in, nothing_in_arguments, nothing_in_directives}
 use Rattle.gq_cut.specs.Cut.{variable_in}
 use Rattle.gq_cut.specs.Helping.Runs.{occurrences_at, changed_occurrences, variable_occurrences, group_occurrences}
 use Rattle.gq_cut.proofs.Constant.{IsConstant, document_constant}

@@ -4,8 +4,8 @@ use Rattle.std.specs.List.{list_any}
 use Rattle.gq_text.specs.declared.place.Span.{Span}
 use Rattle.gq_tree.specs.Plain.{Def}
 use Rattle.gq_project.specs.declared.document.Doc.{Doc}
-use Rattle.gq_rewrite.specs.Renamings.{Renaming, variable_called, nothing_renamed}
-use Rattle.gq_rewrite.specs.Projects.{AreTrees}
+use Rattle.gq_renamed.specs.Renamings.{Renaming, variable_called, nothing_renamed}
+use Rattle.gq_renamed.specs.Projects.{AreTrees}
 
 -- each of the documents has a tree
 pub record HaveTrees (documents : List Doc) : Type 0 where

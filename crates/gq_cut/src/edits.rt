@@ -2,7 +2,7 @@
 ghost use Rattle.std.specs.Prelude.{◌≡◌, ◌++◌, ◌≤◌, IfOk, OnOk, length};
 ghost use Rattle.std.specs.List.{prefix_len};
 ghost use Rattle.gq_edit.specs.Replacements.{AreDisjoint};
-ghost use Rattle.gq_rewrite.specs.Projects.{edit_if_any};
+ghost use Rattle.gq_renamed.specs.Projects.{edit_if_any};
 ghost use Rattle.gq_cut.specs.Helping.Runs.{stands_in, replacements_at, edits_at, AreApart};
 
 use gq_edit::{DocumentEdit, Replacements};

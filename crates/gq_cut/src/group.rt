@@ -1,24 +1,13 @@
 //! Where a variable stands in the definitions of a group.
-ghost use Rattle.std.specs.Prelude.{◌≡◌, ◌++◌, [], List, IfOk, OnOk, map, slice_get};
+ghost use Rattle.std.specs.Prelude.{◌≡◌, ◌++◌, [], List, IfOk, OnOk, slice_get};
 ghost use Rattle.std.specs.Option.{option_map_or};
-ghost use Rattle.gq_index.specs.declared.occurrence.Occurrence.{Occurrence};
 ghost use Rattle.gq_index.specs.Indexed.{IsIndexOf};
 ghost use Rattle.gq_index.specs.Occurrences.{DefinitionOf};
-ghost use Rattle.gq_cut.specs.Helping.Runs.{occurrences_in_file, variable_occurrences, group_occurrences};
+ghost use Rattle.gq_cut.specs.Helping.Runs.{variable_occurrences, group_occurrences};
 
-use gq_index::{Index, Occurrence};
-use gq_text::{NoMemory, Span};
+use gq_index::{Index, Occurrence, put_spans};
+use gq_text::NoMemory;
 use std::alloc::Global;
-
-/// Puts these places of a document behind the others.
-fn put_spans(file: usize, spans: &[Span], places: &mut Vec<Occurrence>) -> Result<(), NoMemory>
-    ensures { OnOk result (places.new.items ≡ places.old.items ++ occurrences_in_file file spans.now) }
-{
-    for span in spans {
-        places.push(Occurrence { file, span: *span })?;
-    }
-    Ok(())
-}
 
 /// Puts the places of the variable in the definition of that number behind the others.
 fn put_variable(

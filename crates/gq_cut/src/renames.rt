@@ -6,8 +6,8 @@ ghost use Rattle.gq_lex.specs.declared.token.Kind.TheVariants as kind;
 ghost use Rattle.gq_lex.specs.Tokens.{IsToken};
 ghost use Rattle.gq_tree.specs.Plain.{Def};
 ghost use Rattle.gq_index.specs.Indexed.{IsIndexOfProject};
-ghost use Rattle.gq_rewrite.specs.Renamings.{fragment_called};
-ghost use Rattle.gq_rewrite.specs.Projects.{AreTrees, rename_edits};
+ghost use Rattle.gq_renamed.specs.Renamings.{fragment_called};
+ghost use Rattle.gq_renamed.specs.Projects.{AreTrees, rename_edits};
 ghost use Rattle.gq_cut.specs.Cut.{HaveTrees, variable_in};
 
 use crate::edits::edits_at;

@@ -1,18 +1,21 @@
 -- One more that is found is put into the list of its document alone.
-use Rattle.std.proofs.Common.{◌≡◌, ◌<◌, ℕ, zero, suc, Bool, true, false, List, [], ◌∷◌, ◌++◌, Some, None, Option, length, get_or, set, map, take, drop, refl, sym, ap, ◌∙◌, subst, arith}
-use Rattle.std.specs.Prelude.{filter, find, if◌then◌else◌}
-use Rattle.std.specs.List.{AllByRecursion, HoldsAt}
+use Rattle.std.proofs.Common.{◌≡◌, ◌<◌, ℕ, zero, suc, Bool, true, false, cond, List, [], ◌∷◌, ◌++◌, Some, None, Option, length, get_or, set, map, take, drop, refl, sym, ap, ◌∙◌, subst, arith}
+use Rattle.std.specs.Prelude.{nat_lt, filter, find, position, if◌then◌else◌}
+use Rattle.std.specs.List.{AllByRecursion, HoldsAt, position_or_len}
 use Rattle.std.specs.List.Sorted.{IsStrictlySortedBy}
 use Rattle.std.specs.Str.{bytes_eq}
 use Rattle.std.specs.Cmp.Lexicographic.{slice_cmp, bytes_decides, texts_ties}
 use Rattle.std.specs.Ordering.{nat_cmp, is_eq}
 use Rattle.std.specs.declared.cmp.Ordering.TheVariants.{Less}
 use Rattle.std.proofs.lemmas.List.{append-nil, length-set}
+use Rattle.std.proofs.lemmas.Bool.Decides.{nat_tests}
 use Rattle.std.proofs.lemmas.List.Elements.{filter-append}
+use Rattle.std.proofs.lemmas.List.Folds.{find_at}
+use Rattle.std.proofs.lemmas.List.Quantifiers.{position-Some}
+use Rattle.std.proofs.lemmas.Option.{slice_get_past}
 use Rattle.gq_project.specs.declared.document.Doc.{Doc}
 use Rattle.gq_project.specs.Documents.{IsInOrder, has_key}
-use Rattle.gq_project.specs.Helping.Places.{IsPlaceOf}
-use Rattle.gq_found.specs.declared.found.Found.{Found}
+use Rattle.gq_fault.specs.declared.found.Found.{Found}
 use Rattle.gq_diagnostics.specs.Diagnostics.{found_in}
 use Rattle.gq_diagnostics.specs.Helping.Parted.{IsAt, IsWhere}
 
@@ -81,16 +84,17 @@ put_there told one (d ∷ ds) (suc k) order l at =
     ap (λ xs. found_in told d ∷ xs) (put_there told one ds k order.1 within (λ e. at e)) ∙ ap (λ (x : List Found). x ∷ map (found_in (told ++ one ∷ [])) ds) (sym (elsewhere told one d other))
 
 -- where a search finds a document
-passes_by_test : (p : Doc → Bool) (d y : Doc) (ds : List Doc) → (find p ds ≡ Some y → p y ≡ true) → (t : Bool) → p d ≡ t → (if t then Some d else find p ds) ≡ Some y → p y ≡ true
-passes_by_test p d y ds rest true e h = let same : d ≡ y = cc in ap p (sym same) ∙ e
-passes_by_test p d y ds rest false e h = rest h
-
-passes : (p : Doc → Bool) (ds : List Doc) (y : Doc) → find p ds ≡ Some y → p y ≡ true
-passes p [] y h = absurd (cc)
-passes p (d ∷ ds) y h = passes_by_test p d y ds (λ g. passes p ds y g) (p d) refl h
-
-pub is_at : (ds : List Doc) (key : List ℕ) (k : ℕ) → IsPlaceOf (λ (d : Doc). d.key) key ds k → IsAt ds key k
-is_at ds key k place = record { in_range = place.in_range; here = λ e. (bytes_decides _ key).0 (passes (has_key key) ds _ (place.here e)) }
+pub is_where : (ds : List Doc) (key : List ℕ) (place : Option ℕ) → place ≡ position (has_key key) ds → IsWhere ds key place
+is_where ds key None e = absent (nat_lt (position_or_len (has_key key) ds) (length ds)) refl (sym e)
+  where
+    absent : (b : Bool) → nat_lt (position_or_len (has_key key) ds) (length ds) ≡ b → cond b (Some (position_or_len (has_key key) ds)) None ≡ None → find (has_key key) ds ≡ None
+    absent true t h = absurd (cc)
+    absent false t h = find_at (has_key key) ds ∙ slice_get_past ds (position_or_len (has_key key) ds) (grind (arith, nat_tests))
+is_where ds key (Some k) e = record { in_range = within (nat_lt (position_or_len (has_key key) ds) (length ds)) refl (sym e); here = λ d. (bytes_decides _ key).0 (position-Some (has_key key) ds k d (sym e)).1 }
+  where
+    within : (b : Bool) → nat_lt (position_or_len (has_key key) ds) (length ds) ≡ b → cond b (Some (position_or_len (has_key key) ds)) None ≡ Some k → k < length ds
+    within true t h = let same : position_or_len (has_key key) ds ≡ k = cc in grind (arith, nat_tests)
+    within false t h = absurd (cc)
 
 -- what a search tells, of a key that it was asked for
 pub nowhere : (ds : List Doc) (key name : List ℕ) (result : Option ℕ) → IsWhere ds name result → result ≡ None → name ≡ key → find (has_key key) ds ≡ None

@@ -2,7 +2,7 @@
 use Rattle.std.specs.Prelude.{◌≡◌, List, map, filter}
 use Rattle.std.specs.Str.{bytes_eq}
 use Rattle.gq_project.specs.declared.document.Doc.{Doc}
-use Rattle.gq_found.specs.declared.found.Found.{Found}
+use Rattle.gq_fault.specs.declared.found.Found.{Found}
 use Rattle.gq_rules.specs.Validity.{IsReportOf}
 
 -- what stands of a report in a document, in its order

@@ -1,2 +1,3 @@
 pub mod Diagnostics
 pub mod Helping
+pub mod Words

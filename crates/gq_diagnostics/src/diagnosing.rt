@@ -3,7 +3,7 @@ ghost use Rattle.std.specs.Prelude.{IfOk};
 ghost use Rattle.gq_diagnostics.specs.Diagnostics.{AreDiagnostics};
 
 use crate::parting::parted;
-use gq_found::Found;
+use gq_fault::Found;
 use gq_project::Project;
 use gq_rules::validate;
 use gq_text::{Items, NoMemory};
@@ -14,5 +14,5 @@ pub fn diagnostics(alloc: Global, project: &Project) -> Result<Vec<Items<Found>>
     ensures { IfOk result (λ all. AreDiagnostics project.now all.items) }
 {
     let report = validate(alloc, project)?;
-    parted(alloc, report.found, project.documents())
+    parted(alloc, project, report.found)
 }

@@ -2,7 +2,7 @@
 use denote.Ref.{NamedLft}
 use denote.Param.Send.{IsSend, IsSync, sendable}
 use Rattle.std.proofs.Crossing.{crosses}
-use Rattle.gq_read.proofs.Crossing.{Operation-field_send, Operation-field_sync, Fragment-field_send, Fragment-field_sync, TypeSystemDefinition-field_sync}
+use Rattle.gq_tree.proofs.Crossing.{Operation-field_send, Operation-field_sync, Fragment-field_send, Fragment-field_sync, TypeSystemDefinition-field_sync}
 use Rattle.gq_document.specs.contracts.executable.Executable as Executable
 use Rattle.gq_document.specs.contracts.definitions.OperationEntry as OperationEntry
 use Rattle.gq_document.specs.contracts.definitions.FragmentEntry as FragmentEntry

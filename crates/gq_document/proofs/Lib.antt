@@ -1,3 +1,3 @@
 pub mod SelectionLemmas
 pub mod Crossing
-pub mod OneReading
+pub mod LastLemmas

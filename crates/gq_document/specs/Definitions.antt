@@ -1,14 +1,13 @@
 -- The definitions of a project's documents (section 2.2), each with the document that it stands in.
-use Rattle.std.specs.Prelude.{ℕ, List, [], ◌∷◌, Option, map, flat_map}
-use Rattle.std.specs.List.{enumerate_from}
+use Rattle.std.specs.Prelude.{ℕ, List, [], ◌∷◌, Option, map}
 use Rattle.std.specs.Option.{option_map}
 use Rattle.gq_text.specs.declared.place.Span.{Span}
 use Rattle.gq_tree.specs.declared.tree.OperationKind.{OperationKind}
 use Rattle.gq_tree.specs.Plain.{NameOf, VariableOf, DirectiveOf, Sels, Def, operation, fragment, type_system}
-use Rattle.gq_tree.specs.Views.{name_of, variable_view, directive_view, sels_view, def_view}
+use Rattle.gq_tree.specs.Views.{name_of, variable_view, directive_view, sels_view}
 use Rattle.gq_types.specs.Entries.{EntryOf}
-use Rattle.gq_read.specs.declared.reader.Parsed.{Parsed}
-use Rattle.gq_read.specs.declared.reader.Parsed.TheVariants as reading
+use Rattle.gq_tree.specs.declared.parsed.Parsed.{Parsed}
+use Rattle.gq_tree.specs.Readings.{in_documents}
 use Rattle.gq_document.specs.declared.definitions.OperationEntry.{OperationEntry}
 use Rattle.gq_document.specs.declared.definitions.FragmentEntry.{FragmentEntry}
 
@@ -50,19 +49,6 @@ abbrev pub entry_in : ℕ → Def Span → List EntryOf
 entry_in file (operation kind name variables directives set braces place) = []
 entry_in file (fragment name on directives set braces place) = []
 entry_in file (type_system definition) = record { file = file; definition = definition } ∷ []
-
--- the definitions of a document as it is read; none where it has no tree
-abbrev pub definitions_read : Parsed → List (Def Span)
-definitions_read (reading.Tree document) = map def_view document.definitions.items
-definitions_read (reading.Syntax place) = []
-definitions_read (reading.Limit place) = []
-
--- what the definitions of the documents are, the first document having the number 0
-abbrev pub in_document : {A : Type 0} → (ℕ → Def Span → List A) → ℕ → Parsed → List A
-in_document what file reading = flat_map (what file) (definitions_read reading)
-
-abbrev pub in_documents : {A : Type 0} → (ℕ → Def Span → List A) → List Parsed → List A
-in_documents what readings = flat_map (λ r. in_document what r.0 r.1) (enumerate_from 0 readings)
 
 abbrev pub operations_of : List Parsed → List OperationOf
 operations_of readings = in_documents operation_in readings

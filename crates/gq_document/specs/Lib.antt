@@ -5,3 +5,6 @@ pub mod Views
 pub mod Executable
 pub mod FieldSets
 pub mod Helping
+pub mod Last
+pub mod Sets
+pub mod SetViews

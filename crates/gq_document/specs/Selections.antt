@@ -4,7 +4,7 @@ use Rattle.std.specs.Prelude.{◌≡◌, ℕ, Bool, false, List, [], ◌∷◌, 
 use Rattle.std.specs.Option.{option_map, option_map_or}
 use Rattle.gq_text.specs.declared.place.Span.{Span}
 use Rattle.gq_tree.specs.Forest.{none, more}
-use Rattle.gq_tree.specs.Plain.{TypeOf, named, non_null, InputOf, Head, field, spread, inline, Sel, Sels}
+use Rattle.gq_tree.specs.Plain.{TypeOf, named, non_null, InputOf, Head, field, spread, inline, Sel, Sels, Def, operation, fragment, type_system}
 use Rattle.gq_types.specs.Entries.{Text, EntryOf}
 use Rattle.gq_types.specs.Kinds.{is_composite}
 use Rattle.gq_types.specs.Joined.{kind_named}
@@ -89,3 +89,8 @@ operation_selections es o = selected_among es o.file (root_of es o.kind) o.set
 
 abbrev pub fragment_selections : List EntryOf → FragmentOf → List SelectedOf
 fragment_selections es f = selected_among es f.file (Some f.on.text) f.set
+
+abbrev pub selections_of : List EntryOf → ℕ → Def Span → List SelectedOf
+selections_of es file (operation kind name variables directives set braces place) = selected_among es file (root_of es kind) set
+selections_of es file (fragment name on directives set braces place) = selected_among es file (Some on.text) set
+selections_of es file (type_system definition) = []

@@ -2,11 +2,11 @@
 ghost use Rattle.std.specs.Prelude.{◌≡◌, ◌++◌, IfOk, OnOk, flat_map, map};
 ghost use Rattle.gq_tree.specs.Views.{def_view};
 ghost use Rattle.gq_types.specs.Entries.{entries_view};
-ghost use Rattle.gq_document.specs.Definitions.{operation_in, fragment_in, entry_in, in_document, operations_of, fragments_of, entries_of, operations_view, fragments_view};
+ghost use Rattle.gq_tree.specs.Readings.{in_document};
+ghost use Rattle.gq_document.specs.Definitions.{operation_in, fragment_in, entry_in, operations_of, fragments_of, entries_of, operations_view, fragments_view};
 
-use gq_read::Parsed;
 use gq_text::NoMemory;
-use gq_tree::{Definition, Fragment, Operation};
+use gq_tree::{Definition, Fragment, Operation, Parsed};
 use gq_types::Entry;
 use std::alloc::Global;
 

@@ -77,3 +77,13 @@ pub fn selected_field<'a>(
         None => None,
     }
 }
+
+/// The name of the type of a field of that name, without lists and non-null.
+pub(crate) fn type_below<'a>(types: &'a Types, parent: Option<&str>, name: &str) -> Option<&'a str>
+    ensures { text_of result ≡ option_map (λ f. base_name f.type_ref) (selected_field (types_view types.now) (text_of parent.entry) name.now) }
+{
+    match selected_field(types, parent, name) {
+        Some(field) => Some(field.base_name()),
+        None => None,
+    }
+}

@@ -6,8 +6,10 @@ pub mod executable;
 pub mod fields;
 pub mod laws;
 pub mod selections;
+pub mod sets;
 
 pub use definitions::{Definitions, FragmentEntry, OperationEntry};
 pub use executable::Executable;
 pub use fields::{SelectedField, field_on, is_composite_named, selected_field};
-pub use selections::{Selected, fragment_selections, operation_selections};
+pub use selections::{Selected, fragment_selections, operation_selections, selections_of};
+pub use sets::{SetIn, sets_in};

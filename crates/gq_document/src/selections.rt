@@ -1,18 +1,16 @@
 //! The selections of operations and fragments, each with the type of its parent (GraphQL, October 2021, section 5.3).
 ghost use Rattle.std.specs.Prelude.{◌≡◌, ◌++◌, IfOk, OnOk};
-ghost use Rattle.std.specs.Option.{option_map};
-ghost use Rattle.gq_tree.specs.Views.{sel_view, sels_view};
+ghost use Rattle.gq_tree.specs.Views.{sel_view, sels_view, def_view};
 ghost use Rattle.gq_types.specs.Look.{types_view, text_of};
 ghost use Rattle.gq_document.specs.Definitions.{operation_view, fragment_view};
-ghost use Rattle.gq_document.specs.Selections.{selected_field, selected_among, operation_selections, fragment_selections};
-ghost use Rattle.gq_tree.specs.NamedTypes.{base_name};
+ghost use Rattle.gq_document.specs.Selections.{selected_among, operation_selections, fragment_selections, selections_of};
 ghost use Rattle.gq_document.specs.Helping.Trees.{selected_in};
 ghost use Rattle.gq_document.specs.Views.{selections_view};
 
 use crate::definitions::{FragmentEntry, OperationEntry};
-use crate::fields::selected_field;
+use crate::fields::type_below;
 use gq_text::NoMemory;
-use gq_tree::Selection;
+use gq_tree::{Definition, Selection};
 use gq_types::Types;
 use std::alloc::Global;
 
@@ -25,16 +23,6 @@ pub struct Selected<'a> {
     pub file: usize,
     pub parent: Option<&'a str>,
     pub selection: &'a Selection,
-}
-
-/// The name of the type of a field of that name, without lists and non-null.
-fn type_below<'a>(types: &'a Types, parent: Option<&str>, name: &str) -> Option<&'a str>
-    ensures { text_of result ≡ option_map (λ f. base_name f.type_ref) (selected_field (types_view types.now) (text_of parent.entry) name.now) }
-{
-    match selected_field(types, parent, name) {
-        Some(field) => Some(field.base_name()),
-        None => None,
-    }
 }
 
 #[cycle(selections)]
@@ -117,4 +105,28 @@ pub fn fragment_selections<'a>(
     let all = &fragment.definition.set.items;
     put_selections(types, fragment.file, parent, all, &mut selections)?;
     Ok(selections)
+}
+
+/// The selections of a definition of that document at any depth, in the order of the text.
+pub fn selections_of<'a>(
+    alloc: Global,
+    types: &'a Types,
+    file: usize,
+    definition: &'a Definition,
+) -> Result<Vec<Selected<'a>>, NoMemory>
+    ensures { IfOk result (λ all. selections_view all.items ≡ selections_of (types_view types.now) file (def_view definition.now)) }
+{
+    let mut all = Vec::new(alloc);
+    match definition {
+        Definition::Operation(operation) => {
+            let parent = types.root(operation.kind);
+            put_selections(types, file, parent, &operation.set.items, &mut all)?;
+        }
+        Definition::Fragment(fragment) => {
+            let parent = Some(fragment.on.text.as_str());
+            put_selections(types, file, parent, &fragment.set.items, &mut all)?;
+        }
+        Definition::TypeSystem(_) => {}
+    }
+    Ok(all)
 }

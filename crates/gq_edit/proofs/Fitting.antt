@@ -1,6 +1,6 @@
 -- That edits fit their documents, seen from an edit and from a document, and that documents stay in order when edited.
 use Rattle.std.proofs.Common.{◌≡◌, ℕ, Bool, true, false, ◌&&◌, List, [], ◌∷◌, Option, Some, None, find, Contains, refl, subst}
-use Rattle.std.specs.Option.{ForSome, option_map_or}
+use Rattle.std.specs.Option.{ForSome, option_eq, option_map_or}
 use Rattle.std.specs.Str.{bytes_eq}
 use Rattle.std.specs.Cmp.Lexicographic.{slice_cmp, bytes_decides}
 use Rattle.std.specs.List.{AllByRecursion}
@@ -36,8 +36,8 @@ pub document_of-itself : (docs : List Doc) (edit : DocumentEdit) (doc : Doc) →
 document_of-itself docs edit doc h place passes =
     let parts = and_parts _ _ passes in
     let same : doc.key ≡ edit.key = (bytes_decides doc.key edit.key).0 parts.0 in
-    subst (λ (k : List ℕ). find (λ d. bytes_eq d.key k && int_eq d.version edit.version) docs ≡ Some doc) same
-    (find-itself (λ d. d.key) (λ d. int_eq d.version edit.version) docs doc h place parts.1)
+    subst (λ (k : List ℕ). find (λ d. bytes_eq d.key k && option_eq int_eq d.version edit.version) docs ≡ Some doc) same
+    (find-itself (λ d. d.key) (λ d. option_eq int_eq d.version edit.version) docs doc h place parts.1)
 
 -- the edit of a document fits it
 pub fit_document : (docs : List Doc) (edits : List DocumentEdit) (doc : Doc) → IsInOrder docs → FitDocuments docs edits → Contains docs doc

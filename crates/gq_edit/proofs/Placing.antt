@@ -6,6 +6,7 @@ use Rattle.std.proofs.lemmas.List.Elements.{All-cons, All-nil, All-weaker}
 use Rattle.std.proofs.lemmas.List.{length-map}
 use Rattle.gq_text.specs.Place.{pos}
 use Rattle.gq_text.specs.declared.place.Position.{Position}
+use Rattle.gq_text.specs.declared.place.PositionEncoding.{PositionEncoding}
 use Rattle.gq_text.specs.declared.replacement.Replacement.{Replacement}
 use Rattle.gq_edit.specs.Replacements.{AreDisjoint, AreDisjointFrom, FitText}
 use Rattle.gq_edit.specs.Helping.Ends.{ends_of, placed}
@@ -49,14 +50,14 @@ ends_of-ascend_from from (r ∷ rs) h =
 pub ends_of-ascend : (rs : List Replacement) → AreDisjoint rs → IsNonDecreasing (ends_of rs)
 ends_of-ascend rs h = ends_of-ascend_from 0 rs h
 
-placed-ends_of : (text : List ℕ) (rs : List Replacement) → placed rs (map (pos text) (ends_of rs)) ≡ map (text_edit_of text) rs
-placed-ends_of text [] = refl
-placed-ends_of text (r ∷ rs) = ap (λ es. text_edit_of text r ∷ es) (placed-ends_of text rs)
+placed-ends_of : (encoding : PositionEncoding) (text : List ℕ) (rs : List Replacement) → placed rs (map (pos encoding text) (ends_of rs)) ≡ map (text_edit_of encoding text) rs
+placed-ends_of encoding text [] = refl
+placed-ends_of encoding text (r ∷ rs) = ap (λ es. text_edit_of encoding text r ∷ es) (placed-ends_of encoding text rs)
 
 -- the positions of the ends, two for each replacement, are those of its own span
-module _ (text : List ℕ) (rs : List Replacement) (ends : List ℕ) (positions : List Position) (are_ends : ends ≡ ends_of rs) (are_positions : positions ≡ map (pos text) ends) where
+module _ (encoding : PositionEncoding) (text : List ℕ) (rs : List Replacement) (ends : List ℕ) (positions : List Position) (are_ends : ends ≡ ends_of rs) (are_positions : positions ≡ map (pos encoding text) ends) where
   pub length-positions : length positions ≡ 2 * length rs
-  length-positions = rw (are_positions, are_ends) (length-map (ends_of rs) (pos text) ∙ length-ends_of rs)
+  length-positions = rw (are_positions, are_ends) (length-map (ends_of rs) (pos encoding text) ∙ length-ends_of rs)
 
-  pub placed-positions : placed rs positions ≡ map (text_edit_of text) rs
-  placed-positions = rw (are_positions, are_ends) (placed-ends_of text rs)
+  pub placed-positions : placed rs positions ≡ map (text_edit_of encoding text) rs
+  placed-positions = rw (are_positions, are_ends) (placed-ends_of encoding text rs)

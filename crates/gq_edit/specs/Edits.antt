@@ -1,6 +1,6 @@
 -- Edits of documents at stated versions, and projects after them.
 use Rattle.std.specs.Prelude.{ℕ, ◌^◌, Bool, false, ◌&&◌, nat_lt, is_none, length, List, map, find, Option, option_map}
-use Rattle.std.specs.Option.{option_map_or, option_or, ForSome}
+use Rattle.std.specs.Option.{option_map_or, option_or, option_eq, ForSome}
 use Rattle.std.specs.Str.{bytes_eq}
 use Rattle.std.specs.Cmp.Lexicographic.{slice_cmp}
 use Rattle.std.specs.List.{AllByRecursion}
@@ -17,9 +17,9 @@ use Rattle.gq_edit.specs.Replacements.{FitText}
 abbrev pub AreInOrder : List DocumentEdit → Type 0
 AreInOrder edits = IsStrictlySortedBy (λ a b. slice_cmp nat_cmp a.key b.key) edits
 
--- the edit is of this document: it states its key and its version
+-- the edit is of this document: it states its key and its version, or none where the document has none
 abbrev pub is_of : Doc → DocumentEdit → Bool
-is_of doc edit = bytes_eq doc.key edit.key && int_eq doc.version edit.version
+is_of doc edit = bytes_eq doc.key edit.key && option_eq int_eq doc.version edit.version
 
 -- the document that is edited, if it is there at that version
 abbrev pub document_of : List Doc → DocumentEdit → Option Doc

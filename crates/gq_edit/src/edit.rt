@@ -1,6 +1,6 @@
 //! Edits of documents at stated versions, and why they cannot be applied.
 ghost use Rattle.std.specs.Prelude.{◌≡◌, find, IfOk, IfErr};
-ghost use Rattle.std.specs.Option.{option_copied};
+ghost use Rattle.std.specs.Option.{option_copied, option_eq};
 ghost use Rattle.std.specs.Ordering.{int_eq};
 ghost use Rattle.std.specs.Str.{bytes_eq};
 ghost use Rattle.gq_project.specs.Helping.Places.{IsPlaceOf, IsGapFor};
@@ -11,19 +11,19 @@ use gq_text::{NoMemory, OwnedText};
 use std::marker::Model;
 use thiserror::Error;
 
-/// Replacements in the text of a document at a version.
+/// Replacements in the text of a document at a version, or at none where the document has none.
 #[derive(Debug, Drop)]
 pub struct DocumentEdit {
     /// The document's key.
     pub key: OwnedText,
-    pub version: i64,
+    pub version: Option<i64>,
     pub replacements: Replacements,
 }
 
 impl DocumentEdit {
     /// Whether the edit states the version of this document.
     pub fn has_version_of(&self, doc: &Doc) -> bool
-        ensures { result ≡ int_eq doc.now.version self.now.version }
+        ensures { result ≡ option_eq int_eq doc.now.version self.now.version }
     {
         doc.version == self.version
     }
@@ -104,11 +104,16 @@ impl Edit {
 #[derive(Debug, Drop, PartialEq, Eq, Error)]
 pub enum EditFault {
     /// No document has this key at this version.
-    #[error("document not at version {version}: {}", .key.as_str())]
-    Moved { key: OwnedText, version: i64 },
+    #[error("document not at the stated version: {}", .key.as_str())]
+    Moved {
+        key: OwnedText,
+        version: Option<i64>,
+    },
     /// The edited text of the document of this key would pass 4 MiB.
     #[error("document too large: {}", .key.as_str())]
-    TooLarge { key: OwnedText },
+    TooLarge {
+        key: OwnedText,
+    },
     /// A growth was refused.
     #[error("no memory")]
     NoMemory,

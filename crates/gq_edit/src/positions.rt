@@ -9,24 +9,25 @@ use crate::applying::document;
 use crate::edit::{DocumentEdit, Edit};
 use crate::workspace::{TextDocumentEdit, TextEdit, WorkspaceEdit};
 use gq_project::{Doc, Project};
-use gq_text::{Items, NoMemory, Position, Range, Replacement, positions_in};
+use gq_text::{Items, NoMemory, Position, PositionEncoding, Range, Replacement, positions_in};
 use std::alloc::Global;
 
 /// The edits of the documents that are there at their versions, with the positions of both ends of each span
 /// (LSP 3.17, WorkspaceEdit). Each text is gone over once.
 pub fn to_positions(
     alloc: Global,
+    encoding: PositionEncoding,
     project: &Project,
     edit: &Edit,
 ) -> Result<WorkspaceEdit, NoMemory>
     requires fit { FitDocuments project.now edit.now }
     requires texts { AreTexts project.now }
-    ensures { IfOk result (λ edits. edits ≡ workspace_edit_of project.now edit.now) }
+    ensures { IfOk result (λ edits. edits ≡ workspace_edit_of encoding project.now edit.now) }
 {
     let mut document_changes = Items::new(alloc);
     for document_edit in edit.documents() {
         if let Some(doc) = document(project, document_edit) {
-            document_changes.push(document_positions(alloc, doc, document_edit)?)?;
+            document_changes.push(document_positions(alloc, encoding, doc, document_edit)?)?;
         }
     }
     Ok(WorkspaceEdit { document_changes })
@@ -35,16 +36,17 @@ pub fn to_positions(
 /// The edits of a document, with positions in its text.
 fn document_positions(
     alloc: Global,
+    encoding: PositionEncoding,
     doc: &Doc,
     edit: &DocumentEdit,
 ) -> Result<TextDocumentEdit, NoMemory>
     requires fit { FitText doc.now.text edit.now.replacements }
     requires text { length doc.now.text ≤ 2 ^ 22 }
-    ensures { IfOk result (λ edits. edits ≡ document_edit_of edit.now doc.now) }
+    ensures { IfOk result (λ edits. edits ≡ document_edit_of encoding edit.now doc.now) }
 {
     let replacements = edit.replacements.as_slice();
     let ends = ends_in_order(alloc, replacements)?;
-    let positions = positions_in(alloc, doc.text.as_str(), &ends)?;
+    let positions = positions_in(alloc, encoding, doc.text.as_str(), &ends)?;
     Ok(TextDocumentEdit {
         uri: doc.uri.copied(alloc)?,
         version: doc.version,

@@ -9,11 +9,12 @@ pub struct TextEdit {
     pub new_text: OwnedText,
 }
 
-/// The edits of a document at a version (LSP 3.17, TextDocumentEdit).
+/// The edits of a document at a version, or at none (LSP 3.17, TextDocumentEdit and
+/// OptionalVersionedTextDocumentIdentifier).
 #[derive(Drop)]
 pub struct TextDocumentEdit {
     pub uri: OwnedText,
-    pub version: i64,
+    pub version: Option<i64>,
     pub edits: Items<TextEdit>,
 }
 

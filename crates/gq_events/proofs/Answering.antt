@@ -9,7 +9,7 @@ use Rattle.gq_rpc.specs.declared.messages.Outgoing.TheVariants as outgoing
 use Rattle.gq_rpc.specs.declared.messages.Question.{Question}
 use Rattle.gq_rpc.specs.declared.messages.ResponseError.{ResponseError}
 use Rattle.gq_events.specs.declared.refusals.Denial.{Denial}
-use Rattle.gq_answers.specs.Answers.{IsAnswer, AreDiagnosticsMessages}
+use Rattle.gq_replies.specs.Answers.{IsAnswer, AreDiagnosticsMessages}
 use Rattle.gq_events.specs.declared.effect.Effect.{Effect}
 use Rattle.gq_events.specs.declared.event.Answer.{Answer}
 use Rattle.gq_events.specs.declared.event.Answer.TheVariants as answer
@@ -17,6 +17,7 @@ use Rattle.gq_events.specs.declared.event.Out.{Out}
 use Rattle.gq_events.specs.declared.event.Out.TheVariants as out
 use Rattle.gq_events.specs.declared.event.Task.{Task}
 use Rattle.gq_events.specs.declared.event.Task.TheVariants as task
+use Rattle.gq_events.specs.Positions.{position_encoding}
 use Rattle.gq_events.specs.Tasks.{Answers}
 use Rattle.gq_events.specs.Rules.{Session, changed_by, session_after, own, failed, answered}
 
@@ -32,11 +33,11 @@ quiet s denied e f outs is stays nothing = subst (λ (e : Effect). Replies s den
 abbrev pub Answered : List Doc → Task → List Out → List Out → Type 0
 Answered docs t old new = (a : Answer) × Answers docs t a × (new ≡ old ++ answered t a)
 
-pub answered_by : (docs seen : List Doc) (id : Id) (q : Question) (message : Outgoing) (old new : List Out) → seen ≡ docs → IsAnswer seen id q message → new ≡ old ++ out.Reply message ∷ [] → Answered docs (task.Ask id q) old new
-answered_by docs seen id q message old new e h is = (answer.Response message, ∣ subst (λ (ds : List Doc). IsAnswer ds id q message) e h ∣₁, is)
+pub answered_by : (docs seen : List Doc) (id : Id) (q : Question) (message : Outgoing) (old new : List Out) → seen ≡ docs → IsAnswer position_encoding seen id q message → new ≡ old ++ out.Reply message ∷ [] → Answered docs (task.Ask id q) old new
+answered_by docs seen id q message old new e h is = (answer.Response message, ∣ subst (λ (ds : List Doc). IsAnswer position_encoding ds id q message) e h ∣₁, is)
 
 pub failed_by : (docs : List Doc) (id : Id) (q : Question) (why : ResponseError) (old new : List Out) → why ≡ failed (codes "12 NoMemory") → new ≡ old ++ out.Reply (outgoing.Error (Some id) why) ∷ [] → Answered docs (task.Ask id q) old new
 failed_by docs id q why old new e is = (answer.NoMemory, ∣ tt ∣₁, is ∙ ap (λ (w : ResponseError). old ++ out.Reply (outgoing.Error (Some id) w) ∷ []) e)
 
-pub checked_by : (docs : List Doc) (messages : List Outgoing) (old new : List Out) → AreDiagnosticsMessages docs messages → new ≡ old ++ map out.Notify messages → Answered docs task.Check old new
+pub checked_by : (docs : List Doc) (messages : List Outgoing) (old new : List Out) → AreDiagnosticsMessages position_encoding docs messages → new ≡ old ++ map out.Notify messages → Answered docs task.Check old new
 checked_by docs messages old new h is = (answer.Report messages, ∣ h ∣₁, is)

@@ -1,6 +1,7 @@
 -- Documents that are edited.
 use Rattle.std.proofs.Common.{◌≡◌, ℕ, Bool, true, false, cond, ◌||◌, List, Option, Some, None, Result, Ok, Err, OnOk, is_ok, ap, sym, subst, ◌∙◌, refl}
 use Rattle.std.specs.Prelude.{ℤ}
+use Rattle.gq_text.specs.declared.place.PositionEncoding.{PositionEncoding}
 use Rattle.gq_text.specs.declared.text.Change.{Change}
 use Rattle.gq_text.specs.declared.text.TextError.{TextError}
 use Rattle.gq_text.specs.Change.{FitEach, after_changes}
@@ -10,18 +11,18 @@ use Rattle.gq_events.proofs.Keeping.{is_fit_each}
 use Rattle.gq_events.specs.Documents.{fit_each, changes_in, edited_text, document_with, edited}
 
 -- changes that can be read and kept
-pub text_after : (document : OpenDocument) (params : DidChangeParams) (version : ℤ) (changes : List Change) (text : List ℕ) → params.version ≡ Some version → params.changes ≡ Some changes
-    → document.lost ≡ false → FitEach document.text changes → text ≡ after_changes document.text changes → edited_text document (changes_in params) ≡ Some text
-text_after document params version changes text is_version are_changes known fit is =
-    let fitting : fit_each document.text changes ≡ true = is_fit_each document.text changes fit in
+pub text_after : (encoding : PositionEncoding) (document : OpenDocument) (params : DidChangeParams) (version : ℤ) (changes : List Change) (text : List ℕ) → params.version ≡ Some version → params.changes ≡ Some changes
+    → document.lost ≡ false → FitEach encoding document.text changes → text ≡ after_changes encoding document.text changes → edited_text encoding document (changes_in params) ≡ Some text
+text_after encoding document params version changes text is_version are_changes known fit is =
+    let fitting : fit_each encoding document.text changes ≡ true = is_fit_each encoding document.text changes fit in
     rw (is_version, are_changes, known, fitting) (ap Some (sym is))
 
-pub all_made : (document : OpenDocument) (params : DidChangeParams) (version : ℤ) (changes seen : List Change) (text : List ℕ) (r : Result (Unit {0}) TextError) → is_ok r ≡ true
-    → params.version ≡ Some version → params.changes ≡ Some changes → seen ≡ changes → document.lost ≡ false → OnOk r (FitEach document.text seen) → OnOk r (text ≡ after_changes document.text seen)
-    → edited_text document (changes_in params) ≡ Some text
-all_made document params version changes seen text (Ok u) ok is_version are_changes same known fit is =
-    text_after document params version changes text is_version are_changes known (subst (FitEach document.text) same fit) (is ∙ ap (after_changes document.text) same)
-all_made document params version changes seen text (Err e) ok is_version are_changes same known fit is = absurd (cc)
+pub all_made : (encoding : PositionEncoding) (document : OpenDocument) (params : DidChangeParams) (version : ℤ) (changes seen : List Change) (text : List ℕ) (r : Result (Unit {0}) TextError) → is_ok r ≡ true
+    → params.version ≡ Some version → params.changes ≡ Some changes → seen ≡ changes → document.lost ≡ false → OnOk r (FitEach encoding document.text seen) → OnOk r (text ≡ after_changes encoding document.text seen)
+    → edited_text encoding document (changes_in params) ≡ Some text
+all_made encoding document params version changes seen text (Ok u) ok is_version are_changes same known fit is =
+    text_after encoding document params version changes text is_version are_changes known (subst (FitEach encoding document.text) same fit) (is ∙ ap (after_changes encoding document.text) same)
+all_made encoding document params version changes seen text (Err e) ok is_version are_changes same known fit is = absurd (cc)
 
 -- a document that is lost afterwards
 lost_with : (key uri : List ℕ) (version : ℤ) (text : Option (List ℕ)) → let d = document_with key uri version text in document_with d.key d.uri d.version None ≡ document_with key uri version None

@@ -5,6 +5,7 @@ use Rattle.std.proofs.lemmas.Bool.Decides.{nat_tests}
 use Rattle.std.proofs.lemmas.Slice.Eq.{bytes_eq-Decides}
 use Rattle.std.specs.Bool.{beq}
 use Rattle.std.specs.Cmp.{signed_Decides, booleans_Decides}
+use Rattle.std.specs.Option.{option_eq}
 use Rattle.std.specs.Ordering.{int_eq}
 use Rattle.gq_text.specs.declared.place.Position.{Position}
 use Rattle.gq_project.specs.declared.document.Doc.{Doc}
@@ -107,6 +108,12 @@ numbers_same a b h = grind (arith, nat_tests)
 integers_same : (a b : ℤ) → int_eq a b ≡ true → a ≡ b
 integers_same a b h = (signed_Decides a b).0 h
 
+versions_same : (a b : Option ℤ) → option_eq int_eq a b ≡ true → a ≡ b
+versions_same None None h = refl
+versions_same None (Some b) h = absurd (cc)
+versions_same (Some a) None h = absurd (cc)
+versions_same (Some a) (Some b) h = ap Some (integers_same a b h)
+
 texts_same : (a b : List ℕ) → bytes_eq a b ≡ true → a ≡ b
 texts_same a b h = (bytes_eq-Decides a b).0 h
 
@@ -119,18 +126,18 @@ id_same (ids.Text a) (ids.Text b) h = ap ids.Text (texts_same a b h)
 id_same (ids.Number a) (ids.Text b) h = absurd (cc)
 id_same (ids.Text a) (ids.Number b) h = absurd (cc)
 
-abbrev doc : List ℕ → List ℕ → ℤ → List ℕ → Doc
+abbrev doc : List ℕ → List ℕ → Option ℤ → List ℕ → Doc
 doc key uri version text = record { key = key; uri = uri; version = version; text = text }
 
-same_fields : {k k' u u' t t' : List ℕ} {v v' : ℤ} → k ≡ k' → u ≡ u' → v ≡ v' → t ≡ t' → doc k u v t ≡ doc k' u' v' t'
+same_fields : {k k' u u' t t' : List ℕ} {v v' : Option ℤ} → k ≡ k' → u ≡ u' → v ≡ v' → t ≡ t' → doc k u v t ≡ doc k' u' v' t'
 same_fields e f g h = cc
 
 doc_same : (a b : Doc) → same_doc a b ≡ true → a ≡ b
 doc_same a b h =
-    let first = and_true (bytes_eq a.key b.key) (bytes_eq a.uri b.uri && (int_eq a.version b.version && bytes_eq a.text b.text)) h in
-    let second = and_true (bytes_eq a.uri b.uri) (int_eq a.version b.version && bytes_eq a.text b.text) first.1 in
-    let third = and_true (int_eq a.version b.version) (bytes_eq a.text b.text) second.1 in
-    same_fields (texts_same a.key b.key first.0) (texts_same a.uri b.uri second.0) (integers_same a.version b.version third.0) (texts_same a.text b.text third.1)
+    let first = and_true (bytes_eq a.key b.key) (bytes_eq a.uri b.uri && (option_eq int_eq a.version b.version && bytes_eq a.text b.text)) h in
+    let second = and_true (bytes_eq a.uri b.uri) (option_eq int_eq a.version b.version && bytes_eq a.text b.text) first.1 in
+    let third = and_true (option_eq int_eq a.version b.version) (bytes_eq a.text b.text) second.1 in
+    same_fields (texts_same a.key b.key first.0) (texts_same a.uri b.uri second.0) (versions_same a.version b.version third.0) (texts_same a.text b.text third.1)
 
 pub docs_same : (as_ bs : List Doc) → same_docs as_ bs ≡ true → as_ ≡ bs
 docs_same [] [] h = refl

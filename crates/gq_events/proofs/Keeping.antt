@@ -7,6 +7,7 @@ use Rattle.std.specs.Cmp.Lexicographic.{slice_cmp}
 use Rattle.std.specs.Ordering.{nat_cmp}
 use Rattle.std.specs.declared.cmp.Ordering.TheVariants.{Less}
 use Rattle.std.proofs.lemmas.Bool.Decides.{nat_tests}
+use Rattle.gq_text.specs.declared.place.PositionEncoding.{PositionEncoding}
 use Rattle.gq_text.specs.Change.{after_change, after_changes, FitEach}
 use Rattle.gq_text.specs.declared.text.Change as text
 use Rattle.gq_edit.specs.Workspace.{AreTexts}
@@ -19,6 +20,7 @@ use Rattle.gq_events.specs.declared.effect.Change.{Change}
 use Rattle.gq_events.specs.declared.effect.Change.TheVariants as change
 use Rattle.gq_events.specs.declared.effect.Effect.{Effect}
 use Rattle.gq_events.specs.declared.effect.Effect.TheVariants as effect
+use Rattle.gq_events.specs.Positions.{position_encoding}
 use Rattle.gq_events.specs.Documents.{docs_of, IsInOrder, has_key, document_at, key_of, fits, fit_each, opened_text, changes_in, edited_text, document_with, unless_refused, edited, changed, is_before, is_after, with_changed}
 use Rattle.gq_events.specs.Rules.{Session, changed_by, session_after}
 use Rattle.gq_events.specs.History.{session_at, effect_at, turn_at}
@@ -41,26 +43,26 @@ pub is_fits : (t : List ℕ) → length t ≤ 2 ^ 22 → fits t ≡ true
 is_fits t h = grind (arith, nat_tests)
 
 -- the test is the definition's
-pub fit_each_is : (t : List ℕ) (cs : List text.Change) → fit_each t cs ≡ true → FitEach t cs
-fit_each_is t [] h = tt
-fit_each_is t (c ∷ cs) h =
-    let parts = and_true (fits (after_change t c)) (fit_each (after_change t c) cs) h in
-    (fits_is (after_change t c) parts.0, fit_each_is (after_change t c) cs parts.1)
+pub fit_each_is : (encoding : PositionEncoding) (t : List ℕ) (cs : List text.Change) → fit_each encoding t cs ≡ true → FitEach encoding t cs
+fit_each_is encoding t [] h = tt
+fit_each_is encoding t (c ∷ cs) h =
+    let parts = and_true (fits (after_change encoding t c)) (fit_each encoding (after_change encoding t c) cs) h in
+    (fits_is (after_change encoding t c) parts.0, fit_each_is encoding (after_change encoding t c) cs parts.1)
 
-pub is_fit_each : (t : List ℕ) (cs : List text.Change) → FitEach t cs → fit_each t cs ≡ true
-is_fit_each t [] h = refl
-is_fit_each t (c ∷ cs) h = both_true (fits (after_change t c)) (fit_each (after_change t c) cs) (is_fits (after_change t c) h.0) (is_fit_each (after_change t c) cs h.1)
+pub is_fit_each : (encoding : PositionEncoding) (t : List ℕ) (cs : List text.Change) → FitEach encoding t cs → fit_each encoding t cs ≡ true
+is_fit_each encoding t [] h = refl
+is_fit_each encoding t (c ∷ cs) h = both_true (fits (after_change encoding t c)) (fit_each encoding (after_change encoding t c) cs) (is_fits (after_change encoding t c) h.0) (is_fit_each encoding (after_change encoding t c) cs h.1)
 
 not_fit_each : (b : Bool) → (b ≡ true → ⊥) → b ≡ false
 not_fit_each true h = absurd (h refl)
 not_fit_each false h = refl
 
-pub is_not_fit_each : (t : List ℕ) (cs : List text.Change) → (FitEach t cs → ⊥) → fit_each t cs ≡ false
-is_not_fit_each t cs h = not_fit_each (fit_each t cs) (λ e. h (fit_each_is t cs e))
+pub is_not_fit_each : (encoding : PositionEncoding) (t : List ℕ) (cs : List text.Change) → (FitEach encoding t cs → ⊥) → fit_each encoding t cs ≡ false
+is_not_fit_each encoding t cs h = not_fit_each (fit_each encoding t cs) (λ e. h (fit_each_is encoding t cs e))
 
-changed_fits : (t : List ℕ) (cs : List text.Change) → length t ≤ 2 ^ 22 → FitEach t cs → length (after_changes t cs) ≤ 2 ^ 22
-changed_fits t [] h f = h
-changed_fits t (c ∷ cs) h f = changed_fits (after_change t c) cs f.0 f.1
+changed_fits : (encoding : PositionEncoding) (t : List ℕ) (cs : List text.Change) → length t ≤ 2 ^ 22 → FitEach encoding t cs → length (after_changes encoding t cs) ≤ 2 ^ 22
+changed_fits encoding t [] h f = h
+changed_fits encoding t (c ∷ cs) h f = changed_fits encoding (after_change encoding t c) cs f.0 f.1
 
 -- ---- one document
 
@@ -94,11 +96,11 @@ edited_if : (b : Bool) (t : List ℕ) → (b ≡ true → length t ≤ 2 ^ 22) �
 edited_if true t h = h refl
 edited_if false t h = tt
 
-short_edited : (document : OpenDocument) (cs : Option (List text.Change)) → IsShort document → IsShortIfAny (edited_text document cs)
+short_edited : (document : OpenDocument) (cs : Option (List text.Change)) → IsShort document → IsShortIfAny (edited_text position_encoding document cs)
 short_edited document None h = tt
 short_edited document (Some cs) h =
-    edited_if (not document.lost && fit_each document.text cs) (after_changes document.text cs)
-    (λ e. changed_fits document.text cs h (fit_each_is document.text cs (and_true (not document.lost) (fit_each document.text cs) e).1))
+    edited_if (not document.lost && fit_each position_encoding document.text cs) (after_changes position_encoding document.text cs)
+    (λ e. changed_fits position_encoding document.text cs h (fit_each_is position_encoding document.text cs (and_true (not document.lost) (fit_each position_encoding document.text cs) e).1))
 
 abbrev OfAny : (OpenDocument → Type 0) → Option OpenDocument → Type 0
 OfAny P None = Unit {0}
@@ -115,7 +117,7 @@ found P p (document ∷ documents) h = found_if P (p document) document (find p 
 short_found : (params : DidChangeParams) (refused : Bool) (document : Option OpenDocument) → OfAny IsShort document → OfAny IsShort (option_map (λ d. edited d params refused) document)
 short_found params refused None h = tt
 short_found params refused (Some document) h =
-    short_with document.key document.uri _ _ (short_unless refused (edited_text document (changes_in params)) (short_edited document (changes_in params) h))
+    short_with document.key document.uri _ _ (short_unless refused (edited_text position_encoding document (changes_in params)) (short_edited document (changes_in params) h))
 
 short_changed : (documents : List OpenDocument) (c : Change) (refused : Bool) → AllByRecursion IsShort documents → OfAny IsShort (changed documents c refused)
 short_changed documents (change.Open item) refused h =

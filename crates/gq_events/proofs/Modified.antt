@@ -16,8 +16,8 @@ use Rattle.gq_rpc.specs.declared.messages.ResponseError.{ResponseError}
 use Rattle.gq_rpc.specs.declared.messages.ResponseError.TheVariants as error
 use Rattle.gq_rpc.specs.declared.messages.Outgoing.{Outgoing}
 use Rattle.gq_rpc.specs.declared.messages.Outgoing.TheVariants as outgoing
-use Rattle.gq_answers.specs.Responses.{IsFailure, Responds}
-use Rattle.gq_answers.specs.Laws.{AnswersRespond}
+use Rattle.gq_replies.specs.Responses.{IsFailure, Responds}
+use Rattle.gq_replies.specs.Laws.{AnswersRespond}
 use Rattle.gq_events.specs.declared.documents.OpenDocument.{OpenDocument}
 use Rattle.gq_events.specs.declared.event.Task.{Task}
 use Rattle.gq_events.specs.declared.event.Task.TheVariants as task
@@ -38,6 +38,7 @@ use Rattle.gq_events.specs.declared.effect.Effect.{Effect}
 use Rattle.gq_events.specs.declared.effect.Effect.TheVariants as effect
 use Rattle.gq_events.specs.Documents.{document_at, is_open, is_any_lost, is_change, key_of, published}
 use Rattle.gq_events.specs.Tasks.{is_of, place_of}
+use Rattle.gq_events.specs.Positions.{position_encoding}
 use Rattle.gq_events.specs.Rules.{Turn, Session, failed, refused_as, answered, denied, denied_with, nothing_wrong, cleared, own, wants_document_changes, wants_code_actions, are_too_many, denial_of_question, denial_of_ask, denied_by, effect_of_request, effect_while_running, effect_while_not, effect_of_notification, effect_of_message, effect_going, effect_of}
 use Rattle.gq_events.specs.History.{session_at, effect_at, docs_at, turn_at, asked_before, pending_of}
 use Rattle.gq_events.specs.Laws.{tells_modified, ModifiedAtChange}
@@ -107,7 +108,7 @@ no_two x y = absurd x
 module _ (respond : AnswersRespond) where
   response_may : (e : Effect) (events : List Turn) (j : ℕ) (t : Task) (message : Outgoing) → IsGiven events j t (answer.Response message) → May e (out.Reply message)
   response_may e events j (task.Ask id q) message given (to, is) =
-      absurd (∥∥₁_elim given.fits no_two (λ h. response_other id message (respond (docs_at events (suc given.place)) id q message h) to is))
+      absurd (∥∥₁_elim given.fits no_two (λ h. response_other id message (respond position_encoding (docs_at events (suc given.place)) id q message h) to is))
   response_may e events j task.Check message given told = absurd (∥∥₁_elim given.fits no_two (λ h. h))
 
   answer_may : (e : Effect) (events : List Turn) (j : ℕ) (t : Task) (a : Answer) → IsGiven events j t a → All_may e (answered t a)

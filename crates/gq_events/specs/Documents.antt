@@ -6,6 +6,7 @@ use Rattle.std.specs.List.Sorted.{IsStrictlySortedBy}
 use Rattle.std.specs.Ordering.{nat_cmp, is_lt, is_gt}
 use Rattle.std.specs.Str.{bytes_eq}
 use Rattle.gq_text.specs.Change.{after_change, after_changes}
+use Rattle.gq_text.specs.declared.place.PositionEncoding.{PositionEncoding}
 use Rattle.gq_text.specs.declared.text.Change as text
 use Rattle.gq_project.specs.declared.document.Doc.{Doc}
 use Rattle.gq_project.specs.declared.document.DocChange.{DocChange}
@@ -15,6 +16,7 @@ use Rattle.gq_rpc.specs.declared.messages.DidChangeParams.{DidChangeParams}
 use Rattle.gq_events.specs.declared.documents.OpenDocument.{OpenDocument}
 use Rattle.gq_events.specs.declared.effect.Change.{Change}
 use Rattle.gq_events.specs.declared.effect.Change.TheVariants as change
+use Rattle.gq_events.specs.Positions.{position_encoding}
 
 -- the keys ascend by their bytes, so no key comes twice
 abbrev pub IsInOrder : List OpenDocument → Type 0
@@ -36,7 +38,7 @@ is_any_lost documents = list_any (λ document. document.lost) documents
 
 -- the documents as a question is about them
 abbrev pub doc_of : OpenDocument → Doc
-doc_of document = record { key = document.key; uri = document.uri; version = document.version; text = document.text }
+doc_of document = record { key = document.key; uri = document.uri; version = Some document.version; text = document.text }
 
 abbrev pub docs_of : List OpenDocument → List Doc
 docs_of documents = map doc_of documents
@@ -63,9 +65,9 @@ abbrev pub fits : List ℕ → Bool
 fits text = nat_le (length text) (2 ^ 22)
 
 -- each change leaves a text that fits
-abbrev pub fit_each : List ℕ → List text.Change → Bool
-fit_each text [] = true
-fit_each text (c ∷ cs) = fits (after_change text c) && fit_each (after_change text c) cs
+abbrev pub fit_each : PositionEncoding → List ℕ → List text.Change → Bool
+fit_each encoding text [] = true
+fit_each encoding text (c ∷ cs) = fits (after_change encoding text c) && fit_each encoding (after_change encoding text c) cs
 
 -- the text that a document has when it is opened, if it can be kept
 abbrev pub opened_text : List ℕ → Option (List ℕ)
@@ -76,10 +78,10 @@ abbrev pub changes_in : DidChangeParams → Option (List text.Change)
 changes_in params = if is_some params.version then params.changes else None
 
 -- the text that a document has after them, if it was known, they can be read and each of them leaves one that can be kept
-abbrev pub edited_text : OpenDocument → Option (List text.Change) → Option (List ℕ)
-edited_text document None = None
-edited_text document (Some changes) =
-    if not document.lost && fit_each document.text changes then Some (after_changes document.text changes) else None
+abbrev pub edited_text : PositionEncoding → OpenDocument → Option (List text.Change) → Option (List ℕ)
+edited_text encoding document None = None
+edited_text encoding document (Some changes) =
+    if not document.lost && fit_each encoding document.text changes then Some (after_changes encoding document.text changes) else None
 
 -- a document with a text, or lost: then it stands with the empty one
 abbrev pub document_with : List ℕ → List ℕ → ℤ → Option (List ℕ) → OpenDocument
@@ -97,7 +99,7 @@ opened item refused = document_with item.key item.uri item.version (unless_refus
 abbrev pub edited : OpenDocument → DidChangeParams → Bool → OpenDocument
 edited document params refused =
     document_with document.key document.uri (unwrap_or params.version document.version)
-    (unless_refused refused (edited_text document (changes_in params)))
+    (unless_refused refused (edited_text position_encoding document (changes_in params)))
 
 -- the document that a change leaves, if it leaves one; refused says that its text was refused memory
 abbrev pub changed : List OpenDocument → Change → Bool → Option OpenDocument

@@ -5,11 +5,12 @@ use Rattle.gq_edit.specs.declared.workspace.WorkspaceEdit.{WorkspaceEdit}
 use Rattle.gq_rpc.specs.declared.messages.Id.{Id}
 use Rattle.gq_rpc.specs.declared.messages.Question.{Question}
 use Rattle.gq_rpc.specs.declared.messages.Outgoing.{Outgoing}
-use Rattle.gq_answers.specs.Answers.{IsAnswer}
-use Rattle.gq_answers.specs.Offers.{edits_in, IsSafe}
+use Rattle.gq_replies.specs.Answers.{IsAnswer}
+use Rattle.gq_replies.specs.Offers.{edits_in, IsSafe}
 use Rattle.gq_events.specs.declared.event.Out.{Out}
 use Rattle.gq_events.specs.declared.event.Out.TheVariants as out
 use Rattle.gq_events.specs.declared.effect.Effect.TheVariants as effect
+use Rattle.gq_events.specs.Positions.{position_encoding}
 use Rattle.gq_events.specs.Rules.{Turn}
 use Rattle.gq_events.specs.History.{docs_at, effect_at, outputs_at, IsAnswered}
 
@@ -23,8 +24,8 @@ pub record IsOwnEdit (events : List Turn) (j : ℕ) (message : Outgoing) (edit :
   pub earlier : place ≤ j
   pub asks : effect_at events place ≡ effect.Asks id (Some question)
   pub still : docs_at events place ≡ docs_at events (suc j)
-  pub answers : IsAnswer (docs_at events place) id question message
-  pub safe : IsSafe (docs_at events place) question edit
+  pub answers : IsAnswer position_encoding (docs_at events place) id question message
+  pub safe : IsSafe position_encoding (docs_at events place) question edit
 
 abbrev pub IsSafeOutput : List Turn → ℕ → Out → Type 0
 IsSafeOutput events j (out.Reply message) = AllByRecursion (λ edit. ∥ IsOwnEdit events j message edit ∥₁) (edits_in message)

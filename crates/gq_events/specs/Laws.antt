@@ -10,7 +10,7 @@ use Rattle.gq_rpc.specs.declared.messages.Question.TheVariants as question
 use Rattle.gq_rpc.specs.declared.messages.ResponseError.TheVariants as error
 use Rattle.gq_rpc.specs.declared.messages.Outgoing.{Outgoing}
 use Rattle.gq_rpc.specs.declared.messages.Outgoing.TheVariants as outgoing
-use Rattle.gq_answers.specs.Answers.{IsAnswer, AreDiagnosticsMessages}
+use Rattle.gq_replies.specs.Answers.{IsAnswer, AreDiagnosticsMessages}
 use Rattle.gq_events.specs.declared.documents.OpenDocument.{OpenDocument}
 use Rattle.gq_events.specs.declared.event.Task.{Task}
 use Rattle.gq_events.specs.declared.event.Task.TheVariants as task
@@ -24,6 +24,7 @@ use Rattle.gq_events.specs.declared.effect.Change.{Change}
 use Rattle.gq_events.specs.declared.effect.Change.TheVariants as change
 use Rattle.gq_events.specs.declared.effect.Effect.{Effect}
 use Rattle.gq_events.specs.declared.effect.Effect.TheVariants as effect
+use Rattle.gq_events.specs.Positions.{position_encoding}
 use Rattle.gq_events.specs.Documents.{IsInOrder, document_at, key_of, published}
 use Rattle.gq_events.specs.Tasks.{is_of, Answers}
 use Rattle.gq_events.specs.Rules.{Turn, nothing_wrong, own, answer_to, decides, out_max}
@@ -102,7 +103,7 @@ pub record IsOwnAnswer (events : List Turn) (j : ℕ) (message : Outgoing) : Typ
   pub earlier : place ≤ j
   pub asks : effect_at events place ≡ effect.Asks id (Some question)
   pub still : docs_at events place ≡ docs_at events (suc j)
-  pub is : IsAnswer (docs_at events place) id question message
+  pub is : IsAnswer position_encoding (docs_at events place) id question message
 
 -- the message tells a client that takes no code actions that there is none
 pub record IsNoActions (events : List Turn) (j : ℕ) (message : Outgoing) : Type 0 where
@@ -127,7 +128,7 @@ pub record IsOfCheck (events : List Turn) (j : ℕ) (message : Outgoing) : Type 
   pub messages : List Outgoing
   pub earlier : place ≤ j
   pub changes : effect_at events place ≡ effect.Changes change
-  pub are : AreDiagnosticsMessages (docs_at events (suc place)) messages
+  pub are : AreDiagnosticsMessages position_encoding (docs_at events (suc place)) messages
   pub among : Contains messages message
 
 abbrev pub IsRightOutput : List Turn → ℕ → Out → Type 0

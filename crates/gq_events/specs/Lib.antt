@@ -1,3 +1,4 @@
+pub mod Positions
 pub mod Documents
 pub mod Tasks
 pub mod Rules

@@ -1,6 +1,7 @@
 -- What is to be answered about the documents, and which answers are right.
 use Rattle.std.specs.Prelude.{ℕ, Bool, true, false, ◌&&◌, ◌==◌, List, [], ◌∷◌, Option, Some, None}
 use Rattle.std.specs.Bool.{beq}
+use Rattle.std.specs.Option.{option_eq}
 use Rattle.std.specs.Ordering.{int_eq}
 use Rattle.std.specs.Str.{bytes_eq}
 use Rattle.gq_text.specs.declared.place.Position.{Position}
@@ -10,11 +11,12 @@ use Rattle.gq_rpc.specs.declared.messages.Id.TheVariants as id
 use Rattle.gq_rpc.specs.declared.messages.TextDocumentPositionParams.{TextDocumentPositionParams}
 use Rattle.gq_rpc.specs.declared.messages.Question.{Question}
 use Rattle.gq_rpc.specs.declared.messages.Question.TheVariants as question
-use Rattle.gq_answers.specs.Answers.{IsAnswer, AreDiagnosticsMessages}
+use Rattle.gq_replies.specs.Answers.{IsAnswer, AreDiagnosticsMessages}
 use Rattle.gq_events.specs.declared.event.Task.{Task}
 use Rattle.gq_events.specs.declared.event.Task.TheVariants as task
 use Rattle.gq_events.specs.declared.event.Answer.{Answer}
 use Rattle.gq_events.specs.declared.event.Answer.TheVariants as answer
+use Rattle.gq_events.specs.Positions.{position_encoding}
 
 -- ---- which are the same
 
@@ -119,7 +121,7 @@ same_task task.Check (task.Ask j b) = false
 
 -- documents are the same in key, URI, version and text
 abbrev pub same_doc : Doc → Doc → Bool
-same_doc a b = bytes_eq a.key b.key && (bytes_eq a.uri b.uri && (int_eq a.version b.version && bytes_eq a.text b.text))
+same_doc a b = bytes_eq a.key b.key && (bytes_eq a.uri b.uri && (option_eq int_eq a.version b.version && bytes_eq a.text b.text))
 
 abbrev pub same_docs : List Doc → List Doc → Bool
 same_docs [] [] = true
@@ -146,11 +148,11 @@ is_ask task.Check = false
 
 -- an answer to a task about these documents: the defined one, or that memory was refused
 abbrev pub IsAnswerTo : List Doc → Task → Answer → Type 0
-IsAnswerTo docs (task.Ask i q) (answer.Response message) = IsAnswer docs i q message
+IsAnswerTo docs (task.Ask i q) (answer.Response message) = IsAnswer position_encoding docs i q message
 IsAnswerTo docs (task.Ask i q) (answer.Report messages) = ⊥
 IsAnswerTo docs (task.Ask i q) answer.NoMemory = Unit {0}
 IsAnswerTo docs task.Check (answer.Response message) = ⊥
-IsAnswerTo docs task.Check (answer.Report messages) = AreDiagnosticsMessages docs messages
+IsAnswerTo docs task.Check (answer.Report messages) = AreDiagnosticsMessages position_encoding docs messages
 IsAnswerTo docs task.Check answer.NoMemory = Unit {0}
 
 abbrev pub Answers : List Doc → Task → Answer → Type 0

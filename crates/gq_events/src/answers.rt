@@ -1,17 +1,19 @@
 //! Answers that the desk gives itself, where no worker is to answer.
 ghost use Rattle.std.specs.Prelude.{◌≡◌, ◌++◌, map, OnOk, IfOk};
-ghost use Rattle.gq_answers.specs.Answers.{AreDiagnosticsMessages};
+ghost use Rattle.gq_replies.specs.Answers.{AreDiagnosticsMessages};
 ghost use Rattle.gq_events.specs.declared.event.Answer.{Answer};
 ghost use Rattle.gq_events.specs.declared.event.Out.TheVariants as out;
 ghost use Rattle.gq_events.specs.declared.event.Task.TheVariants as task;
 ghost use Rattle.gq_events.specs.Documents.{docs_of};
+ghost use Rattle.gq_events.specs.Positions.{position_encoding};
 ghost use Rattle.gq_events.specs.Tasks.{Answers};
 ghost use Rattle.gq_events.specs.Rules.{answered, answer_to, FitsTaken};
 
 use crate::documents::OpenDocuments;
 use crate::event::{Out, Task};
 use crate::refusals::failed;
-use gq_answers::{answer, diagnostics_messages};
+use crate::session::POSITION_ENCODING;
+use gq_replies::{answer, diagnostics_messages};
 use gq_rpc::{Id, Outgoing, Question};
 use gq_text::NoMemory;
 use std::alloc::Global;
@@ -28,7 +30,7 @@ fn answer_question(
 {
     match documents.project(alloc) {
         Ok(project) => {
-            outs.push(Out::Reply(answer(alloc, project, id, &question)?))?;
+            outs.push(Out::Reply(answer(alloc, POSITION_ENCODING, project, id, &question)?))?;
             Ok(())
         }
         Err(NoMemory) => {
@@ -41,10 +43,10 @@ fn answer_question(
 
 /// The notifications that tell what is wrong with each document.
 fn check(alloc: Global, documents: &OpenDocuments) -> Result<Vec<Outgoing>, NoMemory>
-    ensures { IfOk result (λ messages. AreDiagnosticsMessages (docs_of documents.now) messages.items) }
+    ensures { IfOk result (λ messages. AreDiagnosticsMessages position_encoding (docs_of documents.now) messages.items) }
 {
     let project = documents.project(alloc)?;
-    diagnostics_messages(alloc, &project)
+    diagnostics_messages(alloc, POSITION_ENCODING, &project)
 }
 
 pub fn notify(messages: Vec<Outgoing>, outs: &mut Vec<Out>) -> Result<(), NoMemory>

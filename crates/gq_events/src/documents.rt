@@ -6,10 +6,11 @@ ghost use Rattle.gq_events.specs.declared.effect.Change.TheVariants as change;
 ghost use Rattle.gq_events.specs.Documents as spec;
 
 use crate::effect::Change;
+use crate::session::POSITION_ENCODING;
 use crate::texts::OpenText;
 use gq_project::{Doc, Project};
 use gq_rpc::{DidChangeParams, TextDocumentItem};
-use gq_text::{Items, NoMemory, OwnedText};
+use gq_text::{Items, NoMemory, OwnedText, PositionEncoding};
 use std::alloc::Global;
 use std::marker::Model;
 
@@ -66,7 +67,7 @@ fn copy_document(alloc: Global, document: &OpenDocument) -> Result<Doc, NoMemory
     Ok(Doc {
         key: document.key.copied(alloc)?,
         uri: document.uri.copied(alloc)?,
-        version: document.version,
+        version: Some(document.version),
         text: document.text.copied(alloc)?,
     })
 }
@@ -94,8 +95,13 @@ fn copy_or_lose(alloc: Global, document: &mut OpenDocument) -> Result<Doc, NoMem
 }
 
 /// Makes the changes of its text. False where it is not known after them.
-fn make_changes(alloc: Global, document: &mut OpenDocument, params: &DidChangeParams) -> bool
-    ensures text { result ≡ true → spec.edited_text document.old (spec.changes_in params.now) ≡ Some document.new.text }
+fn make_changes(
+    alloc: Global,
+    encoding: PositionEncoding,
+    document: &mut OpenDocument,
+    params: &DidChangeParams,
+) -> bool
+    ensures text { result ≡ true → spec.edited_text encoding document.old (spec.changes_in params.now) ≡ Some document.new.text }
     ensures key { document.new.key ≡ document.old.key }
     ensures uri { document.new.uri ≡ document.old.uri }
     ensures version { document.new.version ≡ document.old.version }
@@ -104,17 +110,23 @@ fn make_changes(alloc: Global, document: &mut OpenDocument, params: &DidChangePa
     match (params.version, &params.changes) {
         (Some(_), Some(changes)) if !document.lost => document
             .text
-            .apply_changes(alloc, changes.as_slice())
+            .apply_changes(alloc, encoding, changes.as_slice())
             .is_ok(),
         _ => false,
     }
 }
 
 /// Makes the changes of its text, which is lost where it was, or they cannot be read or kept, or found no memory.
-fn change_text(alloc: Global, document: &mut OpenDocument, params: &DidChangeParams)
-    ensures { (refused : Bool) × (document.new ≡ spec.document_with document.old.key document.old.uri document.old.version (spec.unless_refused refused (spec.edited_text document.old (spec.changes_in params.now)))) }
+fn change_text(
+    alloc: Global,
+    encoding: PositionEncoding,
+    document: &mut OpenDocument,
+    params: &DidChangeParams,
+)
+    ensures { (refused : Bool) × (document.new ≡ spec.document_with document.old.key document.old.uri document.old.version
+        (spec.unless_refused refused (spec.edited_text encoding document.old (spec.changes_in params.now)))) }
 {
-    if make_changes(alloc, document, params) {
+    if make_changes(alloc, encoding, document, params) {
         return;
     }
     lose(alloc, document);
@@ -124,7 +136,7 @@ fn change_text(alloc: Global, document: &mut OpenDocument, params: &DidChangePar
 fn edit_document(alloc: Global, document: &mut OpenDocument, params: &DidChangeParams)
     ensures { (refused : Bool) × (document.new ≡ spec.edited document.old params.now refused) }
 {
-    change_text(alloc, document, params);
+    change_text(alloc, POSITION_ENCODING, document, params);
     document.version = params.version.unwrap_or(document.version);
 }
 

@@ -3,7 +3,7 @@ ghost use Rattle.gq_events.specs.Laws as spec;
 ghost use Rattle.gq_events.specs.Lifecycle as lifecycle;
 ghost use Rattle.gq_events.specs.Headline.{EditsAreSafe};
 
-use gq_answers::laws::{answered_edits_are_safe, answers_respond};
+use gq_replies::laws::{answered_edits_are_safe, answers_respond};
 
 /// Step by step, a desk puts out what the list of events tells.
 pub fn steps_tell_history()

@@ -159,7 +159,8 @@ pub fn same_task(a: &Task, b: &Task) -> bool
 fn same_document(a: &Doc, b: &OpenDocument) -> bool
     ensures { result ≡ spec.same_doc a.now (doc_of b.now) }
 {
-    a.key == b.key && a.uri == b.uri && a.version == b.version && a.text.as_str() == b.text.as_str()
+    let version = Some(b.version);
+    a.key == b.key && a.uri == b.uri && a.version == version && a.text.as_str() == b.text.as_str()
 }
 
 fn are_same(texts: &[Doc], documents: &[OpenDocument]) -> bool

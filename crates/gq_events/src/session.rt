@@ -17,9 +17,13 @@ use gq_rpc::{
     ClientCapabilities, Id, Outgoing, PublishDiagnosticsParams, Question, ResponseError,
     ServerCapabilities,
 };
-use gq_text::{Items, NoMemory, OwnedText};
+use gq_text::{Items, NoMemory, OwnedText, PositionEncoding};
 use std::alloc::Global;
 use std::marker::Model;
+
+/// What the characters of each session's positions are counted in: UTF-16 code units, as every client counts (LSP 3.17,
+/// "PositionEncodingKind").
+pub(crate) const POSITION_ENCODING: PositionEncoding = PositionEncoding::Utf16;
 
 /// What this server does for a client (LSP 3.17, ServerCapabilities).
 fn server_capabilities(client: ClientCapabilities) -> ServerCapabilities

@@ -3,7 +3,9 @@ ghost use Rattle.std.specs.Prelude.{◌≡◌, ◌<◌, ◌≤◌, ◌^◌, ◌�
 ghost use Rattle.gq_text.specs.Change.{FitEach, after_changes};
 
 use gq_text::text::TEXT_MAX;
-use gq_text::{Change, NoMemory, OwnedText, Text, TextError, TooLarge, VecBuffer};
+use gq_text::{
+    Change, NoMemory, OwnedText, PositionEncoding, Text, TextError, TooLarge, VecBuffer,
+};
 use std::alloc::Global;
 use std::marker::Model;
 use std::mem;
@@ -32,13 +34,18 @@ fn empty_text(alloc: Global) -> OwnedText
 }
 
 /// The text after the changes, each in the result of the one before.
-fn change_text(alloc: Global, text: OwnedText, changes: &[Change]) -> Result<OwnedText, TextError>
-    ensures changed { IfOk result (λ t. t ≡ after_changes text changes.now) }
+fn change_text(
+    alloc: Global,
+    encoding: PositionEncoding,
+    text: OwnedText,
+    changes: &[Change],
+) -> Result<OwnedText, TextError>
+    ensures changed { IfOk result (λ t. t ≡ after_changes encoding text changes.now) }
     ensures short { IfOk result (λ t. length t ≤ 2 ^ 22) }
-    ensures fits { OnOk result (FitEach text changes.now) }
+    ensures fits { OnOk result (FitEach encoding text changes.now) }
 {
     let mut text: Text<VecBuffer> = Text::from_owned(text)?;
-    text.apply_changes(alloc, changes)?;
+    text.apply_changes(alloc, encoding, changes)?;
     let len = text.len();
     prove!(len <= TEXT_MAX);
     Ok(OwnedText::from_string(text.to_string(alloc)?))
@@ -81,13 +88,18 @@ impl OpenText {
     }
 
     /// Makes the changes in order, each in the result of the one before. After an error the text is empty.
-    pub fn apply_changes(&mut self, alloc: Global, changes: &[Change]) -> Result<(), TextError>
-        ensures ok { OnOk result (self.new ≡ after_changes self.old changes.now) }
-        ensures fits { OnOk result (FitEach self.old changes.now) }
+    pub fn apply_changes(
+        &mut self,
+        alloc: Global,
+        encoding: PositionEncoding,
+        changes: &[Change],
+    ) -> Result<(), TextError>
+        ensures ok { OnOk result (self.new ≡ after_changes encoding self.old changes.now) }
+        ensures fits { OnOk result (FitEach encoding self.old changes.now) }
         ensures err { OnErr result (self.new ≡ []) }
     {
         let text = mem::replace(&mut self.text, empty_text(alloc));
-        self.text = change_text(alloc, text, changes)?;
+        self.text = change_text(alloc, encoding, text, changes)?;
         Ok(())
     }
 }

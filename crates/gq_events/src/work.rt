@@ -1,13 +1,15 @@
 //! What a worker makes of a job.
 ghost use Rattle.std.specs.Prelude.{◌≡◌, true, IfOk};
 ghost use Rattle.gq_edit.specs.Workspace.{AreTexts};
-ghost use Rattle.gq_answers.specs.Answers.{IsAnswer, AreDiagnosticsMessages};
+ghost use Rattle.gq_replies.specs.Answers.{IsAnswer, AreDiagnosticsMessages};
+ghost use Rattle.gq_events.specs.Positions.{position_encoding};
 ghost use Rattle.gq_events.specs.Tasks.{Answers};
 
 use crate::copies::copy_id;
 use crate::event::{Answer, Done, Task};
-use gq_answers::{answer, diagnostics_messages};
+use crate::session::POSITION_ENCODING;
 use gq_project::Project;
+use gq_replies::{answer, diagnostics_messages};
 use gq_rpc::{Id, Outgoing, Question};
 use gq_text::text::TEXT_MAX;
 use gq_text::{Items, NoMemory};
@@ -21,19 +23,19 @@ fn respond(
     texts: &Project,
 ) -> Result<Outgoing, NoMemory>
     requires { AreTexts texts.now }
-    ensures { IfOk result (λ message. IsAnswer texts.now id.now question.now message) }
+    ensures { IfOk result (λ message. IsAnswer position_encoding texts.now id.now question.now message) }
 {
     let project = texts.copied(alloc)?;
     let id = copy_id(alloc, id)?;
-    answer(alloc, project, id, question)
+    answer(alloc, POSITION_ENCODING, project, id, question)
 }
 
 /// The notifications that tell what is wrong with each of the texts.
 fn report(alloc: Global, texts: &Project) -> Result<Items<Outgoing>, NoMemory>
     requires { AreTexts texts.now }
-    ensures { IfOk result (λ messages. AreDiagnosticsMessages texts.now messages) }
+    ensures { IfOk result (λ messages. AreDiagnosticsMessages position_encoding texts.now messages) }
 {
-    Ok(Items::from_vec(diagnostics_messages(alloc, texts)?))
+    Ok(Items::from_vec(diagnostics_messages(alloc, POSITION_ENCODING, texts)?))
 }
 
 fn find_answer(alloc: Global, task: &Task, texts: &Project) -> Result<Answer, NoMemory>

@@ -1,32 +1,12 @@
 -- The fragments of a valid project can be ranked for what is executed.
-use Rattle.std.proofs.Common.{◌≡◌, Bool, true, false, cond, List, [], ◌∷◌, map, Option, Some, None, Contains, sym, subst}
-use Rattle.std.specs.Prelude.{find}
-use Rattle.gq_types.proofs.Gathered.{first, later}
+use Rattle.std.proofs.Common.{◌≡◌, List, map, Option, Contains, sym, subst}
 use Rattle.gq_document.specs.Definitions.{OperationOf, FragmentOf}
 use Rattle.gq_meaning.specs.Values.{Text}
 use Rattle.gq_meaning.specs.Acyclic.{Rankable}
 use Rattle.gq_meaning.specs.Selected.{set_of}
-use Rattle.gq_answer.specs.Fragments.{definition_of}
-use Rattle.gq_answer.specs.Operations.{is_called, operation_of}
-use Rattle.gq_exec.specs.Executed.{ranked_in}
-
-same_operation : (o p : OperationOf) → ◌≡◌ {A = Option OperationOf} (Some o) (Some p) → o ≡ p
-same_operation o p e = cc
-
-found_among : (name : Text) (os : List OperationOf) (o : OperationOf) → find (is_called name) os ≡ Some o → Contains os o
-found_among name [] o e = absurd (cc)
-found_among name (p ∷ os) o e = by (is_called name p) e (found_among name os o)
-  where
-    by : (b : Bool) → cond b (Some p) (find (is_called name) os) ≡ Some o → (find (is_called name) os ≡ Some o → Contains os o) → Contains (p ∷ os) o
-    by true f rest = first p o os (same_operation p o f)
-    by false f rest = later p o os (rest f)
-
--- the operation that is meant is one of them
-pub meant_among : (os : List OperationOf) (name : Option Text) (o : OperationOf) → operation_of os name ≡ Some o → Contains os o
-meant_among [] None o e = absurd (cc)
-meant_among (p ∷ []) None o e = first p o [] (same_operation p o e)
-meant_among (p ∷ q ∷ os) None o e = absurd (cc)
-meant_among os (Some name) o e = found_among name os o e
+use Rattle.gq_collect.specs.Fragments.{definition_of}
+use Rattle.gq_law_rewrites.proofs.Meant.{meant_among}
+use Rattle.gq_exec.specs.Coerced.{ranked_in}
 
 pub ranked : (os own : List OperationOf) (fs listed : List FragmentOf) (name : Option Text) → ((o : OperationOf) → Contains os o → Rankable (map definition_of fs) (set_of o.set)) → own ≡ os → listed ≡ fs → ranked_in own listed name
 ranked os own fs listed name all same_operations same_fragments o meant =

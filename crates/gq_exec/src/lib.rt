@@ -1,8 +1,7 @@
-//! Execution of operations (GraphQL, October 2021, section 6), and what validity means for it.
+//! Execution of operations (GraphQL, October 2021, section 6).
 #![tactic(auto)]
 
 pub mod executing;
-pub mod laws;
 pub mod refusal;
 
 pub use executing::{coerce_variables, execute};

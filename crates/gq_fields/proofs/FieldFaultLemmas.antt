@@ -2,8 +2,8 @@
 use Rattle.std.proofs.Common.{◌≡◌, List, [], ◌++◌, inl, inr, ◌↔◌, Contains, Option, Some, None, refl, sym, ap, subst, ◌∙◌}
 use Rattle.std.proofs.lemmas.List.Elements.{Contains-append_left, Contains-append_right, Contains-append_cases}
 use Rattle.gq_text.specs.declared.place.Span.{Span}
-use Rattle.gq_found.specs.declared.fault.Fault.{Fault}
-use Rattle.gq_found.specs.Adds.{AddsExactly}
+use Rattle.gq_fault.specs.declared.fault.Fault.{Fault}
+use Rattle.gq_fault.specs.Adds.{AddsExactly}
 use Rattle.gq_tree.specs.Plain.{VariableOf, Val}
 use Rattle.gq_names.proofs.RepeatLemmas.{contains_none}
 use Rattle.gq_types.specs.Entries.{EntryOf}

@@ -1,15 +1,15 @@
 -- What is told of a field at one selection is what the rules say of it.
 use Rattle.std.proofs.Common.{◌≡◌, ◌≢◌, Bool, true, false, List, Contains, Option, Some, None, refl, sym, ap, subst, ◌∙◌, is_some}
 use Rattle.gq_text.specs.declared.place.Span.{Span}
-use Rattle.gq_found.specs.declared.code.Code.TheVariants.{UnknownField, WrongSelections}
-use Rattle.gq_found.specs.declared.fault.Fault.{Fault}
+use Rattle.gq_fault.specs.declared.code.Code.TheVariants.{UnknownField, WrongSelections}
+use Rattle.gq_fault.specs.declared.fault.Fault.{Fault}
 use Rattle.gq_tree.specs.Plain.{Head, field, spread, inline}
 use Rattle.gq_names.proofs.RepeatLemmas.{contains_none}
 use Rattle.gq_types.specs.declared.entry.TypeKind.{TypeKind}
 use Rattle.gq_types.specs.Entries.{Text, EntryOf}
 use Rattle.gq_types.specs.Kinds.{is_composite}
 use Rattle.gq_types.specs.Joined.{kind_named}
-use Rattle.gq_found.specs.FaultPlaces.{fault_at}
+use Rattle.gq_fault.specs.FaultPlaces.{fault_at}
 use Rattle.gq_values.proofs.ArgumentRules.{argument_faults_are}
 use Rattle.gq_document.specs.Selections.{FieldOf, SelectedOf, field_on, selected_field}
 use Rattle.gq_tree.specs.NamedTypes.{base_name}

@@ -2,7 +2,7 @@
 -- its value is of its type (section 5.6). Where the field is not known, arguments, and input fields in their values, are only
 -- asked to stand once.
 use Rattle.std.specs.Option.{option_map}
-use Rattle.gq_found.specs.declared.fault.Fault.{Fault}
+use Rattle.gq_fault.specs.declared.fault.Fault.{Fault}
 use Rattle.gq_document.specs.Selections.{selected_field}
 use Rattle.gq_document.specs.Executable.{ExecutableOf}
 use Rattle.gq_values.specs.ArgumentFaults.{IsArgumentFault}

@@ -2,7 +2,7 @@
 -- repeatable (section 5.7); its arguments are those of its definition, and of their types (sections 5.4 and 5.6).
 use Rattle.std.specs.Prelude.{ℕ, List, [], Contains}
 use Rattle.gq_text.specs.declared.place.Span.{Span}
-use Rattle.gq_found.specs.declared.fault.Fault.{Fault}
+use Rattle.gq_fault.specs.declared.fault.Fault.{Fault}
 use Rattle.gq_tree.specs.declared.tree.OperationKind.{OperationKind}
 use Rattle.gq_tree.specs.declared.tree.OperationKind.TheVariants as operation
 use Rattle.gq_tree.specs.declared.type_system.DirectiveLocation.{DirectiveLocation}

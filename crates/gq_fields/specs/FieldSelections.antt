@@ -1,13 +1,13 @@
 -- Field selections: a field that is selected is defined on the type of its parent, where that is known (section 5.3.1).
 use Rattle.std.specs.Prelude.{◌≡◌, Some, None}
-use Rattle.gq_found.specs.declared.code.Code.TheVariants.{UnknownField}
-use Rattle.gq_found.specs.declared.fault.Fault.{Fault}
+use Rattle.gq_fault.specs.declared.code.Code.TheVariants.{UnknownField}
+use Rattle.gq_fault.specs.declared.fault.Fault.{Fault}
 use Rattle.gq_types.specs.declared.entry.TypeKind.{TypeKind}
 use Rattle.gq_types.specs.Entries.{Text}
 use Rattle.gq_types.specs.Joined.{kind_named}
 use Rattle.gq_document.specs.Selections.{field_on}
 use Rattle.gq_document.specs.Executable.{ExecutableOf}
-use Rattle.gq_found.specs.FaultPlaces.{fault_at}
+use Rattle.gq_fault.specs.FaultPlaces.{fault_at}
 use Rattle.gq_fields.specs.SelectedFields.{SelectsField}
 
 -- at the field's name

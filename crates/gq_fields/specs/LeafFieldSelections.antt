@@ -1,15 +1,15 @@
 -- Leaf field selections: a field of a composite type has selections in braces below it, and a field of a scalar or an enum
 -- has none (section 5.3.3). Neither is asked where the field or its type is not known.
 use Rattle.std.specs.Prelude.{◌≡◌, ◌≢◌, Some, is_some}
-use Rattle.gq_found.specs.declared.code.Code.TheVariants.{WrongSelections}
-use Rattle.gq_found.specs.declared.fault.Fault.{Fault}
+use Rattle.gq_fault.specs.declared.code.Code.TheVariants.{WrongSelections}
+use Rattle.gq_fault.specs.declared.fault.Fault.{Fault}
 use Rattle.gq_types.specs.declared.entry.TypeKind.{TypeKind}
 use Rattle.gq_types.specs.Joined.{kind_named}
 use Rattle.gq_types.specs.Kinds.{is_composite}
 use Rattle.gq_document.specs.Selections.{FieldOf, selected_field}
 use Rattle.gq_tree.specs.NamedTypes.{base_name}
 use Rattle.gq_document.specs.Executable.{ExecutableOf}
-use Rattle.gq_found.specs.FaultPlaces.{fault_at}
+use Rattle.gq_fault.specs.FaultPlaces.{fault_at}
 use Rattle.gq_fields.specs.SelectedFields.{SelectsField}
 
 -- at the field's name

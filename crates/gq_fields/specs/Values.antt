@@ -1,7 +1,7 @@
 -- Values: the default value of a variable is of the variable's type, where that is known and an input type (section 5.6).
 use Rattle.std.specs.Prelude.{◌≡◌, Some, Contains}
 use Rattle.gq_text.specs.declared.place.Span.{Span}
-use Rattle.gq_found.specs.declared.fault.Fault.{Fault}
+use Rattle.gq_fault.specs.declared.fault.Fault.{Fault}
 use Rattle.gq_tree.specs.Plain.{VariableOf, Val}
 use Rattle.gq_document.specs.Definitions.{OperationOf}
 use Rattle.gq_document.specs.Executable.{ExecutableOf}

@@ -7,7 +7,7 @@ ghost use Rattle.gq_values.specs.ArgumentPlaces.{argument_faults};
 ghost use Rattle.gq_document.specs.Views.{selected_field_view};
 
 use gq_document::SelectedField;
-use gq_found::Fault;
+use gq_fault::Fault;
 use gq_text::NoMemory;
 use gq_tree::{Argument, Name};
 use gq_types::{Arguments, Types};

@@ -8,7 +8,7 @@ ghost use Rattle.gq_fields.specs.Directives.{operation_location, selection_site}
 ghost use Rattle.gq_fields.specs.Helping.DirectivesPlaces.{wrong_directives_at};
 
 use gq_document::Selected;
-use gq_found::Fault;
+use gq_fault::Fault;
 use gq_names::NameList;
 use gq_text::NoMemory;
 use gq_tree::{Directive, DirectiveLocation, OperationKind, Selection};

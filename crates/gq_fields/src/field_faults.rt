@@ -1,6 +1,6 @@
 //! All that is wrong with the fields, arguments, directives and default values of operations and fragments.
 ghost use Rattle.std.specs.Prelude.{◌≡◌, ◌++◌, OnOk, map};
-ghost use Rattle.gq_found.specs.Adds.{AddsExactly};
+ghost use Rattle.gq_fault.specs.Adds.{AddsExactly};
 ghost use Rattle.gq_tree.specs.Views.{name_of, braces_of, argument_view, variable_view};
 ghost use Rattle.gq_types.specs.Look.{types_view, text_of};
 ghost use Rattle.gq_document.specs.Definitions.{operation_view, fragment_view, operations_view, fragments_view};
@@ -20,7 +20,7 @@ use gq_document::{
     Executable, FragmentEntry, OperationEntry, Selected, fragment_selections, operation_selections,
     selected_field,
 };
-use gq_found::Fault;
+use gq_fault::Fault;
 use gq_text::NoMemory;
 use gq_tree::{Argument, DirectiveLocation, Name, Selection, SelectionSet, VariableDefinition};
 use gq_types::Types;

@@ -7,7 +7,7 @@ ghost use Rattle.gq_document.specs.Views.{selected_field_view};
 ghost use Rattle.gq_fields.specs.Helping.FieldSelectionsPlaces.{unknown_field_on};
 
 use gq_document::SelectedField;
-use gq_found::{Code, Fault, add_fault_at};
+use gq_fault::{Code, Fault, add_fault_at};
 use gq_text::NoMemory;
 use gq_tree::Name;
 use gq_types::Types;

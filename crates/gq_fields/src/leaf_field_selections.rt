@@ -6,7 +6,7 @@ ghost use Rattle.gq_document.specs.Views.{field_view, selected_field_view};
 ghost use Rattle.gq_fields.specs.Helping.LeafFieldSelectionsPlaces.{differ, wrong_at_kind, wrong_of_field};
 
 use gq_document::SelectedField;
-use gq_found::{Code, Fault, add_fault_at};
+use gq_fault::{Code, Fault, add_fault_at};
 use gq_text::NoMemory;
 use gq_tree::{Name, SelectionSet};
 use gq_types::Types;

@@ -4,7 +4,7 @@ ghost use Rattle.gq_tree.specs.Views.{variable_view};
 ghost use Rattle.gq_types.specs.Look.{types_view};
 ghost use Rattle.gq_fields.specs.Helping.ValuesPlaces.{wrong_default_of};
 
-use gq_found::Fault;
+use gq_fault::Fault;
 use gq_text::NoMemory;
 use gq_tree::VariableDefinition;
 use gq_types::Types;

@@ -6,12 +6,12 @@ use Rattle.gq_tree.specs.declared.tree.OperationKind.{OperationKind}
 use Rattle.gq_tree.specs.declared.tree.OperationKind.TheVariants.{Query, Mutation, Subscription}
 use Rattle.gq_names.specs.Repeats.{repeated}
 use Rattle.gq_names.proofs.RepeatLemmas.{contains_none, repeated_is}
-use Rattle.gq_found.specs.declared.code.Code.TheVariants.{SubscriptionOperation, NoRootType, OperationNameNotUnique, AnonymousOperationNotAlone}
-use Rattle.gq_found.specs.declared.fault.Fault.{Fault}
+use Rattle.gq_fault.specs.declared.code.Code.TheVariants.{SubscriptionOperation, NoRootType, OperationNameNotUnique, AnonymousOperationNotAlone}
+use Rattle.gq_fault.specs.declared.fault.Fault.{Fault}
 use Rattle.gq_types.specs.Roots.{root_of}
 use Rattle.gq_types.proofs.Gathered.{from_flat, to_flat, from_if, to_if, from_map_as as from_map, to_map_as as to_map}
 use Rattle.gq_document.specs.Executable.{ExecutableOf}
-use Rattle.gq_found.specs.FaultPlaces.{fault_over, fault_at}
+use Rattle.gq_fault.specs.FaultPlaces.{fault_over, fault_at}
 use Rattle.gq_fragments.specs.OperationPlace.{first_token, operation_place}
 use Rattle.gq_fragments.specs.SubscriptionOperation.{IsSubscription}
 use Rattle.gq_fragments.specs.RootOperationTypes.{HasNoRootType}

@@ -1,5 +1,5 @@
 -- What is wrong with fragments: each fault that a rule demands, one case a rule (section 5.5).
-use Rattle.gq_found.specs.declared.fault.Fault.{Fault}
+use Rattle.gq_fault.specs.declared.fault.Fault.{Fault}
 use Rattle.gq_document.specs.Executable.{ExecutableOf}
 use Rattle.gq_fragments.specs.FragmentNameUniqueness.{IsRepeatedFragmentName}
 use Rattle.gq_fragments.specs.FragmentSpreadTypeExistence.{IsUnknownCondition}

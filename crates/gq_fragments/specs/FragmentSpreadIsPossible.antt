@@ -3,8 +3,8 @@
 use Rattle.std.specs.Prelude.{◌≡◌, List, Some, Contains}
 use Rattle.gq_text.specs.declared.place.Span.{Span}
 use Rattle.gq_tree.specs.Plain.{NameOf, DirectiveOf, Head, spread, inline}
-use Rattle.gq_found.specs.declared.code.Code.TheVariants.{SpreadNotPossible}
-use Rattle.gq_found.specs.declared.fault.Fault.{Fault}
+use Rattle.gq_fault.specs.declared.code.Code.TheVariants.{SpreadNotPossible}
+use Rattle.gq_fault.specs.declared.fault.Fault.{Fault}
 use Rattle.gq_types.specs.declared.entry.TypeKind.{TypeKind}
 use Rattle.gq_types.specs.Entries.{Text, EntryOf}
 use Rattle.gq_types.specs.Joined.{kind_named}
@@ -12,7 +12,7 @@ use Rattle.gq_types.specs.Possible.{IsPossible}
 use Rattle.gq_document.specs.Definitions.{FragmentOf}
 use Rattle.gq_document.specs.Selections.{SelectedOf}
 use Rattle.gq_document.specs.Executable.{ExecutableOf, Selects}
-use Rattle.gq_found.specs.FaultPlaces.{fault_over, first_bytes}
+use Rattle.gq_fault.specs.FaultPlaces.{fault_over, first_bytes}
 
 -- Both are names of types, and no object type is possible for both.
 pub record HaveNoObject (es : List EntryOf) (parent condition : Text) : Type 0 where

@@ -2,13 +2,13 @@
 use Rattle.std.specs.Prelude.{◌≡◌, ℕ, false, Some}
 use Rattle.gq_text.specs.declared.place.Span.{Span}
 use Rattle.gq_tree.specs.Plain.{NameOf}
-use Rattle.gq_found.specs.declared.code.Code.TheVariants.{ConditionNotComposite}
-use Rattle.gq_found.specs.declared.fault.Fault.{Fault}
+use Rattle.gq_fault.specs.declared.code.Code.TheVariants.{ConditionNotComposite}
+use Rattle.gq_fault.specs.declared.fault.Fault.{Fault}
 use Rattle.gq_types.specs.declared.entry.TypeKind.{TypeKind}
 use Rattle.gq_types.specs.Kinds.{is_composite}
 use Rattle.gq_types.specs.Joined.{kind_named}
 use Rattle.gq_document.specs.Executable.{ExecutableOf}
-use Rattle.gq_found.specs.FaultPlaces.{fault_at}
+use Rattle.gq_fault.specs.FaultPlaces.{fault_at}
 use Rattle.gq_fragments.specs.TypeConditions.{IsTypeCondition}
 
 -- a type condition that names a type of another kind

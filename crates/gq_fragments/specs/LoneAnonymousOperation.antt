@@ -1,10 +1,10 @@
 -- Lone anonymous operation (section 5.2.2.1): where an operation has no name, there is no other operation.
 use Rattle.std.specs.Prelude.{◌≡◌, ◌≢◌, ℕ, Some, None, slice_get}
-use Rattle.gq_found.specs.declared.code.Code.TheVariants.{AnonymousOperationNotAlone}
-use Rattle.gq_found.specs.declared.fault.Fault.{Fault}
+use Rattle.gq_fault.specs.declared.code.Code.TheVariants.{AnonymousOperationNotAlone}
+use Rattle.gq_fault.specs.declared.fault.Fault.{Fault}
 use Rattle.gq_document.specs.Definitions.{OperationOf}
 use Rattle.gq_document.specs.Executable.{ExecutableOf}
-use Rattle.gq_found.specs.FaultPlaces.{fault_over}
+use Rattle.gq_fault.specs.FaultPlaces.{fault_over}
 use Rattle.gq_fragments.specs.OperationPlace.{first_token}
 
 -- an anonymous operation, and another operation in any of the documents

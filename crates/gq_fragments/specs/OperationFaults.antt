@@ -1,5 +1,5 @@
 -- What is wrong with operations: each fault that a rule demands, one case a rule (section 5.2).
-use Rattle.gq_found.specs.declared.fault.Fault.{Fault}
+use Rattle.gq_fault.specs.declared.fault.Fault.{Fault}
 use Rattle.gq_document.specs.Executable.{ExecutableOf}
 use Rattle.gq_fragments.specs.SubscriptionOperation.{IsSubscription}
 use Rattle.gq_fragments.specs.RootOperationTypes.{HasNoRootType}

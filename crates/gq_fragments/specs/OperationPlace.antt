@@ -5,7 +5,7 @@ use Rattle.gq_text.specs.declared.place.Span.{Span}
 use Rattle.gq_tree.specs.declared.tree.OperationKind.{OperationKind}
 use Rattle.gq_tree.specs.declared.tree.OperationKind.TheVariants.{Query, Mutation, Subscription}
 use Rattle.gq_document.specs.Definitions.{OperationOf}
-use Rattle.gq_found.specs.FaultPlaces.{first_bytes}
+use Rattle.gq_fault.specs.FaultPlaces.{first_bytes}
 
 -- the lengths of the keywords `query`, `mutation` and `subscription`, in bytes
 abbrev pub keyword_length : OperationKind → ℕ

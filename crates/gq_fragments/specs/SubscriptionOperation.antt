@@ -1,11 +1,11 @@
 -- Subscription operations (section 2.3) are not executed: each is told.
 use Rattle.std.specs.Prelude.{◌≡◌, Contains}
 use Rattle.gq_tree.specs.declared.tree.OperationKind.TheVariants.{Subscription}
-use Rattle.gq_found.specs.declared.code.Code.TheVariants.{SubscriptionOperation}
-use Rattle.gq_found.specs.declared.fault.Fault.{Fault}
+use Rattle.gq_fault.specs.declared.code.Code.TheVariants.{SubscriptionOperation}
+use Rattle.gq_fault.specs.declared.fault.Fault.{Fault}
 use Rattle.gq_document.specs.Definitions.{OperationOf}
 use Rattle.gq_document.specs.Executable.{ExecutableOf}
-use Rattle.gq_found.specs.FaultPlaces.{fault_over}
+use Rattle.gq_fault.specs.FaultPlaces.{fault_over}
 use Rattle.gq_fragments.specs.OperationPlace.{operation_place}
 
 -- a subscription

@@ -2,7 +2,7 @@
 ghost use Rattle.std.specs.Prelude.{◌≡◌, ◌++◌, OnOk};
 ghost use Rattle.gq_document.specs.Executable.{executable_view};
 ghost use Rattle.gq_document.specs.Views.{selections_view};
-ghost use Rattle.gq_found.specs.Adds.{AddsExactly};
+ghost use Rattle.gq_fault.specs.Adds.{AddsExactly};
 ghost use Rattle.gq_fragments.specs.FragmentFaults.{IsFragmentFault};
 ghost use Rattle.gq_fragments.specs.Helping.FragmentPlaces.{faults_of_selections, fragment_faults};
 
@@ -11,7 +11,7 @@ use crate::fragment_spread_is_possible::add_impossible_spreads;
 use crate::selections::selections;
 use crate::type_conditions::{add_conditions_of_fragments, add_conditions_of_selections};
 use gq_document::{Executable, Selected};
-use gq_found::Fault;
+use gq_fault::Fault;
 use gq_spreads::FragmentNames;
 use gq_text::NoMemory;
 use std::alloc::Global;

@@ -4,7 +4,7 @@ ghost use Rattle.gq_document.specs.Definitions.{fragments_view};
 ghost use Rattle.gq_fragments.specs.Helping.FragmentPlaces.{repeated_names};
 
 use gq_document::FragmentEntry;
-use gq_found::{Code, Fault, add_fault, fault_at};
+use gq_fault::{Code, Fault, add_fault, fault_at};
 use gq_names::NameList;
 use gq_text::NoMemory;
 use std::alloc::Global;

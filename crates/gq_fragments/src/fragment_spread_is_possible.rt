@@ -10,7 +10,7 @@ ghost use Rattle.gq_fragments.specs.Helping.SharedObjectsPlaces.{AreAnswers};
 
 use crate::shared_objects::SharedObjects;
 use gq_document::{Executable, Selected};
-use gq_found::{Code, Fault, add_fault, fault_over, first_bytes};
+use gq_fault::{Code, Fault, add_fault, fault_over, first_bytes};
 use gq_spreads::FragmentNames;
 use gq_text::{NoMemory, Span};
 use gq_tree::{Name, Selection};

@@ -5,7 +5,7 @@ ghost use Rattle.gq_fragments.specs.Helping.OperationPlaces.{anonymous_at, anony
 
 use crate::operation_place::first_token;
 use gq_document::OperationEntry;
-use gq_found::{Code, Fault, add_fault, fault_over};
+use gq_fault::{Code, Fault, add_fault, fault_over};
 use gq_text::NoMemory;
 
 /// The fault of the operation, if it has no name.

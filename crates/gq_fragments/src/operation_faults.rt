@@ -1,7 +1,7 @@
 //! All that is wrong with operations by themselves.
 ghost use Rattle.std.specs.Prelude.{◌≡◌, ◌++◌, OnOk};
 ghost use Rattle.gq_document.specs.Executable.{executable_view};
-ghost use Rattle.gq_found.specs.Adds.{AddsExactly};
+ghost use Rattle.gq_fault.specs.Adds.{AddsExactly};
 ghost use Rattle.gq_fragments.specs.OperationFaults.{IsOperationFault};
 ghost use Rattle.gq_fragments.specs.Helping.OperationPlaces.{operation_faults};
 
@@ -10,7 +10,7 @@ use crate::operation_name_uniqueness::add_repeated_names;
 use crate::root_operation_types::add_without_root;
 use crate::subscription_operation::add_subscriptions;
 use gq_document::Executable;
-use gq_found::Fault;
+use gq_fault::Fault;
 use gq_text::NoMemory;
 use std::alloc::Global;
 

@@ -5,7 +5,7 @@ ghost use Rattle.gq_fragments.specs.OperationNameUniqueness.{names_in};
 ghost use Rattle.gq_fragments.specs.Helping.OperationPlaces.{name_texts, repeated_names_among, repeated_names};
 
 use gq_document::OperationEntry;
-use gq_found::{Code, Fault, add_fault, fault_at};
+use gq_fault::{Code, Fault, add_fault, fault_at};
 use gq_names::NameList;
 use gq_text::NoMemory;
 use std::alloc::Global;

@@ -4,7 +4,7 @@ ghost use Rattle.gq_document.specs.Definitions.{operation_view};
 ghost use Rattle.gq_fragments.specs.OperationPlace.{keyword_length, first_token, operation_place};
 
 use gq_document::OperationEntry;
-use gq_found::first_bytes;
+use gq_fault::first_bytes;
 use gq_text::Span;
 use gq_tree::OperationKind;
 

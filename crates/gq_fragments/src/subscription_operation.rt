@@ -5,7 +5,7 @@ ghost use Rattle.gq_fragments.specs.Helping.OperationPlaces.{subscription_at, su
 
 use crate::operation_place::operation_place;
 use gq_document::OperationEntry;
-use gq_found::{Code, Fault, add_fault, fault_over};
+use gq_fault::{Code, Fault, add_fault, fault_over};
 use gq_text::NoMemory;
 use gq_tree::OperationKind;
 

@@ -7,7 +7,7 @@ ghost use Rattle.gq_document.specs.Views.{selected_view, selections_view};
 ghost use Rattle.gq_fragments.specs.Helping.FragmentPlaces.{condition_faults, condition_of_selected, conditions_of_selections, conditions_of_fragments};
 
 use gq_document::{FragmentEntry, Selected};
-use gq_found::{Code, Fault, add_fault, fault_at};
+use gq_fault::{Code, Fault, add_fault, fault_at};
 use gq_text::NoMemory;
 use gq_tree::{Name, Selection};
 use gq_types::Types;

@@ -4,7 +4,7 @@ use Rattle.std.specs.Bool.{nat_lt}
 use Rattle.std.specs.Prelude.{All}
 use Rattle.std.proofs.lemmas.Bool.{false≢true, lt-ltb, le-ltb}
 use Rattle.std.proofs.lemmas.List.Elements.{All-weaker, All-contains_itself, Contains-append_left, Contains-append_right, Contains-append_cases}
-use Rattle.gq_reach.specs.Reach.{Reach, start, step}
+use Rattle.gq_graph.specs.Reach.{Reach, start, step}
 use Rattle.gq_types.proofs.Gathered.{nothing_in, first, only, from_map, to_map}
 use Rattle.gq_index.specs.Helping.GroupGraphs.{Sharing, leads_of_member, leads_of_reached, leads_of_leading, leads_of, NumberGroup, itself, with_operation, with_fragment, IsSharing}
 

@@ -6,7 +6,7 @@ use Rattle.std.proofs.lemmas.Option.{same_Some}
 use Rattle.gq_text.specs.declared.place.Span.{Span}
 use Rattle.gq_tree.specs.Names.{spread_names}
 use Rattle.gq_tree.specs.Plain.{Sels, Def, operation, fragment, type_system}
-use Rattle.gq_reach.specs.Reach.{Reach, start, step}
+use Rattle.gq_graph.specs.Reach.{Reach, start, step}
 use Rattle.gq_types.specs.Entries.{Text}
 use Rattle.gq_types.proofs.Gathered.{nothing_in, only, from_flat, to_flat, first}
 use Rattle.gq_document.specs.Definitions.{OperationOf, FragmentOf, operation_in, fragment_in}

@@ -11,9 +11,9 @@ use Rattle.std.proofs.lemmas.Option.{none-some, same_Some, slice_get_within}
 use Rattle.gq_text.specs.declared.place.Span.{Span}
 use Rattle.gq_names.specs.UnderNames.{items_under}
 use Rattle.gq_tree.specs.Plain.{NameOf}
-use Rattle.gq_reach.specs.Reach.{Reach, InRange}
-use Rattle.gq_reach.proofs.Turning.{row_below}
-use Rattle.gq_reach.proofs.Walking.{row_below_all}
+use Rattle.gq_graph.specs.Reach.{Reach, InRange}
+use Rattle.gq_graph.proofs.Turning.{row_below}
+use Rattle.gq_graph.proofs.Walking.{row_below_all}
 use Rattle.gq_types.specs.Entries.{Text}
 use Rattle.gq_types.proofs.Gathered.{from_map, to_map, from_filter, to_filter}
 use Rattle.gq_spreads.proofs.RowLemmas.{at_number}

@@ -9,9 +9,9 @@ use Rattle.std.proofs.lemmas.Option.{none-some, same_Some, slice_get_within}
 use Rattle.gq_text.specs.declared.place.Span.{Span}
 use Rattle.gq_names.specs.UnderNames.{one_if}
 use Rattle.gq_tree.specs.Plain.{NameOf, Def, operation, fragment, type_system}
-use Rattle.gq_reach.specs.Reach.{row, InRange}
-use Rattle.gq_reach.proofs.Searching.{row_at}
-use Rattle.gq_reach.proofs.Turning.{row_below}
+use Rattle.gq_graph.specs.Reach.{row, InRange}
+use Rattle.gq_graph.proofs.Searching.{row_at}
+use Rattle.gq_graph.proofs.Turning.{row_below}
 use Rattle.gq_types.specs.Entries.{Text}
 use Rattle.gq_types.proofs.Gathered.{nothing_in, first, only, from_flat, to_flat}
 use Rattle.gq_document.specs.Definitions.{FragmentOf, fragment_in}

@@ -2,4 +2,3 @@
 pub mod GroupGraphs
 pub mod Shared
 pub mod SpreadNumbers
-pub mod Views

@@ -2,8 +2,8 @@
 use Rattle.std.specs.Prelude.{◌≡◌, ◌↔◌, ℕ, List, Some, Contains, length, map, slice_get}
 use Rattle.gq_names.specs.UnderNames.{items_under}
 use Rattle.gq_project.specs.declared.document.Doc.{Doc}
-use Rattle.gq_reach.specs.Reach.{row}
-use Rattle.gq_reach.specs.Transposed.{Transposed}
+use Rattle.gq_graph.specs.Reach.{row}
+use Rattle.gq_graph.specs.Transposed.{Transposed}
 use Rattle.gq_types.specs.Entries.{Text}
 use Rattle.gq_index.specs.declared.index.Variables.{Variables}
 use Rattle.gq_index.specs.declared.index.Index.{Index}

@@ -7,10 +7,10 @@ use Rattle.gq_text.specs.declared.place.Span.{Span}
 use Rattle.gq_tree.specs.Plain.{NameOf, TypeSystemOf, schema, type_definition, directive_definition, Def, operation, fragment, type_system}
 use Rattle.gq_tree.specs.Names.{spread_names, names_in}
 use Rattle.gq_project.specs.declared.document.Doc.{Doc}
-use Rattle.gq_read.specs.declared.reader.Parsed.{Parsed}
-use Rattle.gq_read.specs.Parsed.{AreParsed}
+use Rattle.gq_tree.specs.declared.parsed.Parsed.{Parsed}
+use Rattle.gq_parse.specs.Parsed.{AreParsed}
 use Rattle.gq_types.specs.Entries.{Text}
-use Rattle.gq_document.specs.Definitions.{in_documents}
+use Rattle.gq_tree.specs.Readings.{in_documents}
 use Rattle.gq_index.specs.declared.occurrence.Occurrence.{Occurrence}
 use Rattle.gq_index.specs.VariableNames.{used_variables, defined_variables}
 
@@ -90,6 +90,10 @@ place_of (type_system definition) = type_system_place definition
 -- where each definition stands
 abbrev pub definition_places : List DefinitionOf → List Occurrence
 definition_places ds = map (λ d. record { file = d.file; span = place_of d.definition }) ds
+
+-- where these places of a document are in the project
+abbrev pub occurrences_in_file : ℕ → List Span → List Occurrence
+occurrences_in_file file spans = map (λ s. record { file = file; span = s }) spans
 
 -- where the variable of that name is defined and used in a definition
 abbrev pub places_called : Text → List (NameOf Span) → List Span

@@ -2,25 +2,24 @@
 ghost use Rattle.std.specs.Prelude.{◌≡◌, ◌++◌, IfOk, OnOk, flat_map, map};
 ghost use Rattle.gq_tree.specs.Names.{names_at, spread_names, names_in};
 ghost use Rattle.gq_tree.specs.Views.{def_view, type_system_view};
-ghost use Rattle.gq_document.specs.Definitions.{in_document};
+ghost use Rattle.gq_tree.specs.Readings.{in_document};
 ghost use Rattle.gq_index.specs.Occurrences.{executable_in, executables, fragment_name, spreads_in, place_of, type_system_place};
-ghost use Rattle.gq_index.specs.Helping.Views.{definitions_view};
+ghost use Rattle.gq_index.specs.Views.{definitions_view};
 
-use gq_read::Parsed;
 use gq_text::{NoMemory, Span};
-use gq_tree::{Definition, Name, TypeSystemDefinition, spread_names};
+use gq_tree::{Definition, Name, Parsed, TypeSystemDefinition, spread_names};
 use std::alloc::Global;
 
 /// An operation or a fragment, and the document that it stands in.
 #[derive(Clone, Copy)]
-pub(crate) struct Executable<'a> {
+pub struct Executable<'a> {
     /// The number of the document in the project, from 0.
-    pub(crate) file: usize,
-    pub(crate) definition: &'a Definition,
+    pub file: usize,
+    pub definition: &'a Definition,
 }
 
 /// The operations and fragments of the documents, in their order.
-pub(crate) fn executables<'a>(
+pub fn executables<'a>(
     alloc: Global,
     readings: &'a [Parsed],
 ) -> Result<Vec<Executable<'a>>, NoMemory>

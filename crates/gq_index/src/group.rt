@@ -13,7 +13,7 @@ ghost use Rattle.gq_index.specs.Helping.Shared.{operation_at, uses_at, shared};
 ghost use Rattle.gq_index.specs.VariableGroups.{VariableGroup};
 
 use crate::index::Index;
-use gq_reach::{Graph, reach};
+use gq_graph::{Graph, reach};
 use gq_text::NoMemory;
 use std::alloc::Global;
 

@@ -1,6 +1,6 @@
 //! What is kept of where fragments and variables stand in a project.
 ghost use Rattle.std.specs.Prelude.{◌≡◌, length};
-ghost use Rattle.gq_reach.specs.Reach.{InRange};
+ghost use Rattle.gq_graph.specs.Reach.{InRange};
 
 use crate::occurrence::Occurrence;
 use gq_names::ByName;

@@ -1,7 +1,7 @@
 //! Where fragments and variables are defined and used in a project.
 #![tactic(auto)]
 
-mod definitions;
+pub mod definitions;
 mod group;
 pub mod index;
 pub mod laws;
@@ -12,5 +12,6 @@ mod places;
 mod spreads;
 mod variables;
 
+pub use definitions::{Executable, executables};
 pub use index::Index;
-pub use occurrence::Occurrence;
+pub use occurrence::{Occurrence, put_spans};

@@ -1,7 +1,7 @@
 //! The index of a project.
 ghost use Rattle.std.specs.Prelude.{IfOk};
 ghost use Rattle.gq_index.specs.Indexed.{AreVariablesOf, AreVariables, IsIndexOf, IsIndexOfProject};
-ghost use Rattle.gq_index.specs.Helping.Views.{definition_view, definitions_view};
+ghost use Rattle.gq_index.specs.Views.{definition_view, definitions_view};
 
 use crate::definitions::{Executable, executables};
 use crate::index::{Index, Variables};
@@ -10,9 +10,9 @@ use crate::places::{
 };
 use crate::spreads::{are_operations, spread_rows};
 use crate::variables::{defined_variables, used_variables};
+use gq_graph::transposed::transposed;
+use gq_parse::read;
 use gq_project::Project;
-use gq_reach::transposed::transposed;
-use gq_read::read;
 use gq_text::NoMemory;
 use std::alloc::Global;
 
@@ -40,7 +40,7 @@ fn all_variables(alloc: Global, definitions: &[Executable<'_>]) -> Result<Vec<Va
 }
 
 /// The index of these definitions.
-#[tactic(auto, using(gq_reach::proofs::Turning::turned_in_range))]
+#[tactic(auto, using(gq_graph::proofs::Turning::turned_in_range))]
 fn index_of(alloc: Global, definitions: &[Executable<'_>]) -> Result<Index, NoMemory>
     ensures { IfOk result (λ index. IsIndexOf (definitions_view definitions.now) index) }
 {

@@ -4,7 +4,7 @@ ghost use Rattle.gq_names.specs.UnderNames.{items_under};
 ghost use Rattle.gq_tree.specs.Names.{names_at};
 ghost use Rattle.gq_types.specs.Entries.{Text};
 ghost use Rattle.gq_index.specs.Occurrences.{fragment_definitions, fragment_spreads, fragment_occurrences, definition_places, occurrences_of, places_called};
-ghost use Rattle.gq_index.specs.Helping.Views.{definitions_view};
+ghost use Rattle.gq_index.specs.Views.{definitions_view};
 
 use crate::definitions::{Executable, fragment_name, names_in, place_of, spreads_in};
 use crate::occurrence::Occurrence;

@@ -1,6 +1,6 @@
 //! Which fragments each definition spreads, by the numbers of the definitions.
 ghost use Rattle.std.specs.Prelude.{◌≡◌, ◌↔◌, ◌++◌, ℕ, Contains, IfOk, OnOk, length, map};
-ghost use Rattle.gq_reach.specs.Reach.{row, InRange};
+ghost use Rattle.gq_graph.specs.Reach.{row, InRange};
 ghost use Rattle.gq_names.specs.UnderNames.{items_under};
 ghost use Rattle.gq_tree.specs.Names.{names_at};
 ghost use Rattle.gq_tree.specs.Views.{def_view};
@@ -8,7 +8,7 @@ ghost use Rattle.gq_types.specs.Entries.{Text};
 ghost use Rattle.gq_index.specs.Occurrences.{is_operation};
 ghost use Rattle.gq_index.specs.Helping.SpreadNumbers.{numbers_under, fragment_numbers, spread_numbers, rows_under};
 ghost use Rattle.gq_index.specs.VariableGroups.{SpreadsFragment};
-ghost use Rattle.gq_index.specs.Helping.Views.{definitions_view};
+ghost use Rattle.gq_index.specs.Views.{definitions_view};
 
 use crate::definitions::{Executable, fragment_name, spreads_in};
 use gq_names::ByName;

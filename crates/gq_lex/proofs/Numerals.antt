@@ -10,7 +10,7 @@ use Rattle.gq_lex.specs.declared.token.BadKind.TheVariants.{Number}
 use Rattle.gq_lex.specs.Bytes.{Passes, Stops, is_digit}
 use Rattle.gq_lex.specs.Numbers.{is_non_zero_digit, is_exponent_indicator, is_sign, is_number_continue, IsIntegerPart, zero as int_zero, negative_zero, digits, negative_digits, IsFractionalPart, fraction as dotted, IsExponentPart, exponent as raised, signed_exponent, IsFloat, with_fraction as float_fraction, with_exponent as float_exponent, with_both}
 use Rattle.gq_lex.specs.Helping.Reading.{Found}
-use Rattle.gq_lex.specs.Scanning.{Piece, byte_at, unsigned_len, behind_sign, integer_len, some_digits, fraction_len, exponent_len, with_exponent, with_fraction, with_integer, number_at}
+use Rattle.gq_lex.specs.Scanning.{ScanResult, byte_at, unsigned_len, behind_sign, integer_len, some_digits, fraction_len, exponent_len, with_exponent, with_fraction, with_integer, number_at}
 use Rattle.gq_lex.specs.Tokens.{IsToken, int, float}
 use Rattle.gq_lex.proofs.Runs.{prefix_len_stops_at, cut_prefix, found_of, is_number, some_inj, ok_inj}
 
@@ -145,7 +145,7 @@ int_is {part} after integer stops =
     number_of part [] [] after (integer_is after integer (stops_front is_digit after tests.0)) (integer_some integer) (no_fraction after tests.1) (no_exponent after tests.2) stops
     ∙ ap (λ n. Ok (Some Int, n)) (add-zero (length part))
 
-float_ends : (n others long : ℕ) → 0 < others → n + others ≡ long → ◌≡◌ {A = Piece} (Ok (Some (kind_of others), n + others)) (Ok (Some Float, long))
+float_ends : (n others long : ℕ) → 0 < others → n + others ≡ long → ◌≡◌ {A = ScanResult} (Ok (Some (kind_of others), n + others)) (Ok (Some Float, long))
 float_ends n others long some e = ap (λ t. Ok (Some (cond t Int Float), n + others)) (not_zero others some) ∙ ap (λ m. Ok (Some Float, m)) e
 
 pub float_is : {part : List ℕ} (after : List ℕ) → IsFloat part → Stops is_number_continue after → number_at (part ++ after) ≡ Ok (Some Float, length part)
@@ -295,7 +295,7 @@ record Told (bs : List ℕ) (x : Option Kind × ℕ) : Type 0 where
   is : (Some (kind_of (fraction + exponent)), integer_len bs + (fraction + exponent)) ≡ x
 
 told_by : (bs : List ℕ) (x : Option Kind × ℕ) (fraction exponent : ℕ) (t : Bool) → 0 < integer_len bs → fraction_len (drop (integer_len bs) bs) ≡ Some fraction → exponent_len (drop (integer_len bs + fraction) bs) ≡ Some exponent →
-    is_number_continue (byte_at bs (integer_len bs + (fraction + exponent))) ≡ t → ◌≡◌ {A = Piece} (cond t (Err Number) (Ok (Some (kind_of (fraction + exponent)), integer_len bs + (fraction + exponent)))) (Ok x) → Told bs x
+    is_number_continue (byte_at bs (integer_len bs + (fraction + exponent))) ≡ t → ◌≡◌ {A = ScanResult} (cond t (Err Number) (Ok (Some (kind_of (fraction + exponent)), integer_len bs + (fraction + exponent)))) (Ok x) → Told bs x
 told_by bs x fraction exponent true some f e stops h = absurd (cc)
 told_by bs x fraction exponent false some f e stops h = record { fraction = fraction; exponent = exponent; some = some; fraction_is = f; exponent_is = e; stops = stops; is = ok_inj h }
 
@@ -307,7 +307,7 @@ told_fraction : (bs : List ℕ) (x : Option Kind × ℕ) (o : Option ℕ) → 0 
 told_fraction bs x None some f h = absurd (cc)
 told_fraction bs x (Some fraction) some f h = told_exponent bs x fraction (exponent_len (drop (integer_len bs + fraction) bs)) some f refl h
 
-told_integer : (bs : List ℕ) (x : Option Kind × ℕ) (t : Bool) → eqb (integer_len bs) 0 ≡ t → ◌≡◌ {A = Piece} (cond t (Err Number) (with_fraction bs (integer_len bs) (fraction_len (drop (integer_len bs) bs)))) (Ok x) → Told bs x
+told_integer : (bs : List ℕ) (x : Option Kind × ℕ) (t : Bool) → eqb (integer_len bs) 0 ≡ t → ◌≡◌ {A = ScanResult} (cond t (Err Number) (with_fraction bs (integer_len bs) (fraction_len (drop (integer_len bs) bs)))) (Ok x) → Told bs x
 told_integer bs x true e h = absurd (cc)
 told_integer bs x false e h = told_fraction bs x (fraction_len (drop (integer_len bs) bs)) (let n : ℕ = integer_len bs in above n e) refl h
   where
@@ -356,7 +356,7 @@ number_told bs x h =
     (found_of bs (a.part ++ (b.part ++ c.part)) c.rest (Some (kind_of (t.fraction + t.exponent))) (integer_len bs + (t.fraction + t.exponent)) joined long (omega (arith, t.some)) token)
 
 -- which fault it is
-ended_fault : (bs : List ℕ) (integer others : ℕ) (fault : BadKind) (t : Bool) → ◌≡◌ {A = Piece} (cond t (Err Number) (Ok (Some (kind_of others), integer + others))) (Err fault) → fault ≡ Number
+ended_fault : (bs : List ℕ) (integer others : ℕ) (fault : BadKind) (t : Bool) → ◌≡◌ {A = ScanResult} (cond t (Err Number) (Ok (Some (kind_of others), integer + others))) (Err fault) → fault ≡ Number
 ended_fault bs integer others fault true h = cc
 ended_fault bs integer others fault false h = absurd (cc)
 
@@ -368,7 +368,7 @@ fraction_fault : (bs : List ℕ) (integer : ℕ) (fault : BadKind) (o : Option �
 fraction_fault bs integer fault None h = cc
 fraction_fault bs integer fault (Some n) h = exponent_fault bs integer n fault (exponent_len (drop (integer + n) bs)) h
 
-integer_fault : (bs : List ℕ) (integer : ℕ) (fault : BadKind) (t : Bool) → ◌≡◌ {A = Piece} (cond t (Err Number) (with_fraction bs integer (fraction_len (drop integer bs)))) (Err fault) → fault ≡ Number
+integer_fault : (bs : List ℕ) (integer : ℕ) (fault : BadKind) (t : Bool) → ◌≡◌ {A = ScanResult} (cond t (Err Number) (with_fraction bs integer (fraction_len (drop integer bs)))) (Err fault) → fault ≡ Number
 integer_fault bs integer fault true h = cc
 integer_fault bs integer fault false h = fraction_fault bs integer fault (fraction_len (drop integer bs)) h
 

@@ -14,7 +14,7 @@ use Rattle.gq_lex.specs.declared.lexer.Class.TheVariants.{Blank, Mark, Hash, Dot
 use Rattle.gq_lex.specs.Bytes.{Passes, Stops, is_white_space, is_line_terminator, is_name_start, is_name_continue, is_comment_byte, is_digit, punctuator, punctuators}
 use Rattle.gq_lex.specs.Numbers.{is_non_zero_digit, IsIntegerPart, zero as int_zero, negative_zero, digits, negative_digits, IsFloat, with_fraction, with_exponent, with_both}
 use Rattle.gq_lex.specs.Helping.Reading.{is_blank, is_number_start, piece_at, piece_by, class_of, sign_class, whole_at, IsPiece, Found, IsFaulty}
-use Rattle.gq_lex.specs.Scanning.{Piece, number_at, quoted_at}
+use Rattle.gq_lex.specs.Scanning.{ScanResult, number_at, quoted_at}
 use Rattle.gq_lex.specs.Strings.{is_quote}
 use Rattle.gq_lex.specs.Tokens.{IsIgnored, unicode_bom, white_space, line_terminator, comment, comma, IsToken, sign, spread, name, int, float, empty_string, string, block_string, fault_kind, BeginsIgnored, BeginsToken, IsStuck}
 use Rattle.gq_lex.proofs.Numerals.{int_is, float_is, number_told, number_fault}
@@ -163,7 +163,7 @@ token_is (string {rest = after} body value is some characters) = ap (λ l. piece
 token_is (block_string {rest = after} body) = block_is after body
 
 -- what a computed answer says
-abbrev pub Tells : List ℕ → Piece → Type 0
+abbrev pub Tells : List ℕ → ScanResult → Type 0
 Tells bs (Ok x) = Found bs x
 Tells bs (Err kind) = kind ≡ fault_kind bs
 
@@ -190,7 +190,7 @@ tells_whole : (bs want : List ℕ) (kind : Option Kind) → 0 < length want → 
 tells_whole bs want kind some piece fault = tells_whole_if bs want kind some piece (starts_with nat_eq bs want) refl fault
 
 -- what a number or what is quoted tells
-tells_if : (bs : List ℕ) (r : Piece) (kind : BadKind) → kind ≡ fault_kind bs → ((x : Option Kind × ℕ) → r ≡ Ok x → Found bs x) → ((fault : BadKind) → r ≡ Err fault → fault ≡ kind) → Tells bs r
+tells_if : (bs : List ℕ) (r : ScanResult) (kind : BadKind) → kind ≡ fault_kind bs → ((x : Option Kind × ℕ) → r ≡ Ok x → Found bs x) → ((fault : BadKind) → r ≡ Err fault → fault ≡ kind) → Tells bs r
 tells_if bs (Ok x) kind is found faulty = found x refl
 tells_if bs (Err fault) kind is found faulty = faulty fault refl ∙ is
 
@@ -226,11 +226,11 @@ stuck_at bs kind some e = record {
 }
 
 -- what a computed answer says of the text
-abbrev pub Answers : List ℕ → Piece → Type 0
+abbrev pub Answers : List ℕ → ScanResult → Type 0
 Answers bs (Ok x) = Found bs x
 Answers bs (Err kind) = IsFaulty bs kind
 
-answers_if : (bs : List ℕ) (r : Piece) → 0 < length bs → piece_at bs ≡ r → Tells bs r → Answers bs r
+answers_if : (bs : List ℕ) (r : ScanResult) → 0 < length bs → piece_at bs ≡ r → Tells bs r → Answers bs r
 answers_if bs (Ok x) some e t = t
 answers_if bs (Err kind) some e t = record { stuck = stuck_at bs kind some e; kind_is = t }
 

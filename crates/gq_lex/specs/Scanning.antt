@@ -16,8 +16,8 @@ use Rattle.gq_lex.specs.Numbers.{is_exponent_indicator, is_sign, is_number_conti
 use Rattle.gq_lex.specs.Strings.{is_quote, escapes, code_unit, is_high_surrogate, is_low_surrogate}
 
 -- a kind, where it is a token, and a length; or the fault
-abbrev pub Piece : Type 0
-Piece = Result (Option Kind × ℕ) BadKind
+abbrev pub ScanResult : Type 0
+ScanResult = Result (Option Kind × ℕ) BadKind
 
 -- the byte at a place, or 0, which begins no part of a token
 abbrev pub byte_at : List ℕ → ℕ → ℕ
@@ -47,22 +47,22 @@ exponent_len bs =
     else Some 0
 
 -- a number of so many bytes, by what follows it
-abbrev pub ended_at : List ℕ → ℕ → ℕ → Piece
+abbrev pub ended_at : List ℕ → ℕ → ℕ → ScanResult
 ended_at bs integer others =
     if is_number_continue (byte_at bs (integer + others)) then Err Number else Ok (Some (if others == 0 then Int else Float), integer + others)
 
-abbrev pub with_exponent : List ℕ → ℕ → ℕ → Option ℕ → Piece
+abbrev pub with_exponent : List ℕ → ℕ → ℕ → Option ℕ → ScanResult
 with_exponent bs integer fraction None = Err Number
 with_exponent bs integer fraction (Some n) = ended_at bs integer (fraction + n)
 
-abbrev pub with_fraction : List ℕ → ℕ → Option ℕ → Piece
+abbrev pub with_fraction : List ℕ → ℕ → Option ℕ → ScanResult
 with_fraction bs integer None = Err Number
 with_fraction bs integer (Some n) = with_exponent bs integer n (exponent_len (drop (integer + n) bs))
 
-abbrev pub with_integer : List ℕ → ℕ → Piece
+abbrev pub with_integer : List ℕ → ℕ → ScanResult
 with_integer bs n = if n == 0 then Err Number else with_fraction bs n (fraction_len (drop n bs))
 
-unfoldable pub number_at : List ℕ → Piece
+unfoldable pub number_at : List ℕ → ScanResult
 number_at bs = with_integer bs (integer_len bs)
 
 -- the code unit of an escape at the front
@@ -113,10 +113,10 @@ scan form [] k = None
 scan form (b ∷ bs) (suc k) = grown 1 (scan form bs k)
 scan form (b ∷ bs) zero = elim (step_at form (b ∷ bs)) [ Ends n ↦ Some n | Goes n ↦ grown 1 (scan form bs (n - 1)) | Fails ↦ None ]
 
-abbrev pub closed : Kind → ℕ → Option ℕ → Piece
+abbrev pub closed : Kind → ℕ → Option ℕ → ScanResult
 closed kind before None = Err Quote
 closed kind before (Some n) = Ok (Some kind, before + n)
 
 -- a string or a block string
-unfoldable pub quoted_at : List ℕ → Piece
+unfoldable pub quoted_at : List ℕ → ScanResult
 quoted_at bs = if begins_quotes bs then closed BlockString 3 (scan Block (drop 3 bs) 0) else closed String 1 (scan Plain (drop 1 bs) 0)

@@ -11,7 +11,8 @@ use Rattle.gq_meaning.specs.Selected.{Set, none, join}
 use Rattle.gq_meaning.specs.Expand.{Asked, Definition, Setting, expand_within, expand, sets_of}
 use Rattle.gq_meaning.specs.Thin.{IsIn}
 use Rattle.gq_meaning.specs.Acyclic.{IsRanked}
-use Rattle.gq_meaning.specs.Response.{FieldType, Given, setting, Place, fits, is_unfit, fails, item_of, item_type, item_at, of_key, keys_after, place_of, place_in, below_result, below, child, steps_below, steps_of, steps, leaf_in, AreTold, error_at, call_at, root}
+use Rattle.gq_tree.specs.Wrapping.{item_of}
+use Rattle.gq_meaning.specs.Response.{FieldType, Given, setting, Place, fits, is_unfit, fails, item_type, item_at, of_key, keys_after, place_of, place_in, below_result, below, child, steps_below, steps_of, steps, leaf_in, AreTold, error_at, call_at, root}
 use Rattle.gq_meaning.specs.Rewritten.{Static, Rewritten, same_end, AreKept, base_in, HasSubtypes, place_at, NamesAgree, RewritesKeep}
 use Rattle.gq_tree.specs.NamedTypes.{base_name}
 use Rattle.gq_meaning.proofs.Low.{AreLow, low_expand, low_of_key, low_sets}

@@ -6,6 +6,8 @@ use Rattle.std.specs.Str.{bytes_eq}
 use Rattle.gq_text.specs.declared.place.Span.{Span}
 use Rattle.gq_tree.specs.Forest.{none, more}
 use Rattle.gq_tree.specs.Plain.{TypeOf, named, list_of, non_null}
+use Rattle.gq_tree.specs.Wrapping as tree
+use Rattle.gq_tree.specs.Wrapping.{item_of}
 use Rattle.gq_meaning.specs.Values.{Text, Leaf}
 use Rattle.gq_meaning.specs.Results as result
 use Rattle.gq_meaning.specs.Shown as shown
@@ -70,17 +72,10 @@ is_unfit g (Some t) (Some r) = not (fits g t r.label)
 abbrev pub fails : Given → Place → Bool
 fails g p = is_unfit g p.type_ref p.result
 
--- the type without the one outermost `!`, and that of the items of a list
+-- whether a type is known and without null, and the type of the items of a list
 abbrev pub is_non_null : Option FieldType → Bool
 is_non_null None = false
-is_non_null (Some (named name)) = false
-is_non_null (Some (list_of item)) = false
-is_non_null (Some (non_null inner)) = true
-
-abbrev pub item_of : FieldType → Option FieldType
-item_of (named name) = None
-item_of (list_of item) = Some item
-item_of (non_null inner) = item_of inner
+is_non_null (Some t) = tree.is_non_null t
 
 abbrev pub item_type : Option FieldType → Option FieldType
 item_type None = None

@@ -1,5 +1,5 @@
 -- Values as execution sees them (sections 6.1.2, 6.4.1 and 6.4.3): of variables and arguments, and results of leaf types.
-use Rattle.std.specs.Prelude.{ℕ, Bool, List, Option}
+use Rattle.std.specs.Prelude.{ℕ, Bool, true, false, List, Option}
 use Rattle.gq_tree.specs.Forest.{Forest, Tree}
 
 -- the bytes of a text
@@ -19,6 +19,10 @@ pub data Says : Type 0 where
   enum : Text → Says
   list : Says
   object : Says
+
+abbrev pub is_null : Says → Bool
+is_null null = true
+is_null _ = false
 
 -- a value by itself or in a list, or under a name
 pub record Part : Type 0 where

@@ -13,8 +13,8 @@ use Rattle.std.proofs.lemmas.Option.{same_Some, none-some, slice_get-map, slice_
 use Rattle.gq_text.specs.declared.place.Span.{Span}
 use Rattle.gq_names.proofs.PlaceLemmas.{is_some_position, position_push_found, position_push_here}
 use Rattle.gq_names.proofs.RepeatLemmas.{contains_none, contains_first}
-use Rattle.gq_reach.specs.Reach.{Reach, start, step, row}
-use Rattle.gq_reach.proofs.Ways.{way_starts, contains_one}
+use Rattle.gq_graph.specs.Reach.{Reach, start, step, row}
+use Rattle.gq_graph.proofs.Ways.{way_starts, contains_one}
 use Rattle.gq_tree.specs.Plain.{TypeOf}
 use Rattle.gq_types.specs.Entries.{Text, EntryOf}
 use Rattle.gq_document.specs.FieldSets.{FieldAt, key}

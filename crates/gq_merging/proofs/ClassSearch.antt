@@ -6,7 +6,7 @@ use Rattle.std.proofs.lemmas.List.{take_more, map-append}
 use Rattle.std.proofs.lemmas.List.Elements.{Contains-push, Contains-push_cases, Contains-append_left}
 use Rattle.std.proofs.lemmas.Option.{slice_get_within, slice_get-map}
 use Rattle.gq_names.proofs.RepeatLemmas.{contains_none}
-use Rattle.gq_found.specs.declared.fault.Fault.{Fault}
+use Rattle.gq_fault.specs.declared.fault.Fault.{Fault}
 use Rattle.gq_types.specs.Entries.{Text, EntryOf}
 use Rattle.gq_document.specs.FieldSets.{key}
 use Rattle.gq_merging.specs.FieldsMerge.{leads_on, can_coincide}
@@ -17,7 +17,7 @@ use Rattle.gq_merging.specs.Helping.ParentTables.{AreByParent}
 use Rattle.gq_merging.specs.Helping.SearchTables.{AreOfOneKey, IsClique, AreMetInOne, Searched}
 use Rattle.gq_merging.specs.Helping.SearchViews.{list_with, AreCliquesWith, AreMetWith}
 use Rattle.gq_merging.specs.Helping.Views.{member_view, members_view}
-use Rattle.gq_merging.specs.declared.purpose.Purpose.TheVariants.{Shapes, Names}
+use Rattle.gq_merging.specs.declared.purpose.Purpose.TheVariants.{Names}
 use Rattle.gq_merging.specs.declared.rows.Member.{Member}
 use Rattle.gq_merging.proofs.ClassLemmas.{members_more}
 use Rattle.gq_merging.proofs.GrowLemmas.{searched_as, searched_both, searched_led, searched_nowhere}
@@ -179,11 +179,3 @@ pub one_parent_more : (xs : List Member) (i : ℕ) (d : Member) (parent : Option
     ((m : MemberOf) → Contains (members_view (take i xs)) m → m.field_at.parent ≡ parent) → (m : MemberOf) → Contains (members_view (take (i + 1) xs)) m → m.field_at.parent ≡ parent
 one_parent_more xs i d parent l e is all m c = ⊎_elim (all m) (λ q. ap (λ (n : MemberOf). n.field_at.parent) (sym q) ∙ sym is)
     (Contains-push_cases (members_view (take i xs)) (member_view d) m (subst (λ ms. Contains ms m) (members_more xs i d l e) c))
-
--- a clique of fields of one parent, or for shapes
-pub parent_clique : (w : LookOf) (ms : List MemberOf) → w.purpose ≡ Names → AreOfOneKey ms →
-    ((a b : MemberOf) → Contains ms a → Contains ms b → can_coincide w.entries a.field_at.parent b.field_at.parent ≡ true) → IsClique w ms
-parent_clique w ms names one_key h = record { one_key = one_key; lead = λ a b ca cb. ap (λ p. leads_on w.entries p a.field_at b.field_at) names ∙ h a b ca cb }
-
-pub shape_clique : (w : LookOf) (ms : List MemberOf) → w.purpose ≡ Shapes → AreOfOneKey ms → IsClique w ms
-shape_clique w ms shapes one_key = record { one_key = one_key; lead = λ a b ca cb. ap (λ p. leads_on w.entries p a.field_at b.field_at) shapes }

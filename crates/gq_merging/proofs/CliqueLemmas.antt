@@ -6,9 +6,9 @@ use Rattle.gq_names.proofs.RepeatLemmas.{contains_none, contains_cases}
 use Rattle.gq_tree.specs.Views.{argument_view}
 use Rattle.gq_tree.specs.declared.value.Argument.{Argument}
 use Rattle.gq_types.specs.Entries.{EntryOf}
-use Rattle.gq_found.specs.declared.fault.Fault.{Fault}
-use Rattle.gq_found.specs.Adds.{AddsExactly}
-use Rattle.gq_found.proofs.PutLemmas.{puts_both, puts_as}
+use Rattle.gq_fault.specs.declared.fault.Fault.{Fault}
+use Rattle.gq_fault.specs.Adds.{AddsExactly}
+use Rattle.gq_fault.proofs.PutLemmas.{puts_both, puts_as}
 use Rattle.gq_document.specs.FieldSets.{FieldAt}
 use Rattle.gq_merging.specs.FieldsMerge.{Differ, in_shape, in_call}
 use Rattle.gq_merging.specs.Helping.Comparisons.{may_differ}

@@ -4,7 +4,7 @@ use denote.Param.Send.{IsSync, sendable}
 use Rattle.std.proofs.Crossing.{crosses}
 use Rattle.gq_text.proofs.place.Span.TheSendSync as Span
 use Rattle.gq_tree.proofs.tree.Name.TheSendSync as Name
-use Rattle.gq_read.proofs.Crossing.{TypeRef-sync, Argument-sync, Selection-sync}
+use Rattle.gq_tree.proofs.Crossing.{TypeRef-sync, Argument-sync, Selection-sync}
 use Rattle.gq_document.proofs.Crossing.{Types-sync}
 use Rattle.gq_merging.specs.contracts.sets.StandingField as StandingField
 use Rattle.gq_merging.specs.contracts.sets.StandingSet as StandingSet

@@ -4,7 +4,6 @@ use Rattle.std.specs.Option.{option_map}
 use Rattle.std.specs.Prelude.{if◌then◌else◌, nat_lt, nat_le, nat_eq, ◌||◌, ◌&&◌}
 use Rattle.std.proofs.lemmas.Bool.Decides.{nat_tests}
 use Rattle.std.proofs.lemmas.List.Elements.{Contains-push, Contains-push_cases, Contains-append_left}
-use Rattle.gq_names.proofs.RepeatLemmas.{contains_none}
 use Rattle.gq_document.specs.FieldSets.{FieldAt}
 use Rattle.gq_merging.specs.FieldsMerge.{IsNoLater}
 use Rattle.gq_merging.specs.Helping.Comparisons.{is_no_later}
@@ -32,10 +31,6 @@ no_later_on a b c (inl l) (inl k) = inl (omega (arith, l, k))
 no_later_on a b c (inl l) (inr k) = inl (let e = k.0 in omega (arith, l, e))
 no_later_on a b c (inr l) (inl k) = inl (let e = l.0 in omega (arith, e, k))
 no_later_on a b c (inr l) (inr k) = inr (l.0 ∙ k.0, (let e = l.1 in let f = k.1 in omega (arith, e, f)))
-
--- before any field
-pub none_earliest : (Is : MemberOf → Type 0) → IsEarliest Is [] None
-none_earliest Is = record { decided = λ m c. absurd (contains_none m c); is_one = tt; no_later = tt; none = λ m c. absurd (contains_none m c) }
 
 module _ (Is : MemberOf → Type 0) (ms : List MemberOf) (m : MemberOf) where
   module _ (decided : (n : MemberOf) → Contains ms n → Is n ⊎ (Is n → ⊥)) (here : Is m ⊎ (Is m → ⊥)) where

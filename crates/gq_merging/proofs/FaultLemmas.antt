@@ -1,9 +1,9 @@
 -- The faults that are put are those of the rule.
 use Rattle.std.proofs.Common.{◌≡◌, ◌⊎◌, ⊎_elim, ℕ, ◌*◌, Bool, List, length, sym, subst, inl, inr}
 use Rattle.std.proofs.lemmas.List.{length-map}
-use Rattle.gq_found.specs.declared.fault.Fault.{Fault}
-use Rattle.gq_found.specs.Adds.{AddsExactly}
-use Rattle.gq_found.proofs.PutLemmas.{puts_both, puts_as}
+use Rattle.gq_fault.specs.declared.fault.Fault.{Fault}
+use Rattle.gq_fault.specs.Adds.{AddsExactly}
+use Rattle.gq_fault.proofs.PutLemmas.{puts_both, puts_as}
 use Rattle.gq_document.specs.Executable.{ExecutableOf}
 use Rattle.gq_merging.specs.FieldsMerge.{IsFaultFor, IsMergingFault, of_shapes, of_names}
 use Rattle.gq_merging.specs.Helping.Groups.{AreMerged}

@@ -1,7 +1,7 @@
 -- Two fields meet in a pair of sets that is found exactly if they meet in one that is reached, with all fragments expanded.
 use Rattle.std.proofs.Common.{◌≡◌, ◌↔◌, ⊎_elim, ℕ, ◌+◌, ◌*◌, ◌/◌, ◌%◌, ◌<◌, Bool, List, [], ◌∷◌, Contains, refl, sym, subst}
 use Rattle.gq_names.proofs.RepeatLemmas.{contains_none, contains_first, contains_cases}
-use Rattle.gq_reach.specs.Reach.{Reach, start as at_once, step as by_step}
+use Rattle.gq_graph.specs.Reach.{Reach, start as at_once, step as by_step}
 use Rattle.gq_merging.specs.Helping.SetTables.{members_at, spreads_at}
 use Rattle.gq_merging.specs.Helping.PairTables.{MetOf, LookOf, IsNumber, IsMetAt, IsMetIn, IsGiven, IsAfter, below, by_left, by_right, IsFound, begins, leads, IsReached, start, step, IsMetReached}
 use Rattle.gq_merging.proofs.PairNumbers.{pair_below, left_below, right_below, left_of, right_of, both_of}

@@ -6,8 +6,8 @@ use Rattle.std.proofs.lemmas.List.{length-append, take-append-le, take_all}
 use Rattle.std.proofs.lemmas.List.Elements.{All-append, All-weaker, All-contains, All-more, All-nil, All-cons, Contains-append_left, Contains-append_right, Contains-append_cases}
 use Rattle.std.proofs.lemmas.Option.{same_Some, none-some, get_or_from_slice_get}
 use Rattle.gq_names.proofs.RepeatLemmas.{contains_none, contains_first, contains_later}
-use Rattle.gq_reach.specs.Reach.{Reach, start, step, row}
-use Rattle.gq_reach.proofs.Ways.{way_on, contains_one}
+use Rattle.gq_graph.specs.Reach.{Reach, start, step, row}
+use Rattle.gq_graph.proofs.Ways.{way_on, contains_one}
 use Rattle.gq_tree.specs.Plain.{erase_values}
 use Rattle.gq_tree.specs.Views.{argument_view}
 use Rattle.gq_tree.specs.declared.value.Argument.{Argument}
@@ -18,7 +18,7 @@ use Rattle.gq_merging.specs.FieldsMerge.{Differ, in_shape, in_call}
 use Rattle.gq_merging.specs.SameArguments.{SameArguments}
 use Rattle.gq_merging.specs.Shapes.{shape_of}
 use Rattle.gq_merging.specs.Helping.Groups.{MeetFrom, together, deeper, IsMerged, AreMerged}
-use Rattle.gq_reach.specs.Components.{Also}
+use Rattle.gq_graph.specs.Components.{Also}
 use Rattle.gq_merging.specs.Helping.GroupTables.{IsOfGroup, IsThrough, SayTheSame, IsUnder, AreBelow, GoTogether, AreSettled, IsSettled, IsReached, IsTest, ArePassed, IsTested, AreTested, IsKnown, as_empty, as_before, as_marked}
 use Rattle.gq_merging.specs.Helping.SetTables.{MemberOf, RowOf, AreRows, AreAlike, IsMember, members_at, spreads_at}
 use Rattle.gq_merging.specs.Helping.Views.{member_view, row_view, rows_view}

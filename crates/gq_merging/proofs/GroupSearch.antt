@@ -1,16 +1,16 @@
 -- The search over groups: in the groups that are done and what they lead to stand all fields that meet, and no others.
-use Rattle.std.proofs.Common.{◌≡◌, ◌↔◌, ◌⊎◌, ⊎_elim, inl, inr, ℕ, zero, suc, ◌+◌, ◌*◌, ◌<◌, ◌≤◌, Bool, true, false, List, [], ◌∷◌, ◌++◌, Some, All, Contains, length, take, map, refl, sym, ◌∙◌, ap, subst, arith}
+use Rattle.std.proofs.Common.{◌≡◌, ◌↔◌, ◌⊎◌, ⊎_elim, inl, inr, ℕ, zero, suc, ◌+◌, ◌*◌, ◌<◌, ◌≤◌, Bool, true, false, List, [], ◌∷◌, ◌++◌, Some, Contains, length, take, map, refl, sym, ◌∙◌, ap, subst, arith}
 use Rattle.std.specs.Prelude.{slice_index_or}
 use Rattle.std.specs.List.{slice_get}
 use Rattle.std.proofs.lemmas.List.{length-append, length-map, take-append-le, take_all}
-use Rattle.std.proofs.lemmas.List.Elements.{All-append, All-cons, All-contains, All-nil, Contains-append_left, Contains-append_right, Contains-push, Contains-push_cases}
+use Rattle.std.proofs.lemmas.List.Elements.{All-contains, Contains-append_left, Contains-append_right, Contains-push, Contains-push_cases}
 use Rattle.std.proofs.lemmas.Option.{same_Some, none-some, slice_get_within}
 use Rattle.gq_names.proofs.RepeatLemmas.{contains_none, contains_first, contains_later, contains_cases}
-use Rattle.gq_found.specs.declared.fault.Fault.{Fault}
+use Rattle.gq_fault.specs.declared.fault.Fault.{Fault}
 use Rattle.gq_document.specs.Executable.{ExecutableOf}
 use Rattle.gq_document.specs.FieldSets.{key}
 use Rattle.gq_merging.specs.Helping.SetTables.{MemberOf, RowOf, AreRows, IsRow, HasNumber, IsMember, names_of}
-use Rattle.gq_merging.specs.Helping.GroupTables.{IsOfGroup, IsUnder, AreBelow}
+use Rattle.gq_merging.specs.Helping.GroupTables.{IsOfGroup, IsUnder}
 use Rattle.gq_merging.specs.Helping.PairTables.{MetOf, LookOf, IsGiven, IsMetAt, IsReached, start, step, IsMetReached, IsFaultOf}
 use Rattle.gq_merging.specs.Helping.SearchTables.{AreInGroup, AreInOne, AreUnder, Searched, IsFirst, HasFields, AreFirst, HaveSets, Search, WasThere}
 use Rattle.gq_merging.proofs.LookLemmas.{before_next}
@@ -40,9 +40,6 @@ front_more (x ∷ xs) (suc i) y e = let same : suc i + 1 ≡ suc (i + 1) = omega
 
 module _ (w : LookOf) (passed : List Bool) (sets : HaveSets w.rows) (counted : w.count ≡ length w.rows) (square : w.size ≡ w.count * w.count) where
   -- a field of a set has a set in its braces
-  below_there : (n : ℕ) (m : MemberOf) → IsMember w.rows n m → m.below < w.count
-  below_there n m h = subst (λ k. m.below < k) (sym counted) (sets h.reached m h.stands)
-
   of_group_there : (group : List ℕ) (m : MemberOf) → IsOfGroup w.rows group m → m.below < w.count
   of_group_there group m h = subst (λ k. m.below < k) (sym counted) (sets h.reached m h.stands)
 

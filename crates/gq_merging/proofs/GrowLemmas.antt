@@ -2,10 +2,10 @@
 use Rattle.std.proofs.Common.{◌≡◌, ◌↔◌, ◌⊎◌, ⊎_elim, inl, inr, ℕ, ◌<◌, true, List, [], ◌∷◌, ◌++◌, append_assoc, append-nil, All, Contains, length, sym, ◌∙◌, ap, subst}
 use Rattle.std.proofs.lemmas.List.Elements.{All-nil, All-cons, All-append, Contains-append_left, Contains-append_right, Contains-append_cases, Contains-push, Contains-push_cases}
 use Rattle.gq_names.proofs.RepeatLemmas.{contains_none, contains_cases}
-use Rattle.gq_reach.specs.Reach.{Reach, start, step}
-use Rattle.gq_reach.proofs.Ways.{way_on, way_starts, FirstStep, first_step}
-use Rattle.gq_found.specs.declared.fault.Fault.{Fault}
-use Rattle.gq_found.specs.Adds.{AddsExactly}
+use Rattle.gq_graph.specs.Reach.{Reach, start, step}
+use Rattle.gq_graph.proofs.Ways.{way_on, way_starts, FirstStep, first_step}
+use Rattle.gq_fault.specs.declared.fault.Fault.{Fault}
+use Rattle.gq_fault.specs.Adds.{AddsExactly}
 use Rattle.gq_merging.specs.FieldsMerge.{leads_on}
 use Rattle.gq_merging.specs.Helping.SetTables.{MemberOf, RowOf, spreads_at, IsMember}
 use Rattle.gq_merging.specs.Helping.GroupTables.{IsOfGroup}

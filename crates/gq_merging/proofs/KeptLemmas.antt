@@ -6,9 +6,9 @@ use Rattle.std.proofs.lemmas.List.{length-map, map-append, take_more}
 use Rattle.std.proofs.lemmas.List.Elements.{All-nil, All-contains, All-weaker, All-contains_itself, Contains-append_left, Contains-append_right, Contains-append_cases, Contains-push, Contains-push_cases}
 use Rattle.std.proofs.lemmas.Option.{none-some, same_Some, slice_get-map, slice_get_within, slice_get_read}
 use Rattle.gq_names.proofs.RepeatLemmas.{contains_none, contains_first, contains_later}
-use Rattle.gq_reach.specs.Reach.{Reach, InRange, start, step, row}
-use Rattle.gq_reach.proofs.Ways.{way_on, way_starts, contains_one, FirstStep, first_step}
-use Rattle.gq_found.specs.declared.fault.Fault.{Fault}
+use Rattle.gq_graph.specs.Reach.{Reach, InRange, start, step, row}
+use Rattle.gq_graph.proofs.Ways.{way_on, way_starts, contains_one, FirstStep, first_step}
+use Rattle.gq_fault.specs.declared.fault.Fault.{Fault}
 use Rattle.gq_types.specs.Entries.{Text}
 use Rattle.gq_document.specs.FieldSets.{key}
 use Rattle.gq_merging.specs.Helping.SetTables.{MemberOf, RowOf, members_at, spreads_at}

@@ -7,9 +7,9 @@ use Rattle.std.proofs.lemmas.List.Elements.{Contains-append_left, Contains-appen
 use Rattle.indexmap.specs.IndexSet.{insert_key}
 use Rattle.indexmap.proofs.CallerLemmas.{Contains-list_any}
 use Rattle.gq_names.proofs.RepeatLemmas.{contains_none, contains_first, contains_cases}
-use Rattle.gq_found.specs.declared.fault.Fault.{Fault}
-use Rattle.gq_found.specs.Adds.{AddsExactly}
-use Rattle.gq_found.proofs.PutLemmas.{puts_both, puts_as}
+use Rattle.gq_fault.specs.declared.fault.Fault.{Fault}
+use Rattle.gq_fault.specs.Adds.{AddsExactly}
+use Rattle.gq_fault.proofs.PutLemmas.{puts_both, puts_as}
 use Rattle.gq_document.specs.FieldSets.{key}
 use Rattle.gq_merging.specs.FieldsMerge.{leads_on}
 use Rattle.gq_merging.specs.Helping.SetTables.{MemberOf, spreads_at}
@@ -111,9 +111,6 @@ start_passed passed count size k old e a =
 pub below_led : (w : LookOf) (p : MetOf) (old new : List ℕ) → leads_on w.entries w.purpose p.left.field_at p.right.field_at ≡ true →
     Gains (IsNumber w.count w.size p.left.below p.right.below) old new → Gains (IsBelow w p) old new
 below_led w p old new e g = gains_as (IsNumber w.count w.size p.left.below p.right.below) (IsBelow w p) old new (λ n. ((λ h. record { leads = e; number = h }), (λ b. b.number))) g
-
-pub below_not_led : (w : LookOf) (p : MetOf) (old : List ℕ) → leads_on w.entries w.purpose p.left.field_at p.right.field_at ≡ false → Gains (IsBelow w p) old old
-below_not_led w p old e = gains_nothing (IsBelow w p) old (λ n b. let t = b.leads in absurd (cc))
 
 module _ {B : Type 0} (Gives : MetOf → B → Type 0) where
   given_as : (A C : MetOf → Type 0) → ((p : MetOf) → A p ↔ C p) → (b : B) → IsGiven A Gives b ↔ IsGiven C Gives b
@@ -302,9 +299,6 @@ one_more Gives xs d b = (
 )
 
 -- what the first of some numbers give is found
-pub gains_none : (Gives : ℕ → ℕ → Type 0) (xs : List ℕ) (old : List ℕ) → Gains (IsGiven (Contains (take 0 xs)) Gives) old old
-gains_none Gives xs old = gains_nothing (IsGiven (Contains (take 0 xs)) Gives) old (λ n g. contains_none g.one g.these)
-
 pub gains_more : (Gives : ℕ → ℕ → Type 0) (xs : List ℕ) (i : ℕ) (old between new : List ℕ) → i < length xs →
     Gains (IsGiven (Contains (take i xs)) Gives) old between → Gains (Gives (get_or xs i 0)) between new → Gains (IsGiven (Contains (take (i + 1) xs)) Gives) old new
 gains_more Gives xs i old between new l a b =

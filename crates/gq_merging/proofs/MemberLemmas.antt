@@ -11,7 +11,7 @@ use Rattle.gq_types.specs.Entries.{Text}
 use Rattle.gq_text.specs.declared.place.Span.{Span}
 use Rattle.gq_tree.specs.Forest.{none, more}
 use Rattle.gq_tree.specs.Plain.{Sels, field, spread, inline}
-use Rattle.gq_reach.specs.Reach.{Reach, start, step}
+use Rattle.gq_graph.specs.Reach.{Reach, start, step}
 use Rattle.gq_spreads.specs.Spreads.{places_from}
 use Rattle.gq_document.specs.Definitions.{FragmentOf}
 use Rattle.gq_document.specs.Executable.{ExecutableOf}

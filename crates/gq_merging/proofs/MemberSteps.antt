@@ -7,7 +7,7 @@ use Rattle.std.proofs.lemmas.List.{length-map, length-append}
 use Rattle.std.proofs.lemmas.Option.{slice_get-map}
 use Rattle.std.proofs.lemmas.List.Elements.{All-contains, All-weaker, All-contains_itself}
 use Rattle.gq_names.proofs.RepeatLemmas.{contains_none, contains_later, contains_first}
-use Rattle.gq_reach.specs.Reach.{Reach, start, step, row, InRange}
+use Rattle.gq_graph.specs.Reach.{Reach, start, step, row, InRange}
 use Rattle.gq_document.specs.Executable.{ExecutableOf}
 use Rattle.gq_document.specs.FieldSets.{fragment_set, operation_set}
 use Rattle.gq_merging.specs.Helping.SetTables.{RowOf, IsRow, AreRows, first_sets, names_of, members_at, spreads_at}

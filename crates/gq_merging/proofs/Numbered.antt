@@ -1,24 +1,14 @@
 -- Fields that are numbered one by one.
-use Rattle.std.proofs.Common.{◌≡◌, ℕ, ◌+◌, List, [], ◌∷◌, ◌++◌, append_assoc, append-nil, Option, Some, None, All, map, length, refl, sym, ◌∙◌, ap, subst, inl, inr, arith}
+use Rattle.std.proofs.Common.{◌≡◌, ℕ, ◌+◌, List, [], ◌∷◌, ◌++◌, append_assoc, Option, Some, None, All, map, length, refl, sym, ◌∙◌, ap, subst, inl, inr, arith}
 use Rattle.std.specs.List.{slice_get}
 use Rattle.std.proofs.lemmas.List.{map-append}
-use Rattle.std.proofs.lemmas.List.Elements.{All-nil, All-push, All-weaker, Contains-append_left, Contains-append_right}
+use Rattle.std.proofs.lemmas.List.Elements.{All-push, All-weaker, Contains-append_left, Contains-append_right}
 use Rattle.gq_names.proofs.RepeatLemmas.{contains_first}
 use Rattle.gq_tree.specs.Forest.{none}
 use Rattle.gq_types.specs.Entries.{EntryOf}
 use Rattle.gq_document.specs.FieldSets.{SetOf, FieldAt, field_set}
 use Rattle.gq_merging.specs.Helping.SetTables.{MemberOf, HasNumber, IsEmptyAt, IsOfOne, IsPut, own, shared, AreNumbered, weights}
 use Rattle.gq_merging.proofs.Worklist.{get_longer, get_seam, longer_number, weights_append, field_weights_append}
-
-pub none_numbered : (es : List EntryOf) (sets : List SetOf) → AreNumbered es [] sets sets []
-none_numbered es sets = record {
-  added = [];
-  grown = sym (append-nil sets);
-  fields = refl;
-  numbers = All-nil (HasNumber es sets);
-  each = All-nil (IsOfOne es []);
-  few = omega arith;
-}
 
 wider : (es : List EntryOf) (fs : List FieldAt) (f : FieldAt) (s : SetOf) → IsOfOne es fs s → IsOfOne es (fs ++ f ∷ []) s
 wider es fs f s o = record { one = o.one; stands = Contains-append_left fs (f ∷ []) o.one o.stands; is_set = o.is_set }

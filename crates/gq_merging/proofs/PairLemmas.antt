@@ -5,7 +5,7 @@ use Rattle.std.specs.List.{slice_get}
 use Rattle.std.proofs.lemmas.Option.{slice_get_within}
 use Rattle.std.proofs.lemmas.List.{length-map}
 use Rattle.std.proofs.lemmas.List.Elements.{All-contains}
-use Rattle.gq_found.specs.declared.fault.Fault.{Fault}
+use Rattle.gq_fault.specs.declared.fault.Fault.{Fault}
 use Rattle.gq_document.specs.Executable.{ExecutableOf}
 use Rattle.gq_document.specs.FieldSets.{SetOf, FieldAt, key, InSet, Stands, field_set}
 use Rattle.gq_merging.specs.FieldsMerge.{HaveOneKey, leads_on, Differ, IsNoLater, fault_of, Meet, together, deeper, IsFaultFor}

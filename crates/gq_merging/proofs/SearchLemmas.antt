@@ -7,9 +7,9 @@ use Rattle.std.proofs.lemmas.List.Elements.{Contains-append_cases, Contains-get_
 use Rattle.std.proofs.lemmas.Map.Steps.{length-le_from_distinct_below}
 use Rattle.indexmap.proofs.CallerLemmas.{Contains-list_any}
 use Rattle.gq_names.proofs.RepeatLemmas.{contains_none}
-use Rattle.gq_found.specs.declared.fault.Fault.{Fault}
-use Rattle.gq_found.specs.Adds.{AddsExactly}
-use Rattle.gq_found.proofs.PutLemmas.{puts_as, puts_both}
+use Rattle.gq_fault.specs.declared.fault.Fault.{Fault}
+use Rattle.gq_fault.specs.Adds.{AddsExactly}
+use Rattle.gq_fault.proofs.PutLemmas.{puts_as, puts_both}
 use Rattle.gq_merging.specs.Helping.PairTables.{LookOf, MetOf, IsMetIn, IsStart, IsGiven, IsAfter, IsFound, begins, leads, IsMetReached, IsFaultOf, Gains}
 use Rattle.gq_merging.proofs.LookLemmas.{gains_as, gains_both, gains_keeps, gains_nothing, given_either, one_more, puts_given, puts_nothing}
 use Rattle.gq_merging.proofs.FoundLemmas.{found_within}

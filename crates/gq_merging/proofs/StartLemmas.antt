@@ -4,7 +4,7 @@ use Rattle.std.proofs.lemmas.Bool.{cases_eq}
 use Rattle.std.proofs.lemmas.List.{take_more, get_or-set_same, get_or-set_other, length-set}
 use Rattle.std.proofs.lemmas.List.Elements.{All-contains, Contains-append_left, Contains-append_right, Contains-append_cases}
 use Rattle.gq_names.proofs.RepeatLemmas.{contains_none, contains_first, contains_cases}
-use Rattle.gq_reach.specs.Reach.{Reach, start, step}
+use Rattle.gq_graph.specs.Reach.{Reach, start, step}
 use Rattle.gq_merging.specs.Helping.StartTables.{LeadsTo, Passes, SetsMarks}
 
 -- one mark more

@@ -1,5 +1,5 @@
 -- A string has one value at most, and no text is both a string and a block string.
-use Rattle.std.proofs.Common.{◌≡◌, ◌↔◌, ℕ, Bool, true, false, IsTrue, List, [], ◌∷◌, ◌++◌, Option, Some, None, is_some, IfNone, refl, sym, ◌∙◌, ap, subst}
+use Rattle.std.proofs.Common.{◌≡◌, ◌↔◌, ℕ, Bool, true, false, IsTrue, List, [], ◌∷◌, ◌++◌, Option, Some, None, is_some, IfNone, sym, ◌∙◌, ap, subst}
 use Rattle.gq_types.specs.Entries.{Text}
 use Rattle.gq_lex.specs.declared.token.Kind.TheVariants.{String, BlockString}
 use Rattle.gq_lex.specs.Tokens.{IsToken}
@@ -38,9 +38,6 @@ one_standing text a b (as_block_string h) (as_block_string k) = one_block text a
 stands_for_none : (text value : Text) → ((after : Text) → IsToken String text after → ⊥) → ((after : Text) → IsToken BlockString text after → ⊥) → StandsFor text value → ⊥
 stands_for_none text value no_string no_block (as_string h) = no_string [] (string_token h)
 stands_for_none text value no_string no_block (as_block_string h) = no_block [] (block_token (record { body = h.body; is = h.is; characters = h.characters }))
-
-pub strings_spelled : (a b : Text) → a ≡ b → IsTrue true ↔ AreSameStrings a b
-strings_spelled a b e = ((λ t. one_spelling e), (λ h. refl))
 
 pub strings_valued : (a b v w : Text) (same : Bool) → StandsFor a v → StandsFor b w → (IsTrue same ↔ (v ≡ w)) → IsTrue same ↔ AreSameStrings a b
 strings_valued a b v w same h k are = ((λ t. one_value v h (subst (StandsFor b) (sym (are.0 t)) k)), (λ s. are.1 (by s)))

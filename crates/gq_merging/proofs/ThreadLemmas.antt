@@ -1,29 +1,14 @@
 -- What the tests of a thread begin with, and marks of two threads, put together.
-use Rattle.std.proofs.Common.{◌≡◌, ◌∙◌, ◌⊎◌, ⊎_elim, ℕ, zero, suc, Bool, true, false, List, length, get_or, replicate, [], refl, sym, ap, subst, Vec, Global}
-use Rattle.std.proofs.lemmas.List.{length-map, length-replicate}
+use Rattle.std.proofs.Common.{◌≡◌, ◌∙◌, ◌⊎◌, ⊎_elim, ℕ, Bool, true, false, List, length, get_or, [], sym, ap, subst, Vec, Global}
 use Rattle.gq_types.specs.Entries.{EntryOf}
 use Rattle.gq_merging.specs.Helping.GroupTables.{ArePassed, AreTested}
 use Rattle.gq_merging.specs.Helping.SetTables.{RowOf}
 use Rattle.gq_merging.specs.Helping.GroupViews.{groups_view}
-use Rattle.gq_merging.specs.Helping.Views.{row_view, rows_view}
-use Rattle.gq_merging.specs.declared.rows.Row.{Row}
 use Rattle.gq_merging.proofs.GroupLemmas.{none_passed}
 
 -- where no test began
 pub no_groups_passed : (es : List EntryOf) (rows : List RowOf) (groups : List (Vec ℕ Global)) → groups ≡ [] → ArePassed es rows (groups_view groups)
 no_groups_passed es rows groups none = subst (ArePassed es rows) (sym (ap groups_view none)) (none_passed es rows)
-
-no_mark : (count n : ℕ) → get_or (replicate count false) n false ≡ false
-no_mark zero n = refl
-no_mark (suc count) zero = refl
-no_mark (suc count) (suc n) = no_mark count n
-
--- where nothing is marked
-pub none_tested : (es : List EntryOf) (rows : List Row) (marks : List Bool) → marks ≡ replicate (length rows) false → AreTested es (rows_view rows) marks
-none_tested es rows marks none = record {
-  count = ap length none ∙ length-replicate (length rows) false ∙ sym (length-map rows row_view);
-  tested = λ n m. let not_so = ap (λ ms. get_or ms n false) none ∙ no_mark (length rows) n in absurd (cc);
-}
 
 -- what is marked now was marked, or is marked among the others
 abbrev pub AreOfBoth : (old others new : List Bool) → Type 0

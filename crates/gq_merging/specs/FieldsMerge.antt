@@ -3,8 +3,8 @@
 use Rattle.std.specs.Prelude.{◌≡◌, ◌≢◌, ◌<◌, ◌≤◌, ◌⊎◌, ◌&&◌, ◌||◌, not, Bool, true, false, List, Option, Some, None, is_some}
 use Rattle.gq_text.specs.declared.place.Span.{Span}
 use Rattle.gq_tree.specs.Plain.{TypeOf}
-use Rattle.gq_found.specs.declared.code.Code.TheVariants.{FieldsDoNotMerge}
-use Rattle.gq_found.specs.declared.fault.Fault.{Fault}
+use Rattle.gq_fault.specs.declared.code.Code.TheVariants.{FieldsDoNotMerge}
+use Rattle.gq_fault.specs.declared.fault.Fault.{Fault}
 use Rattle.gq_types.specs.Entries.{Text, EntryOf}
 use Rattle.gq_types.specs.Joined.{kind_named}
 use Rattle.gq_types.specs.LookUps.{has_kind}

@@ -7,7 +7,7 @@
 ghost use Rattle.std.specs.Prelude.{◌≡◌, ◌↔◌, ◌<◌, ◌++◌, ◌∷◌, [], ℕ, List, All, Contains, IsTrue, IfOk, OnOk, length, map, true};
 ghost use Rattle.std.specs.declared.vec.Vec.{Vec};
 ghost use Rattle.std.specs.declared.alloc.Global.{Global};
-ghost use Rattle.gq_found.specs.Adds.{AddsExactly};
+ghost use Rattle.gq_fault.specs.Adds.{AddsExactly};
 ghost use Rattle.gq_tree.specs.Views.{type_view};
 ghost use Rattle.gq_types.specs.Look.{types_view};
 ghost use Rattle.gq_document.specs.Selections.{typename_field};
@@ -30,7 +30,7 @@ use crate::faults::add_fault_of;
 use crate::pairs::{Look, Met};
 use crate::purpose::Purpose;
 use crate::rows::{Member, Row};
-use gq_found::Fault;
+use gq_fault::Fault;
 use gq_text::NoMemory;
 use gq_types::Types;
 use std::alloc::Global;

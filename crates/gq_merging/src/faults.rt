@@ -1,9 +1,9 @@
 //! Fields that do not merge.
 ghost use Rattle.std.specs.Prelude.{◌≡◌, ◌*◌, ◌<◌, ◌++◌, ◌∷◌, [], OnOk, length, map};
-ghost use Rattle.gq_found.specs.declared.code.Code.TheVariants.{FieldsDoNotMerge};
-ghost use Rattle.gq_found.specs.Adds.{AddsExactly};
+ghost use Rattle.gq_fault.specs.declared.code.Code.TheVariants.{FieldsDoNotMerge};
+ghost use Rattle.gq_fault.specs.Adds.{AddsExactly};
 ghost use Rattle.gq_tree.specs.Views.{type_view};
-ghost use Rattle.gq_reach.specs.Reach.{InRange};
+ghost use Rattle.gq_graph.specs.Reach.{InRange};
 ghost use Rattle.gq_document.specs.Selections.{typename_field};
 ghost use Rattle.gq_document.specs.Executable.{executable_view};
 ghost use Rattle.gq_merging.specs.FieldsMerge.{IsMergingFault};
@@ -24,7 +24,7 @@ use crate::purpose::Purpose;
 use crate::rows::{Member, Row, all_rows};
 use crate::search::search_groups;
 use gq_document::Executable;
-use gq_found::{Code, Fault};
+use gq_fault::{Code, Fault};
 use gq_text::{NoMemory, Span};
 use gq_tree::TypeRef;
 use indexmap::IndexSet;

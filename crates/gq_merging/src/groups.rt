@@ -14,7 +14,7 @@
 //! the tests end.
 ghost use Rattle.std.specs.Prelude.{◌≡◌, ◌<◌, ◌+◌, ◌⊎◌, ℕ, List, All, Some, IsTrue, IfOk, OnOk, true, false, length, map, slice_get, slice_index_or};
 ghost use Rattle.std.specs.List.{flat_map};
-ghost use Rattle.gq_reach.specs.Reach.{InRange, row};
+ghost use Rattle.gq_graph.specs.Reach.{InRange, row};
 ghost use Rattle.gq_tree.specs.Views.{type_view};
 ghost use Rattle.gq_types.specs.Entries.{EntryOf};
 ghost use Rattle.gq_types.specs.Look.{types_view};
@@ -32,7 +32,7 @@ use crate::members::{gathered, own_members, reached_sets};
 use crate::passed::named_rows;
 use crate::rows::{Member, Row};
 use gq_document::Executable;
-use gq_reach::mark_all;
+use gq_graph::mark_all;
 use gq_text::NoMemory;
 use gq_tree::TypeRef;
 use std::alloc::Global;

@@ -7,7 +7,7 @@
 ghost use Rattle.std.specs.Prelude.{◌≡◌, ◌<◌, [], All, Contains, IsTrue, IfSome, IfOk, length, map};
 ghost use Rattle.std.specs.declared.vec.Vec.{Vec};
 ghost use Rattle.std.specs.declared.alloc.Global.{Global};
-ghost use Rattle.gq_reach.specs.Reach.{InRange};
+ghost use Rattle.gq_graph.specs.Reach.{InRange};
 ghost use Rattle.gq_tree.specs.Views.{type_view};
 ghost use Rattle.gq_document.specs.Selections.{typename_field};
 ghost use Rattle.gq_merging.specs.Helping.NameTables.{by_name_view};
@@ -22,7 +22,7 @@ use crate::comparing::key;
 use crate::members::{gathered, reached_sets};
 use crate::pairs::Look;
 use crate::rows::{Member, Row};
-use gq_found::Fault;
+use gq_fault::Fault;
 use gq_text::NoMemory;
 use std::alloc::Global;
 

@@ -1,12 +1,12 @@
 //! The fields of a selection set, those of the fragments that it reaches by spreads among them.
 ghost use Rattle.std.specs.Prelude.{◌≡◌, ℕ, ◌++◌, ◌<◌, All, IfOk, OnOk, length, map, Contains};
 ghost use Rattle.std.specs.List.{flat_map};
-ghost use Rattle.gq_reach.specs.Reach.{Reach, InRange, row};
+ghost use Rattle.gq_graph.specs.Reach.{Reach, InRange, row};
 ghost use Rattle.gq_merging.specs.Helping.SetTables.{members_at, spreads_at};
 ghost use Rattle.gq_merging.specs.Helping.Views.{members_view, rows_view};
 
 use crate::rows::{Member, Row};
-use gq_reach::reach_rows;
+use gq_graph::reach_rows;
 use gq_text::NoMemory;
 use std::alloc::Global;
 

@@ -1,10 +1,10 @@
 //! Selection sets that the search for faults starts at: it passes over sets that are marked, and over fragments that are spread
 //! in a set that it starts at, since their fields are among that set's.
 ghost use Rattle.std.specs.Prelude.{◌≡◌, ◌<◌, All, IfOk, OnOk, length};
-ghost use Rattle.gq_reach.specs.Reach.{InRange, row};
+ghost use Rattle.gq_graph.specs.Reach.{InRange, row};
 ghost use Rattle.gq_merging.specs.Helping.StartTables.{Passes, SetsMarks};
 
-use gq_reach::reach_rows;
+use gq_graph::reach_rows;
 use gq_text::NoMemory;
 use std::alloc::Global;
 

@@ -6,8 +6,8 @@
 //! all faults. A group that was there already is passed over. The number of groups can double at each level of
 //! fragments, and in a cycle they can grow without end: after a number of steps the search gives up.
 ghost use Rattle.std.specs.Prelude.{◌≡◌, ◌↔◌, ◌<◌, ◌+◌, ◌*◌, ℕ, Bool, List, [], All, Some, Contains, IsTrue, IfSome, IfOk, OnOk, length, map, slice_get};
-ghost use Rattle.gq_found.specs.declared.fault.Fault.{Fault};
-ghost use Rattle.gq_reach.specs.Reach.{InRange};
+ghost use Rattle.gq_fault.specs.declared.fault.Fault.{Fault};
+ghost use Rattle.gq_graph.specs.Reach.{InRange};
 ghost use Rattle.gq_tree.specs.Views.{type_view};
 ghost use Rattle.gq_document.specs.Selections.{typename_field};
 ghost use Rattle.gq_merging.specs.Helping.PairTables.{IsGiven, IsMetReached, IsFaultOf};
@@ -24,7 +24,7 @@ use crate::kept::{Kept, look_at_besides, no_tables, slot_of, table_of};
 use crate::members::{gathered, spreads_of};
 use crate::pairs::Look;
 use crate::rows::Row;
-use gq_found::{Fault, put_in_order};
+use gq_fault::{Fault, put_in_order};
 use gq_text::NoMemory;
 use std::alloc::Global;
 

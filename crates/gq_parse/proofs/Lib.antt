@@ -39,3 +39,5 @@ pub mod Machine
 pub mod Defaults
 pub mod Telling
 pub mod OneFault
+pub mod ReadingLemmas
+pub mod OneReading

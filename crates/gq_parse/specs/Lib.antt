@@ -6,3 +6,4 @@ pub mod Derives
 pub mod Prefix
 pub mod Faults
 pub mod Helping
+pub mod Parsed

@@ -15,6 +15,7 @@ mod moves;
 mod names;
 pub mod parser;
 mod phrases;
+pub mod reader;
 mod schema_definitions;
 mod selections;
 mod type_definitions;
@@ -30,8 +31,9 @@ pub use gq_project::Doc;
 pub use gq_tree::{
     Argument, Definition, Directive, DirectiveDefinition, DirectiveLocation, Document,
     EnumValueDefinition, Field, FieldDefinition, FieldsAndInterfaces, Fragment, InlineFragment,
-    InputValueDefinition, Literal, Name, ObjectField, Operation, OperationKind, RootOperationType,
-    SchemaDefinition, Selection, SelectionSet, Spread, TypeBody, TypeDefinition, TypeRef,
-    TypeSystemDefinition, Value, Variable, VariableDefinition,
+    InputValueDefinition, Literal, Name, ObjectField, Operation, OperationKind, Parsed,
+    RootOperationType, SchemaDefinition, Selection, SelectionSet, Spread, TypeBody, TypeDefinition,
+    TypeRef, TypeSystemDefinition, Value, Variable, VariableDefinition,
 };
 pub use parser::parse;
+pub use reader::{read, read_by_threads};

@@ -1,7 +1,7 @@
 -- What passes a test in a list of which a front passes, or all but one item does.
-use Rattle.std.proofs.Common.{◌≡◌, ℕ, zero, suc, ◌<◌, Bool, true, false, List, [], ◌∷◌, length, get_or, take, drop, Some, None, filter, find, refl, ◌∙◌, ap, arith}
-use Rattle.std.specs.List.{AllWithin, remove}
-use Rattle.std.proofs.lemmas.Bool.{cond-true, cond-false, both_ways}
+use Rattle.std.proofs.Common.{◌≡◌, ℕ, zero, suc, ◌+◌, ◌<◌, Bool, true, false, List, [], ◌∷◌, length, get_or, take, drop, Some, None, filter, find, not, refl, ◌∙◌, ap, arith}
+use Rattle.std.specs.List.{AllWithin, remove, position, position_or_len}
+use Rattle.std.proofs.lemmas.Bool.{cond-true, cond-false, both_ways, lt-ltb, le-ltb}
 
 -- a test gives the same answer at each place from low up to high
 abbrev pub Tests : {X : Type 0} → (X → Bool) → Bool → List X → ℕ → ℕ → Type 0
@@ -50,6 +50,28 @@ find_at p [] i d h at below = absurd (omega arith)
 find_at p (x ∷ xs) zero d h at below = cond-true (p x) _ _ (at 0 x (omega arith) (omega arith))
 find_at p (x ∷ xs) (suc i) d h at below =
     cond-false (p x) _ _ (h 0 x (omega arith) (omega arith)) ∙ find_at p xs i d (Tests-tail_all p false x xs i h) (Tests-tail p true x xs i _ at) (omega arith)
+
+-- and that is its place
+place_of_first : {X : Type 0} (p : X → Bool) (xs : List X) (i : ℕ) → Tests p false xs 0 i → Tests p true xs i (suc i) → i < length xs → position_or_len p xs ≡ i
+place_of_first p [] i h at below = absurd (omega arith)
+place_of_first p (x ∷ xs) zero h at below = cond-false (not (p x)) (1 + position_or_len p xs) 0 (ap not (at 0 x (omega arith) (omega arith)))
+place_of_first p (x ∷ xs) (suc i) h at below =
+    let rest : position_or_len p xs ≡ i = place_of_first p xs i (Tests-tail_all p false x xs i h) (Tests-tail p true x xs i _ at) (omega arith) in
+    let next : 1 + position_or_len p xs ≡ suc i = omega (arith, rest) in
+    cond-true (not (p x)) (1 + position_or_len p xs) 0 (ap not (h 0 x (omega arith) (omega arith))) ∙ next
+
+pub position_at : {X : Type 0} (p : X → Bool) (xs : List X) (i : ℕ) → Tests p false xs 0 i → Tests p true xs i (suc i) → i < length xs → position p xs ≡ Some i
+position_at p xs i h at below = rw (place_of_first p xs i h at below, lt-ltb i (length xs) below)
+
+past_all : {X : Type 0} (p : X → Bool) (xs : List X) → Tests p false xs 0 (length xs) → position_or_len p xs ≡ length xs
+past_all p [] h = refl
+past_all p (x ∷ xs) h =
+    let rest : position_or_len p xs ≡ length xs = past_all p xs (Tests-tail_all p false x xs _ h) in
+    let next : 1 + position_or_len p xs ≡ suc (length xs) = omega (arith, rest) in
+    cond-true (not (p x)) (1 + position_or_len p xs) 0 (ap not (h 0 x (omega arith) (omega arith))) ∙ next
+
+pub position_none : {X : Type 0} (p : X → Bool) (xs : List X) → Tests p false xs 0 (length xs) → position p xs ≡ None
+position_none p xs h = rw (past_all p xs h, le-ltb (length xs) (length xs) (omega arith))
 
 pub find_none : {X : Type 0} (p : X → Bool) (xs : List X) → Tests p false xs 0 (length xs) → find p xs ≡ None
 find_none p [] h = refl

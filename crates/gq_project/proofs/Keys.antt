@@ -18,7 +18,7 @@ use Rattle.std.proofs.lemmas.List.Elements.{recursion_from_All, All-weaker, filt
 use Rattle.std.proofs.lemmas.List.Kept.{IsStrictlySortedBy-filter}
 use Rattle.std.proofs.lemmas.List.Folds.{find-append}
 use Rattle.gq_project.specs.Helping.Places.{IsPlaceOf, IsGapFor}
-use Rattle.gq_project.proofs.Filters.{Tests, find-filter_keeps, find-filter_loses, filter_all, filter_front, filter_back, filter_but_one, find_at, find_none}
+use Rattle.gq_project.proofs.Filters.{Tests, find-filter_keeps, find-filter_loses, filter_all, filter_front, filter_back, filter_but_one, find_at, find_none, position_at, position_none}
 
 -- how two keys stand by their bytes
 abbrev pub key_cmp : List ℕ → List ℕ → Ordering
@@ -106,6 +106,7 @@ module _ {X : Type 0} (key_of : X → List ℕ) where
     place i below less equal greater = record {
       in_range = below;
       front = sym (filter_front (is_before k) xs i (before_where Less 0 i less) (joined (is_before k) false i (suc i) _ (before_where Equal i _ equal) (before_where Greater _ _ greater)));
+      first = position_at (is_at k) xs i (at_where Less 0 i less) (at_where Equal i _ equal) below;
       here = λ d. find_at (is_at k) xs i d (at_where Less 0 i less) (at_where Equal i _ equal) below;
       others = sym (filter_but_one (is_elsewhere k) xs i (elsewhere_where Less 0 i less) (elsewhere_where Equal i _ equal) (elsewhere_where Greater _ _ greater) below);
       back = sym (filter_back (is_after k) xs (suc i) (joined (is_after k) false 0 i _ (after_where Less 0 i less) (after_where Equal i _ equal)) (after_where Greater _ _ greater));
@@ -116,6 +117,7 @@ module _ {X : Type 0} (key_of : X → List ℕ) where
     gap i upto less greater = record {
       in_range = upto;
       front = sym (filter_front (is_before k) xs i (before_where Less 0 i less) (before_where Greater i _ greater));
+      nowhere = position_none (is_at k) xs (joined (is_at k) false 0 i _ (at_where Less 0 i less) (at_where Greater i _ greater));
       none = find_none (is_at k) xs (joined (is_at k) false 0 i _ (at_where Less 0 i less) (at_where Greater i _ greater));
       others = sym (filter_all (is_elsewhere k) xs (joined (is_elsewhere k) true 0 i _ (elsewhere_where Less 0 i less) (elsewhere_where Greater i _ greater)));
       back = sym (filter_back (is_after k) xs i (after_where Less 0 i less) (after_where Greater i _ greater));

@@ -10,7 +10,8 @@ pub struct Doc {
     pub key: OwnedText,
     /// Its URI, as the client wrote it.
     pub uri: OwnedText,
-    pub version: i64,
+    /// Its version as the client counts them; none where no client has given one.
+    pub version: Option<i64>,
     pub text: OwnedText,
 }
 

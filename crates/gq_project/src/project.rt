@@ -1,6 +1,6 @@
 //! Projects: the documents that are open, in the order of their keys.
-ghost use Rattle.std.specs.Prelude.{◌≡◌, [], IfOk, IfErr, OnOk, OnErr, find};
-ghost use Rattle.std.specs.Option.{option_copied};
+ghost use Rattle.std.specs.Prelude.{◌≡◌, [], IfOk, IfErr, OnOk, OnErr, find, position};
+ghost use Rattle.std.specs.Option.{option_copied, option_map};
 ghost use Rattle.gq_project.specs.Documents.{IsInOrder, has_key, with_doc, without, after_change, AddsDocument};
 ghost use Rattle.gq_project.specs.Helping.Places.{IsPlaceOf, IsGapFor};
 
@@ -58,9 +58,29 @@ impl Project {
         ensures found { option_copied result ≡ find (has_key key.now) self.now }
         ensures in_order { IsInOrder self.now }
     {
-        match self.place(key) {
+        match self.place_or_gap(key) {
             Ok(at) => Some(&self.documents[at]),
             Err(_) => None,
+        }
+    }
+
+    /// The number of the document of that key among the documents, from 0.
+    pub fn place(&self, key: &str) -> Option<usize>
+        ensures { result ≡ position (has_key key.now) self.now }
+    {
+        match self.place_or_gap(key) {
+            Ok(at) => Some(at),
+            Err(_) => None,
+        }
+    }
+
+    /// The text of the document of that key.
+    pub fn text(&self, key: &str) -> Option<&str>
+        ensures { option_copied result ≡ option_map (λ doc. doc.text) (find (has_key key.now) self.now) }
+    {
+        match self.get(key) {
+            Some(doc) => Some(doc.text.as_str()),
+            None => None,
         }
     }
 
@@ -70,7 +90,7 @@ impl Project {
         ensures err { OnErr result (self.new ≡ self.old) }
         ensures refused { OnErr result (find (has_key doc.key) self.old ≡ None) }
     {
-        match self.place(doc.key.as_str()) {
+        match self.place_or_gap(doc.key.as_str()) {
             Ok(at) => {
                 self.documents[at] = doc;
                 Ok(())
@@ -87,7 +107,7 @@ impl Project {
         ensures taken { result ≡ find (has_key key.now) self.old }
         ensures left { self.new ≡ without self.old key.now }
     {
-        match self.place(key) {
+        match self.place_or_gap(key) {
             Ok(at) => Some(self.documents.remove(at)),
             Err(_) => None,
         }
@@ -120,7 +140,7 @@ impl Project {
     }
 
     /// Where the document of that key is, or where it would go.
-    fn place(&self, key: &str) -> Result<usize, usize>
+    fn place_or_gap(&self, key: &str) -> Result<usize, usize>
         ensures found { IfOk result (IsPlaceOf (λ doc. doc.key) key.now self.now) }
         ensures absent { IfErr result (IsGapFor (λ doc. doc.key) key.now self.now) }
     {

@@ -4,9 +4,9 @@ use Rattle.gq_project.specs.declared.document.Doc.{Doc}
 use Rattle.gq_types.specs.Entries.{Text}
 use Rattle.gq_index.specs.declared.occurrence.Occurrence.{Occurrence}
 use Rattle.gq_index.specs.Occurrences.{DefinitionOf}
-use Rattle.gq_spans.specs.declared.mention.MentionKind.{MentionKind}
-use Rattle.gq_spans.specs.declared.mention.MentionKind.TheVariants as kind
-use Rattle.gq_spans.specs.Mentions.{MentionOf}
+use Rattle.gq_mentions.specs.declared.mention.MentionKind.{MentionKind}
+use Rattle.gq_mentions.specs.declared.mention.MentionKind.TheVariants as kind
+use Rattle.gq_mentions.specs.Mentions.{MentionOf}
 use Rattle.gq_query.specs.Definitions.{IsDefinitionOf}
 use Rattle.gq_query.specs.Hovers.{IsToldOf}
 use Rattle.gq_query.specs.Order.{AreExactly}

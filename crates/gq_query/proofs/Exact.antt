@@ -14,11 +14,11 @@ use Rattle.gq_index.specs.declared.occurrence.Occurrence.{Occurrence}
 use Rattle.gq_index.specs.Occurrences.{DefinitionOf, fragment_definitions, fragment_spreads}
 use Rattle.gq_index.specs.VariableNames.{used_variables, defined_variables}
 use Rattle.gq_index.specs.VariableGroups.{VariableGroup}
-use Rattle.gq_spans.specs.declared.mention.MentionKind.{MentionKind}
-use Rattle.gq_spans.specs.declared.mention.MentionKind.TheVariants as kind
-use Rattle.gq_spans.specs.Mentions.{MentionOf}
-use Rattle.gq_spans.specs.Views.{mention_view}
-use Rattle.gq_spans.specs.declared.mention.Mention.{Mention}
+use Rattle.gq_mentions.specs.declared.mention.MentionKind.{MentionKind}
+use Rattle.gq_mentions.specs.declared.mention.MentionKind.TheVariants as kind
+use Rattle.gq_mentions.specs.Mentions.{MentionOf}
+use Rattle.gq_mentions.specs.Views.{mention_view}
+use Rattle.gq_mentions.specs.declared.mention.Mention.{Mention}
 use Rattle.gq_query.specs.Asked.{asked, AtMention}
 use Rattle.gq_query.specs.Helping.Gathered.{if_wanted, places_among, first_of}
 use Rattle.gq_query.specs.Groups.{StandsInGroup, variable_at}
@@ -26,9 +26,9 @@ use Rattle.gq_query.specs.Hovers.{IsVariableTold}
 use Rattle.gq_query.specs.Words.{variable_words}
 use Rattle.gq_query.specs.Order.{occurrence_cmp, AreExactly}
 use Rattle.gq_query.specs.References.{IsReference, IsUse, IsDeclaration}
-use Rattle.gq_query.specs.Helping.Views.{definitions_view}
+use Rattle.gq_index.specs.Views.{definitions_view}
 use Rattle.gq_query.specs.Helping.Wants.{IsWanted}
-use Rattle.gq_query.specs.declared.executables.Executable.{Executable}
+use Rattle.gq_index.specs.declared.definitions.Executable.{Executable}
 use Rattle.gq_query.proofs.Grouped.{in_group, in_past, first_in_group, first_past}
 
 pub sorted_none : IsStrictlySortedBy occurrence_cmp []
@@ -145,11 +145,10 @@ variable_wanted ds a b m numbers all is members past e o =
     (members_or_past used_variables ds m.name.text m.definition numbers members past) (members_or_past defined_variables ds m.name.text m.definition numbers members past) o)
 
 -- what an offset means in documents and definitions that are these
-pub asked_in : (o : Option Mention) (listed documents : List Doc) (seen all : List Executable) (ds : List DefinitionOf) (key : List ℕ) (offset : ℕ) → option_map mention_view o ≡ asked listed (definitions_view seen) key offset → listed ≡ documents → seen ≡ all → definitions_view all ≡ ds →
+pub asked_in : (o : Option Mention) (documents : List Doc) (seen all : List Executable) (ds : List DefinitionOf) (key : List ℕ) (offset : ℕ) → option_map mention_view o ≡ asked documents (definitions_view seen) key offset → seen ≡ all → definitions_view all ≡ ds →
     option_map mention_view o ≡ asked documents ds key offset
-asked_in o listed documents seen all ds key offset e same_documents same_seen same =
-    e ∙ ap (λ (l : List Doc). asked l (definitions_view seen) key offset) same_documents
-    ∙ ap (λ (l : List Executable). asked documents (definitions_view l) key offset) same_seen
+asked_in o documents seen all ds key offset e same_seen same =
+    e ∙ ap (λ (l : List Executable). asked documents (definitions_view l) key offset) same_seen
     ∙ ap (λ (l : List DefinitionOf). asked documents l key offset) same
 
 -- what is told of a variable whose group has these numbers

@@ -11,9 +11,9 @@ use Rattle.gq_tree.specs.Plain.{NameOf, VariableOf, Def}
 use Rattle.gq_types.specs.Entries.{Text}
 use Rattle.gq_types.proofs.Gathered.{nothing_in, first, later, cases_cons, from_flat, to_flat}
 use Rattle.gq_index.specs.declared.occurrence.Occurrence.{Occurrence}
-use Rattle.gq_index.specs.Occurrences.{DefinitionOf, called, occurrences_of, places_called, definition_places, place_of}
+use Rattle.gq_index.specs.Occurrences.{DefinitionOf, called, occurrences_of, places_called, definition_places, place_of, occurrences_in_file}
 use Rattle.gq_index.specs.VariableGroups.{VariableGroup, itself, with_operation, with_fragment}
-use Rattle.gq_query.specs.Helping.Gathered.{first_of, occurrence_in, places_at, places_among}
+use Rattle.gq_query.specs.Helping.Gathered.{first_of, places_at, places_among}
 use Rattle.gq_query.specs.Groups.{StandsInGroup, variable_in, variable_at, IsFirstInGroup, here, nowhere}
 
 -- past the last definition nothing else is in the group
@@ -124,24 +124,24 @@ module _ (ds : List DefinitionOf) (text : Text) (n : ℕ) (numbers : List ℕ) w
 same_definition : (a b : Occurrence) → ◌≡◌ {A = Option Occurrence} (Some a) (Some b) → a ≡ b
 same_definition a b e = cc
 
-spans_in : (file : ℕ) (text : Text) (names : List (NameOf Span)) → map (occurrence_in file) (places_called text names) ≡ occurrences_of file text names
-spans_in file text names = map-map (occurrence_in file) (λ (n : NameOf Span). n.place) (called text names)
+spans_in : (file : ℕ) (text : Text) (names : List (NameOf Span)) → occurrences_in_file file (places_called text names) ≡ occurrences_of file text names
+spans_in file text names = map-map (λ (s : Span). let o : Occurrence = record { file = file; span = s } in o) (λ (n : NameOf Span). n.place) (called text names)
 
 module _ (names : Def Span → List (NameOf Span)) (ds : List DefinitionOf) (text : Text) (number : ℕ) (places : List Occurrence) (all : places ≡ definition_places ds) where
   definition_at : slice_get places number ≡ option_map (λ (d : DefinitionOf). let o : Occurrence = record { file = d.file; span = place_of d.definition } in o) (slice_get ds number)
   definition_at = ap (λ (l : List Occurrence). slice_get l number) all ∙ slice_get-map (λ (d : DefinitionOf). let o : Occurrence = record { file = d.file; span = place_of d.definition } in o) ds number
 
-  pub spans_at : (place : Occurrence) (spans : List Span) → slice_get places number ≡ Some place → spans ≡ option_map_or (λ d. places_called text (names d.definition)) (slice_get ds number) [] → map (occurrence_in place.file) spans ≡ places_at names ds text number
+  pub spans_at : (place : Occurrence) (spans : List Span) → slice_get places number ≡ Some place → spans ≡ option_map_or (λ d. places_called text (names d.definition)) (slice_get ds number) [] → occurrences_in_file place.file spans ≡ places_at names ds text number
   spans_at place spans at are = by (slice_get ds number) (sym definition_at ∙ at) are
     where
       by : (o : Option DefinitionOf) → option_map (λ (d : DefinitionOf). let x : Occurrence = record { file = d.file; span = place_of d.definition } in x) o ≡ Some place → spans ≡ option_map_or (λ d. places_called text (names d.definition)) o [] →
-          map (occurrence_in place.file) spans ≡ option_map_or (λ d. occurrences_of d.file text (names d.definition)) o []
+          occurrences_in_file place.file spans ≡ option_map_or (λ d. occurrences_of d.file text (names d.definition)) o []
       by None e are = absurd (cc)
       by (Some d) e are =
           let x : Occurrence = record { file = d.file; span = place_of d.definition } in
           let same : x ≡ place = same_definition x place e in
-          ap (map (occurrence_in place.file)) are
-          ∙ ap (λ (p : Occurrence). map (occurrence_in p.file) (places_called text (names d.definition))) (sym same)
+          ap (occurrences_in_file place.file) are
+          ∙ ap (λ (p : Occurrence). occurrences_in_file p.file (places_called text (names d.definition))) (sym same)
           ∙ spans_in d.file text (names d.definition)
 
   pub nothing_at : slice_get places number ≡ None → places_at names ds text number ≡ []

@@ -7,7 +7,7 @@ use Rattle.std.proofs.lemmas.List.Folds.{find-append}
 use Rattle.gq_text.specs.declared.place.Span.{Span}
 use Rattle.gq_tree.specs.Plain.{FieldDefinitionOf}
 use Rattle.gq_types.specs.Entries.{Text, EntryOf, Numbered, numbered}
-use Rattle.gq_types.specs.BuiltIn.{built_in_scalars}
+use Rattle.gq_types.specs.BuiltIn.{is_built_in_scalar}
 use Rattle.gq_types.specs.Joined.{In, put_in, owner, joined, is_type_named, type_number, body_in, parts_in, fields_in_body, fields_of}
 use Rattle.gq_types.specs.Look.{joined_numbers}
 use Rattle.gq_types.proofs.Gathered.{first, later, from_filter}
@@ -77,7 +77,7 @@ field_place_none es type_name text other is =
 abbrev named_at : EntryOf → Option Occurrence
 named_at e = type_name_place e.file e.definition
 
-pub type_place_is : (es : List EntryOf) (text : Text) (number : Option ℕ) → list_any (bytes_eq text) built_in_scalars ≡ false → type_number es text ≡ number → type_place es text ≡ option_and_then named_at (option_and_then (λ k. slice_get es k) number)
+pub type_place_is : (es : List EntryOf) (text : Text) (number : Option ℕ) → is_built_in_scalar text ≡ false → type_number es text ≡ number → type_place es text ≡ option_and_then named_at (option_and_then (λ k. slice_get es k) number)
 type_place_is es text number other is =
     ap (λ (b : Bool). cond b None (option_and_then named_at (find (λ e. is_type_named text e.definition) es))) other
     ∙ ap (λ (o : Option EntryOf). option_and_then named_at o) (type_found es text)

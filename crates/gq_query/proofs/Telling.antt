@@ -1,9 +1,10 @@
 -- What a schema tells, and places alone.
 use Rattle.std.proofs.Common.{◌≡◌, List, [], ◌∷◌, Option, Some, None, refl, sym, ap, subst, ◌∙◌}
+use Rattle.std.specs.Prelude.{option_and_then}
 use Rattle.gq_project.specs.declared.document.Doc.{Doc}
 use Rattle.gq_types.specs.Entries.{EntryOf}
 use Rattle.gq_types.proofs.Gathered.{first, only}
-use Rattle.gq_found.specs.declared.found.Found.{Found}
+use Rattle.gq_fault.specs.declared.found.Found.{Found}
 use Rattle.gq_schema.specs.SchemaOf.{IsTypeSystemOf, HasNoFault, IsFaulty}
 use Rattle.gq_index.specs.declared.occurrence.Occurrence.{Occurrence}
 use Rattle.gq_query.specs.Order.{AreExactly}
@@ -36,9 +37,11 @@ pub exactly_no : AreExactly (λ o. ◌≡◌ {A = Option Occurrence} None (Some 
 exactly_no = exactly_none (λ o. ◌≡◌ {A = Option Occurrence} None (Some o)) (λ o e. absurd (cc))
 
 -- what a schema tells, and nothing without one
-pub by_schema : {A : Type 0} (documents : List Doc) (tells : List EntryOf → Option A) (es own : List EntryOf) → own ≡ es → IsTypeSystemOf documents es → HasNoFault es → (told : Option A) → told ≡ tells own → BySchema documents tells told
-by_schema documents tells es own same is none told e = of_schema is none (e ∙ ap tells same)
+pub without_schema : (documents : List Doc) → ((ds : List Doc) (es : List EntryOf) (found : List Found) → IsTypeSystemOf ds es → HasNoFault es → IsFaulty ds found → ⊥) →
+    (found : List Found) → IsFaulty documents found → BySchema documents (λ (es : List EntryOf). Some es) None
+without_schema documents not_both found faulty = of_none (λ es is none. not_both documents es found is none faulty) refl
 
-pub without_schema : {A : Type 0} (documents : List Doc) (tells : List EntryOf → Option A) → ((ds : List Doc) (es : List EntryOf) (found : List Found) → IsTypeSystemOf ds es → HasNoFault es → IsFaulty ds found → ⊥) →
-    (found : List Found) → IsFaulty documents found → BySchema documents tells None
-without_schema documents tells not_both found faulty = of_none (λ es is none. not_both documents es found is none faulty) refl
+pub told_by : {A : Type 0} (documents : List Doc) (tells : List EntryOf → Option A) (schema : Option (List EntryOf)) (told : Option A) → BySchema documents (λ (es : List EntryOf). Some es) schema → told ≡ option_and_then tells schema →
+    BySchema documents tells told
+told_by documents tells schema told (of_schema is none e) t = of_schema is none (t ∙ ap (option_and_then tells) e)
+told_by documents tells schema told (of_none none e) t = of_none none (t ∙ ap (option_and_then tells) e)

@@ -3,8 +3,8 @@ use Rattle.std.specs.Prelude.{◌≡◌, ℕ, ◌+◌, List, [], ◌∷◌, ◌+
 use Rattle.gq_project.specs.declared.document.Doc.{Doc}
 use Rattle.gq_project.specs.Documents.{has_key}
 use Rattle.gq_index.specs.Occurrences.{DefinitionOf}
-use Rattle.gq_spans.specs.Mentions.{MentionOf, mentions_in}
-use Rattle.gq_spans.specs.Meant.{meant}
+use Rattle.gq_mentions.specs.Mentions.{MentionOf, mentions_in}
+use Rattle.gq_mentions.specs.Meant.{meant}
 
 -- what is named in the executable definitions of the document of that number; the definitions are numbered from n on
 abbrev pub mentions_of : ℕ → ℕ → List DefinitionOf → List MentionOf

@@ -1,13 +1,13 @@
 -- Where what is named is defined (LSP 3.17, "Goto Definition Request").
 use Rattle.std.specs.Prelude.{ℕ, List, Some}
 use Rattle.gq_project.specs.declared.document.Doc.{Doc}
-use Rattle.gq_read.specs.declared.reader.Parsed.{Parsed}
-use Rattle.gq_read.specs.Parsed.{AreParsed}
+use Rattle.gq_tree.specs.declared.parsed.Parsed.{Parsed}
+use Rattle.gq_parse.specs.Parsed.{AreParsed}
 use Rattle.gq_index.specs.declared.occurrence.Occurrence.{Occurrence}
 use Rattle.gq_index.specs.Occurrences.{DefinitionOf, executables}
-use Rattle.gq_spans.specs.declared.mention.MentionKind.{MentionKind}
-use Rattle.gq_spans.specs.declared.mention.MentionKind.TheVariants as kind
-use Rattle.gq_spans.specs.Mentions.{MentionOf}
+use Rattle.gq_mentions.specs.declared.mention.MentionKind.{MentionKind}
+use Rattle.gq_mentions.specs.declared.mention.MentionKind.TheVariants as kind
+use Rattle.gq_mentions.specs.Mentions.{MentionOf}
 use Rattle.gq_query.specs.Asked.{AtMention}
 use Rattle.gq_query.specs.Order.{AreExactly}
 use Rattle.gq_query.specs.Places.{defined_field_place, type_place}

@@ -5,12 +5,12 @@ use Rattle.std.specs.List.{list_any}
 use Rattle.gq_text.specs.declared.place.Span.{Span}
 use Rattle.gq_tree.specs.Plain.{FieldDefinitionOf, TypeSystemOf, schema, type_definition, directive_definition}
 use Rattle.gq_types.specs.Entries.{Text, EntryOf}
-use Rattle.gq_types.specs.BuiltIn.{built_in_scalars}
+use Rattle.gq_types.specs.BuiltIn.{is_built_in_scalar}
 use Rattle.gq_types.specs.Joined.{In, is_type_named, type_number, fields_of}
 use Rattle.gq_document.specs.Selections.{typename}
 use Rattle.gq_index.specs.declared.occurrence.Occurrence.{Occurrence}
 use Rattle.gq_index.specs.Occurrences.{DefinitionOf}
-use Rattle.gq_spans.specs.Mentions.{MentionOf}
+use Rattle.gq_mentions.specs.Mentions.{MentionOf}
 use Rattle.gq_query.specs.Parents.{parent_of}
 
 abbrev pub field_name_place : In (FieldDefinitionOf Span) → Occurrence
@@ -36,5 +36,5 @@ type_name_place file (directive_definition description name arguments repeatable
 -- the definition of the type of that name, which is no extension, where it is not built in
 abbrev pub type_place : List EntryOf → Text → Option Occurrence
 type_place es text =
-    if list_any (bytes_eq text) built_in_scalars then None else
+    if is_built_in_scalar text then None else
     option_and_then (λ e. type_name_place e.file e.definition) (find (λ e. is_type_named text e.definition) es)

@@ -1,15 +1,15 @@
 -- Where fragments and variables are declared and used (LSP 3.17, "Find References Request").
 use Rattle.std.specs.Prelude.{ℕ, Bool, List, Contains, IsTrue, ◌⊎◌}
 use Rattle.gq_project.specs.declared.document.Doc.{Doc}
-use Rattle.gq_read.specs.declared.reader.Parsed.{Parsed}
-use Rattle.gq_read.specs.Parsed.{AreParsed}
+use Rattle.gq_tree.specs.declared.parsed.Parsed.{Parsed}
+use Rattle.gq_parse.specs.Parsed.{AreParsed}
 use Rattle.gq_types.specs.Entries.{Text}
 use Rattle.gq_index.specs.declared.occurrence.Occurrence.{Occurrence}
 use Rattle.gq_index.specs.VariableNames.{used_variables, defined_variables}
 use Rattle.gq_index.specs.Occurrences.{DefinitionOf, executables, fragment_definitions, fragment_spreads}
-use Rattle.gq_spans.specs.declared.mention.MentionKind.{MentionKind}
-use Rattle.gq_spans.specs.declared.mention.MentionKind.TheVariants as kind
-use Rattle.gq_spans.specs.Mentions.{MentionOf}
+use Rattle.gq_mentions.specs.declared.mention.MentionKind.{MentionKind}
+use Rattle.gq_mentions.specs.declared.mention.MentionKind.TheVariants as kind
+use Rattle.gq_mentions.specs.Mentions.{MentionOf}
 use Rattle.gq_query.specs.Asked.{AtMention}
 use Rattle.gq_query.specs.Groups.{StandsInGroup}
 use Rattle.gq_query.specs.Order.{AreExactly}

@@ -7,12 +7,12 @@ use Rattle.gq_tree.specs.Plain.{TypeOf, named, list_of, non_null}
 use Rattle.gq_types.specs.declared.entry.TypeKind.{TypeKind}
 use Rattle.gq_types.specs.declared.entry.TypeKind.TheVariants as kind
 use Rattle.gq_types.specs.Entries.{Text, EntryOf}
-use Rattle.gq_types.specs.BuiltIn.{built_in_scalars}
+use Rattle.gq_types.specs.BuiltIn.{is_built_in_scalar}
 use Rattle.gq_types.specs.Joined.{kind_named}
 use Rattle.gq_document.specs.Selections.{field_on}
 use Rattle.gq_index.specs.Occurrences.{DefinitionOf}
 use Rattle.gq_index.specs.VariableGroups.{fragments_among}
-use Rattle.gq_spans.specs.Mentions.{MentionOf}
+use Rattle.gq_mentions.specs.Mentions.{MentionOf}
 use Rattle.gq_query.specs.Parents.{parent_of}
 
 -- a type (section 2.11), with nothing between its tokens
@@ -56,4 +56,4 @@ field_told es ds m = option_and_then (λ type_name. option_map (λ f. field_word
 
 -- of a type condition: the type, where it is not built in
 abbrev pub condition_told : List EntryOf → Text → Option Text
-condition_told es text = if list_any (bytes_eq text) built_in_scalars then None else option_map (condition_words text) (kind_named es text)
+condition_told es text = if is_built_in_scalar text then None else option_map (condition_words text) (kind_named es text)

@@ -1,43 +1,33 @@
 //! What an offset in a document of a project means to a query.
-ghost use Rattle.std.specs.Prelude.{◌≡◌, IfOk, position};
+ghost use Rattle.std.specs.Prelude.{◌≡◌, IfOk};
 ghost use Rattle.std.specs.Option.{option_map};
-ghost use Rattle.gq_project.specs.Documents.{has_key};
-ghost use Rattle.gq_spans.specs.Views.{mention_view, mentions_view};
+ghost use Rattle.gq_mentions.specs.Views.{mention_view, mentions_view};
 ghost use Rattle.gq_query.specs.Asked.{mentions_of, asked};
-ghost use Rattle.gq_query.specs.Helping.Views.{definitions_view};
+ghost use Rattle.gq_index.specs.Views.{definitions_view};
 
-use crate::executables::Executable;
-use gq_project::Doc;
-use gq_spans::{Mention, meant, put_mentions};
+use gq_index::Executable;
+use gq_mentions::{Mention, meant, put_mentions};
+use gq_project::Project;
 use gq_text::NoMemory;
 use std::alloc::Global;
 
 /// What the offset means in the document of that key; nothing where there is no such document.
 pub(crate) fn asked<'a>(
     alloc: Global,
-    documents: &[Doc],
+    project: &Project,
     definitions: &[Executable<'a>],
     key: &str,
     offset: usize,
 ) -> Result<Option<Mention<'a>>, NoMemory>
-    ensures { IfOk result (λ found. option_map mention_view found ≡ asked documents.now (definitions_view definitions.now) key.now offset) }
+    ensures { IfOk result (λ found. option_map mention_view found ≡ asked project.now (definitions_view definitions.now) key.now offset) }
 {
-    match place_of(documents, key) {
+    match project.place(key) {
         Some(file) => {
             let all = mentions_of(alloc, file, definitions)?;
             Ok(meant(&all, offset))
         }
         None => Ok(None),
     }
-}
-
-/// The number of the document of that key.
-fn place_of(documents: &[Doc], key: &str) -> Option<usize>
-    ensures { result ≡ position (has_key key.now) documents.now }
-{
-    documents
-        .iter()
-        .position(|document| document.key.as_str() == key)
 }
 
 /// What is named in the definitions of the document of that number.

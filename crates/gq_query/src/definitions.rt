@@ -1,26 +1,26 @@
 //! Where what is named is defined (LSP 3.17, "Goto Definition Request").
 ghost use Rattle.std.specs.Prelude.{◌≡◌, List, [], ◌∷◌, Some, IfOk};
-ghost use Rattle.gq_read.specs.declared.reader.Parsed.{Parsed};
-ghost use Rattle.gq_read.specs.Parsed.{AreParsed};
+ghost use Rattle.gq_tree.specs.declared.parsed.Parsed.{Parsed};
+ghost use Rattle.gq_parse.specs.Parsed.{AreParsed};
 ghost use Rattle.gq_index.specs.Occurrences.{executables};
-ghost use Rattle.gq_spans.specs.declared.mention.MentionKind.TheVariants as kind;
-ghost use Rattle.gq_spans.specs.Views.{mention_view};
+ghost use Rattle.gq_mentions.specs.declared.mention.MentionKind.TheVariants as kind;
+ghost use Rattle.gq_mentions.specs.Views.{mention_view};
 ghost use Rattle.gq_query.specs.Asked.{AtMention};
 ghost use Rattle.gq_query.specs.Definitions.{IsDefinitionOf, AreDefinitions};
 ghost use Rattle.gq_query.specs.Order.{AreExactly};
 ghost use Rattle.gq_query.specs.References.{IsDeclaration};
-ghost use Rattle.gq_query.specs.Helping.Views.{definitions_view};
+ghost use Rattle.gq_index.specs.Views.{definitions_view};
 
 use crate::asking::asked;
-use crate::executables::{Executable, executables};
 use crate::schemas::{field_place_by_schema, type_place_by_schema};
 use crate::wanted::{Wanted, wanted_places};
-use gq_index::Occurrence;
+use gq_index::{Executable, Occurrence, executables};
+use gq_mentions::{Mention, MentionKind};
+use gq_parse::read;
 use gq_project::Project;
-use gq_read::{Parsed, read};
 use gq_schema::laws::documents_have_one_type_system;
-use gq_spans::{Mention, MentionKind};
 use gq_text::NoMemory;
+use gq_tree::Parsed;
 use std::alloc::Global;
 
 /// The name tokens of the definitions of what stands at the offset, in bytes, of the document of that key: in the order
@@ -50,7 +50,7 @@ fn definition_in(
     ensures { IfOk result (λ found. AreExactly (λ o. AtMention project.now (executables readings.now) key.now offset (λ m. IsDefinitionOf project.now (executables readings.now) m.kind m o)) found.items) }
 {
     let definitions = executables(alloc, readings)?;
-    match asked(alloc, project.documents(), &definitions, key, offset)? {
+    match asked(alloc, project, &definitions, key, offset)? {
         Some(mention) => {
             let found = definition_of(alloc, project, &definitions, &mention)?;
             Ok(found)

@@ -1,11 +1,11 @@
 //! What is told of a fragment (GraphQL, October 2021, section 2.8).
 ghost use Rattle.std.specs.Prelude.{◌≡◌, IfOk};
 ghost use Rattle.std.specs.Option.{option_map};
-ghost use Rattle.gq_query.specs.Helping.Views.{definitions_view};
+ghost use Rattle.gq_index.specs.Views.{definitions_view};
 ghost use Rattle.gq_query.specs.Words.{fragment_words, fragment_told};
 
-use crate::executables::Executable;
 use crate::words::fragment_words;
+use gq_index::Executable;
 use gq_text::{NoMemory, OwnedText};
 use gq_tree::{Definition, Fragment};
 use std::alloc::Global;

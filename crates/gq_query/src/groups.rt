@@ -1,12 +1,12 @@
 //! Where the names of fragments and of variables stand, by the index of a project.
-ghost use Rattle.std.specs.Prelude.{◌≡◌, ◌++◌, ℕ, List, IfOk, OnOk, map};
+ghost use Rattle.std.specs.Prelude.{◌≡◌, ◌++◌, List, OnOk};
 ghost use Rattle.gq_index.specs.Indexed.{IsIndexOf};
 ghost use Rattle.gq_index.specs.Occurrences.{DefinitionOf, fragment_definitions, fragment_spreads};
 ghost use Rattle.gq_index.specs.VariableNames.{used_variables, defined_variables};
-ghost use Rattle.gq_query.specs.Helping.Gathered.{places_at, places_among, occurrence_in};
+ghost use Rattle.gq_query.specs.Helping.Gathered.{places_at, places_among};
 
-use gq_index::{Index, Occurrence};
-use gq_text::{NoMemory, Span};
+use gq_index::{Index, Occurrence, put_spans};
+use gq_text::NoMemory;
 
 /// Puts where the variable is used in the definitions of these numbers behind the others.
 pub(crate) fn put_uses(
@@ -64,14 +64,4 @@ fn put_definitions_at(
         Some(place) => put_spans(place.file, index.variable_definitions(number, name), all),
         None => Ok(()),
     }
-}
-
-/// Puts these places in a document behind the others.
-fn put_spans(file: usize, spans: &[Span], all: &mut Vec<Occurrence>) -> Result<(), NoMemory>
-    ensures { OnOk result (all.new.items ≡ all.old.items ++ map (occurrence_in file) spans.now) }
-{
-    for span in spans {
-        all.push(Occurrence { file, span: *span })?;
-    }
-    Ok(())
 }

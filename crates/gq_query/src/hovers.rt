@@ -1,23 +1,24 @@
 //! What a hover tells (LSP 3.17, "Hover Request").
 ghost use Rattle.std.specs.Prelude.{◌≡◌, List, IfOk};
-ghost use Rattle.gq_read.specs.declared.reader.Parsed.{Parsed};
-ghost use Rattle.gq_read.specs.Parsed.{AreParsed};
+ghost use Rattle.gq_tree.specs.declared.parsed.Parsed.{Parsed};
+ghost use Rattle.gq_parse.specs.Parsed.{AreParsed};
 ghost use Rattle.gq_index.specs.Occurrences.{executables};
-ghost use Rattle.gq_spans.specs.Views.{mention_view};
+ghost use Rattle.gq_mentions.specs.Views.{mention_view};
 ghost use Rattle.gq_query.specs.Asked.{asked};
 ghost use Rattle.gq_query.specs.Hovers.{IsToldOf, IsHoverOf, IsHoverAt, IsHover};
-ghost use Rattle.gq_query.specs.Helping.Views.{definitions_view};
+ghost use Rattle.gq_index.specs.Views.{definitions_view};
 
 use crate::asking::asked;
-use crate::executables::{Executable, executables};
 use crate::fragments::fragment_told;
 use crate::schemas::{condition_told_by_schema, field_told_by_schema};
 use crate::told::Hover;
 use crate::variables::variable_told;
+use gq_index::{Executable, executables};
+use gq_mentions::{Mention, MentionKind};
+use gq_parse::read;
 use gq_project::Project;
-use gq_read::{Parsed, read};
-use gq_spans::{Mention, MentionKind};
 use gq_text::{NoMemory, OwnedText};
+use gq_tree::Parsed;
 use std::alloc::Global;
 
 /// What is told at the offset, in bytes, of the document of that key.
@@ -46,7 +47,7 @@ fn hover_in(
     ensures { IfOk result (IsHoverAt project.now (executables readings.now) (asked project.now (executables readings.now) key.now offset)) }
 {
     let definitions = executables(alloc, readings)?;
-    match asked(alloc, project.documents(), &definitions, key, offset)? {
+    match asked(alloc, project, &definitions, key, offset)? {
         Some(mention) => hover_of(alloc, project, &definitions, &mention),
         None => Ok(None),
     }

@@ -6,7 +6,6 @@
 
 mod asking;
 pub mod definitions;
-mod executables;
 mod fragments;
 mod groups;
 pub mod hovers;

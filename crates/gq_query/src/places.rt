@@ -2,21 +2,13 @@
 ghost use Rattle.std.specs.Prelude.{◌≡◌, bytes_eq, map, option_and_then, slice_get};
 ghost use Rattle.std.specs.List.{list_any};
 ghost use Rattle.gq_tree.specs.Views.{field_definition_view, type_system_view};
-ghost use Rattle.gq_types.specs.BuiltIn.{built_in_scalars};
 ghost use Rattle.gq_types.specs.Look.{types_view};
 ghost use Rattle.gq_query.specs.Places.{field_place, type_place, type_name_place};
 ghost use Rattle.gq_query.specs.Helping.Gathered.{field_places_at, field_place_in, first_of};
 
 use gq_index::Occurrence;
 use gq_tree::{FieldDefinition, TypeSystemDefinition};
-use gq_types::Types;
-
-/// Whether it is the name of a scalar that is built in (section 3.5).
-pub(crate) fn is_built_in_scalar(name: &str) -> bool
-    ensures { result ≡ list_any (bytes_eq name.now) built_in_scalars }
-{
-    name == "Int" || name == "Float" || name == "String" || name == "Boolean" || name == "ID"
-}
+use gq_types::{Types, is_built_in_scalar};
 
 /// Where the type of that name is defined, which is not built in.
 pub(crate) fn type_place(types: &Types, name: &str) -> Option<Occurrence>

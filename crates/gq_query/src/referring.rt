@@ -1,21 +1,21 @@
 //! Where fragments and variables are used (LSP 3.17, "Find References Request").
 ghost use Rattle.std.specs.Prelude.{List, IfOk};
-ghost use Rattle.gq_read.specs.declared.reader.Parsed.{Parsed};
-ghost use Rattle.gq_read.specs.Parsed.{AreParsed};
+ghost use Rattle.gq_tree.specs.declared.parsed.Parsed.{Parsed};
+ghost use Rattle.gq_parse.specs.Parsed.{AreParsed};
 ghost use Rattle.gq_index.specs.Occurrences.{executables};
-ghost use Rattle.gq_spans.specs.Views.{mention_view};
+ghost use Rattle.gq_mentions.specs.Views.{mention_view};
 ghost use Rattle.gq_query.specs.Asked.{AtMention};
 ghost use Rattle.gq_query.specs.Order.{AreExactly};
 ghost use Rattle.gq_query.specs.References.{IsReference, AreReferences};
 
 use crate::asking::asked;
-use crate::executables::executables;
 use crate::wanted::{Wanted, wanted_places};
-use gq_index::Occurrence;
+use gq_index::{Occurrence, executables};
+use gq_mentions::Mention;
+use gq_parse::read;
 use gq_project::Project;
-use gq_read::{Parsed, read};
-use gq_spans::Mention;
 use gq_text::NoMemory;
+use gq_tree::Parsed;
 use std::alloc::Global;
 
 /// The name tokens at which what stands at the offset, in bytes, of the document of that key is used and, where they are
@@ -47,7 +47,7 @@ fn references_in(
     ensures { IfOk result (λ found. AreExactly (λ o. AtMention project.now (executables readings.now) key.now offset (λ m. IsReference (executables readings.now) declared m o)) found.items) }
 {
     let definitions = executables(alloc, readings)?;
-    match asked(alloc, project.documents(), &definitions, key, offset)? {
+    match asked(alloc, project, &definitions, key, offset)? {
         Some(mention) => {
             let found = references_of(alloc, project, &mention, declared)?;
             Ok(found)

@@ -1,28 +1,39 @@
 //! What the schema of a project tells of fields and types.
-ghost use Rattle.std.specs.Prelude.{◌≡◌, IfOk};
+ghost use Rattle.std.specs.Prelude.{◌≡◌, Some, IfOk};
 ghost use Rattle.std.specs.Option.{option_map};
 ghost use Rattle.gq_types.specs.Look.{types_view, text_of};
 ghost use Rattle.gq_document.specs.Selections.{field_on};
-ghost use Rattle.gq_spans.specs.Views.{mention_view};
+ghost use Rattle.gq_mentions.specs.Views.{mention_view};
 ghost use Rattle.gq_query.specs.Parents.{parent_of};
 ghost use Rattle.gq_query.specs.Places.{defined_field_place, type_place};
 ghost use Rattle.gq_query.specs.Schemas.{BySchema};
-ghost use Rattle.gq_query.specs.Helping.Views.{definitions_view};
+ghost use Rattle.gq_index.specs.Views.{definitions_view};
 ghost use Rattle.gq_query.specs.Words.{field_words, field_told, condition_told};
 
-use crate::executables::Executable;
 use crate::parents::parent_at;
-use crate::places::{field_place, is_built_in_scalar, type_place};
+use crate::places::{field_place, type_place};
 use crate::words::{condition_words, field_words};
 use gq_document::field_on;
-use gq_index::Occurrence;
+use gq_index::{Executable, Occurrence};
+use gq_mentions::Mention;
 use gq_project::Project;
 use gq_schema::laws::documents_have_one_type_system;
 use gq_schema::{Schema, SchemaFault};
-use gq_spans::Mention;
 use gq_text::{NoMemory, OwnedText};
-use gq_types::Types;
+use gq_types::{Types, is_built_in_scalar};
 use std::alloc::Global;
+
+/// The schema of the project, where no rule of the type system is broken.
+fn schema_of(alloc: Global, project: &Project) -> Result<Option<Schema>, NoMemory>
+    ensures { IfOk result (λ schema. BySchema project.now (λ es. Some es) (option_map (λ s. types_view s) schema)) }
+{
+    documents_have_one_type_system();
+    match Schema::build(alloc, project) {
+        Ok(schema) => Ok(Some(schema)),
+        Err(SchemaFault::Faults(_)) => Ok(None),
+        Err(SchemaFault::NoMemory) => Err(NoMemory),
+    }
+}
 
 /// Where the field that is named is defined; nowhere without a schema.
 pub(crate) fn field_place_by_schema(
@@ -33,14 +44,12 @@ pub(crate) fn field_place_by_schema(
 ) -> Result<Option<Occurrence>, NoMemory>
     ensures { IfOk result (BySchema project.now (λ es. defined_field_place es (definitions_view definitions.now) (mention_view mention.now))) }
 {
-    documents_have_one_type_system();
-    match Schema::build(alloc, project) {
-        Ok(schema) => {
+    match schema_of(alloc, project)? {
+        Some(schema) => {
             let place = defined_field_place(alloc, schema.types(), definitions, mention)?;
             Ok(place)
         }
-        Err(SchemaFault::Faults(_)) => Ok(None),
-        Err(SchemaFault::NoMemory) => Err(NoMemory),
+        None => Ok(None),
     }
 }
 
@@ -52,11 +61,9 @@ pub(crate) fn type_place_by_schema(
 ) -> Result<Option<Occurrence>, NoMemory>
     ensures { IfOk result (BySchema project.now (λ es. type_place es name.now)) }
 {
-    documents_have_one_type_system();
-    match Schema::build(alloc, project) {
-        Ok(schema) => Ok(type_place(schema.types(), name)),
-        Err(SchemaFault::Faults(_)) => Ok(None),
-        Err(SchemaFault::NoMemory) => Err(NoMemory),
+    match schema_of(alloc, project)? {
+        Some(schema) => Ok(type_place(schema.types(), name)),
+        None => Ok(None),
     }
 }
 
@@ -69,14 +76,12 @@ pub(crate) fn field_told_by_schema(
 ) -> Result<Option<OwnedText>, NoMemory>
     ensures { IfOk result (BySchema project.now (λ es. field_told es (definitions_view definitions.now) (mention_view mention.now))) }
 {
-    documents_have_one_type_system();
-    match Schema::build(alloc, project) {
-        Ok(schema) => {
+    match schema_of(alloc, project)? {
+        Some(schema) => {
             let told = field_told(alloc, schema.types(), definitions, mention)?;
             Ok(told)
         }
-        Err(SchemaFault::Faults(_)) => Ok(None),
-        Err(SchemaFault::NoMemory) => Err(NoMemory),
+        None => Ok(None),
     }
 }
 
@@ -88,14 +93,12 @@ pub(crate) fn condition_told_by_schema(
 ) -> Result<Option<OwnedText>, NoMemory>
     ensures { IfOk result (BySchema project.now (λ es. condition_told es name.now)) }
 {
-    documents_have_one_type_system();
-    match Schema::build(alloc, project) {
-        Ok(schema) => {
+    match schema_of(alloc, project)? {
+        Some(schema) => {
             let told = condition_told(alloc, schema.types(), name)?;
             Ok(told)
         }
-        Err(SchemaFault::Faults(_)) => Ok(None),
-        Err(SchemaFault::NoMemory) => Err(NoMemory),
+        None => Ok(None),
     }
 }
 

@@ -1,12 +1,12 @@
 //! Where a fragment or a variable is used and declared in a project.
 ghost use Rattle.std.specs.Prelude.{◌≡◌, ◌↔◌, ◌++◌, ℕ, List, Contains, IfOk, OnOk};
-ghost use Rattle.gq_read.specs.declared.reader.Parsed.{Parsed};
-ghost use Rattle.gq_read.specs.Parsed.{AreParsed};
+ghost use Rattle.gq_tree.specs.declared.parsed.Parsed.{Parsed};
+ghost use Rattle.gq_parse.specs.Parsed.{AreParsed};
 ghost use Rattle.gq_index.specs.declared.occurrence.Occurrence.{Occurrence};
 ghost use Rattle.gq_index.specs.Indexed.{IsIndexOf};
 ghost use Rattle.gq_index.specs.Occurrences.{DefinitionOf, executables, fragment_definitions, fragment_spreads};
 ghost use Rattle.gq_index.specs.VariableNames.{used_variables, defined_variables};
-ghost use Rattle.gq_spans.specs.Views.{mention_view};
+ghost use Rattle.gq_mentions.specs.Views.{mention_view};
 ghost use Rattle.gq_query.specs.Helping.Gathered.{places_among, if_wanted};
 ghost use Rattle.gq_query.specs.Order.{AreExactly};
 ghost use Rattle.gq_query.specs.Helping.Wants.{IsWanted};
@@ -15,8 +15,8 @@ use crate::groups::{put_definitions, put_uses};
 use crate::order::in_order;
 use gq_index::laws::documents_have_one_list;
 use gq_index::{Index, Occurrence};
+use gq_mentions::{Mention, MentionKind};
 use gq_project::Project;
-use gq_spans::{Mention, MentionKind};
 use gq_text::NoMemory;
 use std::alloc::Global;
 

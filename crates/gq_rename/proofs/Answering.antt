@@ -5,16 +5,16 @@ use Rattle.std.proofs.lemmas.Grind.{not_there}
 use Rattle.gq_project.specs.declared.document.Doc.{Doc}
 use Rattle.gq_edit.specs.declared.edit.DocumentEdit.{DocumentEdit}
 use Rattle.gq_edit.specs.Edits.{FitDocuments, after_edit, is_too_large}
-use Rattle.gq_read.specs.declared.reader.Parsed.{Parsed}
-use Rattle.gq_read.specs.Parsed.{AreParsed}
+use Rattle.gq_tree.specs.declared.parsed.Parsed.{Parsed}
+use Rattle.gq_parse.specs.Parsed.{AreParsed}
 use Rattle.gq_index.specs.Occurrences.{DefinitionOf, executables}
-use Rattle.gq_rewrite.specs.Names.{IsNameText}
-use Rattle.gq_rewrite.specs.Renamings.{Renaming, MayName}
+use Rattle.gq_renamed.specs.Names.{IsNameText}
+use Rattle.gq_renamed.specs.Renamings.{Renaming, MayName}
 use Rattle.gq_cut.proofs.VariableCut.{may_name}
 use Rattle.gq_rules.specs.Validity.{IsValid}
-use Rattle.gq_target.specs.declared.target.Target.{Target}
-use Rattle.gq_target.specs.declared.target.TargetKind.{TargetKind}
-use Rattle.gq_target.specs.declared.target.TargetKind.TheVariants as kind
+use Rattle.gq_mentions.specs.declared.target.Target.{Target}
+use Rattle.gq_mentions.specs.declared.target.TargetKind.{TargetKind}
+use Rattle.gq_mentions.specs.declared.target.TargetKind.TheVariants as kind
 use Rattle.gq_rename.specs.declared.refusal.Refusal.{Refusal}
 use Rattle.gq_rename.specs.declared.refusal.Refusal.TheVariants.{ProjectInvalid, NothingHere, BadName, SameName, NameTaken, DirectiveInWay, NoPossibleType, NotSiblings, NotRedundant, TooLarge, SelfCheck, NoMemory}
 use Rattle.gq_rename.specs.Refusals.{number_of}
@@ -22,7 +22,7 @@ use Rattle.gq_rename.specs.Asks.{RenameAsk, trees_of, target_of, MayBeCalled, Is
 use Rattle.gq_rename.specs.Rename.{Renames, cut, AtTarget, IsTooLarge, ReadsAsRenamed, PassesCheck, Refuses, IsRenameAnswer, KeepsTrees}
 use Rattle.gq_rename.specs.Sound.{IsSound, edits_by}
 use Rattle.gq_rename.specs.Helping.NameRefusals.{IsNameRefusal}
-use Rattle.gq_rename.specs.Helping.Checked.{IsChecked}
+use Rattle.gq_rename.specs.Checked.{IsChecked}
 use Rattle.gq_rename.proofs.Edited.{too_large}
 use Rattle.gq_rename.proofs.Groups.{one_rule}
 

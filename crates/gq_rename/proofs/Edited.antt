@@ -3,10 +3,8 @@ use Rattle.std.proofs.Common.{◌≡◌, ℕ, ◌^◌, ◌<◌, Bool, true, fals
 use Rattle.std.specs.Prelude.{find, is_none, nat_lt, All}
 use Rattle.std.specs.List.{AllByRecursion}
 use Rattle.std.specs.Option.{option_map_or}
-use Rattle.std.specs.Str.{IsUtf8, bytes_eq}
-use Rattle.std.specs.Cmp.Lexicographic.{bytes_decides}
-use Rattle.std.specs.Ordering.{int_eq}
-use Rattle.std.proofs.lemmas.Bool.Decides.{nat_tests, Decides-int_eq}
+use Rattle.std.specs.Str.{IsUtf8}
+use Rattle.std.proofs.lemmas.Bool.Decides.{nat_tests}
 use Rattle.std.proofs.lemmas.List.Elements.{All-contains, All-from_recursion, recursion_from_All, All-contains_itself}
 use Rattle.gq_text.specs.declared.place.Span.{Span}
 use Rattle.gq_text.specs.declared.replacement.Replacement.{Replacement}
@@ -18,13 +16,14 @@ use Rattle.gq_project.specs.declared.document.Doc.{Doc}
 use Rattle.gq_project.specs.Documents.{IsInOrder}
 use Rattle.gq_parse.specs.Derives.{Derives}
 use Rattle.gq_parse.specs.Limits.{PassesLimitAt}
-use Rattle.gq_types.proofs.Gathered.{nothing_in, cases_cons, and_both, found}
+use Rattle.gq_types.proofs.Gathered.{nothing_in, cases_cons, found}
 use Rattle.gq_edit.specs.declared.edit.DocumentEdit.{DocumentEdit}
 use Rattle.gq_edit.specs.Edits.{is_of, document_of, edited_text, is_moved, is_too_large}
 use Rattle.gq_edit.proofs.Fitting.{document_of-itself}
-use Rattle.gq_rewrite.specs.Renamings.{Renaming, MayName}
-use Rattle.gq_rewrite.specs.Rewritten.{rename_replacements, Rewrites, RenamedTextsRead}
-use Rattle.gq_rewrite.specs.Projects.{AreTrees, none, more, number_behind, edit_if_any, rename_edits}
+use Rattle.gq_renamed.specs.Renamings.{Renaming, MayName}
+use Rattle.gq_renamed.specs.Rewritten.{rename_replacements, Rewrites, RenamedTextsRead}
+use Rattle.gq_renamed.specs.Projects.{AreTrees, none, more, number_behind, edit_if_any, rename_edits}
+use Rattle.gq_renamed.proofs.EditedParts.{of_itself}
 use Rattle.gq_rename.specs.Rename.{IsTooLarge}
 use Rattle.gq_rename.proofs.Below.{all_append}
 
@@ -35,9 +34,6 @@ pub record EditOf (documents : List Doc) (edit : DocumentEdit) : Type 0 where
   pub is : is_of document edit ≡ true
   pub tree : List (Def Span)
   pub derives : Derives (edited_text edit document) tree
-
-itself : (document : Doc) (rs : List Replacement) → is_of document (record { key = document.key; version = document.version; replacements = rs }) ≡ true
-itself document rs = and_both (bytes_eq document.key document.key) (int_eq document.version document.version) ((bytes_decides document.key document.key).1 refl) ((Decides-int_eq document.version document.version).1 refl)
 
 module _ (texts_read : RenamedTextsRead) (rule : ℕ → Renaming) (new : List ℕ) (is_name : IsToken kind.Name new []) (may : (n : ℕ) → MayName (rule n) new) (all : List Doc) where
   edits_of : (k : ℕ) {documents : List Doc} {trees : List (List (Def Span))} → AreTrees documents trees → AllByRecursion (λ document. Contains all document) documents → AllByRecursion (EditOf all) (rename_edits rule k new documents trees)
@@ -52,7 +48,7 @@ module _ (texts_read : RenamedTextsRead) (rule : ℕ → Renaming) (new : List �
       by (r ∷ rs) e =
           let w : Rewrites rule k new document.text tree = texts_read rule k new document.text tree derives is_name may in
           let D : List Replacement → Type 0 = λ xs. Derives (replaced xs document.text) w.tree in
-          let one : EditOf all (record { key = document.key; version = document.version; replacements = r ∷ rs }) = record { document = document; stands = stand.0; is = itself document (r ∷ rs); tree = w.tree; derives = subst D e w.derives } in
+          let one : EditOf all (record { key = document.key; version = document.version; replacements = r ∷ rs }) = record { document = document; stands = stand.0; is = of_itself document (r ∷ rs); tree = w.tree; derives = subst D e w.derives } in
           (one, tt)
 
 all_of_itself : (documents : List Doc) → AllByRecursion (λ document. Contains documents document) documents

@@ -4,9 +4,9 @@ use Rattle.std.specs.Prelude.{slice_index}
 use Rattle.std.specs.List.Sorted.{IsStrictlyIncreasing}
 use Rattle.gq_types.proofs.Gathered.{nothing_in, first, later, cases_cons}
 use Rattle.gq_index.specs.Occurrences.{DefinitionOf}
-use Rattle.gq_rewrite.specs.Renamings.{Renaming}
+use Rattle.gq_renamed.specs.Renamings.{Renaming}
 use Rattle.gq_cut.specs.Cut.{variable_in}
-use Rattle.gq_target.specs.declared.target.TargetKind.{TargetKind}
+use Rattle.gq_mentions.specs.declared.target.TargetKind.{TargetKind}
 use Rattle.gq_rename.specs.Asks.{IsGroup, Changes, fragments, variables}
 
 tail_increases : (x : ℕ) (xs : List ℕ) → IsStrictlyIncreasing (x ∷ xs) → IsStrictlyIncreasing xs

@@ -5,7 +5,7 @@ use Rattle.std.specs.Str.{bytes_eq}
 use Rattle.std.proofs.lemmas.Bool.Decides.{nat_tests}
 use Rattle.std.proofs.lemmas.Slice.Eq.{bytes_eq-Decides}
 use Rattle.gq_index.specs.Occurrences.{DefinitionOf}
-use Rattle.gq_target.specs.declared.target.TargetKind.{TargetKind}
+use Rattle.gq_mentions.specs.declared.target.TargetKind.{TargetKind}
 use Rattle.gq_rename.specs.declared.refusal.Refusal.{Refusal}
 use Rattle.gq_rename.specs.Asks.{MayBeCalled, IsTaken}
 use Rattle.gq_rename.specs.Helping.NameRefusals.{IsNameRefusal, first_refusal}

@@ -8,14 +8,14 @@ use Rattle.gq_text.specs.declared.place.Span.{Span}
 use Rattle.gq_tree.specs.Plain.{Def, operation, fragment, type_system}
 use Rattle.gq_project.specs.declared.document.Doc.{Doc}
 use Rattle.gq_project.specs.Documents.{has_key}
-use Rattle.gq_read.specs.declared.reader.Parsed.{Parsed}
-use Rattle.gq_read.specs.Parsed.{IsParsed, AreParsed}
-use Rattle.gq_read.specs.Parsed as readings
-use Rattle.gq_document.specs.Definitions.{definitions_read}
+use Rattle.gq_tree.specs.declared.parsed.Parsed.{Parsed}
+use Rattle.gq_parse.specs.Parsed.{IsParsed, AreParsed}
+use Rattle.gq_parse.specs.Parsed as readings
+use Rattle.gq_tree.specs.Readings.{definitions_read}
 use Rattle.gq_index.specs.Occurrences.{DefinitionOf, executable_in, definition_places}
-use Rattle.gq_rewrite.specs.Projects.{number_behind}
+use Rattle.gq_renamed.specs.Projects.{number_behind}
 use Rattle.gq_cut.proofs.FragmentCut.{executables_from}
-use Rattle.gq_target.specs.Renameables.{renameables}
+use Rattle.gq_mentions.specs.Renameables.{renameables}
 use Rattle.gq_rename.specs.Asks.{trees_of, renameables_of}
 use Rattle.gq_rename.specs.Helping.Found.{stands_before}
 

@@ -8,27 +8,27 @@ use Rattle.gq_project.specs.declared.document.Doc.{Doc}
 use Rattle.gq_project.specs.Documents.{IsInOrder}
 use Rattle.gq_edit.specs.declared.edit.DocumentEdit.{DocumentEdit}
 use Rattle.gq_edit.specs.Edits.{FitDocuments, is_moved}
-use Rattle.gq_read.specs.declared.reader.Parsed.{Parsed}
-use Rattle.gq_read.specs.Parsed.{AreParsed}
+use Rattle.gq_tree.specs.declared.parsed.Parsed.{Parsed}
+use Rattle.gq_parse.specs.Parsed.{AreParsed}
 use Rattle.gq_index.specs.declared.index.Index.{Index}
 use Rattle.gq_index.specs.Indexed.{IsIndexOf, IsIndexOfProject}
 use Rattle.gq_index.specs.Occurrences.{DefinitionOf, AreExecutables, executables}
 use Rattle.gq_index.specs.VariableGroups.{VariableGroup}
-use Rattle.gq_rewrite.specs.Names.{IsNameText}
-use Rattle.gq_rewrite.specs.Renamings.{Renaming, MayName, fragment_called}
-use Rattle.gq_rewrite.specs.Projects.{AreTrees, rename_edits}
+use Rattle.gq_renamed.specs.Names.{IsNameText}
+use Rattle.gq_renamed.specs.Renamings.{Renaming, MayName, fragment_called}
+use Rattle.gq_renamed.specs.Projects.{AreTrees, rename_edits}
 use Rattle.gq_cut.specs.Cut.{HaveTrees, variable_in}
 use Rattle.gq_rules.specs.Validity.{IsValid}
-use Rattle.gq_target.specs.declared.target.Target.{Target}
-use Rattle.gq_target.specs.declared.target.TargetKind.{TargetKind}
-use Rattle.gq_target.specs.declared.target.TargetKind.TheVariants as kind
+use Rattle.gq_mentions.specs.declared.target.Target.{Target}
+use Rattle.gq_mentions.specs.declared.target.TargetKind.{TargetKind}
+use Rattle.gq_mentions.specs.declared.target.TargetKind.TheVariants as kind
 use Rattle.gq_rename.specs.declared.refusal.Refusal.{Refusal}
 use Rattle.gq_rename.specs.declared.refusal.Refusal.TheVariants.{NothingHere, NoMemory}
 use Rattle.gq_rename.specs.Asks.{trees_of, target_of, IsTarget, IsGroup, Changes, fragments, variables}
 use Rattle.gq_rename.specs.Rename.{IsRenameAnswer, KeepsTrees}
 use Rattle.gq_rename.specs.Sound.{IsSound, RenamesAreSound, ValidDocumentsAreTrees, AreUtf8, edits_by}
 use Rattle.gq_rename.specs.Helping.NameRefusals.{IsNameRefusal}
-use Rattle.gq_rename.specs.Helping.Checked.{IsChecked}
+use Rattle.gq_rename.specs.Checked.{IsChecked}
 use Rattle.gq_rename.proofs.Below.{target_below}
 use Rattle.gq_rename.proofs.Answering.{nothing_here, name_refused, answered, keeps}
 

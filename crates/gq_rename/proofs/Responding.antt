@@ -8,24 +8,24 @@ use Rattle.gq_project.specs.declared.document.Doc.{Doc}
 use Rattle.gq_project.specs.Documents.{IsInOrder}
 use Rattle.gq_edit.specs.declared.edit.DocumentEdit.{DocumentEdit}
 use Rattle.gq_edit.specs.Edits.{after_edit}
-use Rattle.gq_read.specs.declared.reader.Parsed.{Parsed}
-use Rattle.gq_read.specs.declared.reader.Parsed.TheVariants as reading
-use Rattle.gq_read.specs.Parsed.{AreParsed}
-use Rattle.gq_read.specs.Parsed as readings
-use Rattle.gq_document.proofs.OneReading.{same_in_documents}
+use Rattle.gq_tree.specs.declared.parsed.Parsed.{Parsed}
+use Rattle.gq_tree.specs.declared.parsed.Parsed.TheVariants as reading
+use Rattle.gq_parse.specs.Parsed.{AreParsed}
+use Rattle.gq_parse.specs.Parsed as readings
+use Rattle.gq_parse.proofs.OneReading.{same_in_documents}
 use Rattle.gq_index.specs.Occurrences.{DefinitionOf, executable_in, executables}
-use Rattle.gq_rewrite.specs.Renamings.{Renaming}
-use Rattle.gq_rewrite.specs.Projects.{AreTrees, none, more, rename_edits, rename_trees}
+use Rattle.gq_renamed.specs.Renamings.{Renaming}
+use Rattle.gq_renamed.specs.Projects.{AreTrees, none, more, rename_edits, rename_trees}
 use Rattle.gq_rules.specs.Project.{executable_of}
 use Rattle.gq_rules.specs.Validity.{IsValid}
 use Rattle.gq_table.specs.Rows.{RowOf}
 use Rattle.gq_meaning.specs.Values.{Values}
 use Rattle.gq_response.specs.Responses.{ResponseOf}
-use Rattle.gq_answer.specs.Operations.{IsResponse}
-use Rattle.gq_alike.specs.Kept.{AreRenamed, FragmentRenamesKeep, VariableRenamesKeep}
-use Rattle.gq_target.specs.declared.target.Target.{Target}
-use Rattle.gq_target.specs.declared.target.TargetKind.{TargetKind}
-use Rattle.gq_target.specs.declared.target.TargetKind.TheVariants as kind
+use Rattle.gq_executor.specs.Operations.{IsResponse}
+use Rattle.gq_law_renames.specs.Kept.{AreRenamed, FragmentRenamesKeep, VariableRenamesKeep}
+use Rattle.gq_mentions.specs.declared.target.Target.{Target}
+use Rattle.gq_mentions.specs.declared.target.TargetKind.{TargetKind}
+use Rattle.gq_mentions.specs.declared.target.TargetKind.TheVariants as kind
 use Rattle.gq_rename.specs.declared.refusal.Refusal.{Refusal}
 use Rattle.gq_rename.specs.declared.refusal.Refusal.TheVariants.{SameName, NameTaken, NoMemory}
 use Rattle.gq_rename.specs.Asks.{trees_of, target_of, IsTaken, Changes, fragments, variables}
@@ -33,7 +33,7 @@ use Rattle.gq_rename.specs.Rename.{Renames, cut, IsRenameAnswer, KeepsTrees}
 use Rattle.gq_rename.specs.Responses.{IsGivenAlike, KeepsResponses}
 use Rattle.gq_rename.specs.Sound.{ValidDocumentsAreTrees}
 use Rattle.gq_rename.proofs.Groups.{one_rule}
-use Rattle.gq_document.proofs.OneReading.{OneTree, same_trees}
+use Rattle.gq_parse.proofs.OneReading.{OneTree, same_trees}
 use Rattle.gq_rename.proofs.Trees.{same_target}
 
 module _ (one_tree : OneTree) where

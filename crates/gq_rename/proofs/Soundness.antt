@@ -7,8 +7,8 @@ use Rattle.gq_tree.specs.Plain.{Def}
 use Rattle.gq_project.specs.declared.document.Doc.{Doc}
 use Rattle.gq_parse.specs.Derives.{Derives}
 use Rattle.gq_parse.specs.Limits.{PassesLimitAt}
-use Rattle.gq_rewrite.specs.Rewritten.{RenamedTextsRead}
-use Rattle.gq_rewrite.specs.Projects.{RenamedProjectsRead}
+use Rattle.gq_renamed.specs.Rewritten.{RenamedTextsRead}
+use Rattle.gq_renamed.specs.Projects.{RenamedProjectsRead}
 use Rattle.gq_rules.specs.Validity.{IsValid}
 use Rattle.gq_rename.specs.Asks.{trees_of}
 use Rattle.gq_rename.specs.Sound.{RenamesAreSound, ValidDocumentsAreTrees, edits_by}

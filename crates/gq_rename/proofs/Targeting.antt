@@ -6,14 +6,14 @@ use Rattle.std.proofs.lemmas.Bool.Decides.{nat_tests}
 use Rattle.std.proofs.lemmas.Option.{slice_get-get_or}
 use Rattle.gq_project.specs.declared.document.Doc.{Doc}
 use Rattle.gq_project.specs.Documents.{has_key}
-use Rattle.gq_read.specs.declared.reader.Parsed.{Parsed}
-use Rattle.gq_read.specs.Parsed.{IsParsed, AreParsed}
-use Rattle.gq_document.specs.Definitions.{definitions_read}
+use Rattle.gq_tree.specs.declared.parsed.Parsed.{Parsed}
+use Rattle.gq_parse.specs.Parsed.{IsParsed, AreParsed}
+use Rattle.gq_tree.specs.Readings.{definitions_read}
 use Rattle.gq_index.specs.declared.occurrence.Occurrence.{Occurrence}
 use Rattle.gq_index.specs.Occurrences.{DefinitionOf, executables, definition_places}
-use Rattle.gq_target.specs.declared.target.Target.{Target}
-use Rattle.gq_target.specs.Renameables.{renameables}
-use Rattle.gq_target.specs.Targets.{target}
+use Rattle.gq_mentions.specs.declared.target.Target.{Target}
+use Rattle.gq_mentions.specs.Renameables.{renameables}
+use Rattle.gq_mentions.specs.Targets.{target}
 use Rattle.gq_rename.specs.Asks.{IsTarget, target_of}
 use Rattle.gq_rename.specs.Helping.Found.{stands_before}
 use Rattle.gq_rename.proofs.Numbering.{read_at, read_nowhere, some_place, no_place}
@@ -31,18 +31,17 @@ is_target listed documents key offset found rs same are of t = (
 )
 
 -- under a key that no document has
-pub found_nowhere : (listed documents : List Doc) (key : List ℕ) (offset : ℕ) (rs : List Parsed) → listed ≡ documents → AreParsed documents rs → None ≡ position (has_key key) listed → None ≡ target_of documents rs key offset
-found_nowhere listed documents key offset rs same are none =
-    let past = no_place (has_key key) documents (sym (none ∙ ap (position (has_key key)) same)) in
+pub found_nowhere : (documents : List Doc) (key : List ℕ) (offset : ℕ) (rs : List Parsed) → AreParsed documents rs → None ≡ position (has_key key) documents → None ≡ target_of documents rs key offset
+found_nowhere documents key offset rs are none =
+    let past = no_place (has_key key) documents (sym none) in
     sym (ap (target offset) (read_nowhere key 0 documents rs are past))
 
 -- in the document of the key
-pub found_there : (listed documents : List Doc) (key : List ℕ) (offset : ℕ) (rs : List Parsed) (ds : List DefinitionOf) (places : List Occurrence) (file first : ℕ) (document : Doc) (found : Option Target) →
-    listed ≡ documents → AreParsed documents rs → ds ≡ executables rs → Some file ≡ position (has_key key) listed → slice_get listed file ≡ Some document → places ≡ definition_places ds → first ≡ prefix_len (stands_before file) places →
+pub found_there : (documents : List Doc) (key : List ℕ) (offset : ℕ) (rs : List Parsed) (ds : List DefinitionOf) (places : List Occurrence) (file first : ℕ) (document : Doc) (found : Option Target) →
+    AreParsed documents rs → ds ≡ executables rs → Some file ≡ position (has_key key) documents → slice_get documents file ≡ Some document → places ≡ definition_places ds → first ≡ prefix_len (stands_before file) places →
     ((r : Parsed) → IsParsed document.text r → found ≡ target offset (renameables first (definitions_read r))) → found ≡ target_of documents rs key offset
-found_there listed documents key offset rs ds places file first document found same are is at there places_are first_is of =
-    let place = some_place (has_key key) documents file (sym (at ∙ ap (position (has_key key)) same)) in
-    let here : slice_get documents file ≡ Some document = ap (λ (l : List Doc). slice_get l file) (sym same) ∙ there in
+found_there documents key offset rs ds places file first document found are is at here places_are first_is of =
+    let place = some_place (has_key key) documents file (sym at) in
     let w = read_at key file 0 0 documents rs document are place here in
     let count : first ≡ prefix_len (stands_before (file + 0)) (definition_places (executables rs)) + 0 =
     first_is
@@ -54,9 +53,12 @@ found_there listed documents key offset rs ds places file first document found s
     ∙ ap (target offset) (sym w.same)
 
 -- the document at a place that was found
-pub place_at : (documents : List Doc) (key : List ℕ) (file : ℕ) (document : Doc) → Some file ≡ position (has_key key) documents → document ≡ get_or documents file document → slice_get documents file ≡ Some document
-place_at documents key file document at is = by (nat_lt (position_or_len (has_key key) documents) (length documents)) refl (sym at)
+pub place_at : (listed documents : List Doc) (key : List ℕ) (file : ℕ) (document : Doc) → listed ≡ documents → Some file ≡ position (has_key key) documents → document ≡ get_or listed file document → slice_get documents file ≡ Some document
+place_at listed documents key file document listed_all at is_listed = by (nat_lt (position_or_len (has_key key) documents) (length documents)) refl (sym at)
   where
+    is : document ≡ get_or documents file document
+    is = is_listed ∙ ap (λ (l : List Doc). get_or l file document) listed_all
+
     by : (b : Bool) → nat_lt (position_or_len (has_key key) documents) (length documents) ≡ b → cond b (Some (position_or_len (has_key key) documents)) None ≡ Some file → slice_get documents file ≡ Some document
     by true t e =
         let same : position_or_len (has_key key) documents ≡ file = cc in

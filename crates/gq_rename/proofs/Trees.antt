@@ -4,12 +4,12 @@ use Rattle.std.specs.List.{AllByRecursion}
 use Rattle.gq_text.specs.declared.place.Span.{Span}
 use Rattle.gq_tree.specs.Plain.{Def}
 use Rattle.gq_project.specs.declared.document.Doc.{Doc}
-use Rattle.gq_read.specs.declared.reader.Parsed.{Parsed}
-use Rattle.gq_read.specs.declared.reader.Parsed.TheVariants as reading
-use Rattle.gq_read.specs.Parsed.{AreParsed}
-use Rattle.gq_read.specs.Parsed as readings
-use Rattle.gq_document.proofs.OneReading.{OneTree, same_trees}
-use Rattle.gq_rewrite.specs.Projects.{AreTrees, none, more}
+use Rattle.gq_tree.specs.declared.parsed.Parsed.{Parsed}
+use Rattle.gq_tree.specs.declared.parsed.Parsed.TheVariants as reading
+use Rattle.gq_parse.specs.Parsed.{AreParsed}
+use Rattle.gq_parse.specs.Parsed as readings
+use Rattle.gq_parse.proofs.OneReading.{OneTree, same_trees}
+use Rattle.gq_renamed.specs.Projects.{AreTrees, none, more}
 use Rattle.gq_rules.specs.Trees.{HasTree}
 use Rattle.gq_rename.specs.Asks.{trees_of, target_of}
 
@@ -27,4 +27,4 @@ module _ (one_tree : OneTree) where
   -- so an offset means the same
   pub same_target : (documents : List Doc) (xs ys : List Parsed) (key : List ℕ) (offset : ℕ) → AreParsed documents xs → AreParsed documents ys → target_of documents xs key offset ≡ target_of documents ys key offset
   same_target documents xs ys key offset p q =
-      ap (λ (ts : List (List (Def Span))). Rattle.gq_target.specs.Targets.target offset (Rattle.gq_rename.specs.Asks.renameables_of key 0 documents ts)) (same_trees one_tree documents xs ys p q)
+      ap (λ (ts : List (List (Def Span))). Rattle.gq_mentions.specs.Targets.target offset (Rattle.gq_rename.specs.Asks.renameables_of key 0 documents ts)) (same_trees one_tree documents xs ys p q)

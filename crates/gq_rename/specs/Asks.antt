@@ -5,20 +5,22 @@ use Rattle.gq_text.specs.declared.place.Span.{Span}
 use Rattle.gq_tree.specs.Plain.{Def, VariableOf}
 use Rattle.gq_project.specs.declared.document.Doc.{Doc}
 use Rattle.gq_project.specs.Documents.{has_key}
-use Rattle.gq_read.specs.declared.reader.Parsed.{Parsed}
-use Rattle.gq_read.specs.Parsed.{AreParsed}
-use Rattle.gq_document.specs.Definitions.{definitions_read, OperationOf, FragmentOf}
+use Rattle.gq_tree.specs.declared.parsed.Parsed.{Parsed}
+use Rattle.gq_parse.specs.Parsed.{AreParsed}
+use Rattle.gq_tree.specs.Readings.{definitions_read}
+use Rattle.gq_document.specs.Definitions.{OperationOf, FragmentOf}
 use Rattle.gq_index.specs.Occurrences.{DefinitionOf}
 use Rattle.gq_index.specs.VariableGroups.{VariableGroup, IsOperationAt, fragments_among}
-use Rattle.gq_rewrite.specs.Names.{IsNameText, IsFragmentNameText}
-use Rattle.gq_rewrite.specs.Renamings.{Renaming, fragment_called}
-use Rattle.gq_rewrite.specs.Projects.{number_behind}
+use Rattle.gq_renamed.specs.Names.{IsNameText, IsFragmentNameText}
+use Rattle.gq_renamed.specs.Renamings.{Renaming, fragment_called}
+use Rattle.gq_renamed.specs.Projects.{number_behind}
 use Rattle.gq_cut.specs.Cut.{variable_in}
-use Rattle.gq_target.specs.declared.target.Target.{Target}
-use Rattle.gq_target.specs.declared.target.TargetKind.{TargetKind}
-use Rattle.gq_target.specs.declared.target.TargetKind.TheVariants as kind
-use Rattle.gq_target.specs.Renameables.{renameables}
-use Rattle.gq_target.specs.Targets.{target}
+use Rattle.gq_mentions.specs.declared.target.Target.{Target}
+use Rattle.gq_mentions.specs.declared.target.TargetKind.{TargetKind}
+use Rattle.gq_mentions.specs.declared.target.TargetKind.TheVariants as kind
+use Rattle.gq_mentions.specs.Mentions.{MentionOf}
+use Rattle.gq_mentions.specs.Renameables.{renameables}
+use Rattle.gq_mentions.specs.Targets.{target}
 
 -- a rename that is asked for: the key of a document, an offset in its text, in bytes, and the new name
 pub record RenameAsk : Type 0 where
@@ -32,7 +34,7 @@ trees_of readings = map definitions_read readings
 
 -- What can be renamed in the document of that key. The executable definitions are numbered through all documents, the
 -- first by the given number.
-abbrev pub renameables_of : List ℕ → ℕ → List Doc → List (List (Def Span)) → List Target
+abbrev pub renameables_of : List ℕ → ℕ → List Doc → List (List (Def Span)) → List MentionOf
 renameables_of key number [] trees = []
 renameables_of key number (document ∷ documents) [] = []
 renameables_of key number (document ∷ documents) (tree ∷ trees) = if has_key key document then renameables number tree else renameables_of key (number_behind tree number) documents trees

@@ -2,6 +2,7 @@ pub mod Refusals
 pub mod Offers
 pub mod Asks
 pub mod Rename
+pub mod Checked
 pub mod Sound
 pub mod Prepare
 pub mod Responses

@@ -6,13 +6,13 @@ use Rattle.gq_parse.specs.Limits.{PassesLimitAt}
 use Rattle.gq_project.specs.declared.document.Doc.{Doc}
 use Rattle.gq_edit.specs.declared.edit.DocumentEdit.{DocumentEdit}
 use Rattle.gq_edit.specs.Edits.{document_of, edited_text, after_edit}
-use Rattle.gq_read.specs.declared.reader.Parsed.{Parsed}
-use Rattle.gq_read.specs.Parsed.{AreParsed}
+use Rattle.gq_tree.specs.declared.parsed.Parsed.{Parsed}
+use Rattle.gq_parse.specs.Parsed.{AreParsed}
 use Rattle.gq_index.specs.Occurrences.{executables}
-use Rattle.gq_rewrite.specs.Renamings.{Renaming}
-use Rattle.gq_rewrite.specs.Projects.{AreTrees, rename_edits, rename_trees}
+use Rattle.gq_renamed.specs.Renamings.{Renaming}
+use Rattle.gq_renamed.specs.Projects.{AreTrees, rename_edits, rename_trees}
 use Rattle.gq_rules.specs.Validity.{IsValid}
-use Rattle.gq_target.specs.declared.target.Target.{Target}
+use Rattle.gq_mentions.specs.declared.target.Target.{Target}
 use Rattle.gq_rename.specs.declared.refusal.Refusal.{Refusal}
 use Rattle.gq_rename.specs.declared.refusal.Refusal.TheVariants.{ProjectInvalid, NothingHere, BadName, SameName, NameTaken, DirectiveInWay, NoPossibleType, NotSiblings, NotRedundant, TooLarge, SelfCheck, NoMemory}
 use Rattle.gq_rename.specs.Offers.{IsOffer}

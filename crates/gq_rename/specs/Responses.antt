@@ -4,18 +4,18 @@ use Rattle.gq_project.specs.declared.document.Doc.{Doc}
 use Rattle.gq_project.specs.Documents.{IsInOrder}
 use Rattle.gq_edit.specs.declared.edit.DocumentEdit.{DocumentEdit}
 use Rattle.gq_edit.specs.Edits.{after_edit}
-use Rattle.gq_read.specs.declared.reader.Parsed.{Parsed}
-use Rattle.gq_read.specs.Parsed.{AreParsed}
+use Rattle.gq_tree.specs.declared.parsed.Parsed.{Parsed}
+use Rattle.gq_parse.specs.Parsed.{AreParsed}
 use Rattle.gq_rules.specs.Project.{executable_of}
 use Rattle.gq_rules.specs.Validity.{IsValid}
 use Rattle.gq_table.specs.Rows.{RowOf}
 use Rattle.gq_meaning.specs.Values.{Text, Values}
 use Rattle.gq_response.specs.Responses.{ResponseOf}
-use Rattle.gq_answer.specs.Operations.{IsResponse}
-use Rattle.gq_alike.specs.Kept.{AreGivenAlike}
-use Rattle.gq_target.specs.declared.target.Target.{Target}
-use Rattle.gq_target.specs.declared.target.TargetKind.{TargetKind}
-use Rattle.gq_target.specs.declared.target.TargetKind.TheVariants as kind
+use Rattle.gq_executor.specs.Operations.{IsResponse}
+use Rattle.gq_law_renames.specs.Kept.{AreGivenAlike}
+use Rattle.gq_mentions.specs.declared.target.Target.{Target}
+use Rattle.gq_mentions.specs.declared.target.TargetKind.{TargetKind}
+use Rattle.gq_mentions.specs.declared.target.TargetKind.TheVariants as kind
 use Rattle.gq_rename.specs.declared.refusal.Refusal.{Refusal}
 use Rattle.gq_rename.specs.declared.refusal.Refusal.TheVariants.{NoMemory}
 use Rattle.gq_rename.specs.Asks.{target_of}

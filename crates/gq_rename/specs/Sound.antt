@@ -6,11 +6,11 @@ use Rattle.gq_project.specs.declared.document.Doc.{Doc}
 use Rattle.gq_project.specs.Documents.{IsInOrder}
 use Rattle.gq_edit.specs.declared.edit.DocumentEdit.{DocumentEdit}
 use Rattle.gq_edit.specs.Edits.{FitDocuments, is_moved, is_too_large}
-use Rattle.gq_read.specs.declared.reader.Parsed.{Parsed}
-use Rattle.gq_read.specs.Parsed.{AreParsed}
-use Rattle.gq_rewrite.specs.Names.{IsNameText}
-use Rattle.gq_rewrite.specs.Renamings.{Renaming, MayName}
-use Rattle.gq_rewrite.specs.Projects.{AreTrees, rename_edits}
+use Rattle.gq_tree.specs.declared.parsed.Parsed.{Parsed}
+use Rattle.gq_parse.specs.Parsed.{AreParsed}
+use Rattle.gq_renamed.specs.Names.{IsNameText}
+use Rattle.gq_renamed.specs.Renamings.{Renaming, MayName}
+use Rattle.gq_renamed.specs.Projects.{AreTrees, rename_edits}
 use Rattle.gq_rules.specs.Validity.{IsValid}
 use Rattle.gq_rename.specs.Asks.{trees_of, target_of}
 use Rattle.gq_rename.specs.Rename.{IsTooLarge, ReadsAsRenamed}

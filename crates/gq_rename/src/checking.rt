@@ -2,7 +2,7 @@
 ghost use Rattle.std.specs.Prelude.{◌≡◌, None, find};
 ghost use Rattle.gq_edit.specs.Edits.{FitDocuments, is_moved};
 ghost use Rattle.gq_project.specs.Documents.{IsInOrder};
-ghost use Rattle.gq_rename.specs.Helping.Checked.{IsChecked, IsValidated};
+ghost use Rattle.gq_rename.specs.Checked.{IsChecked, IsValidated};
 ghost use Rattle.gq_rename.specs.Sound.{AreUtf8};
 
 use crate::refusal::Refusal;
@@ -27,8 +27,8 @@ pub(crate) fn checked(alloc: Global, project: &Project, edit: Edit) -> Result<Ed
     }
 }
 
-/// The edit, if the edited project is valid.
-fn validated(alloc: Global, after: Project, edit: Edit) -> Result<Edit, Refusal>
+/// The edit, if the project that it leaves is valid, else `SelfCheck`.
+pub fn validated(alloc: Global, after: Project, edit: Edit) -> Result<Edit, Refusal>
     ensures { IsValidated after edit result }
 {
     no_project_is_valid_and_invalid();

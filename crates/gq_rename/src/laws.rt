@@ -7,9 +7,9 @@ ghost use Rattle.gq_rename.specs.Rename.{IsRenameAnswer};
 ghost use Rattle.gq_rename.specs.Responses.{RenamesKeepResponses};
 ghost use Rattle.gq_rename.specs.Sound.{RenamesAreSound, ValidDocumentsAreTrees, OffsetsMeanOneTarget};
 
-use gq_alike::laws::{fragment_renames_keep_responses, variable_renames_keep_responses};
+use gq_law_renames::laws::{fragment_renames_keep_responses, variable_renames_keep_responses};
 use gq_parse::laws::{no_tree_past_limits, one_tree};
-use gq_rewrite::laws::{renamed_projects_read, renamed_texts_read};
+use gq_renamed::laws::{renamed_projects_read, renamed_texts_read};
 use gq_rules::laws::{no_project_is_valid_and_invalid, valid_documents_have_trees};
 
 /// In a project that is not valid every rename is refused as that.

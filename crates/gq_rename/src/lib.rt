@@ -1,7 +1,7 @@
 //! Renames of fragments and of variables, in all documents of a project.
 #![tactic(auto)]
 
-mod checking;
+pub mod checking;
 pub mod laws;
 mod names;
 mod offers;
@@ -10,8 +10,8 @@ pub mod refusal;
 pub mod renames;
 pub mod targets;
 
-pub use gq_rewrite::{is_fragment_name, is_name};
-pub use gq_target::{Target, TargetKind};
+pub use gq_mentions::{Target, TargetKind};
+pub use gq_renamed::{is_fragment_name, is_name};
 pub use preparing::prepare;
 pub use refusal::Refusal;
 pub use renames::{rename, rename_fragment, rename_variable};

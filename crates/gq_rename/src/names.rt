@@ -3,15 +3,15 @@ ghost use Rattle.std.specs.Prelude.{◌≡◌, ℕ, List, None};
 ghost use Rattle.std.specs.List.{list_any};
 ghost use Rattle.gq_index.specs.Indexed.{IsIndexOf};
 ghost use Rattle.gq_index.specs.Occurrences.{DefinitionOf};
-ghost use Rattle.gq_rewrite.specs.Names.{IsNameText, IsFragmentNameText};
-ghost use Rattle.gq_target.specs.declared.target.TargetKind.TheVariants as kind;
+ghost use Rattle.gq_renamed.specs.Names.{IsNameText, IsFragmentNameText};
+ghost use Rattle.gq_mentions.specs.declared.target.TargetKind.TheVariants as kind;
 ghost use Rattle.gq_rename.specs.Asks.{IsGroup};
 ghost use Rattle.gq_rename.specs.Helping.Defines.{defines};
 ghost use Rattle.gq_rename.specs.Helping.NameRefusals.{IsNameRefusal, first_refusal};
 
 use crate::refusal::Refusal;
 use gq_index::Index;
-use gq_rewrite::{is_fragment_name, is_name};
+use gq_renamed::{is_fragment_name, is_name};
 
 /// Why a fragment of the old name may not have the new one.
 pub(crate) fn fragment_refusal(index: &Index, old_name: &str, new_name: &str) -> Option<Refusal>

@@ -6,7 +6,7 @@ ghost use Rattle.gq_index.specs.Indexed.{IsIndexOf, IsIndexOfProject};
 ghost use Rattle.gq_index.specs.Occurrences.{DefinitionOf};
 ghost use Rattle.gq_index.specs.VariableGroups.{VariableGroup};
 ghost use Rattle.gq_rules.specs.Validity.{IsValid};
-ghost use Rattle.gq_target.specs.declared.target.TargetKind.TheVariants as kind;
+ghost use Rattle.gq_mentions.specs.declared.target.TargetKind.TheVariants as kind;
 ghost use Rattle.gq_rename.specs.declared.refusal.Refusal.TheVariants as refusal;
 ghost use Rattle.gq_rename.specs.Asks.{IsTarget};
 ghost use Rattle.gq_rename.specs.Rename.{IsRenameAnswer, KeepsTrees};
@@ -19,8 +19,8 @@ use gq_cut::{fragment_edit, variable_edit};
 use gq_edit::Edit;
 use gq_index::Index;
 use gq_index::laws::documents_have_one_list;
+use gq_mentions::Target;
 use gq_rules::Valid;
-use gq_target::Target;
 use std::alloc::Global;
 
 /// The answer to the rename of a fragment that is the target.

@@ -1,8 +1,8 @@
 //! What would be renamed at an offset (LSP 3.17, "Prepare Rename Request").
 ghost use Rattle.std.specs.Prelude.{◌≡◌, List, IfOk};
 ghost use Rattle.std.specs.Option.{option_map};
-ghost use Rattle.gq_read.specs.declared.reader.Parsed.{Parsed};
-ghost use Rattle.gq_read.specs.Parsed.{AreParsed};
+ghost use Rattle.gq_tree.specs.declared.parsed.Parsed.{Parsed};
+ghost use Rattle.gq_parse.specs.Parsed.{AreParsed};
 ghost use Rattle.gq_index.specs.Indexed.{IsIndexOfProject};
 ghost use Rattle.gq_rename.specs.Asks.{target_of};
 ghost use Rattle.gq_rename.specs.Prepare.{IsPrepared};

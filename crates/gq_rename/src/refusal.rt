@@ -2,46 +2,35 @@
 ghost use Rattle.std.specs.Prelude.{◌≡◌};
 
 use gq_text::NoMemory;
-use thiserror::Error;
+use std::error::Error;
+use std::fmt;
 
 /// Why a refactoring is refused. Of several the first in this order is told.
-#[derive(Clone, Copy, Debug, PartialEq, Eq, Error)]
+#[derive(Clone, Copy, Debug, PartialEq, Eq)]
 pub enum Refusal {
     /// The project is not valid.
-    #[error("1 ProjectInvalid")]
     ProjectInvalid,
     /// The project has no such document, or nothing in it that can be renamed is at the offset.
-    #[error("2 NothingHere")]
     NothingHere,
     /// The new name is no Name, or is `on` for a fragment.
-    #[error("3 BadName")]
     BadName,
     /// The new name is the old one.
-    #[error("4 SameName")]
     SameName,
     /// A fragment of the new name is defined, or an operation of the variable's group defines a variable of it.
-    #[error("5 NameTaken")]
     NameTaken,
     /// A spread has another directive than `@skip` and `@include`, or the fragment's definition has one.
-    #[error("6 DirectiveInWay")]
     DirectiveInWay,
     /// No object type is possible for the parent type of the selections.
-    #[error("7 NoPossibleType")]
     NoPossibleType,
     /// The range's ends lie in one selection set, and what stands there are no selections of it one after the other.
-    #[error("8 NotSiblings")]
     NotSiblings,
     /// An inline fragment has a directive, or a condition other than the type of its parent.
-    #[error("9 NotRedundant")]
     NotRedundant,
     /// An edited text would have more than 4 MiB, too many tokens or too deep a nesting.
-    #[error("10 TooLarge")]
     TooLarge,
     /// The edited texts do not read as wanted, or the edited project is not valid.
-    #[error("11 SelfCheck")]
     SelfCheck,
     /// A growth was refused.
-    #[error("12 NoMemory")]
     NoMemory,
 }
 
@@ -68,6 +57,14 @@ impl Refusal {
         }
     }
 }
+
+impl fmt::Display for Refusal {
+    fn fmt<W: fmt::Write>(&self, f: &mut fmt::Formatter<W>) -> fmt::Result {
+        f.write_str(self.message())
+    }
+}
+
+impl Error for Refusal {}
 
 impl From<NoMemory> for Refusal {
     ghost use Rattle.gq_rename.specs.declared.refusal.Refusal.TheVariants.{NoMemory};

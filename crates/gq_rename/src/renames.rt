@@ -3,8 +3,8 @@ ghost use Rattle.std.specs.Prelude.{◌≡◌, ◌⊎◌, ℕ, List, Err, IfOk};
 ghost use Rattle.gq_edit.specs.Edits.{FitDocuments, after_edit};
 ghost use Rattle.gq_index.specs.Indexed.{IsIndexOfProject};
 ghost use Rattle.gq_rules.specs.Validity.{IsValid};
-ghost use Rattle.gq_target.specs.declared.target.Target.{Target};
-ghost use Rattle.gq_target.specs.declared.target.TargetKind.TheVariants as kind;
+ghost use Rattle.gq_mentions.specs.declared.target.Target.{Target};
+ghost use Rattle.gq_mentions.specs.declared.target.TargetKind.TheVariants as kind;
 ghost use Rattle.gq_rename.specs.declared.refusal.Refusal.TheVariants as refusal;
 ghost use Rattle.gq_rename.specs.Asks.{IsTarget};
 ghost use Rattle.gq_rename.specs.Rename.{IsRenameAnswer, KeepsTrees};
@@ -17,8 +17,8 @@ use crate::refusal::Refusal;
 use crate::targets::target_by;
 use gq_edit::Edit;
 use gq_index::Index;
+use gq_mentions::{Target, TargetKind};
 use gq_rules::Valid;
-use gq_target::{Target, TargetKind};
 use std::alloc::Global;
 
 /// The edit that gives what the offset means, in bytes of the document of that key, another name: a fragment at its

@@ -1,25 +1,24 @@
 //! What an offset in a document of a project means to a rename.
-ghost use Rattle.std.specs.Prelude.{◌≡◌, ◌↔◌, ◌<◌, ◌≤◌, ◌^◌, ◌+◌, List, Some, IfOk, length, position};
+ghost use Rattle.std.specs.Prelude.{◌≡◌, ◌↔◌, ◌<◌, ◌≤◌, ◌^◌, ◌+◌, List, Some, IfOk, length};
 ghost use Rattle.std.specs.List.{prefix_len};
-ghost use Rattle.gq_project.specs.Documents.{has_key};
-ghost use Rattle.gq_read.specs.declared.reader.Parsed.{Parsed};
-ghost use Rattle.gq_read.specs.Parsed.{IsParsed, AreParsed};
-ghost use Rattle.gq_document.specs.Definitions.{definitions_read};
+ghost use Rattle.gq_tree.specs.declared.parsed.Parsed.{Parsed};
+ghost use Rattle.gq_parse.specs.Parsed.{IsParsed, AreParsed};
+ghost use Rattle.gq_tree.specs.Readings.{definitions_read};
 ghost use Rattle.gq_index.specs.Indexed.{IsIndexOfProject};
-ghost use Rattle.gq_target.specs.declared.target.Target.{Target};
-ghost use Rattle.gq_target.specs.Renameables.{renameables};
-ghost use Rattle.gq_target.specs.Targets.{target};
+ghost use Rattle.gq_mentions.specs.declared.target.Target.{Target};
+ghost use Rattle.gq_mentions.specs.Renameables.{renameables};
+ghost use Rattle.gq_mentions.specs.Targets.{target};
 ghost use Rattle.gq_rename.specs.Asks.{IsTarget, target_of};
 ghost use Rattle.gq_rename.specs.Helping.Found.{stands_before};
 
 use crate::laws::offsets_mean_one_target;
 use gq_index::laws::documents_have_one_list;
 use gq_index::{Index, Occurrence};
+use gq_mentions::{Target, target_in};
 use gq_parse::laws::one_tree;
 use gq_parse::{Fault, parse};
 use gq_project::{Doc, Project};
 use gq_rules::Valid;
-use gq_target::{Target, target_in};
 use gq_text::NoMemory;
 use std::alloc::Global;
 
@@ -52,21 +51,12 @@ pub(crate) fn target_by(
     ensures { IfOk result (λ found. (readings : List Parsed) → AreParsed project.now readings → found ≡ target_of project.now readings key.now offset) }
 {
     documents_have_one_list();
-    let documents = project.documents();
-    let Some(file) = place_of(documents, key) else {
+    let Some(file) = project.place(key) else {
         return Ok(None);
     };
+    let documents = project.documents();
     let first = count_before(index.places(), file);
     target_at(alloc, &documents[file], first, offset)
-}
-
-/// The number of the document of that key.
-fn place_of(documents: &[Doc], key: &str) -> Option<usize>
-    ensures { result ≡ position (has_key key.now) documents.now }
-{
-    documents
-        .iter()
-        .position(|document| document.key.as_str() == key)
 }
 
 /// How many of the first definitions stand in documents before that one.

@@ -3,8 +3,8 @@ use Rattle.std.proofs.Common.{◌≡◌, ◌⊎◌, List, Result, Ok, Err, IfOk,
 use Rattle.gq_project.specs.declared.document.Doc.{Doc}
 use Rattle.gq_edit.specs.declared.edit.DocumentEdit.{DocumentEdit}
 use Rattle.gq_edit.specs.Edits.{after_edit}
-use Rattle.gq_read.specs.declared.reader.Parsed.{Parsed}
-use Rattle.gq_read.specs.Parsed.{AreParsed}
+use Rattle.gq_tree.specs.declared.parsed.Parsed.{Parsed}
+use Rattle.gq_parse.specs.Parsed.{AreParsed}
 use Rattle.gq_types.specs.Entries.{EntryOf}
 use Rattle.gq_schema.specs.SchemaOf.{IsTypeSystemOf}
 use Rattle.gq_rules.specs.Validity.{IsValid}

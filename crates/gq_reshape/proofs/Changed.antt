@@ -8,27 +8,27 @@ use Rattle.gq_project.specs.declared.document.Doc.{Doc}
 use Rattle.gq_project.specs.Documents.{IsInOrder}
 use Rattle.gq_edit.specs.declared.edit.DocumentEdit.{DocumentEdit}
 use Rattle.gq_edit.specs.Edits.{after_edit}
-use Rattle.gq_read.specs.declared.reader.Parsed.{Parsed}
-use Rattle.gq_read.specs.declared.reader.Parsed.TheVariants as reading
-use Rattle.gq_read.specs.Parsed.{AreParsed}
-use Rattle.gq_read.specs.Parsed as readings
+use Rattle.gq_tree.specs.declared.parsed.Parsed.{Parsed}
+use Rattle.gq_tree.specs.declared.parsed.Parsed.TheVariants as reading
+use Rattle.gq_parse.specs.Parsed.{AreParsed}
+use Rattle.gq_parse.specs.Parsed as readings
 use Rattle.gq_types.specs.BuiltIn.{built_in}
 use Rattle.gq_types.specs.Entries.{EntryOf}
-use Rattle.gq_document.proofs.OneReading.{OneTree, same_trees}
+use Rattle.gq_parse.proofs.OneReading.{OneTree, same_trees}
 use Rattle.gq_document.specs.Definitions.{OperationOf, FragmentOf, entry_in, fragments_of}
 use Rattle.gq_document.specs.Selections.{SelectedOf, of_operation, of_fragment}
-use Rattle.gq_document.proofs.OneReading.{same_in_documents}
+use Rattle.gq_parse.proofs.OneReading.{same_in_documents}
 use Rattle.gq_schema.specs.SchemaOf.{IsTypeSystemOf}
-use Rattle.gq_rewrite.specs.Projects.{AreTrees, none, more}
+use Rattle.gq_renamed.specs.Projects.{AreTrees, none, more}
 use Rattle.gq_rules.specs.Project.{type_system_of}
 use Rattle.gq_rules.specs.Validity.{IsValid}
-use Rattle.gq_regroup.specs.Rewrites.{rewritten_from}
-use Rattle.gq_restated.specs.Documents.{Restates}
-use Rattle.gq_restated.specs.Statics.{static_of, roots_in}
-use Rattle.gq_restated.proofs.Executables.{fragment_stands, operation_stands, Selected}
-use Rattle.gq_static.proofs.ValidityLemmas.{NoneIsBoth}
-use Rattle.gq_unchanged.specs.Unchanged.{RestatedProjectsKeepResponses}
-use Rattle.gq_alike.proofs.SameTypes.{IsExecutable}
+use Rattle.gq_rewritten.specs.Rewrites.{rewritten_from}
+use Rattle.gq_law_rewrites.specs.Documents.{Restates}
+use Rattle.gq_law_rewrites.specs.Statics.{static_of, roots_in}
+use Rattle.gq_law_rewrites.proofs.Executables.{fragment_stands, operation_stands, Selected}
+use Rattle.gq_law_rewrites.proofs.ValidityLemmas.{NoneIsBoth}
+use Rattle.gq_law_rewrites.specs.Unchanged.{RestatedProjectsKeepResponses}
+use Rattle.gq_law_renames.proofs.SameTypes.{IsExecutable}
 use Rattle.gq_reshape.specs.Cuts.{Cut, edits_of, PassesCheck}
 use Rattle.gq_reshape.specs.Helping.Judged.{IsQuiet}
 use Rattle.gq_reshape.specs.Responses.{KeepsResponses}
@@ -99,4 +99,4 @@ module _ (one_tree : OneTree) where
         let some : AreOfOperations cut.rewrite 0 (trees_read before) = subst (AreOfOperations cut.rewrite 0) same k.some in
         let kinds = (all_promised before are_before).one_kind in
         stay documents (after_edit (edits_of cut documents) documents) valid passes.1 before after are_before are_edited
-        (same_entries one_tree cut.rewrite cut.pieces k.quiet k.added documents before after in_order are_before are_edited rewritten kinds some) (subst S (sym (types_are before are_before)) restates)
+        (same_entries one_tree cut.rewrite cut.replacements k.quiet k.added documents before after in_order are_before are_edited rewritten kinds some) (subst S (sym (types_are before are_before)) restates)

@@ -8,12 +8,12 @@ use Rattle.gq_tree.specs.Plain.{Sels}
 use Rattle.gq_project.specs.declared.document.Doc.{Doc}
 use Rattle.gq_project.specs.Documents.{has_key}
 use Rattle.gq_edit.specs.declared.edit.DocumentEdit.{DocumentEdit}
-use Rattle.gq_read.specs.declared.reader.Parsed.{Parsed}
+use Rattle.gq_tree.specs.declared.parsed.Parsed.{Parsed}
 use Rattle.gq_types.specs.Entries.{Text, EntryOf}
 use Rattle.gq_index.specs.Occurrences.{DefinitionOf, executables}
 use Rattle.gq_rules.specs.Validity.{IsValid}
-use Rattle.gq_sets.specs.Last.{find_last}
-use Rattle.gq_sets.specs.Sets.{SetOf}
+use Rattle.gq_document.specs.Last.{find_last}
+use Rattle.gq_document.specs.Sets.{SetOf}
 use Rattle.gq_select.specs.Runs.{RunOf}
 use Rattle.gq_select.specs.Touched.{Touches, is_touched}
 use Rattle.gq_rename.specs.declared.refusal.Refusal.{Refusal}

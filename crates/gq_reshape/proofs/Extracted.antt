@@ -5,25 +5,25 @@ use Rattle.gq_text.specs.declared.place.Span.{Span}
 use Rattle.gq_tree.specs.Plain.{Sels, Def, fragment, erase_all}
 use Rattle.gq_tree.specs.declared.tree.OperationKind.{OperationKind}
 use Rattle.gq_project.specs.declared.document.Doc.{Doc}
-use Rattle.gq_read.specs.declared.reader.Parsed.{Parsed}
-use Rattle.gq_read.specs.Parsed.{AreParsed}
+use Rattle.gq_tree.specs.declared.parsed.Parsed.{Parsed}
+use Rattle.gq_parse.specs.Parsed.{AreParsed}
 use Rattle.gq_types.specs.Entries.{Text, EntryOf}
-use Rattle.gq_document.specs.Definitions.{definitions_read}
-use Rattle.gq_regroup.specs.Rewrites.{bare_name, with_extracted, rewritten_from}
-use Rattle.gq_restated.specs.Documents.{IsSetOf, of_operation, of_fragment, EndsSetIn, Restates}
-use Rattle.gq_restated.specs.Edits.{HasDocument, RunAt}
-use Rattle.gq_restated.specs.Statics.{static_of, roots_in}
-use Rattle.gq_restated.proofs.Named.{name_free}
-use Rattle.gq_restated.proofs.Projects.{project_in_place, sound, extracted_project}
-use Rattle.gq_alike.proofs.SameTypes.{IsExecutable}
+use Rattle.gq_tree.specs.Readings.{definitions_read}
+use Rattle.gq_rewritten.specs.Rewrites.{bare_name, with_extracted, rewritten_from}
+use Rattle.gq_law_rewrites.specs.Documents.{IsSetOf, of_operation, of_fragment, EndsSetIn, Restates}
+use Rattle.gq_law_rewrites.specs.Edits.{HasDocument, RunAt}
+use Rattle.gq_law_rewrites.specs.Statics.{static_of, roots_in}
+use Rattle.gq_law_rewrites.proofs.Named.{name_free}
+use Rattle.gq_law_rewrites.proofs.Projects.{project_in_place, sound, extracted_project}
+use Rattle.gq_law_renames.proofs.SameTypes.{IsExecutable}
 use Rattle.gq_select.specs.Meant.{document_sets}
 use Rattle.gq_select.specs.Runs.{RunOf}
 use Rattle.gq_reshape.specs.Asks.{RangeAsk, tree_at}
-use Rattle.gq_reshape.specs.Extract.{Extraction, extract_pieces, extract_cut}
+use Rattle.gq_reshape.specs.Extract.{Extraction, extract_replacements, extract_cut}
 use Rattle.gq_reshape.specs.Naming.{extracted_name}
 use Rattle.gq_reshape.specs.Texts.{spread_text, fragment_text}
-use Rattle.gq_pieces.specs.declared.pieces.Piece.{Piece}
-use Rattle.gq_pieces.specs.Pieces.{replacements_in}
+use Rattle.gq_reshape.specs.declared.placed.PlacedReplacement.{PlacedReplacement}
+use Rattle.gq_reshape.specs.Placed.{replacements_in}
 use Rattle.gq_reshape.proofs.Changed.{IsKeeping, it_holds}
 use Rattle.gq_reshape.proofs.NameFree.{none_has}
 use Rattle.gq_reshape.proofs.Promised.{Promised}
@@ -43,16 +43,16 @@ executable_set roots d t set of_operation = tt
 executable_set roots d t set of_fragment = tt
 
 -- nothing is replaced in the other documents
-elsewhere : (file : ℕ) (text : List ℕ) (place : Span) (name on : Text) (k : ℕ) → nat_eq file k ≡ false → replacements_in (extract_pieces file text place name on) k ≡ []
+elsewhere : (file : ℕ) (text : List ℕ) (place : Span) (name on : Text) (k : ℕ) → nat_eq file k ≡ false → replacements_in (extract_replacements file text place name on) k ≡ []
 elsewhere file text place name on k e =
-    let run : Piece = record { file = file; replacement = record { span = place; text = spread_text name (drop place.end text) } } in
-    let end : Piece = record { file = file; replacement = record { span = record { start = length text; end = length text }; text = fragment_text name on (slice_range text place.start place.end) } } in
+    let run : PlacedReplacement = record { file = file; replacement = record { span = place; text = spread_text name (drop place.end text) } } in
+    let end : PlacedReplacement = record { file = file; replacement = record { span = record { start = length text; end = length text }; text = fragment_text name on (slice_range text place.start place.end) } } in
     other_document run (end ∷ []) k e ∙ other_document end [] k e
 
 module _ (documents : List Doc) (ask : RangeAsk) (rs : List Parsed) (are : AreParsed documents rs) (es : List EntryOf) (promise : Promised es rs) where
   -- the run, cut out of one set
   restated_by : (file : ℕ) (document : HasDocument (trees_read rs) file) (set : Sels Span) (parent name : Text) (start end : ℕ) (run : Sels Span) → EndsSetIn (static_of es) (roots_in es) document.tree parent set → Rattle.gq_select.specs.Runs.run_in start end set ≡ Some run →
-      Rattle.gq_meaning.specs.Expand.find_definition (Rattle.gq_restated.specs.Documents.definitions_of (trees_read rs)) name ≡ None →
+      Rattle.gq_meaning.specs.Expand.find_definition (Rattle.gq_law_rewrites.specs.Documents.definitions_of (trees_read rs)) name ≡ None →
       Restates (static_of es) (roots_in es) (trees_read rs) (rewritten_from (record { file = file; change = with_extracted start end name; added = fragment (bare_name name) (bare_name parent) [] (erase_all run) tt tt ∷ []; dropped = None }) 0 (trees_read rs))
   restated_by file document set parent name start end run ends is free =
       let i = run_there start end set run is in

@@ -1,8 +1,8 @@
 -- The index of a project is of what is read of its documents.
 use Rattle.std.proofs.Common.{◌≡◌, List, refl, subst}
 use Rattle.gq_project.specs.declared.document.Doc.{Doc}
-use Rattle.gq_read.specs.declared.reader.Parsed.{Parsed}
-use Rattle.gq_read.specs.Parsed.{AreParsed}
+use Rattle.gq_tree.specs.declared.parsed.Parsed.{Parsed}
+use Rattle.gq_parse.specs.Parsed.{AreParsed}
 use Rattle.gq_index.specs.declared.index.Index.{Index}
 use Rattle.gq_index.specs.Indexed.{IsIndexOf, IsIndexOfProject}
 use Rattle.gq_index.specs.Occurrences.{DefinitionOf, AreExecutables, executables}

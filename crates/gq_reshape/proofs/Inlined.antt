@@ -8,23 +8,23 @@ use Rattle.gq_text.specs.declared.place.Span.{Span}
 use Rattle.gq_tree.specs.Plain as tree
 use Rattle.gq_tree.specs.Plain.{NameOf, DirectiveOf, Head, Def}
 use Rattle.gq_project.specs.declared.document.Doc.{Doc}
-use Rattle.gq_read.specs.declared.reader.Parsed.{Parsed}
-use Rattle.gq_read.specs.Parsed.{AreParsed}
+use Rattle.gq_tree.specs.declared.parsed.Parsed.{Parsed}
+use Rattle.gq_parse.specs.Parsed.{AreParsed}
 use Rattle.gq_types.specs.Entries.{EntryOf}
 use Rattle.gq_types.proofs.Gathered.{or_cases, found}
 use Rattle.gq_document.specs.Definitions.{FragmentOf, fragments_of}
 use Rattle.gq_document.specs.Selections.{SelectedOf}
 use Rattle.gq_index.specs.Occurrences.{executables, fragment_spreads}
 use Rattle.gq_meaning.proofs.TextLemmas.{same_text}
-use Rattle.gq_regroup.specs.Rewrites.{same_place, DefinitionPlace}
-use Rattle.gq_restated.specs.Edits.{IsLastSpread}
-use Rattle.gq_restated.proofs.Executables.{Selected}
-use Rattle.gq_restated.proofs.Projects.{inlined_project}
+use Rattle.gq_rewritten.specs.Rewrites.{same_place, DefinitionPlace}
+use Rattle.gq_law_rewrites.specs.Edits.{IsLastSpread}
+use Rattle.gq_law_rewrites.proofs.Executables.{Selected}
+use Rattle.gq_law_rewrites.proofs.Projects.{inlined_project}
 use Rattle.gq_select.specs.Meant.{is_spread, document_sets}
-use Rattle.gq_pieces.specs.declared.pieces.Piece.{Piece}
-use Rattle.gq_pieces.specs.Pieces.{replacements_in}
+use Rattle.gq_reshape.specs.declared.placed.PlacedReplacement.{PlacedReplacement}
+use Rattle.gq_reshape.specs.Placed.{replacements_in}
 use Rattle.gq_reshape.specs.Asks.{RangeAsk, tree_at}
-use Rattle.gq_reshape.specs.Inline.{Inlining, is_only_spread, comes_first, in_order, inline_pieces, inline_cut}
+use Rattle.gq_reshape.specs.Inline.{Inlining, is_only_spread, comes_first, in_order, inline_replacements, inline_cut}
 use Rattle.gq_reshape.proofs.Changed.{IsKeeping, it_holds, fragment_holds, selected_holds}
 use Rattle.gq_reshape.proofs.Promised.{Promised}
 use Rattle.gq_reshape.proofs.Removed.{other_document, neither}
@@ -40,7 +40,7 @@ placed_same file k p q e f = by file k p.start p.end q.start q.end e (ap (λ (z 
     by : (a b i j m n : ℕ) → a ≡ b → i ≡ m → j ≡ n → (nat_eq a b && (m == i && n == j)) ≡ true
     by a b i j m n x y z = grind (arith, nat_tests, x, y, z)
 
-two_elsewhere : (a b : Piece) (k : ℕ) → nat_eq a.file k ≡ false → nat_eq b.file k ≡ false → replacements_in (in_order a b) k ≡ []
+two_elsewhere : (a b : PlacedReplacement) (k : ℕ) → nat_eq a.file k ≡ false → nat_eq b.file k ≡ false → replacements_in (in_order a b) k ≡ []
 two_elsewhere a b k e f = by (comes_first b a)
   where
     by : (t : Bool) → replacements_in (if t then b ∷ a ∷ [] else a ∷ b ∷ []) k ≡ []
@@ -78,7 +78,7 @@ module _ (documents : List Doc) (ask : RangeAsk) (rs : List Parsed) (are : ArePa
     abbrev edited : Bool → ℕ → Bool
     edited b k = nat_eq i.file k || option_map_or (λ d. nat_eq d.file k) (dropped b) false
 
-    quiet_at : (b : Bool) (k : ℕ) → edited b k ≡ false → replacements_in (inline_pieces i.file i.document.text i.directives i.place i.definition i.home.text b) k ≡ []
+    quiet_at : (b : Bool) (k : ℕ) → edited b k ≡ false → replacements_in (inline_replacements i.file i.document.text i.directives i.place i.definition i.home.text b) k ≡ []
     quiet_at true k e =
         let apart = neither (nat_eq i.file k) (nat_eq i.definition.file k) e in
         two_elsewhere _ _ k apart.0 apart.1

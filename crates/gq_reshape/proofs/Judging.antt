@@ -8,25 +8,25 @@ use Rattle.gq_project.specs.declared.document.Doc.{Doc}
 use Rattle.gq_project.specs.Documents.{IsInOrder}
 use Rattle.gq_parse.specs.Derives.{Derives}
 use Rattle.gq_parse.specs.Limits.{PassesLimitAt}
-use Rattle.gq_read.specs.declared.reader.Parsed.{Parsed}
-use Rattle.gq_read.specs.Parsed.{AreParsed}
+use Rattle.gq_tree.specs.declared.parsed.Parsed.{Parsed}
+use Rattle.gq_parse.specs.Parsed.{AreParsed}
 use Rattle.gq_edit.specs.declared.edit.DocumentEdit.{DocumentEdit}
 use Rattle.gq_edit.specs.Edits.{FitDocuments, after_edit, is_too_large}
-use Rattle.gq_rewrite.specs.Projects.{AreTrees}
-use Rattle.gq_rewrite.proofs.EditedParts.{Part, documents_of, made_in}
-use Rattle.gq_rewrite.proofs.EditedParts as parts
+use Rattle.gq_renamed.specs.Projects.{AreTrees}
+use Rattle.gq_renamed.proofs.EditedParts.{Part, documents_of, made_in}
+use Rattle.gq_renamed.proofs.EditedParts as parts
 use Rattle.gq_rename.specs.declared.refusal.Refusal.{Refusal}
 use Rattle.gq_rename.specs.declared.refusal.Refusal.TheVariants.{ProjectInvalid, NothingHere, BadName, SameName, NameTaken, DirectiveInWay, NoPossibleType, NotSiblings, NotRedundant, TooLarge, SelfCheck, NoMemory}
 use Rattle.gq_rename.specs.Asks.{trees_of}
-use Rattle.gq_rename.specs.Helping.Checked.{IsValidated}
+use Rattle.gq_rename.specs.Checked.{IsValidated}
 use Rattle.gq_rename.specs.Rename.{IsTooLarge}
-use Rattle.gq_pieces.proofs.PieceLemmas.{parts_from, documents_are, edits_are, made_after}
+use Rattle.gq_reshape.proofs.PlacedLemmas.{parts_from, documents_are, edits_are, made_after}
 use Rattle.gq_reshape.specs.Cuts.{Cut, edits_of, ReadsAsRewritten}
 use Rattle.gq_reshape.specs.Helping.Judged.{IsEdited, IsJudged, IsQuiet, IsVerdict}
 use Rattle.gq_reshape.specs.Helping.Limits.{OnePasses, NonePasses}
 use Rattle.gq_reshape.specs.Helping.Rereading.{AreRewrittenFrom}
 use Rattle.gq_reshape.proofs.LimitLemmas.{as_many, too_large, not_too_large, first_too_large}
-use Rattle.gq_document.proofs.OneReading.{OneTree}
+use Rattle.gq_parse.proofs.OneReading.{OneTree}
 use Rattle.gq_reshape.proofs.Rereads.{forward, backward}
 
 abbrev pub NoTree : Type 0
@@ -34,16 +34,16 @@ NoTree = (text : List ℕ) (place : ℕ) (tree : List (Def Span)) → PassesLimi
 
 module _ (one_tree : OneTree) (no_tree : NoTree) (documents : List Doc) (in_order : IsInOrder documents) (before after : List Parsed) (read : AreParsed documents before) (trees : AreTrees documents (trees_of before)) (cut : Cut) (quiet : IsQuiet cut) where
   abbrev Parts : List Part
-  Parts = parts_from cut.pieces 0 documents
+  Parts = parts_from cut.replacements 0 documents
 
   Documents : documents_of Parts ≡ documents
-  Documents = documents_are cut.pieces 0 documents
+  Documents = documents_are cut.replacements 0 documents
 
   Edits : parts.edits_of Parts ≡ edits_of cut documents
-  Edits = edits_are cut.pieces 0 documents
+  Edits = edits_are cut.replacements 0 documents
 
   Made : after_edit (edits_of cut documents) documents ≡ map made_in Parts
-  Made = made_after cut.pieces documents in_order
+  Made = made_after cut.replacements documents in_order
 
   sorted : IsInOrder (documents_of Parts)
   sorted = subst IsInOrder (sym Documents) in_order
@@ -74,14 +74,14 @@ module _ (one_tree : OneTree) (no_tree : NoTree) (documents : List Doc) (in_orde
 
     reads : AreRewrittenFrom cut.rewrite 0 before after → ReadsAsRewritten documents (trees_of before) cut
     reads h =
-        let w = backward one_tree cut.rewrite cut.pieces quiet 0 documents before after read read_made trees h in
+        let w = backward one_tree cut.rewrite cut.replacements quiet 0 documents before after read read_made trees h in
         let T : List Doc → Type 0 = λ ds. AreTrees ds w.trees in
         record { after = w.trees; are_trees = subst T (sym Made) w.are_trees; rewritten = w.rewritten }
 
     reads_not : (AreRewrittenFrom cut.rewrite 0 before after → ⊥) → ReadsAsRewritten documents (trees_of before) cut → ⊥
     reads_not wrong w =
         let T : List Doc → Type 0 = λ ds. AreTrees ds w.after in
-        wrong (forward one_tree cut.rewrite cut.pieces 0 documents before after w.after read read_made (subst T Made w.are_trees) w.rewritten)
+        wrong (forward one_tree cut.rewrite cut.replacements 0 documents before after w.after read read_made (subst T Made w.are_trees) w.rewritten)
 
     pub refused : (why : Refusal) → find (is_too_large documents) (edits_of cut documents) ≡ None → IsVerdict cut.rewrite Edited before after (Some why) → IsJudged documents before cut (Err why)
     refused ProjectInvalid none h = h

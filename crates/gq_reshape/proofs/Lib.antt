@@ -1,3 +1,4 @@
+pub mod PlacedLemmas
 pub mod LowLemmas
 pub mod Rereads
 pub mod Refusing

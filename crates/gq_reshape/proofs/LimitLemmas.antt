@@ -11,16 +11,16 @@ use Rattle.gq_project.specs.declared.document.Doc.{Doc}
 use Rattle.gq_project.specs.Documents.{IsInOrder}
 use Rattle.gq_parse.specs.Derives.{Derives}
 use Rattle.gq_parse.specs.Limits.{PassesLimitAt}
-use Rattle.gq_read.specs.declared.reader.Parsed.{Parsed}
-use Rattle.gq_read.specs.Parsed.{IsParsed, AreParsed}
-use Rattle.gq_read.specs.Parsed as readings
+use Rattle.gq_tree.specs.declared.parsed.Parsed.{Parsed}
+use Rattle.gq_parse.specs.Parsed.{IsParsed, AreParsed}
+use Rattle.gq_parse.specs.Parsed as readings
 use Rattle.gq_types.proofs.Gathered.{nothing_in, cases_cons, found, from_map, to_map}
 use Rattle.gq_edit.specs.declared.edit.DocumentEdit.{DocumentEdit}
 use Rattle.gq_edit.specs.Edits.{document_of, edited_text, is_too_large}
-use Rattle.gq_rewrite.specs.Projects.{AreTrees, none, more}
-use Rattle.gq_rewrite.proofs.EditedParts.{Part, documents_of, edits_of, made_in}
+use Rattle.gq_renamed.specs.Projects.{AreTrees, none, more}
+use Rattle.gq_renamed.proofs.EditedParts.{Part, documents_of, edits_of, made_in}
 use Rattle.gq_rename.specs.Rename.{IsTooLarge}
-use Rattle.gq_pieces.proofs.PieceLemmas.{of_part, edit_of_part, its_document}
+use Rattle.gq_reshape.proofs.PlacedLemmas.{of_part, edit_of_part, its_document}
 use Rattle.gq_reshape.proofs.LowLemmas.{drop_read}
 use Rattle.gq_reshape.specs.Helping.Limits.{PassesSomeLimit, OnePasses, NonePasses}
 

@@ -11,11 +11,12 @@ use Rattle.gq_lex.specs.Faults.{IsFault}
 use Rattle.gq_lex.specs.Tokens.{Lexeme, Reads, IsBadAt, IsLimitAt}
 use Rattle.gq_tree.specs.declared.value.Directive.{Directive}
 use Rattle.gq_tree.specs.Views.{directive_view}
-use Rattle.gq_read.specs.declared.reader.Parsed.{Parsed}
+use Rattle.gq_tree.specs.declared.parsed.Parsed.{Parsed}
 use Rattle.gq_parse.specs.Limits.{IsNestedWithin}
 use Rattle.gq_parse.proofs.Nesting.{nested_front}
-use Rattle.gq_document.specs.Definitions.{FragmentOf, fragment_in, in_document}
-use Rattle.gq_regroup.specs.Rewrites.{Rewrite}
+use Rattle.gq_tree.specs.Readings.{in_document}
+use Rattle.gq_document.specs.Definitions.{FragmentOf, fragment_in}
+use Rattle.gq_rewritten.specs.Rewrites.{Rewrite}
 use Rattle.gq_reshape.specs.declared.fragments.FragmentIn.{FragmentIn}
 use Rattle.gq_reshape.specs.Helping.Fragments.{fragment_found}
 use Rattle.gq_reshape.specs.Helping.Limits.{PassesSomeLimit}

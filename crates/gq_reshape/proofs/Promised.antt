@@ -13,16 +13,17 @@ use Rattle.gq_tree.specs.Plain as tree
 use Rattle.gq_tree.specs.Plain.{NameOf, Head, Sel, Sels}
 use Rattle.gq_project.specs.declared.document.Doc.{Doc}
 use Rattle.gq_names.specs.Repeats.{IsRepeated}
-use Rattle.gq_found.specs.declared.code.Code.TheVariants.{UnknownFragment, FragmentNameNotUnique}
-use Rattle.gq_found.specs.declared.fault.Fault.{Fault}
-use Rattle.gq_read.specs.declared.reader.Parsed.{Parsed}
-use Rattle.gq_read.specs.Parsed.{AreParsed}
+use Rattle.gq_fault.specs.declared.code.Code.TheVariants.{UnknownFragment, FragmentNameNotUnique}
+use Rattle.gq_fault.specs.declared.fault.Fault.{Fault}
+use Rattle.gq_tree.specs.declared.parsed.Parsed.{Parsed}
+use Rattle.gq_parse.specs.Parsed.{AreParsed}
 use Rattle.gq_types.specs.Entries.{Text, EntryOf}
 use Rattle.gq_types.proofs.Gathered.{nothing_in, first, later, cases_cons, only, to_flat}
-use Rattle.gq_document.specs.Definitions.{OperationOf, FragmentOf, definitions_read, operations_of, fragments_of}
+use Rattle.gq_tree.specs.Readings.{definitions_read}
+use Rattle.gq_document.specs.Definitions.{OperationOf, FragmentOf, operations_of, fragments_of}
 use Rattle.gq_document.specs.Executable.{ExecutableOf}
 use Rattle.gq_document.specs.Selections.{SelectedOf, IsSelectionWithin, here, within, after, of_operation, of_fragment}
-use Rattle.gq_found.specs.FaultPlaces as places
+use Rattle.gq_fault.specs.FaultPlaces as places
 use Rattle.gq_spreads.specs.FragmentSpreadTargetDefined as target
 use Rattle.gq_spreads.specs.FragmentSpreadTargetDefined.{IsSpreadName, IsUnknownFragment}
 use Rattle.gq_spreads.specs.FragmentSpreadsMustNotFormCycles.{IsFragmentCycle}
@@ -33,16 +34,16 @@ use Rattle.gq_rules.specs.RuleFaults.{IsRuleFault, of_spreads, of_fragments}
 use Rattle.gq_rules.specs.Validity.{IsValid}
 use Rattle.gq_meaning.specs.Expand.{Definition, find_definition}
 use Rattle.gq_meaning.specs.Acyclic.{IsRanked}
-use Rattle.gq_answer.specs.Fragments.{definition_of}
-use Rattle.gq_exec.proofs.Fragments.{are_ranked}
-use Rattle.gq_restated.specs.Documents.{definitions_of, IsSpreadDefined}
-use Rattle.gq_restated.specs.Statics.{seen_fragment}
-use Rattle.gq_restated.proofs.Executables.{trees_read, fragments_seen, Rooted, Selected}
-use Rattle.gq_static.proofs.ValidityLemmas.{NoneIsBoth, operations_have, parents_known}
-use Rattle.gq_alike.proofs.Promises.{nothing_demanded, of_one_kind}
-use Rattle.gq_alike.proofs.RuleLemmas.{search_text}
-use Rattle.gq_alike.proofs.SameTypes.{AreOfOneKind}
-use Rattle.gq_alike.proofs.ValidityLemmas.{no_rule, no_document_is_mixed}
+use Rattle.gq_collect.specs.Fragments.{definition_of}
+use Rattle.gq_law_rewrites.proofs.Fragments.{are_ranked}
+use Rattle.gq_law_rewrites.specs.Documents.{definitions_of, IsSpreadDefined}
+use Rattle.gq_law_rewrites.specs.Statics.{seen_fragment}
+use Rattle.gq_law_rewrites.proofs.Executables.{trees_read, fragments_seen, Rooted, Selected}
+use Rattle.gq_law_rewrites.proofs.ValidityLemmas.{NoneIsBoth, operations_have, parents_known}
+use Rattle.gq_law_renames.proofs.Promises.{nothing_demanded, of_one_kind}
+use Rattle.gq_law_renames.proofs.RuleLemmas.{search_text}
+use Rattle.gq_law_renames.proofs.SameTypes.{AreOfOneKind}
+use Rattle.gq_law_renames.proofs.ValidityLemmas.{no_rule, no_document_is_mixed}
 
 -- ---- names that are not repeated
 

@@ -5,8 +5,8 @@ use Rattle.std.specs.List.{filter}
 use Rattle.gq_text.specs.declared.place.Span.{Span}
 use Rattle.gq_tree.specs.Plain.{DirectiveOf, Sels}
 use Rattle.gq_document.specs.Definitions.{FragmentOf}
-use Rattle.gq_pieces.specs.declared.pieces.Piece.{Piece}
-use Rattle.gq_pieces.specs.Pieces.{replacements_in}
+use Rattle.gq_reshape.specs.declared.placed.PlacedReplacement.{PlacedReplacement}
+use Rattle.gq_reshape.specs.Placed.{replacements_in}
 use Rattle.gq_reshape.specs.Extract.{extract_at}
 use Rattle.gq_reshape.specs.Inline.{inline_at, comes_first, in_order}
 use Rattle.gq_reshape.specs.Helping.Judged.{IsQuiet}
@@ -17,11 +17,11 @@ neither : (a b : Bool) → (a || b) ≡ false → (a ≡ false) × (b ≡ false)
 neither false b e = (refl, e)
 neither true b e = absurd (cc)
 
--- a piece of another document
-pub skipped : (p : Piece) (ps : List Piece) (file : ℕ) → nat_eq p.file file ≡ false → replacements_in (p ∷ ps) file ≡ replacements_in ps file
+-- a replacement in another document
+pub skipped : (p : PlacedReplacement) (ps : List PlacedReplacement) (file : ℕ) → nat_eq p.file file ≡ false → replacements_in (p ∷ ps) file ≡ replacements_in ps file
 skipped p ps file e = ap (λ (b : Bool). map (λ p. p.replacement) (if b then p ∷ filter (λ p. nat_eq p.file file) ps else filter (λ p. nat_eq p.file file) ps)) e
 
-both_skipped : (a b : Piece) (file : ℕ) → nat_eq a.file file ≡ false → nat_eq b.file file ≡ false → replacements_in (in_order a b) file ≡ []
+both_skipped : (a b : PlacedReplacement) (file : ℕ) → nat_eq a.file file ≡ false → nat_eq b.file file ≡ false → replacements_in (in_order a b) file ≡ []
 both_skipped a b file p q = by (comes_first b a)
   where
     by : (first : Bool) → replacements_in (if first then b ∷ a ∷ [] else a ∷ b ∷ []) file ≡ []
@@ -31,8 +31,8 @@ both_skipped a b file p q = by (comes_first b a)
 pub extract_quiet : (file : ℕ) (text : List ℕ) (place : Span) (name on : List ℕ) (run : Sels Span) → IsQuiet (extract_at file text place name on run)
 extract_quiet file text place name on run k e =
     let q = (neither (nat_eq file k) false e).0 in
-    let here : Piece = record { file = file; replacement = record { span = place; text = spread_text name (drop place.end text) } } in
-    let last : Piece = record { file = file; replacement = record { span = record { start = length text; end = length text }; text = fragment_text name on (slice_range text place.start place.end) } } in
+    let here : PlacedReplacement = record { file = file; replacement = record { span = place; text = spread_text name (drop place.end text) } } in
+    let last : PlacedReplacement = record { file = file; replacement = record { span = record { start = length text; end = length text }; text = fragment_text name on (slice_range text place.start place.end) } } in
     skipped here (last ∷ []) k q ∙ skipped last [] k q
 
 pub remove_quiet : (file : ℕ) (text : List ℕ) (place braces : Span) → IsQuiet (remove_at file text place braces)

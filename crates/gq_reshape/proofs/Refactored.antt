@@ -1,13 +1,13 @@
 -- The edits that extract, inline and remove answer with keep every response.
 use Rattle.gq_rename.specs.declared.refusal.Refusal.TheVariants.{NotRedundant}
-use Rattle.gq_static.proofs.ValidityLemmas.{NoneIsBoth}
-use Rattle.gq_unchanged.specs.Unchanged.{RestatedProjectsKeepResponses}
+use Rattle.gq_law_rewrites.proofs.ValidityLemmas.{NoneIsBoth}
+use Rattle.gq_law_rewrites.specs.Unchanged.{RestatedProjectsKeepResponses}
 use Rattle.gq_reshape.specs.Responses.{EditsKeepResponses}
 use Rattle.gq_reshape.specs.Extract.{extract_cut}
 use Rattle.gq_reshape.specs.Inline.{inline_cut}
 use Rattle.gq_reshape.specs.Remove.{remove_cut}
 use Rattle.gq_reshape.specs.Reshape.{IsExtractAnswer, IsInlineAnswer, IsRemoveAnswer}
-use Rattle.gq_document.proofs.OneReading.{OneTree}
+use Rattle.gq_parse.proofs.OneReading.{OneTree}
 use Rattle.gq_reshape.proofs.Changed.{all_promised, keeping_keeps}
 use Rattle.gq_reshape.proofs.Removed.{removed_keeping}
 use Rattle.gq_reshape.proofs.Extracted.{extracted_keeping}

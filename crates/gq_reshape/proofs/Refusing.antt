@@ -2,7 +2,7 @@
 use Rattle.std.proofs.Common.{◌<◌, ◌++◌, List, Err, arith, refl}
 use Rattle.gq_project.specs.declared.document.Doc.{Doc}
 use Rattle.gq_edit.specs.declared.edit.DocumentEdit.{DocumentEdit}
-use Rattle.gq_read.specs.declared.reader.Parsed.{Parsed}
+use Rattle.gq_tree.specs.declared.parsed.Parsed.{Parsed}
 use Rattle.gq_types.specs.Entries.{EntryOf}
 use Rattle.gq_types.specs.BuiltIn.{built_in}
 use Rattle.gq_document.specs.Definitions.{entries_of}

@@ -6,7 +6,7 @@ use Rattle.gq_tree.specs.Plain.{NameOf, DirectiveOf, inline}
 use Rattle.gq_project.specs.declared.document.Doc.{Doc}
 use Rattle.gq_project.specs.Documents.{has_key}
 use Rattle.gq_edit.specs.declared.edit.DocumentEdit.{DocumentEdit}
-use Rattle.gq_read.specs.declared.reader.Parsed.{Parsed}
+use Rattle.gq_tree.specs.declared.parsed.Parsed.{Parsed}
 use Rattle.gq_types.specs.Entries.{EntryOf}
 use Rattle.gq_rules.specs.Validity.{IsValid}
 use Rattle.gq_select.specs.Meant.{StandingOf, is_inline, meant, document_sets}

@@ -6,22 +6,22 @@ use Rattle.std.specs.Str.{bytes_eq}
 use Rattle.gq_text.specs.declared.place.Span.{Span}
 use Rattle.gq_tree.specs.Plain.{NameOf, DirectiveOf, inline}
 use Rattle.gq_project.specs.declared.document.Doc.{Doc}
-use Rattle.gq_read.specs.declared.reader.Parsed.{Parsed}
-use Rattle.gq_read.specs.Parsed.{AreParsed}
+use Rattle.gq_tree.specs.declared.parsed.Parsed.{Parsed}
+use Rattle.gq_parse.specs.Parsed.{AreParsed}
 use Rattle.gq_types.specs.Entries.{Text, EntryOf}
 use Rattle.gq_types.proofs.Gathered.{and_parts, or_cases}
 use Rattle.gq_document.specs.Selections.{SelectedOf}
 use Rattle.gq_meaning.proofs.TextLemmas.{same_text}
-use Rattle.gq_regroup.specs.Rewrites.{head_place, Rewrite, DefinitionPlace, rewritten_from}
-use Rattle.gq_restated.specs.Known.{SaysNothing}
-use Rattle.gq_restated.specs.Documents.{Restates}
-use Rattle.gq_restated.specs.Edits.{removal}
-use Rattle.gq_restated.specs.Statics.{static_of, roots_in}
-use Rattle.gq_restated.proofs.Executables.{Selected}
-use Rattle.gq_restated.proofs.Projects.{removed_project}
+use Rattle.gq_rewritten.specs.Rewrites.{head_place, Rewrite, DefinitionPlace, rewritten_from}
+use Rattle.gq_law_rewrites.specs.KnownBefore.{SaysNothing}
+use Rattle.gq_law_rewrites.specs.Documents.{Restates}
+use Rattle.gq_law_rewrites.specs.Edits.{removal}
+use Rattle.gq_law_rewrites.specs.Statics.{static_of, roots_in}
+use Rattle.gq_law_rewrites.proofs.Executables.{Selected}
+use Rattle.gq_law_rewrites.proofs.Projects.{removed_project}
 use Rattle.gq_select.specs.Meant.{is_inline, document_sets}
-use Rattle.gq_pieces.specs.declared.pieces.Piece.{Piece}
-use Rattle.gq_pieces.specs.Pieces.{replacements_in}
+use Rattle.gq_reshape.specs.declared.placed.PlacedReplacement.{PlacedReplacement}
+use Rattle.gq_reshape.specs.Placed.{replacements_in}
 use Rattle.gq_reshape.specs.Asks.{RangeAsk, tree_at}
 use Rattle.gq_reshape.specs.Inline.{has_directive}
 use Rattle.gq_reshape.specs.Remove.{Removal, is_parents_type, says_nothing, remove_cut, IsNotRedundant}
@@ -32,9 +32,9 @@ use Rattle.gq_reshape.proofs.RunStands.{same_number}
 use Rattle.gq_reshape.proofs.SameEntries.{trees_read, from_first}
 use Rattle.gq_reshape.proofs.Standing.{meant_stands, selected_asked}
 
--- a piece of another document
-pub other_document : (p : Piece) (pieces : List Piece) (k : ℕ) → nat_eq p.file k ≡ false → replacements_in (p ∷ pieces) k ≡ replacements_in pieces k
-other_document p pieces k e = ap (λ (b : Bool). map (λ (x : Piece). x.replacement) (if b then p ∷ Rattle.std.specs.List.filter (λ (x : Piece). nat_eq x.file k) pieces else Rattle.std.specs.List.filter (λ (x : Piece). nat_eq x.file k) pieces)) e
+-- a replacement in another document
+pub other_document : (p : PlacedReplacement) (replacements : List PlacedReplacement) (k : ℕ) → nat_eq p.file k ≡ false → replacements_in (p ∷ replacements) k ≡ replacements_in replacements k
+other_document p replacements k e = ap (λ (b : Bool). map (λ (x : PlacedReplacement). x.replacement) (if b then p ∷ Rattle.std.specs.List.filter (λ (x : PlacedReplacement). nat_eq x.file k) replacements else Rattle.std.specs.List.filter (λ (x : PlacedReplacement). nat_eq x.file k) replacements)) e
 
 pub neither : (a b : Bool) → (a || b) ≡ false → (a ≡ false) × (b ≡ false)
 neither false b e = (refl, e)

@@ -9,20 +9,21 @@ use Rattle.gq_tree.specs.Plain.{Sels, Def, operation, fragment, type_system, no_
 use Rattle.gq_project.specs.declared.document.Doc.{Doc}
 use Rattle.gq_project.specs.Documents.{IsInOrder}
 use Rattle.gq_edit.specs.Edits.{after_edit}
-use Rattle.gq_read.specs.declared.reader.Parsed.{Parsed}
-use Rattle.gq_read.specs.declared.reader.Parsed.TheVariants as reading
-use Rattle.gq_read.specs.Parsed.{IsParsed, AreParsed}
-use Rattle.gq_read.specs.Parsed as readings
+use Rattle.gq_tree.specs.declared.parsed.Parsed.{Parsed}
+use Rattle.gq_tree.specs.declared.parsed.Parsed.TheVariants as reading
+use Rattle.gq_parse.specs.Parsed.{IsParsed, AreParsed}
+use Rattle.gq_parse.specs.Parsed as readings
 use Rattle.gq_types.specs.Entries.{EntryOf}
-use Rattle.gq_document.proofs.OneReading.{OneTree, same_definitions}
-use Rattle.gq_document.specs.Definitions.{definitions_read, entry_in, in_document, entries_of}
+use Rattle.gq_parse.proofs.OneReading.{OneTree, same_definitions}
+use Rattle.gq_tree.specs.Readings.{definitions_read, in_document}
+use Rattle.gq_document.specs.Definitions.{entry_in, entries_of}
 use Rattle.gq_meaning.specs.Thin.{IsIn}
-use Rattle.gq_rewrite.proofs.EditedParts.{made_in}
-use Rattle.gq_regroup.specs.Rewrites.{Bare, Rewrite, with_set, is_kept, rewritten_document, rewritten_from}
-use Rattle.gq_pieces.specs.declared.pieces.Piece.{Piece}
-use Rattle.gq_pieces.specs.Pieces.{edits_from, replacements_in}
-use Rattle.gq_pieces.proofs.PieceLemmas.{parts_from, made_after}
-use Rattle.gq_alike.proofs.SameTypes.{IsExecutable, IsOfTypes, AreOfOneKind}
+use Rattle.gq_renamed.proofs.EditedParts.{made_in}
+use Rattle.gq_rewritten.specs.Rewrites.{Bare, Rewrite, with_set, is_kept, rewritten_document, rewritten_from}
+use Rattle.gq_reshape.specs.declared.placed.PlacedReplacement.{PlacedReplacement}
+use Rattle.gq_reshape.specs.Placed.{edits_from, replacements_in}
+use Rattle.gq_reshape.proofs.PlacedLemmas.{parts_from, made_after}
+use Rattle.gq_law_renames.proofs.SameTypes.{IsExecutable, IsOfTypes, AreOfOneKind}
 use Rattle.gq_reshape.specs.Helping.Rereading.{is_edited}
 
 abbrev pub trees_read : List Parsed → List (List (Def Span))
@@ -104,8 +105,8 @@ no_entry n (fragment name on directives set braces place ∷ ds) h = no_entry n 
 no_entry n (type_system one ∷ ds) h = absurd h.0
 
 module _ (one_tree : OneTree) where
-  module _ (r : Rewrite) (pieces : List Piece) (quiet : (k : ℕ) → is_edited r k ≡ false → replacements_in pieces k ≡ []) (added : AllByRecursion IsExecutable r.added) where
-    document_stays : (k n : ℕ) (d : Doc) (b a : Parsed) → IsParsed d.text b → IsParsed (replaced (replacements_in pieces k) d.text) a → erase_document (definitions_read a) ≡ rewritten_document r k (definitions_read b) →
+  module _ (r : Rewrite) (replacements : List PlacedReplacement) (quiet : (k : ℕ) → is_edited r k ≡ false → replacements_in replacements k ≡ []) (added : AllByRecursion IsExecutable r.added) where
+    document_stays : (k n : ℕ) (d : Doc) (b a : Parsed) → IsParsed d.text b → IsParsed (replaced (replacements_in replacements k) d.text) a → erase_document (definitions_read a) ≡ rewritten_document r k (definitions_read b) →
         AreOfOneKind (definitions_read b) → (is_edited r k ≡ true → SomeExecutable (definitions_read b)) → in_document entry_in n b ≡ in_document entry_in n a
     document_stays k n d b a p q e kind some = by (is_edited r k) refl
       where
@@ -119,7 +120,7 @@ module _ (one_tree : OneTree) where
             let again : IsParsed d.text a = subst R (quiet k t) q in
             ap (λ (ds : List (Def Span)). flat_map (entry_in n) ds) (same_definitions one_tree d.text b a p again)
 
-    entries_from : (k n : ℕ) (documents : List Doc) (bs rest : List Parsed) → AreParsed documents bs → AreParsed (map made_in (parts_from pieces k documents)) rest → map erase_document (trees_read rest) ≡ rewritten_from r k (trees_read bs) →
+    entries_from : (k n : ℕ) (documents : List Doc) (bs rest : List Parsed) → AreParsed documents bs → AreParsed (map made_in (parts_from replacements k documents)) rest → map erase_document (trees_read rest) ≡ rewritten_from r k (trees_read bs) →
         AllByRecursion (λ b. AreOfOneKind (definitions_read b)) bs → AreOfOperations r k (trees_read bs) → flat_map (λ x. in_document entry_in x.0 x.1) (enumerate_from n bs) ≡ flat_map (λ x. in_document entry_in x.0 x.1) (enumerate_from n rest)
     entries_from k n [] [] [] p q e kinds some = refl
     entries_from k n [] [] (a ∷ rest) p q e kinds some = elim q [ ]
@@ -132,7 +133,7 @@ module _ (one_tree : OneTree) where
         ap (λ (es : List EntryOf). es ++ flat_map (λ x. in_document entry_in x.0 x.1) (enumerate_from (n + 1) bs)) (document_stays k n d b a p q own kinds.0 some.0)
         ∙ ap (λ (es : List EntryOf). in_document entry_in n a ++ es) (entries_from (suc k) (n + 1) ds bs rest ps qs others kinds.1 some.1)
 
-    pub same_entries : (documents : List Doc) (before after : List Parsed) → IsInOrder documents → AreParsed documents before → AreParsed (after_edit (edits_from pieces 0 documents) documents) after →
+    pub same_entries : (documents : List Doc) (before after : List Parsed) → IsInOrder documents → AreParsed documents before → AreParsed (after_edit (edits_from replacements 0 documents) documents) after →
         map erase_document (trees_read after) ≡ rewritten_from r 0 (trees_read before) → AllByRecursion (λ b. AreOfOneKind (definitions_read b)) before → AreOfOperations r 0 (trees_read before) → entries_of before ≡ entries_of after
     same_entries documents before after in_order are are_after e kinds some =
-        entries_from 0 0 documents before after are (subst (λ (ds : List Doc). AreParsed ds after) (made_after pieces documents in_order) are_after) e kinds some
+        entries_from 0 0 documents before after are (subst (λ (ds : List Doc). AreParsed ds after) (made_after replacements documents in_order) are_after) e kinds some

@@ -9,7 +9,7 @@ use Rattle.gq_tree.specs.Forest.{labels}
 use Rattle.gq_tree.specs.Names.{spread_name}
 use Rattle.gq_tree.specs.Plain as tree
 use Rattle.gq_tree.specs.Plain.{NameOf, DirectiveOf, Head, Def, operation, fragment, type_system}
-use Rattle.gq_read.specs.declared.reader.Parsed.{Parsed}
+use Rattle.gq_tree.specs.declared.parsed.Parsed.{Parsed}
 use Rattle.gq_types.specs.Entries.{Text, EntryOf}
 use Rattle.gq_types.proofs.Gathered.{nothing_in, only, from_flat, to_flat, to_map, to_filter}
 use Rattle.gq_document.specs.Definitions.{OperationOf, FragmentOf, operation_in, fragment_in, operations_of, fragments_of}
@@ -17,8 +17,8 @@ use Rattle.gq_document.specs.Selections.{SelectedOf, of_operation, of_fragment}
 use Rattle.gq_index.specs.declared.occurrence.Occurrence.{Occurrence}
 use Rattle.gq_index.specs.Occurrences.{DefinitionOf, executables, spreads_in, called, occurrences_of, fragment_spreads}
 use Rattle.gq_meaning.proofs.TextLemmas.{text_same}
-use Rattle.gq_restated.proofs.Executables.{Selected}
-use Rattle.gq_alike.proofs.ExecutableLemmas.{fragments_same, operations_same}
+use Rattle.gq_law_rewrites.proofs.Executables.{Selected}
+use Rattle.gq_law_renames.proofs.ExecutableLemmas.{fragments_same, operations_same}
 use Rattle.gq_reshape.proofs.Promised.{label_in}
 
 -- a selection, and the number of its document

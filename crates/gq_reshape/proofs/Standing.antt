@@ -9,18 +9,19 @@ use Rattle.gq_tree.specs.Plain.{Head, Sel, Sels, Def, operation, fragment, type_
 use Rattle.gq_types.specs.Entries.{Text, EntryOf}
 use Rattle.gq_types.specs.Roots.{root_of}
 use Rattle.gq_types.proofs.Gathered.{first, to_flat}
-use Rattle.gq_read.specs.declared.reader.Parsed.{Parsed}
-use Rattle.gq_document.specs.Definitions.{OperationOf, FragmentOf, operation_in, fragment_in, definitions_read, in_document, operations_of, fragments_of}
+use Rattle.gq_tree.specs.declared.parsed.Parsed.{Parsed}
+use Rattle.gq_tree.specs.Readings.{definitions_read, in_document}
+use Rattle.gq_document.specs.Definitions.{OperationOf, FragmentOf, operation_in, fragment_in, operations_of, fragments_of}
 use Rattle.gq_document.specs.Selections.{SelectedOf, IsSelectionWithin, here, within, after, parent_below, IsSelected, of_operation, of_fragment}
 use Rattle.gq_meaning.specs.Thin.{IsIn}
-use Rattle.gq_regroup.specs.Rewrites.{head_place}
-use Rattle.gq_restated.specs.Documents.{EndsSetIn, AreTyped}
-use Rattle.gq_restated.specs.Edits.{HasDocument}
-use Rattle.gq_restated.specs.Statics.{static_of, roots_in}
-use Rattle.gq_restated.proofs.Executables.{trees_read, contains, in_numbers, Rooted, root_is}
-use Rattle.gq_restated.proofs.Named.{selection_below}
-use Rattle.gq_restated.proofs.Selected.{operation_ends, fragment_ends}
-use Rattle.gq_sets.specs.Sets.{SetOf, set_in, braces_in, sets_among, sets_of}
+use Rattle.gq_rewritten.specs.Rewrites.{head_place}
+use Rattle.gq_law_rewrites.specs.Documents.{EndsSetIn, AreTyped}
+use Rattle.gq_law_rewrites.specs.Edits.{HasDocument}
+use Rattle.gq_law_rewrites.specs.Statics.{static_of, roots_in}
+use Rattle.gq_law_rewrites.proofs.Executables.{trees_read, contains, in_numbers, Rooted, root_is}
+use Rattle.gq_law_rewrites.proofs.Named.{selection_below}
+use Rattle.gq_law_rewrites.proofs.Selected.{operation_ends, fragment_ends}
+use Rattle.gq_document.specs.Sets.{SetOf, set_in, braces_in, sets_among, sets_of}
 use Rattle.gq_select.specs.Meant.{document_sets, StandingOf, standing_in, standing, later, begins_last, is_meant, meant}
 use Rattle.gq_reshape.specs.Asks.{tree_at}
 

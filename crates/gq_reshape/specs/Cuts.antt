@@ -5,20 +5,20 @@ use Rattle.gq_tree.specs.Plain.{Def, erase_document}
 use Rattle.gq_project.specs.declared.document.Doc.{Doc}
 use Rattle.gq_edit.specs.declared.edit.DocumentEdit.{DocumentEdit}
 use Rattle.gq_edit.specs.Edits.{after_edit}
-use Rattle.gq_rewrite.specs.Projects.{AreTrees}
+use Rattle.gq_renamed.specs.Projects.{AreTrees}
 use Rattle.gq_rules.specs.Validity.{IsValid}
-use Rattle.gq_regroup.specs.Rewrites.{Rewrite, rewritten_from}
-use Rattle.gq_pieces.specs.Pieces.{edits_from}
-use Rattle.gq_pieces.specs.declared.pieces.Piece.{Piece}
+use Rattle.gq_rewritten.specs.Rewrites.{Rewrite, rewritten_from}
+use Rattle.gq_reshape.specs.Placed.{edits_from}
+use Rattle.gq_reshape.specs.declared.placed.PlacedReplacement.{PlacedReplacement}
 
 -- the replacements, in the order of documents and places, and the change of the trees
 pub record Cut : Type 0 where
-  pub pieces : List Piece
+  pub replacements : List PlacedReplacement
   pub rewrite : Rewrite
 
 -- the edit
 abbrev pub edits_of : Cut → List Doc → List DocumentEdit
-edits_of cut documents = edits_from cut.pieces 0 documents
+edits_of cut documents = edits_from cut.replacements 0 documents
 
 -- the edited texts read as the rewritten trees, places forgotten
 pub record ReadsAsRewritten (documents : List Doc) (trees : List (List (Def Span))) (cut : Cut) : Type 0 where

@@ -4,12 +4,12 @@ use Rattle.std.specs.Option.{option_map, option_or}
 use Rattle.gq_text.specs.declared.place.Span.{Span}
 use Rattle.gq_tree.specs.Plain.{Sels, fragment, erase_all}
 use Rattle.gq_project.specs.declared.document.Doc.{Doc}
-use Rattle.gq_read.specs.declared.reader.Parsed.{Parsed}
+use Rattle.gq_tree.specs.declared.parsed.Parsed.{Parsed}
 use Rattle.gq_types.specs.Entries.{Text, EntryOf}
 use Rattle.gq_types.specs.Possible.{IsPossible}
 use Rattle.gq_index.specs.Occurrences.{executables}
-use Rattle.gq_sets.specs.Sets.{SetOf}
-use Rattle.gq_regroup.specs.Rewrites.{bare_name, with_extracted}
+use Rattle.gq_document.specs.Sets.{SetOf}
+use Rattle.gq_rewritten.specs.Rewrites.{bare_name, with_extracted}
 use Rattle.gq_select.specs.Meant.{document_sets}
 use Rattle.gq_select.specs.Runs.{RunOf, find_run, innermost}
 use Rattle.gq_select.specs.Touched.{Touches}
@@ -17,7 +17,7 @@ use Rattle.gq_reshape.specs.Asks.{RangeAsk, IsAskedOf, tree_at}
 use Rattle.gq_reshape.specs.Cuts.{Cut}
 use Rattle.gq_reshape.specs.Naming.{extracted_name, IsLeastFree}
 use Rattle.gq_reshape.specs.Texts.{spread_text, fragment_text}
-use Rattle.gq_pieces.specs.declared.pieces.Piece.{Piece}
+use Rattle.gq_reshape.specs.declared.placed.PlacedReplacement.{PlacedReplacement}
 
 -- the document that is asked of, and the place of what the range touches there
 pub record Touched (documents : List Doc) (ask : RangeAsk) : Type 0 where
@@ -50,15 +50,15 @@ pub record Extraction (documents : List Doc) (es : List EntryOf) (readings : Lis
   pub is_least : IsLeastFree (executables readings) number
 
 -- the replacements, from the place of the run, and the trees
-abbrev pub extract_pieces : (file : ℕ) (text : List ℕ) (place : Span) (name on : Text) → List Piece
-extract_pieces file text place name on =
+abbrev pub extract_replacements : (file : ℕ) (text : List ℕ) (place : Span) (name on : Text) → List PlacedReplacement
+extract_replacements file text place name on =
     record { file = file; replacement = record { span = place; text = spread_text name (drop place.end text) } }
     ∷ record { file = file; replacement = record { span = record { start = length text; end = length text }; text = fragment_text name on (slice_range text place.start place.end) } }
     ∷ []
 
 abbrev pub extract_at : (file : ℕ) (text : List ℕ) (place : Span) (name on : Text) (run : Sels Span) → Cut
 extract_at file text place name on run = record {
-  pieces = extract_pieces file text place name on;
+  replacements = extract_replacements file text place name on;
   rewrite = record {
     file = file;
     change = with_extracted place.start place.end name;

@@ -5,16 +5,16 @@ use Rattle.std.specs.Str.{bytes_eq}
 use Rattle.gq_text.specs.declared.place.Span.{Span}
 use Rattle.gq_tree.specs.Plain.{NameOf, DirectiveOf, spread, erase_all}
 use Rattle.gq_project.specs.declared.document.Doc.{Doc}
-use Rattle.gq_read.specs.declared.reader.Parsed.{Parsed}
+use Rattle.gq_tree.specs.declared.parsed.Parsed.{Parsed}
 use Rattle.gq_types.specs.Entries.{Text, EntryOf}
 use Rattle.gq_document.specs.Definitions.{FragmentOf, fragments_of}
 use Rattle.gq_index.specs.Occurrences.{executables, fragment_spreads}
-use Rattle.gq_regroup.specs.Rewrites.{with_inlined}
+use Rattle.gq_rewritten.specs.Rewrites.{with_inlined}
 use Rattle.gq_select.specs.Meant.{StandingOf, is_spread, meant, document_sets}
 use Rattle.gq_reshape.specs.Asks.{RangeAsk, IsAskedOf, tree_at}
 use Rattle.gq_reshape.specs.Cuts.{Cut}
 use Rattle.gq_reshape.specs.Texts.{inlined_text}
-use Rattle.gq_pieces.specs.declared.pieces.Piece.{Piece}
+use Rattle.gq_reshape.specs.declared.placed.PlacedReplacement.{PlacedReplacement}
 
 -- The spread that a range means, and the fragment that it spreads with the document that this stands in.
 pub record Inlining (documents : List Doc) (es : List EntryOf) (readings : List Parsed) (ask : RangeAsk) : Type 0 where
@@ -37,22 +37,22 @@ abbrev pub is_only_spread : List Parsed → Text → Bool
 is_only_spread readings name = nat_eq (length (fragment_spreads (executables readings) name)) 1
 
 -- two replacements in the order of documents and places
-abbrev pub comes_first : Piece → Piece → Bool
+abbrev pub comes_first : PlacedReplacement → PlacedReplacement → Bool
 comes_first a b = nat_lt a.file b.file || (nat_eq a.file b.file && nat_lt a.replacement.span.start b.replacement.span.start)
 
-abbrev pub in_order : Piece → Piece → List Piece
+abbrev pub in_order : PlacedReplacement → PlacedReplacement → List PlacedReplacement
 in_order a b = if comes_first b a then b ∷ a ∷ [] else a ∷ b ∷ []
 
 -- the replacements, where the definition goes or stays, and the trees
-abbrev pub inline_pieces : (file : ℕ) (text : List ℕ) (directives : List (DirectiveOf Span)) (place : Span) (definition : FragmentOf) (home : List ℕ) (goes : Bool) → List Piece
-inline_pieces file text directives place f home goes =
-    let opened : Piece = record { file = file; replacement = record { span = place; text = inlined_text text home f.on.text directives f.braces } } in
-    let gone : Piece = record { file = f.file; replacement = record { span = f.place; text = [] } } in
+abbrev pub inline_replacements : (file : ℕ) (text : List ℕ) (directives : List (DirectiveOf Span)) (place : Span) (definition : FragmentOf) (home : List ℕ) (goes : Bool) → List PlacedReplacement
+inline_replacements file text directives place f home goes =
+    let opened : PlacedReplacement = record { file = file; replacement = record { span = place; text = inlined_text text home f.on.text directives f.braces } } in
+    let gone : PlacedReplacement = record { file = f.file; replacement = record { span = f.place; text = [] } } in
     if goes then in_order opened gone else opened ∷ []
 
 abbrev pub inline_at : (file : ℕ) (text : List ℕ) (directives : List (DirectiveOf Span)) (place : Span) (definition : FragmentOf) (home : List ℕ) (goes : Bool) → Cut
 inline_at file text directives place f home goes = record {
-  pieces = inline_pieces file text directives place f home goes;
+  replacements = inline_replacements file text directives place f home goes;
   rewrite = record {
     file = file;
     change = with_inlined place f.on.text (erase_all f.set);

@@ -1,6 +1,7 @@
 pub mod Asks
 pub mod Texts
 pub mod Naming
+pub mod Placed
 pub mod Cuts
 pub mod Extract
 pub mod Inline

@@ -5,13 +5,13 @@ use Rattle.std.specs.Str.{bytes_eq}
 use Rattle.gq_text.specs.declared.place.Span.{Span}
 use Rattle.gq_tree.specs.Plain.{NameOf, DirectiveOf, inline}
 use Rattle.gq_project.specs.declared.document.Doc.{Doc}
-use Rattle.gq_read.specs.declared.reader.Parsed.{Parsed}
+use Rattle.gq_tree.specs.declared.parsed.Parsed.{Parsed}
 use Rattle.gq_types.specs.Entries.{Text, EntryOf}
-use Rattle.gq_regroup.specs.Rewrites.{without_braces}
+use Rattle.gq_rewritten.specs.Rewrites.{without_braces}
 use Rattle.gq_select.specs.Meant.{StandingOf, is_inline, meant, document_sets}
 use Rattle.gq_reshape.specs.Asks.{RangeAsk, IsAskedOf, tree_at}
 use Rattle.gq_reshape.specs.Cuts.{Cut}
-use Rattle.gq_pieces.specs.declared.pieces.Piece.{Piece}
+use Rattle.gq_reshape.specs.declared.placed.PlacedReplacement.{PlacedReplacement}
 use Rattle.gq_reshape.specs.Inline.{has_directive}
 use Rattle.gq_reshape.specs.Texts.{opened_text}
 
@@ -37,12 +37,12 @@ abbrev pub says_nothing : Option (NameOf Span) → List (DirectiveOf Span) → O
 says_nothing on directives parent = not (has_directive directives) && is_parents_type on parent
 
 -- the replacement and the trees
-abbrev pub remove_pieces : (file : ℕ) (text : List ℕ) (place braces : Span) → List Piece
-remove_pieces file text place braces = record { file = file; replacement = record { span = place; text = opened_text text braces } } ∷ []
+abbrev pub remove_replacements : (file : ℕ) (text : List ℕ) (place braces : Span) → List PlacedReplacement
+remove_replacements file text place braces = record { file = file; replacement = record { span = place; text = opened_text text braces } } ∷ []
 
 abbrev pub remove_at : (file : ℕ) (text : List ℕ) (place braces : Span) → Cut
 remove_at file text place braces = record {
-  pieces = remove_pieces file text place braces;
+  replacements = remove_replacements file text place braces;
   rewrite = record { file = file; change = without_braces place; added = []; dropped = None };
 }
 

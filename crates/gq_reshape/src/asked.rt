@@ -2,19 +2,19 @@
 ghost use Rattle.std.specs.Prelude.{◌≡◌, IfOk, position};
 ghost use Rattle.gq_types.specs.Look.{types_view};
 ghost use Rattle.gq_project.specs.Documents.{has_key};
-ghost use Rattle.gq_document.specs.Definitions.{definitions_read};
+ghost use Rattle.gq_tree.specs.Readings.{definitions_read};
 ghost use Rattle.gq_rules.specs.Validity.{IsValid};
 ghost use Rattle.gq_schema.specs.SchemaOf.{IsTypeSystemOf};
-ghost use Rattle.gq_sets.specs.SetViews.{sets_view};
+ghost use Rattle.gq_document.specs.SetViews.{sets_view};
 ghost use Rattle.gq_select.specs.Meant.{document_sets};
 ghost use Rattle.gq_reshape.specs.Asks.{tree_at};
 
-use gq_document::Definitions;
+use gq_document::{Definitions, SetIn, sets_in};
+use gq_parse::read;
 use gq_project::Doc;
-use gq_read::{Parsed, read};
 use gq_rules::Valid;
-use gq_sets::{SetIn, sets_in};
 use gq_text::NoMemory;
+use gq_tree::Parsed;
 use gq_types::Types;
 use std::alloc::Global;
 

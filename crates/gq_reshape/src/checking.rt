@@ -2,27 +2,28 @@
 ghost use Rattle.std.specs.Prelude.{◌≡◌, ◌≤◌, find, length, None, IfOk};
 ghost use Rattle.gq_edit.specs.Edits.{FitDocuments, after_edit, is_moved, is_too_large};
 ghost use Rattle.gq_project.specs.Documents.{IsInOrder};
-ghost use Rattle.gq_read.specs.Parsed.{AreParsed};
-ghost use Rattle.gq_regroup.specs.Views.{rewrite_of};
+ghost use Rattle.gq_parse.specs.Parsed.{AreParsed};
+ghost use Rattle.gq_rewritten.specs.Views.{rewrite_of};
 ghost use Rattle.gq_rules.specs.Validity.{IsValid};
-ghost use Rattle.gq_rename.specs.Helping.Checked.{IsValidated};
+ghost use Rattle.gq_rename.specs.Checked.{IsValidated};
 ghost use Rattle.gq_reshape.specs.Cuts.{Cut, edits_of};
 ghost use Rattle.gq_reshape.specs.Helping.Judged.{IsEdited, IsJudged, IsQuiet, IsVerdict};
 ghost use Rattle.gq_reshape.specs.Helping.Limits.{IsPassing};
 
 use crate::depth::passes_limit;
+use crate::placed::{PlacedReplacement, edit_of};
 use crate::reading::are_rewritten;
 use gq_edit::{Edit, EditFault, apply};
 use gq_parse::laws::{no_tree_past_limits, one_tree};
-use gq_pieces::{Piece, edit_of};
+use gq_parse::read;
 use gq_project::{Doc, Project};
-use gq_read::{Parsed, read};
-use gq_regroup::Rewrite;
 use gq_rename::Refusal;
 use gq_rename::laws::valid_documents_are_trees;
+use gq_rewritten::Rewrite;
 use gq_rules::laws::no_project_is_valid_and_invalid;
 use gq_rules::{Valid, Why};
 use gq_text::NoMemory;
+use gq_tree::Parsed;
 use std::alloc::Global;
 
 /// The documents of a project stand in the order of their keys.
@@ -66,16 +67,16 @@ pub(crate) fn checked_edit(
     alloc: Global,
     valid: &Valid,
     readings: &[Parsed],
-    pieces: &[Piece],
+    replacements: &[PlacedReplacement],
     rewrite: &Rewrite<'_>,
 ) -> Result<Edit, Refusal>
     requires { AreParsed valid.now readings.now }
-    ensures judged { (cut : Cut) → pieces.now ≡ cut.pieces → rewrite_of rewrite.now ≡ cut.rewrite → IsQuiet cut → IsJudged valid.now readings.now cut result }
+    ensures judged { (cut : Cut) → replacements.now ≡ cut.replacements → rewrite_of rewrite.now ≡ cut.rewrite → IsQuiet cut → IsJudged valid.now readings.now cut result }
     ensures fits { IfOk result (FitDocuments valid.now) }
 {
     let project = valid.project();
     documents_are_in_order(project);
-    let edit = edit_of(alloc, project, pieces)?;
+    let edit = edit_of(alloc, project, replacements)?;
     checked(alloc, project, readings, edit, rewrite)
 }
 

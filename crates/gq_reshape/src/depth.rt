@@ -1,14 +1,14 @@
 //! Whether a text passes a limit, whatever else is wrong with it.
 ghost use Rattle.std.specs.Prelude.{◌↔◌, ℕ, IfOk, IsTrue};
-ghost use Rattle.gq_read.specs.Parsed.{IsParsed};
+ghost use Rattle.gq_parse.specs.Parsed.{IsParsed};
 ghost use Rattle.gq_reshape.specs.Helping.Limits.{PassesSomeLimit};
 
 use gq_lex::laws::{faults_read_as_nothing, limits_are_passed, one_fault, one_reading};
 use gq_lex::{LexFault, lex};
 use gq_parse::laws::no_tree_past_limits;
 use gq_parse::too_deep;
-use gq_read::Parsed;
 use gq_text::NoMemory;
+use gq_tree::Parsed;
 use std::alloc::Global;
 
 /// Whether the text has too many tokens, or they nest too deep.

@@ -4,16 +4,16 @@ ghost use Rattle.std.specs.Option.{option_map};
 ghost use Rattle.gq_tree.specs.Views.{sels_view};
 ghost use Rattle.gq_project.specs.declared.document.Doc.{Doc};
 ghost use Rattle.gq_edit.specs.Edits.{FitDocuments, after_edit};
-ghost use Rattle.gq_read.specs.Parsed.{AreParsed};
+ghost use Rattle.gq_parse.specs.Parsed.{AreParsed};
 ghost use Rattle.gq_types.specs.Entries.{EntryOf};
 ghost use Rattle.gq_types.specs.Look.{types_view, text_of};
 ghost use Rattle.gq_rules.specs.Validity.{IsValid};
-ghost use Rattle.gq_sets.specs.SetViews.{set_view};
+ghost use Rattle.gq_document.specs.SetViews.{set_view};
 ghost use Rattle.gq_select.specs.Touched.{Touches};
 ghost use Rattle.gq_select.specs.Views.{run_view};
 ghost use Rattle.gq_rename.specs.declared.refusal.Refusal.TheVariants as refusal;
 ghost use Rattle.gq_reshape.specs.Asks.{RangeAsk, IsAskedOf, tree_at};
-ghost use Rattle.gq_reshape.specs.Extract.{extract_pieces, extract_at, run_at};
+ghost use Rattle.gq_reshape.specs.Extract.{extract_replacements, extract_at, run_at};
 ghost use Rattle.gq_select.specs.Meant.{document_sets};
 ghost use Rattle.gq_reshape.specs.Helping.Judged.{IsJudged};
 ghost use Rattle.gq_reshape.specs.Reshape.{IsExtractAnswer};
@@ -24,18 +24,18 @@ use crate::asked::{place_of, projects_are_valid, sets_at, types_of};
 use crate::checking::{checked_edit, documents_are_in_order};
 use crate::laws::refactorings_keep_responses;
 use crate::naming::{extracted_name, new_number};
+use crate::placed::PlacedReplacement;
 use crate::texts::{fragment_text, slice, spread_text};
+use gq_document::SetIn;
 use gq_edit::Edit;
 use gq_lex::laws::one_reading;
-use gq_pieces::Piece;
-use gq_read::{Parsed, read};
-use gq_regroup::{Added, Change, Rewrite};
+use gq_parse::read;
 use gq_rename::Refusal;
+use gq_rewritten::{Added, Change, Rewrite};
 use gq_rules::Valid;
 use gq_select::{Run, find_run, innermost, touched};
-use gq_sets::SetIn;
 use gq_text::{NoMemory, Replacement, Span};
-use gq_tree::Selection;
+use gq_tree::{Parsed, Selection};
 use gq_types::Types;
 use std::alloc::Global;
 
@@ -80,15 +80,15 @@ fn no_run(alloc: Global, types: &Types, set: Option<SetIn<'_>>) -> Result<Refusa
 }
 
 /// What is put for the run of that place, and at the end of the text.
-fn extract_pieces(
+fn extract_replacements(
     alloc: Global,
     file: usize,
     text: &str,
     place: Span,
     name: &str,
     on: &str,
-) -> Result<Vec<Piece>, NoMemory>
-    ensures { IfOk result (λ pieces. pieces.items ≡ extract_pieces file text.now place name.now on.now) }
+) -> Result<Vec<PlacedReplacement>, NoMemory>
+    ensures { IfOk result (λ replacements. replacements.items ≡ extract_replacements file text.now place name.now on.now) }
 {
     let run = slice(text, place.start, place.end)?;
     let after = slice(text, place.end, text.len())?;
@@ -96,22 +96,22 @@ fn extract_pieces(
         start: text.len(),
         end: text.len(),
     };
-    let mut pieces = Vec::new(alloc);
-    pieces.push(Piece {
+    let mut replacements = Vec::new(alloc);
+    replacements.push(PlacedReplacement {
         file,
         replacement: Replacement {
             span: place,
             text: spread_text(alloc, name, after)?,
         },
     })?;
-    pieces.push(Piece {
+    replacements.push(PlacedReplacement {
         file,
         replacement: Replacement {
             span: end,
             text: fragment_text(alloc, name, on, run)?,
         },
     })?;
-    Ok(pieces)
+    Ok(replacements)
 }
 
 /// The edit that puts the run of that place into a fragment of that name on that type, if it passes the checks.
@@ -129,7 +129,7 @@ fn extract_as(
     ensures fits { IfOk result (FitDocuments valid.now) }
 {
     let text = valid.project().documents()[file].text.as_str();
-    let pieces = extract_pieces(alloc, file, text, place, added.name, added.on)?;
+    let replacements = extract_replacements(alloc, file, text, place, added.name, added.on)?;
     let rewrite = Rewrite {
         file,
         change: Change::Extract {
@@ -140,7 +140,7 @@ fn extract_as(
         added: Some(added),
         dropped: None,
     };
-    checked_edit(alloc, valid, readings, &pieces, &rewrite)
+    checked_edit(alloc, valid, readings, &replacements, &rewrite)
 }
 
 /// The answer where there is a run of that place, in a set whose parent has that type, for which an object type is

@@ -3,11 +3,11 @@ ghost use Rattle.std.specs.Prelude.{◌≡◌, find, flat_map, map};
 ghost use Rattle.std.specs.Option.{option_map};
 ghost use Rattle.std.specs.Str.{bytes_eq};
 ghost use Rattle.gq_tree.specs.Views.{def_view};
-ghost use Rattle.gq_document.specs.Definitions.{fragments_of, in_document, fragment_in};
+ghost use Rattle.gq_tree.specs.Readings.{in_document};
+ghost use Rattle.gq_document.specs.Definitions.{fragments_of, fragment_in};
 ghost use Rattle.gq_reshape.specs.Helping.Fragments.{fragment_found};
 
-use gq_read::Parsed;
-use gq_tree::{Definition, Fragment};
+use gq_tree::{Definition, Fragment, Parsed};
 
 /// A fragment, and the number of its document.
 #[derive(Clone, Copy)]

@@ -7,16 +7,16 @@ ghost use Rattle.gq_tree.specs.Plain as plain;
 ghost use Rattle.gq_tree.specs.Views.{name_of, directive_view, sel_view};
 ghost use Rattle.gq_project.specs.declared.document.Doc.{Doc};
 ghost use Rattle.gq_edit.specs.Edits.{FitDocuments, after_edit};
-ghost use Rattle.gq_read.specs.Parsed.{AreParsed};
+ghost use Rattle.gq_parse.specs.Parsed.{AreParsed};
 ghost use Rattle.gq_types.specs.Entries.{EntryOf};
 ghost use Rattle.gq_types.specs.Look.{types_view, text_of};
 ghost use Rattle.gq_document.specs.Definitions.{fragments_of};
-ghost use Rattle.gq_regroup.specs.Views.{dropped_of};
+ghost use Rattle.gq_rewritten.specs.Views.{dropped_of};
 ghost use Rattle.gq_rules.specs.Validity.{IsValid};
 ghost use Rattle.gq_select.specs.Meant.{StandingOf, document_sets, is_spread, meant};
 ghost use Rattle.gq_rename.specs.declared.refusal.Refusal.TheVariants as refusal;
 ghost use Rattle.gq_reshape.specs.Asks.{RangeAsk, IsAskedOf, tree_at};
-ghost use Rattle.gq_reshape.specs.Inline.{comes_first, has_directive, in_order, inline_at, inline_pieces, is_in_way, is_only_spread};
+ghost use Rattle.gq_reshape.specs.Inline.{comes_first, has_directive, in_order, inline_at, inline_replacements, is_in_way, is_only_spread};
 ghost use Rattle.gq_reshape.specs.Helping.Fragments.{fragment_found};
 ghost use Rattle.gq_reshape.specs.Helping.Judged.{IsJudged};
 ghost use Rattle.gq_reshape.specs.Reshape.{IsInlineAnswer};
@@ -28,16 +28,16 @@ use crate::checking::{checked_edit, documents_are_in_order};
 use crate::fragments::{FragmentIn, fragment_called};
 use crate::laws::refactorings_keep_responses;
 use crate::naming::is_only_spread;
+use crate::placed::PlacedReplacement;
 use crate::texts::inlined_text;
 use gq_edit::Edit;
-use gq_pieces::Piece;
-use gq_read::{Parsed, read};
-use gq_regroup::{Change, Dropped, Rewrite};
+use gq_parse::read;
 use gq_rename::Refusal;
+use gq_rewritten::{Change, Dropped, Rewrite};
 use gq_rules::Valid;
 use gq_select::{SelectionKind, meant};
 use gq_text::{NoMemory, OwnedText, Replacement, Span};
-use gq_tree::{Directive, Selection, Spread};
+use gq_tree::{Directive, Parsed, Selection, Spread};
 use gq_types::Types;
 use std::alloc::Global;
 
@@ -61,30 +61,34 @@ fn is_one_in_way(directives: &[Directive]) -> bool
     false
 }
 
-/// Whether the first piece stands before the second one.
-fn comes_first(a: &Piece, b: &Piece) -> bool
+/// Whether the first replacement stands before the second one.
+fn comes_first(a: &PlacedReplacement, b: &PlacedReplacement) -> bool
     ensures { result ≡ comes_first a.now b.now }
 {
     a.file < b.file || (a.file == b.file && a.replacement.span.start < b.replacement.span.start)
 }
 
-/// The two pieces in the order of documents and places.
-fn in_order(alloc: Global, a: Piece, b: Piece) -> Result<Vec<Piece>, NoMemory>
-    ensures { IfOk result (λ pieces. pieces.items ≡ in_order a b) }
+/// The two replacements in the order of documents and places.
+fn in_order(
+    alloc: Global,
+    a: PlacedReplacement,
+    b: PlacedReplacement,
+) -> Result<Vec<PlacedReplacement>, NoMemory>
+    ensures { IfOk result (λ replacements. replacements.items ≡ in_order a b) }
 {
-    let mut pieces = Vec::new(alloc);
+    let mut replacements = Vec::new(alloc);
     if comes_first(&b, &a) {
-        pieces.push(b)?;
-        pieces.push(a)?;
+        replacements.push(b)?;
+        replacements.push(a)?;
     } else {
-        pieces.push(a)?;
-        pieces.push(b)?;
+        replacements.push(a)?;
+        replacements.push(b)?;
     }
-    Ok(pieces)
+    Ok(replacements)
 }
 
 /// What is put for the spread, and for the definition where it goes.
-fn inline_pieces(
+fn inline_replacements(
     alloc: Global,
     file: usize,
     text: &str,
@@ -92,10 +96,10 @@ fn inline_pieces(
     found: &FragmentIn<'_>,
     home: &str,
     goes: bool,
-) -> Result<Vec<Piece>, NoMemory>
-    ensures { IfOk result (λ pieces. pieces.items ≡ inline_pieces file text.now (map directive_view spread.now.directives.items) spread.now.span (fragment_found found.now) home.now goes) }
+) -> Result<Vec<PlacedReplacement>, NoMemory>
+    ensures { IfOk result (λ replacements. replacements.items ≡ inline_replacements file text.now (map directive_view spread.now.directives.items) spread.now.span (fragment_found found.now) home.now goes) }
 {
-    let opened = Piece {
+    let opened = PlacedReplacement {
         file,
         replacement: Replacement {
             span: spread.span,
@@ -110,7 +114,7 @@ fn inline_pieces(
         },
     };
     if goes {
-        let gone = Piece {
+        let gone = PlacedReplacement {
             file: found.file,
             replacement: Replacement {
                 span: found.definition.span,
@@ -119,9 +123,9 @@ fn inline_pieces(
         };
         return in_order(alloc, opened, gone);
     }
-    let mut pieces = Vec::new(alloc);
-    pieces.push(opened)?;
-    Ok(pieces)
+    let mut replacements = Vec::new(alloc);
+    replacements.push(opened)?;
+    Ok(replacements)
 }
 
 /// The definition, where it goes.
@@ -157,7 +161,7 @@ fn inline_as(
     let documents = valid.project().documents();
     let text = documents[file].text.as_str();
     let home = documents[found.file].text.as_str();
-    let pieces = inline_pieces(alloc, file, text, spread, found, home, goes)?;
+    let replacements = inline_replacements(alloc, file, text, spread, found, home, goes)?;
     let rewrite = Rewrite {
         file,
         change: Change::Inline {
@@ -168,7 +172,7 @@ fn inline_as(
         added: None,
         dropped: dropped(found, goes),
     };
-    checked_edit(alloc, valid, readings, &pieces, &rewrite)
+    checked_edit(alloc, valid, readings, &replacements, &rewrite)
 }
 
 /// The answer where the range means the spread.

@@ -7,9 +7,9 @@ ghost use Rattle.gq_reshape.specs.Asks.{RangeAsk};
 ghost use Rattle.gq_reshape.specs.Reshape.{IsExtractAnswer, IsInlineAnswer, IsRemoveAnswer};
 ghost use Rattle.gq_reshape.specs.Responses.{EditsKeepResponses};
 
+use gq_law_rewrites::responses::restated_projects_keep_responses;
 use gq_parse::laws::one_tree;
 use gq_rules::laws::no_project_is_valid_and_invalid;
-use gq_unchanged::laws::restated_projects_keep_responses;
 
 /// In a project that is not valid every one of them is refused as that.
 pub fn refactorings_of_invalid_projects_are_refused()

@@ -2,8 +2,8 @@
 ghost use Rattle.std.specs.Prelude.{◌≡◌, ◌↔◌, [], List, IfOk, IsTrue};
 ghost use Rattle.gq_index.specs.Indexed.{IsIndexOf};
 ghost use Rattle.gq_index.specs.Occurrences.{DefinitionOf, executables, fragment_definitions};
-ghost use Rattle.gq_read.specs.declared.reader.Parsed.{Parsed};
-ghost use Rattle.gq_read.specs.Parsed.{AreParsed};
+ghost use Rattle.gq_tree.specs.declared.parsed.Parsed.{Parsed};
+ghost use Rattle.gq_parse.specs.Parsed.{AreParsed};
 ghost use Rattle.gq_reshape.specs.Inline.{is_only_spread};
 ghost use Rattle.gq_reshape.specs.Naming.{IsLeastFree, extracted_name};
 

@@ -2,13 +2,12 @@
 ghost use Rattle.std.specs.Prelude.{◌≡◌, ◌↔◌, ◌≤◌, length, true, false, IfOk, IsTrue, map};
 ghost use Rattle.std.specs.List.{AllByRecursion};
 ghost use Rattle.gq_tree.specs.Views.{def_view};
-ghost use Rattle.gq_regroup.specs.Views.{IsExecutable, rewrite_of};
+ghost use Rattle.gq_rewritten.specs.Views.{IsExecutable, rewrite_of};
 ghost use Rattle.gq_reshape.specs.Helping.Rereading.{is_edited, IsRewrittenAt, AreRewrittenFrom};
 
-use gq_read::Parsed;
-use gq_regroup::{Rewrite, reads_as_rewritten};
+use gq_rewritten::{Rewrite, reads_as_rewritten};
 use gq_text::NoMemory;
-use gq_tree::{Definition, Document};
+use gq_tree::{Definition, Document, Parsed};
 use std::alloc::Global;
 
 /// Whether no definition of the document is one of the type system.

@@ -6,7 +6,7 @@ ghost use Rattle.gq_tree.specs.Plain as plain;
 ghost use Rattle.gq_tree.specs.Views.{name_of, directive_view};
 ghost use Rattle.gq_project.specs.declared.document.Doc.{Doc};
 ghost use Rattle.gq_edit.specs.Edits.{FitDocuments, after_edit};
-ghost use Rattle.gq_read.specs.Parsed.{AreParsed};
+ghost use Rattle.gq_parse.specs.Parsed.{AreParsed};
 ghost use Rattle.gq_types.specs.Entries.{EntryOf};
 ghost use Rattle.gq_types.specs.Look.{types_view, text_of};
 ghost use Rattle.gq_rules.specs.Validity.{IsValid};
@@ -15,7 +15,7 @@ ghost use Rattle.gq_select.specs.Views.{standing_view};
 ghost use Rattle.gq_rename.specs.declared.refusal.Refusal.TheVariants as refusal;
 ghost use Rattle.gq_reshape.specs.Asks.{RangeAsk, IsAskedOf, tree_at};
 ghost use Rattle.gq_reshape.specs.Helping.Judged.{IsJudged};
-ghost use Rattle.gq_reshape.specs.Remove.{is_parents_type, remove_at, remove_pieces, says_nothing};
+ghost use Rattle.gq_reshape.specs.Remove.{is_parents_type, remove_at, remove_replacements, says_nothing};
 ghost use Rattle.gq_reshape.specs.Reshape.{IsRemoveAnswer};
 ghost use Rattle.gq_reshape.specs.Responses.{KeepsResponses};
 ghost use Rattle.gq_reshape.specs.Helping.Steps.{RemoveOffer};
@@ -23,16 +23,16 @@ ghost use Rattle.gq_reshape.specs.Helping.Steps.{RemoveOffer};
 use crate::asked::{place_of, projects_are_valid, sets_at, types_of};
 use crate::checking::{checked_edit, documents_are_in_order};
 use crate::laws::refactorings_keep_responses;
+use crate::placed::PlacedReplacement;
 use crate::texts::opened_text;
 use gq_edit::Edit;
-use gq_pieces::Piece;
-use gq_read::{Parsed, read};
-use gq_regroup::{Change, Rewrite};
+use gq_parse::read;
 use gq_rename::Refusal;
+use gq_rewritten::{Change, Rewrite};
 use gq_rules::Valid;
 use gq_select::{SelectionKind, Standing, meant};
 use gq_text::{NoMemory, OwnedText, Replacement, Span};
-use gq_tree::{InlineFragment, Name, Selection};
+use gq_tree::{InlineFragment, Name, Parsed, Selection};
 use gq_types::Types;
 use std::alloc::Global;
 
@@ -54,24 +54,24 @@ fn says_nothing(inline: &InlineFragment, parent: Option<&str>) -> bool
     inline.directives.is_empty() && is_parents_type(inline.on.as_ref(), parent)
 }
 
-fn remove_pieces(
+fn remove_replacements(
     alloc: Global,
     file: usize,
     text: &str,
     place: Span,
     braces: Span,
-) -> Result<Vec<Piece>, NoMemory>
-    ensures { IfOk result (λ pieces. pieces.items ≡ remove_pieces file text.now place braces) }
+) -> Result<Vec<PlacedReplacement>, NoMemory>
+    ensures { IfOk result (λ replacements. replacements.items ≡ remove_replacements file text.now place braces) }
 {
-    let mut pieces = Vec::new(alloc);
-    pieces.push(Piece {
+    let mut replacements = Vec::new(alloc);
+    replacements.push(PlacedReplacement {
         file,
         replacement: Replacement {
             span: place,
             text: opened_text(alloc, text, braces)?,
         },
     })?;
-    Ok(pieces)
+    Ok(replacements)
 }
 
 /// The edit that puts what stands between the braces for the inline fragment of that place, if it passes the checks.
@@ -89,14 +89,14 @@ fn remove_as(
     ensures fits { IfOk result (FitDocuments valid.now) }
 {
     let text = valid.project().documents()[file].text.as_str();
-    let pieces = remove_pieces(alloc, file, text, place, braces)?;
+    let replacements = remove_replacements(alloc, file, text, place, braces)?;
     let rewrite = Rewrite {
         file,
         change: Change::Remove { place },
         added: None,
         dropped: None,
     };
-    checked_edit(alloc, valid, readings, &pieces, &rewrite)
+    checked_edit(alloc, valid, readings, &replacements, &rewrite)
 }
 
 /// The answer where the range means the inline fragment.

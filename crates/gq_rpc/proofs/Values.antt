@@ -19,7 +19,7 @@ use Rattle.gq_rpc.specs.declared.messages.Diagnostic.{Diagnostic}
 use Rattle.gq_rpc.specs.declared.messages.PublishDiagnosticsParams.{PublishDiagnosticsParams}
 use Rattle.gq_rpc.specs.declared.messages.Outgoing.{Outgoing}
 use Rattle.gq_rpc.specs.declared.messages.Outgoing.TheVariants as outgoing
-use Rattle.gq_rpc.specs.Encoding.{id_value, id_or_null, response, error_response, member_where, rename_options, initialize_result, capability_members, text_edit_value, document_edit_value, workspace_edit_value, hover_or_null, location_value, completion_value, prepared_or_null, code_action_value, diagnostic_value, version_members, diagnostics_value, told, code_of, words_of, value_of}
+use Rattle.gq_rpc.specs.Encoding.{id_value, id_or_null, response, error_response, member_where, rename_options, initialize_result, capability_members, text_edit_value, version_or_null, document_edit_value, workspace_edit_value, hover_or_null, location_value, completion_value, prepared_or_null, code_action_value, diagnostic_value, version_members, diagnostics_value, told, code_of, words_of, value_of}
 
 integer_no_float : (z : ℤ) → is_float (of_integer z) ≡ false
 integer_no_float (pos n) = refl
@@ -37,9 +37,13 @@ text_edits_no_float : (edits : List TextEdit) → items_have_float (items_of (ma
 text_edits_no_float [] = refl
 text_edits_no_float (edit ∷ edits) = text_edits_no_float edits
 
+version_or_null_no_float : (version : Option ℤ) → has_float (version_or_null version) ≡ false
+version_or_null_no_float None = refl
+version_or_null_no_float (Some z) = integer_no_float z
+
 document_edit_no_float : (edit : TextDocumentEdit) → has_float (document_edit_value edit) ≡ false
 document_edit_no_float edit =
-    ap (λ t. t || ((is_float (of_integer edit.version) || false) || false)) (text_edits_no_float edit.edits) ∙ ap (λ t. (t || false) || false) (integer_no_float edit.version)
+    ap (λ t. t || ((has_float (version_or_null edit.version) || false) || false)) (text_edits_no_float edit.edits) ∙ ap (λ t. (t || false) || false) (version_or_null_no_float edit.version)
 
 document_edits_no_float : (edits : List TextDocumentEdit) → items_have_float (items_of (map document_edit_value edits)) ≡ false
 document_edits_no_float [] = refl

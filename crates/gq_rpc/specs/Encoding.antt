@@ -100,9 +100,14 @@ range_value r = object (member (codes "end") (position_value r.end) (member (cod
 abbrev pub text_edit_value : TextEdit → Data
 text_edit_value e = object (member (codes "newText") (string e.new_text) (member (codes "range") (range_value e.range) no_members))
 
+-- the version, or null where there is none
+abbrev pub version_or_null : Option ℤ → Data
+version_or_null (Some version) = number (of_integer version)
+version_or_null None = null
+
 -- the document that an edit is of, with its version
 abbrev pub edited_document : TextDocumentEdit → Data
-edited_document d = object (member (codes "uri") (string d.uri) (member (codes "version") (number (of_integer d.version)) no_members))
+edited_document d = object (member (codes "uri") (string d.uri) (member (codes "version") (version_or_null d.version) no_members))
 
 abbrev pub document_edit_value : TextDocumentEdit → Data
 document_edit_value d =

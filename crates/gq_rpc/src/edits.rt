@@ -2,7 +2,7 @@
 ghost use Rattle.std.specs.Prelude.{◌≡◌, List, ℕ, map, codes, IfOk};
 ghost use Rattle.serde_json.specs.Data.{Data, array};
 ghost use Rattle.serde_json.specs.View.{view, items_of};
-ghost use Rattle.gq_rpc.specs.Encoding.{range_value, text_edit_value, document_edit_value, workspace_edit_value};
+ghost use Rattle.gq_rpc.specs.Encoding.{range_value, text_edit_value, version_or_null, document_edit_value, workspace_edit_value};
 
 use gq_edit::{TextDocumentEdit, TextEdit, WorkspaceEdit};
 use gq_text::Range;
@@ -35,13 +35,23 @@ fn write_text_edits(alloc: Global, edits: &[TextEdit]) -> Result<Value, AllocErr
     Ok(Value::Array(values))
 }
 
+fn write_version(version: Option<i64>) -> Value
+    ensures { view result ≡ version_or_null version }
+{
+    match version {
+        Some(version) => Value::from(version),
+        None => Value::Null,
+    }
+}
+
 fn write_document_edit(alloc: Global, edit: &TextDocumentEdit) -> Result<Value, AllocError>
     ensures { IfOk result (λ v. view v ≡ document_edit_value edit.now) }
 {
     let edits = write_text_edits(alloc, edit.edits.as_slice())?;
+    let version = write_version(edit.version);
     json!(in alloc; {
         "edits": edits,
-        "textDocument": {"uri": edit.uri.as_str(), "version": edit.version}
+        "textDocument": {"uri": edit.uri.as_str(), "version": version}
     })
 }
 

@@ -5,10 +5,10 @@ use Rattle.std.specs.List.{list_any}
 use Rattle.gq_text.specs.declared.place.Span.{Span}
 use Rattle.gq_tree.specs.Plain.{TypeSystemOf}
 use Rattle.gq_names.proofs.RepeatLemmas.{contains_none, contains_first, contains_cases}
-use Rattle.gq_found.specs.declared.fault.Fault.{Fault}
-use Rattle.gq_read.specs.declared.reader.Parsed.{Parsed}
-use Rattle.gq_read.specs.declared.reader.Parsed.TheVariants as reading
-use Rattle.gq_document.specs.Definitions.{definitions_read}
+use Rattle.gq_fault.specs.declared.fault.Fault.{Fault}
+use Rattle.gq_tree.specs.declared.parsed.Parsed.{Parsed}
+use Rattle.gq_tree.specs.declared.parsed.Parsed.TheVariants as reading
+use Rattle.gq_tree.specs.Readings.{definitions_read}
 use Rattle.gq_rules.specs.Unread.{IsUnread}
 use Rattle.gq_rules.specs.Unread as unread
 use Rattle.gq_rules.specs.ExecutableDefinitions.{is_executable, first_of_type_system, IsMixed}

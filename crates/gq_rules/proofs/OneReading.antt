@@ -6,12 +6,13 @@ use Rattle.gq_text.specs.declared.place.Span.{Span}
 use Rattle.gq_tree.specs.Plain.{Def}
 use Rattle.gq_tree.specs.Views.{document_view}
 use Rattle.gq_project.specs.declared.document.Doc.{Doc}
-use Rattle.gq_found.specs.declared.fault.Fault.{Fault}
-use Rattle.gq_found.specs.declared.code.Code.TheVariants.{Syntax, OverLimit}
-use Rattle.gq_read.specs.declared.reader.Parsed.{Parsed}
-use Rattle.gq_read.specs.declared.reader.Parsed.TheVariants as reading
-use Rattle.gq_read.specs.Parsed.{IsParsed, AreParsed, more}
-use Rattle.gq_document.specs.Definitions.{definitions_read, in_document, operation_in, fragment_in, entry_in, operations_of, fragments_of, OperationOf, FragmentOf}
+use Rattle.gq_fault.specs.declared.fault.Fault.{Fault}
+use Rattle.gq_fault.specs.declared.code.Code.TheVariants.{Syntax, OverLimit}
+use Rattle.gq_tree.specs.declared.parsed.Parsed.{Parsed}
+use Rattle.gq_tree.specs.declared.parsed.Parsed.TheVariants as reading
+use Rattle.gq_parse.specs.Parsed.{IsParsed, AreParsed, more}
+use Rattle.gq_tree.specs.Readings.{definitions_read, in_document}
+use Rattle.gq_document.specs.Definitions.{operation_in, fragment_in, entry_in, operations_of, fragments_of, OperationOf, FragmentOf}
 use Rattle.gq_document.specs.Executable.{ExecutableOf}
 use Rattle.gq_types.specs.BuiltIn.{built_in}
 use Rattle.gq_types.specs.Entries.{EntryOf}
@@ -22,7 +23,7 @@ use Rattle.gq_rules.specs.ExecutableDefinitions.{is_executable, first_of_type_sy
 use Rattle.gq_rules.specs.RuleFaults.{IsRuleFault}
 use Rattle.gq_rules.specs.Faults.{IsToldFirst, IsFaultOf, unread, mixed, type_system, first, rule}
 use Rattle.gq_rules.specs.Validity.{IsValid, IsInvalid}
-use Rattle.gq_document.proofs.OneReading.{OneTree}
+use Rattle.gq_parse.proofs.OneReading.{OneTree}
 
 -- what a reading says of its text, without the code's form of the tree
 pub data Said : Type 0 where

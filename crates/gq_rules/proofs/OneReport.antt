@@ -11,16 +11,16 @@ use Rattle.gq_tree.specs.Views.{document_view}
 use Rattle.gq_names.proofs.RepeatLemmas.{contains_none, contains_later, contains_first, contains_cases}
 use Rattle.gq_project.specs.declared.document.Doc.{Doc}
 use Rattle.gq_parse.specs.Faults.{IsSyntaxFault, IsLimitFault}
-use Rattle.gq_found.specs.declared.found.Found.{Found}
-use Rattle.gq_found.specs.declared.fault.Fault.{Fault}
-use Rattle.gq_found.specs.Codes.{number_of}
-use Rattle.gq_found.specs.Order.{fault_cmp}
-use Rattle.gq_found.specs.Tells.{told}
-use Rattle.gq_read.specs.declared.reader.Parsed.{Parsed}
-use Rattle.gq_read.specs.declared.reader.Parsed.TheVariants as reading
-use Rattle.gq_read.specs.Parsed.{IsParsed}
+use Rattle.gq_fault.specs.declared.found.Found.{Found}
+use Rattle.gq_fault.specs.declared.fault.Fault.{Fault}
+use Rattle.gq_fault.specs.Codes.{number_of}
+use Rattle.gq_fault.specs.Order.{fault_cmp}
+use Rattle.gq_fault.specs.Tells.{told}
+use Rattle.gq_tree.specs.declared.parsed.Parsed.{Parsed}
+use Rattle.gq_tree.specs.declared.parsed.Parsed.TheVariants as reading
+use Rattle.gq_parse.specs.Parsed.{IsParsed}
 use Rattle.gq_rules.specs.Validity.{IsReportOf}
-use Rattle.gq_document.proofs.OneReading.{OneTree}
+use Rattle.gq_parse.proofs.OneReading.{OneTree}
 use Rattle.gq_rules.proofs.OneReading.{said, tree, syntax_at, limit_at, all_same, demanded_back}
 
 -- lists in order with the same members are one

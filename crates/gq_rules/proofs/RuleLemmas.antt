@@ -1,9 +1,9 @@
 -- What was found group by group is what all rules tell.
 use Rattle.std.proofs.Common.{◌≡◌, ◌↔◌, ◌⊎◌, ⊎_elim, inl, inr, List, [], ◌++◌, ◌∙◌, ap}
 use Rattle.gq_fields.specs.FieldFaults.{IsFieldFault}
-use Rattle.gq_found.specs.declared.fault.Fault.{Fault}
-use Rattle.gq_found.specs.Adds.{AddsExactly}
-use Rattle.gq_found.proofs.PutLemmas.{puts_both, puts_as}
+use Rattle.gq_fault.specs.declared.fault.Fault.{Fault}
+use Rattle.gq_fault.specs.Adds.{AddsExactly}
+use Rattle.gq_fault.proofs.PutLemmas.{puts_both, puts_as}
 use Rattle.gq_document.specs.Executable.{ExecutableOf}
 use Rattle.gq_merging.specs.FieldsMerge.{IsMergingFault}
 use Rattle.gq_rules.specs.RuleFaults.{IsRuleFault, of_operations, of_fields, of_fragments, of_spreads, of_variables, of_merging}

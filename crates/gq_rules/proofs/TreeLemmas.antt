@@ -3,11 +3,11 @@ use Rattle.std.proofs.Common.{◌≡◌, ℕ, zero, suc, List, [], ◌∷◌, So
 use Rattle.std.specs.List.{AllByRecursion}
 use Rattle.gq_tree.specs.Views.{document_view}
 use Rattle.gq_project.specs.declared.document.Doc.{Doc}
-use Rattle.gq_found.specs.declared.code.Code.TheVariants.{Syntax, OverLimit}
-use Rattle.gq_read.specs.declared.reader.Parsed.{Parsed}
-use Rattle.gq_read.specs.declared.reader.Parsed.TheVariants as reading
-use Rattle.gq_read.specs.Parsed.{AreParsed}
-use Rattle.gq_read.specs.Parsed as readings
+use Rattle.gq_fault.specs.declared.code.Code.TheVariants.{Syntax, OverLimit}
+use Rattle.gq_tree.specs.declared.parsed.Parsed.{Parsed}
+use Rattle.gq_tree.specs.declared.parsed.Parsed.TheVariants as reading
+use Rattle.gq_parse.specs.Parsed.{AreParsed}
+use Rattle.gq_parse.specs.Parsed as readings
 use Rattle.gq_rules.specs.Faults.{first, unread}
 use Rattle.gq_rules.specs.Trees.{HasTree}
 use Rattle.gq_rules.specs.Unread.{fault_before, syntax, limit}

@@ -2,9 +2,9 @@
 use Rattle.std.proofs.Common.{◌≡◌, ◌↔◌, List, [], ◌∷◌, Contains, refl, subst}
 use Rattle.gq_names.proofs.RepeatLemmas.{contains_none, contains_first}
 use Rattle.gq_project.specs.declared.document.Doc.{Doc}
-use Rattle.gq_found.specs.declared.fault.Fault.{Fault}
-use Rattle.gq_read.specs.declared.reader.Parsed.{Parsed}
-use Rattle.gq_read.specs.Parsed.{AreParsed}
+use Rattle.gq_fault.specs.declared.fault.Fault.{Fault}
+use Rattle.gq_tree.specs.declared.parsed.Parsed.{Parsed}
+use Rattle.gq_parse.specs.Parsed.{AreParsed}
 use Rattle.gq_rules.specs.Faults.{IsFaultOf}
 use Rattle.gq_rules.specs.Validity.{IsValid, IsInvalid}
 

@@ -1,8 +1,8 @@
 -- What is found wrong where nothing is told yet, and what is put behind what is told.
 use Rattle.std.proofs.Common.{◌≡◌, ◌↔◌, List, [], ◌++◌, Contains, refl, sym, subst, ap, ◌∙◌}
 use Rattle.gq_names.proofs.RepeatLemmas.{contains_none}
-use Rattle.gq_found.specs.declared.fault.Fault.{Fault}
-use Rattle.gq_found.specs.Adds.{AddsExactly}
+use Rattle.gq_fault.specs.declared.fault.Fault.{Fault}
+use Rattle.gq_fault.specs.Adds.{AddsExactly}
 use Rattle.gq_type_system.specs.SchemaFaults.{IsSchemaFault}
 use Rattle.gq_document.specs.Executable.{ExecutableOf}
 use Rattle.gq_rules.specs.RuleFaults.{IsRuleFault}

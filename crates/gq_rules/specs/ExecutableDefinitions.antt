@@ -4,11 +4,11 @@ use Rattle.std.specs.Prelude.{◌≡◌, ℕ, Bool, true, false, List, [], ◌�
 use Rattle.std.specs.List.{list_any}
 use Rattle.gq_text.specs.declared.place.Span.{Span}
 use Rattle.gq_tree.specs.Plain.{Def, operation, fragment, type_system, TypeSystemOf}
-use Rattle.gq_found.specs.declared.code.Code.TheVariants.{MixedFile}
-use Rattle.gq_found.specs.declared.fault.Fault.{Fault}
-use Rattle.gq_read.specs.declared.reader.Parsed.{Parsed}
-use Rattle.gq_document.specs.Definitions.{definitions_read}
-use Rattle.gq_found.specs.FaultPlaces.{fault_over}
+use Rattle.gq_fault.specs.declared.code.Code.TheVariants.{MixedFile}
+use Rattle.gq_fault.specs.declared.fault.Fault.{Fault}
+use Rattle.gq_tree.specs.declared.parsed.Parsed.{Parsed}
+use Rattle.gq_tree.specs.Readings.{definitions_read}
+use Rattle.gq_fault.specs.FaultPlaces.{fault_over}
 use Rattle.gq_type_system.specs.DefinedTwice.{definition_place}
 
 -- an operation or a fragment

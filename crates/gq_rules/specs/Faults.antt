@@ -1,8 +1,8 @@
 -- All that is told of a project. Where a text has no tree, a document is mixed, or something is wrong with the type
 -- system, that alone is told.
 use Rattle.std.specs.Prelude.{List}
-use Rattle.gq_found.specs.declared.fault.Fault.{Fault}
-use Rattle.gq_read.specs.declared.reader.Parsed.{Parsed}
+use Rattle.gq_fault.specs.declared.fault.Fault.{Fault}
+use Rattle.gq_tree.specs.declared.parsed.Parsed.{Parsed}
 use Rattle.gq_type_system.specs.SchemaFaults.{IsSchemaFault}
 use Rattle.gq_rules.specs.Project.{type_system_of, executable_of}
 use Rattle.gq_rules.specs.Unread.{IsUnread}

@@ -1,6 +1,6 @@
 -- What is read of a project: its type system, with what is built in, and its executable definitions.
 use Rattle.std.specs.Prelude.{◌++◌, List}
-use Rattle.gq_read.specs.declared.reader.Parsed.{Parsed}
+use Rattle.gq_tree.specs.declared.parsed.Parsed.{Parsed}
 use Rattle.gq_types.specs.Entries.{EntryOf, entries_view}
 use Rattle.gq_types.specs.BuiltIn.{built_in}
 use Rattle.gq_types.specs.declared.entry.Entry.{Entry}

@@ -1,5 +1,5 @@
 -- What is wrong with executable definitions: each fault that a rule of section 5 demands.
-use Rattle.gq_found.specs.declared.fault.Fault.{Fault}
+use Rattle.gq_fault.specs.declared.fault.Fault.{Fault}
 use Rattle.gq_document.specs.Executable.{ExecutableOf}
 use Rattle.gq_fragments.specs.OperationFaults.{IsOperationFault}
 use Rattle.gq_fragments.specs.FragmentFaults.{IsFragmentFault}

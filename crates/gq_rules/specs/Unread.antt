@@ -1,10 +1,10 @@
 -- A document has a tree (section 2.2). Where its text has none, the place of the fault is told.
 use Rattle.std.specs.Prelude.{◌≡◌, ℕ, List, Some, slice_get}
-use Rattle.gq_found.specs.declared.code.Code.{Code}
-use Rattle.gq_found.specs.declared.code.Code.TheVariants.{Syntax, OverLimit}
-use Rattle.gq_found.specs.declared.fault.Fault.{Fault}
-use Rattle.gq_read.specs.declared.reader.Parsed.{Parsed}
-use Rattle.gq_read.specs.declared.reader.Parsed.TheVariants as reading
+use Rattle.gq_fault.specs.declared.code.Code.{Code}
+use Rattle.gq_fault.specs.declared.code.Code.TheVariants.{Syntax, OverLimit}
+use Rattle.gq_fault.specs.declared.fault.Fault.{Fault}
+use Rattle.gq_tree.specs.declared.parsed.Parsed.{Parsed}
+use Rattle.gq_tree.specs.declared.parsed.Parsed.TheVariants as reading
 
 -- a fault that marks no text
 abbrev pub fault_before : ℕ → Code → ℕ → Fault

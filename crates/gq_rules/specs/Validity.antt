@@ -2,12 +2,12 @@
 use Rattle.std.specs.Prelude.{◌≡◌, ◌↔◌, List, Contains}
 use Rattle.std.specs.List.Sorted.{IsStrictlySortedBy}
 use Rattle.gq_project.specs.declared.document.Doc.{Doc}
-use Rattle.gq_found.specs.declared.found.Found.{Found}
-use Rattle.gq_found.specs.declared.fault.Fault.{Fault}
-use Rattle.gq_found.specs.Order.{fault_cmp}
-use Rattle.gq_found.specs.Tells.{told}
-use Rattle.gq_read.specs.declared.reader.Parsed.{Parsed}
-use Rattle.gq_read.specs.Parsed.{AreParsed}
+use Rattle.gq_fault.specs.declared.found.Found.{Found}
+use Rattle.gq_fault.specs.declared.fault.Fault.{Fault}
+use Rattle.gq_fault.specs.Order.{fault_cmp}
+use Rattle.gq_fault.specs.Tells.{told}
+use Rattle.gq_tree.specs.declared.parsed.Parsed.{Parsed}
+use Rattle.gq_parse.specs.Parsed.{AreParsed}
 use Rattle.gq_rules.specs.Faults.{IsFaultOf}
 
 -- All that is told of the documents, in the order of keys, places and codes, each place and code once.

@@ -1,8 +1,8 @@
 //! What is told of documents: first of their texts and of the type system, and where that is nothing, of the rules.
 ghost use Rattle.std.specs.Prelude.{◌≡◌, ◌↔◌, ◌++◌, Contains, IfOk};
 ghost use Rattle.std.specs.List.Sorted.{IsStrictlySortedBy};
-ghost use Rattle.gq_found.specs.declared.fault.Fault.{Fault};
-ghost use Rattle.gq_found.specs.Order.{fault_cmp};
+ghost use Rattle.gq_fault.specs.declared.fault.Fault.{Fault};
+ghost use Rattle.gq_fault.specs.Order.{fault_cmp};
 ghost use Rattle.gq_rules.specs.Helping.AllFaults.{AreFaultsOf};
 ghost use Rattle.gq_rules.specs.Faults.{IsFaultOf};
 ghost use Rattle.gq_rules.specs.Helping.Places.{unread_at, mixed_at, each_from};
@@ -12,10 +12,11 @@ use crate::unread::add_unread;
 use crate::wrong::add_wrong;
 use crate::wrong_by_threads::add_wrong_by_threads;
 use gq_document::Definitions;
-use gq_found::{Fault, put_in_order};
+use gq_fault::{Fault, put_in_order};
+use gq_parse::{read, read_by_threads};
 use gq_project::Doc;
-use gq_read::{Parsed, read, read_by_threads};
 use gq_text::NoMemory;
+use gq_tree::Parsed;
 use std::alloc::Global;
 use std::thread::Threads;
 

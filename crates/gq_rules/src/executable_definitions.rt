@@ -7,10 +7,9 @@ ghost use Rattle.gq_type_system.specs.DefinedTwice.{definition_place};
 ghost use Rattle.gq_rules.specs.ExecutableDefinitions.{is_executable, first_of_type_system};
 ghost use Rattle.gq_rules.specs.Helping.Places.{mixed_in, mixed_at, each_from};
 
-use gq_found::{Code, Fault};
-use gq_read::Parsed;
+use gq_fault::{Code, Fault};
 use gq_text::{NoMemory, Span};
-use gq_tree::{Definition, TypeSystemDefinition};
+use gq_tree::{Definition, Parsed, TypeSystemDefinition};
 use gq_type_system::definition_place;
 
 fn is_executable(definition: &Definition) -> bool

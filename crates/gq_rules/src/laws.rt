@@ -2,10 +2,11 @@
 ghost use Rattle.std.specs.Prelude.{◌≡◌, List};
 ghost use Rattle.std.specs.List.{AllByRecursion};
 ghost use Rattle.gq_project.specs.declared.document.Doc.{Doc};
-ghost use Rattle.gq_found.specs.declared.found.Found.{Found};
+ghost use Rattle.gq_fault.specs.declared.found.Found.{Found};
 ghost use Rattle.gq_rules.specs.Trees.{HasTree};
 ghost use Rattle.gq_rules.specs.Validity.{IsReportOf, IsValid, IsInvalid};
 
+use crate::valid::Valid;
 use gq_parse::laws::{one_fault, one_tree};
 
 /// No project is both valid and invalid: a text has one tree at most, so each reading of the documents demands the same.
@@ -27,3 +28,10 @@ pub fn a_project_has_one_report()
 pub fn valid_documents_have_trees()
     ensures { (documents : List Doc) → IsValid documents → AllByRecursion (λ document. HasTree document.text) documents }
 {}
+
+/// What a `Valid` keeps is a valid project.
+pub fn projects_are_valid(valid: &Valid)
+    ensures { ∥ IsValid valid.now ∥₁ }
+{
+    let _project = valid.project();
+}

@@ -4,7 +4,7 @@ ghost use Rattle.gq_rules.specs.Helping.AllFaults.{AreFaultsOf};
 ghost use Rattle.gq_rules.specs.Validity.{IsReportOf};
 
 use crate::demands::{demanded, demanded_by_threads};
-use gq_found::{Fault, Found, found_at};
+use gq_fault::{Fault, Found, found_at};
 use gq_project::Project;
 use gq_text::NoMemory;
 use std::alloc::Global;

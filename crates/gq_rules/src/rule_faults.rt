@@ -2,13 +2,13 @@
 ghost use Rattle.std.specs.Prelude.{[], IfOk, OnOk};
 ghost use Rattle.gq_document.specs.Executable.{executable_view};
 ghost use Rattle.gq_fields.specs.FieldFaults.{IsFieldFault};
-ghost use Rattle.gq_found.specs.Adds.{AddsExactly};
+ghost use Rattle.gq_fault.specs.Adds.{AddsExactly};
 ghost use Rattle.gq_rules.specs.RuleFaults.{IsRuleFault};
 ghost use Rattle.gq_rules.specs.Helping.RuleGroups.{IsDefinitionFault, IsReachFault};
 
 use gq_document::Executable;
+use gq_fault::Fault;
 use gq_fields::add_field_faults;
-use gq_found::Fault;
 use gq_fragments::{add_fragment_faults, add_operation_faults};
 use gq_merging::add_merging_faults;
 use gq_spreads::{Spreads, add_spread_faults};

@@ -2,9 +2,9 @@
 ghost use Rattle.std.specs.Prelude.{◌≡◌, ◌++◌, OnOk};
 ghost use Rattle.gq_rules.specs.Helping.Places.{unread_at, each_from};
 
-use gq_found::{Code, Fault};
-use gq_read::Parsed;
+use gq_fault::{Code, Fault};
 use gq_text::NoMemory;
+use gq_tree::Parsed;
 
 /// The fault of a document whose text has no tree: the place of the fault, which marks no text.
 fn add_unread_at(file: usize, reading: &Parsed, faults: &mut Vec<Fault>) -> Result<(), NoMemory>

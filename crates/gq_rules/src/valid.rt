@@ -6,7 +6,7 @@ ghost use Rattle.gq_rules.specs.Validity.{IsValid};
 
 use crate::demands::{demanded, demanded_by_threads};
 use crate::report::{Report, report_of};
-use gq_found::Fault;
+use gq_fault::Fault;
 use gq_project::Project;
 use gq_text::NoMemory;
 use std::alloc::Global;
@@ -105,6 +105,14 @@ impl Valid {
         ensures valid { ∥ IsValid self.now ∥₁ }
     {
         &self.project
+    }
+
+    /// The project itself, which from then on nothing keeps valid. It takes no memory.
+    pub fn into_project(self) -> Project
+        ensures same { result ≡ self }
+        ensures valid { ∥ IsValid self ∥₁ }
+    {
+        self.project
     }
 }
 

@@ -6,7 +6,7 @@ ghost use Rattle.gq_rules.specs.Helping.Wrongs.{PutsWrong};
 
 use crate::rule_faults::rule_faults;
 use gq_document::{Definitions, Executable};
-use gq_found::Fault;
+use gq_fault::Fault;
 use gq_text::NoMemory;
 use gq_type_system::schema_faults;
 use gq_types::Types;

@@ -1,9 +1,9 @@
 -- All readings of documents define the same, so documents have one type system.
 use Rattle.std.proofs.Common.{◌≡◌, List, ◌++◌, sym, ◌∙◌, ap, subst}
 use Rattle.gq_project.specs.declared.document.Doc.{Doc}
-use Rattle.gq_found.specs.declared.found.Found.{Found}
+use Rattle.gq_fault.specs.declared.found.Found.{Found}
 use Rattle.gq_document.specs.Definitions.{entry_in}
-use Rattle.gq_document.proofs.OneReading.{OneTree, same_in_documents}
+use Rattle.gq_parse.proofs.OneReading.{OneTree, same_in_documents}
 use Rattle.gq_types.specs.BuiltIn.{built_in}
 use Rattle.gq_types.specs.Entries.{EntryOf}
 use Rattle.gq_schema.specs.SchemaOf.{IsTypeSystemOf, HasNoFault, IsFaulty}

@@ -1,6 +1,6 @@
 //! Laws of the type systems of projects.
 ghost use Rattle.std.specs.Prelude.{◌≡◌, List};
-ghost use Rattle.gq_found.specs.declared.found.Found.{Found};
+ghost use Rattle.gq_fault.specs.declared.found.Found.{Found};
 ghost use Rattle.gq_project.specs.declared.document.Doc.{Doc};
 ghost use Rattle.gq_types.specs.Entries.{EntryOf};
 ghost use Rattle.gq_schema.specs.SchemaOf.{IsTypeSystemOf, HasNoFault, IsFaulty};

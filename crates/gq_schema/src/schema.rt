@@ -11,9 +11,9 @@ ghost use Rattle.gq_types.specs.Roots.{root_of};
 ghost use Rattle.gq_schema.specs.SchemaOf.{IsTypeSystemOf, HasNoFault};
 
 use gq_document::Definitions;
-use gq_found::{Fault, Found, found_at};
+use gq_fault::{Fault, Found, found_at};
+use gq_parse::read;
 use gq_project::Project;
-use gq_read::read;
 use gq_text::NoMemory;
 use gq_tree::{FieldDefinition, OperationKind, TypeRef};
 use gq_type_system::schema_faults;

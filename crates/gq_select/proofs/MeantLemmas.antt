@@ -3,8 +3,8 @@ use Rattle.std.proofs.Common.{◌≡◌, ℕ, zero, suc, ◌+◌, ◌<◌, Bool,
 use Rattle.std.specs.Prelude.{if◌then◌else◌}
 use Rattle.gq_tree.specs.Views.{sels_view}
 use Rattle.gq_types.specs.Look.{text_of}
-use Rattle.gq_sets.specs.declared.sets.SetIn.{SetIn}
-use Rattle.gq_sets.specs.SetViews.{sets_view}
+use Rattle.gq_document.specs.declared.sets.SetIn.{SetIn}
+use Rattle.gq_document.specs.SetViews.{sets_view}
 use Rattle.gq_select.specs.Meant.{StandingOf, begins_last, later, standing, standing_in}
 
 begins_last_append : (test : StandingOf → Bool) (best : Option StandingOf) (xs ys : List StandingOf) → begins_last test best (xs ++ ys) ≡ begins_last test (begins_last test best xs) ys

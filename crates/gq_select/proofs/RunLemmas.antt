@@ -8,7 +8,7 @@ use Rattle.gq_tree.specs.declared.tree.Selection.{Selection}
 use Rattle.gq_tree.specs.Forest.{none, more}
 use Rattle.gq_tree.specs.Plain.{Sels}
 use Rattle.gq_tree.specs.Views.{sel_view, sels_view}
-use Rattle.gq_regroup.specs.Rewrites.{head_place}
+use Rattle.gq_rewritten.specs.Rewrites.{head_place}
 use Rattle.gq_select.specs.Runs.{run_to}
 
 -- selections before others

@@ -4,8 +4,8 @@ use Rattle.gq_text.specs.declared.place.Span.{Span}
 use Rattle.gq_tree.specs.Forest.{none, more}
 use Rattle.gq_tree.specs.Plain.{Head, field, spread, inline, Sel, Sels, Def}
 use Rattle.gq_types.specs.Entries.{Text, EntryOf}
-use Rattle.gq_sets.specs.Sets.{SetOf, sets_of}
-use Rattle.gq_regroup.specs.Rewrites.{head_place}
+use Rattle.gq_document.specs.Sets.{SetOf, sets_of}
+use Rattle.gq_rewritten.specs.Rewrites.{head_place}
 
 -- the selection sets of a document
 abbrev pub document_sets : List EntryOf → List (Def Span) → List SetOf

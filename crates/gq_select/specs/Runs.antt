@@ -5,9 +5,9 @@ use Rattle.gq_text.specs.declared.place.Span.{Span}
 use Rattle.gq_tree.specs.Forest.{none, more}
 use Rattle.gq_tree.specs.Plain.{Sels}
 use Rattle.gq_types.specs.Entries.{Text}
-use Rattle.gq_sets.specs.Last.{find_last}
-use Rattle.gq_sets.specs.Sets.{SetOf}
-use Rattle.gq_regroup.specs.Rewrites.{head_place}
+use Rattle.gq_document.specs.Last.{find_last}
+use Rattle.gq_document.specs.Sets.{SetOf}
+use Rattle.gq_rewritten.specs.Rewrites.{head_place}
 
 -- selections of a set one after the other, of which the first starts at start and the last ends at end
 abbrev pub run_to : (end : ℕ) → Sels Span → Option (Sels Span)

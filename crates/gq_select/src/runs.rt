@@ -2,12 +2,12 @@
 ghost use Rattle.std.specs.Prelude.{◌≡◌, ◌≤◌, length, take};
 ghost use Rattle.std.specs.Option.{option_map, ForSome};
 ghost use Rattle.gq_tree.specs.Views.{sels_view};
-ghost use Rattle.gq_sets.specs.SetViews.{set_view, sets_view};
+ghost use Rattle.gq_document.specs.SetViews.{set_view, sets_view};
 ghost use Rattle.gq_select.specs.Runs.{find_run, innermost, run_in, run_of_set, run_to};
 ghost use Rattle.gq_select.specs.Views.{run_view};
 
 use crate::selecting::place_of;
-use gq_sets::SetIn;
+use gq_document::SetIn;
 use gq_text::Span;
 use gq_tree::Selection;
 
@@ -72,7 +72,7 @@ pub fn find_run<'a>(sets: &[SetIn<'a>], place: Span) -> Option<Run<'a>>
 }
 
 /// The innermost of these sets, which stand in the order of the text, between whose braces both ends of the place lie.
-#[tactic(auto, using(gq_sets::proofs::LastLemmas::keeps_last, gq_sets::proofs::LastLemmas::keeps_rest))]
+#[tactic(auto, using(gq_document::proofs::LastLemmas::keeps_last, gq_document::proofs::LastLemmas::keeps_rest))]
 pub fn innermost<'a>(sets: &[SetIn<'a>], place: Span) -> Option<SetIn<'a>>
     ensures { option_map set_view result ≡ innermost place.start place.end (sets_view sets.now) }
 {

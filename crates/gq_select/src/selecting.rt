@@ -3,12 +3,12 @@ ghost use Rattle.std.specs.Prelude.{◌≡◌, None, if◌then◌else◌};
 ghost use Rattle.std.specs.Option.{option_map};
 ghost use Rattle.gq_tree.specs.Views.{sel_view, sels_view};
 ghost use Rattle.gq_types.specs.Look.{text_of};
-ghost use Rattle.gq_sets.specs.SetViews.{sets_view};
-ghost use Rattle.gq_regroup.specs.Rewrites.{head_place};
+ghost use Rattle.gq_document.specs.SetViews.{sets_view};
+ghost use Rattle.gq_rewritten.specs.Rewrites.{head_place};
 ghost use Rattle.gq_select.specs.Meant.{holds, begins_last, is_meant, later, meant, standing_in};
 ghost use Rattle.gq_select.specs.Views.{is_of_kind, standing_view};
 
-use gq_sets::SetIn;
+use gq_document::SetIn;
 use gq_text::Span;
 use gq_tree::Selection;
 

@@ -2,7 +2,7 @@
 ghost use Rattle.std.specs.Prelude.{◌≡◌, ◌≤◌, ◌^◌, ℕ, List, IfOk, find, length, map};
 ghost use Rattle.std.specs.Option.{option_map};
 ghost use Rattle.gq_lex.specs.Tokens.{Reads, lexeme_of};
-ghost use Rattle.gq_sets.specs.Last.{find_last};
+ghost use Rattle.gq_document.specs.Last.{find_last};
 ghost use Rattle.gq_select.specs.Touched.{is_touched};
 ghost use Rattle.gq_select.specs.TouchedPlace.{IsTouchedPlace};
 
@@ -11,11 +11,11 @@ use gq_lex::{LexFault, Token, lex};
 use gq_text::{NoMemory, Span};
 use std::alloc::Global;
 
-/// Whether the token shares a character with the range.
+/// Whether the token shares a character with the range, which an empty range never does.
 fn is_touched(range: Span, token: &Token<'_>) -> bool
     ensures { result ≡ is_touched range (lexeme_of token.now) }
 {
-    token.span.start < range.end && range.start < token.span.end
+    range.start < range.end && token.span.start < range.end && range.start < token.span.end
 }
 
 /// Where the first token that the range touches starts.
@@ -55,7 +55,7 @@ fn touched_of(range: Span, tokens: &[Token<'_>]) -> Option<Span>
 }
 
 /// From the start of the first token of the text that shares a character with the range, in bytes, to the end of the
-/// last one; nothing where there is none.
+/// last one; nothing where there is none, as where the range is empty.
 pub fn touched(alloc: Global, text: &str, range: Span) -> Result<Option<Span>, NoMemory>
     ensures { IfOk result (IsTouchedPlace text.now range) }
 {

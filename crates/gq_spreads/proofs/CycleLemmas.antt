@@ -7,18 +7,18 @@ use Rattle.std.proofs.lemmas.Option.{same_Some, slice_get_within}
 use Rattle.gq_text.specs.declared.place.Span.{Span}
 use Rattle.gq_tree.specs.Names.{spread_names}
 use Rattle.gq_tree.specs.Plain.{NameOf}
-use Rattle.gq_found.specs.declared.code.Code.TheVariants.{FragmentCycle}
-use Rattle.gq_found.specs.declared.fault.Fault.{Fault}
-use Rattle.gq_found.specs.Adds.{AddsExactly}
-use Rattle.gq_reach.specs.Reach.{Reach, start, step, LeadToEachOther, row}
-use Rattle.gq_reach.proofs.Ways.{contains_one, one_contains, way_of}
-use Rattle.gq_reach.proofs.Collecting.{way_then}
+use Rattle.gq_fault.specs.declared.code.Code.TheVariants.{FragmentCycle}
+use Rattle.gq_fault.specs.declared.fault.Fault.{Fault}
+use Rattle.gq_fault.specs.Adds.{AddsExactly}
+use Rattle.gq_graph.specs.Reach.{Reach, start, step, LeadToEachOther, row}
+use Rattle.gq_graph.proofs.Ways.{contains_one, one_contains, way_of}
+use Rattle.gq_graph.proofs.Collecting.{way_then}
 use Rattle.gq_types.specs.Entries.{Text}
 use Rattle.gq_types.proofs.Gathered.{nothing_in, first, only, from_flat, to_flat, from_any, to_any}
 use Rattle.gq_document.specs.Definitions.{FragmentOf}
 use Rattle.gq_document.specs.Executable.{ExecutableOf}
 use Rattle.gq_document.specs.Reaches.{Reaches}
-use Rattle.gq_found.specs.FaultPlaces.{fault_at}
+use Rattle.gq_fault.specs.FaultPlaces.{fault_at}
 use Rattle.gq_spreads.specs.FragmentSpreadsMustNotFormCycles.{IsFragmentCycle}
 use Rattle.gq_spreads.specs.Helping.FragmentSpreadsMustNotFormCyclesPlaces.{AreComponents, some_of, fragment_cycle, cycles_in, fragment_cycles}
 use Rattle.gq_spreads.specs.Helping.Rows.{texts}

@@ -1,8 +1,8 @@
 -- What the rules put is what is wrong.
 use Rattle.std.proofs.Common.{◌⊎◌, inl, inr, ⊎_elim, List}
-use Rattle.gq_found.specs.declared.fault.Fault.{Fault}
-use Rattle.gq_found.specs.Adds.{AddsExactly}
-use Rattle.gq_found.proofs.PutLemmas.{puts_both, puts_as}
+use Rattle.gq_fault.specs.declared.fault.Fault.{Fault}
+use Rattle.gq_fault.specs.Adds.{AddsExactly}
+use Rattle.gq_fault.proofs.PutLemmas.{puts_both, puts_as}
 use Rattle.gq_document.specs.Executable.{ExecutableOf}
 use Rattle.gq_spreads.specs.FragmentsMustBeUsed.{IsUnusedFragment}
 use Rattle.gq_spreads.specs.FragmentSpreadTargetDefined.{IsUnknownFragment}

@@ -4,7 +4,7 @@ use Rattle.std.proofs.lemmas.Bool.{false≢true, cases_lt}
 use Rattle.std.proofs.lemmas.Grind.{flat_map-append}
 use Rattle.std.proofs.lemmas.List.{get_or-replicate, get_or_past, length-replicate}
 use Rattle.std.proofs.lemmas.List.Elements.{All-append, All-weaker, All-contains, Contains-append_left, Contains-append_right}
-use Rattle.gq_reach.specs.Components.{Also}
+use Rattle.gq_graph.specs.Components.{Also}
 use Rattle.gq_spreads.specs.Helping.FragmentsMustBeUsedPlaces.{all_numbers, MarksRows}
 
 abbrev At : List Bool → ℕ → Type 0

@@ -4,7 +4,7 @@ use Rattle.std.specs.Prelude.{All, slice_get, Result, Ok, Err, IfOk}
 use Rattle.std.proofs.lemmas.List.Elements.{All-contains, Contains-get_or}
 use Rattle.gq_text.specs.declared.place.Span.{Span}
 use Rattle.gq_tree.specs.Plain.{Sels}
-use Rattle.gq_reach.specs.Reach.{Reach, start, step, row}
+use Rattle.gq_graph.specs.Reach.{Reach, start, step, row}
 use Rattle.gq_document.specs.Definitions.{FragmentOf}
 use Rattle.gq_document.specs.Reaches.{Reaches, at_once, through}
 use Rattle.gq_document.specs.Executable.{ExecutableOf}

@@ -7,7 +7,7 @@ use Rattle.std.proofs.lemmas.Option.{none-some, same_Some, slice_get_within, sli
 use Rattle.gq_text.specs.declared.place.Span.{Span}
 use Rattle.gq_tree.specs.Names.{spread_names}
 use Rattle.gq_tree.specs.Plain.{NameOf, Sels}
-use Rattle.gq_reach.specs.Reach.{row, InRange}
+use Rattle.gq_graph.specs.Reach.{row, InRange}
 use Rattle.gq_types.specs.Entries.{Text}
 use Rattle.gq_types.proofs.Gathered.{from_flat, to_flat}
 use Rattle.gq_document.specs.Definitions.{OperationOf, FragmentOf}
@@ -15,7 +15,7 @@ use Rattle.gq_document.specs.Executable.{ExecutableOf}
 use Rattle.gq_spreads.specs.Helping.Rows.{texts, spread_numbers, operation_numbers, fragment_numbers, row_items}
 use Rattle.gq_spreads.specs.Spreads.{places_from, SpreadsNumber, AreSpreads}
 use Rattle.gq_spreads.specs.declared.spreads.Spreads.{Spreads}
-use Rattle.gq_reach.proofs.Searching.{row_at}
+use Rattle.gq_graph.proofs.Searching.{row_at}
 use Rattle.gq_spreads.proofs.PlaceLemmas.{from_place, to_place}
 
 -- what stands at a number stands in the list

@@ -4,15 +4,15 @@ use Rattle.std.specs.Prelude.{slice_get}
 use Rattle.std.specs.List.{enumerate_from}
 use Rattle.std.proofs.lemmas.Bool.{false≢true}
 use Rattle.std.proofs.lemmas.Option.{none-some, same_Some}
-use Rattle.gq_found.specs.declared.code.Code.TheVariants.{FragmentNotUsed}
-use Rattle.gq_found.specs.declared.fault.Fault.{Fault}
-use Rattle.gq_found.specs.Adds.{AddsExactly}
-use Rattle.gq_reach.specs.Reach.{row}
+use Rattle.gq_fault.specs.declared.code.Code.TheVariants.{FragmentNotUsed}
+use Rattle.gq_fault.specs.declared.fault.Fault.{Fault}
+use Rattle.gq_fault.specs.Adds.{AddsExactly}
+use Rattle.gq_graph.specs.Reach.{row}
 use Rattle.gq_types.proofs.Gathered.{nothing_in, first, later, cases_cons, only, from_flat, to_flat}
 use Rattle.gq_document.specs.Definitions.{OperationOf, FragmentOf}
 use Rattle.gq_document.specs.Executable.{ExecutableOf}
 use Rattle.gq_document.specs.Reaches.{IsSpreadIn}
-use Rattle.gq_found.specs.FaultPlaces.{fault_at}
+use Rattle.gq_fault.specs.FaultPlaces.{fault_at}
 use Rattle.gq_spreads.specs.FragmentsMustBeUsed.{IsUnusedFragment}
 use Rattle.gq_spreads.specs.Helping.FragmentsMustBeUsedPlaces.{all_numbers, MarksRows, unused_if, unused_fragment, unused_fragments}
 use Rattle.gq_spreads.specs.Spreads.{SpreadsNumber, AreSpreads}

@@ -3,12 +3,12 @@ use Rattle.std.specs.Prelude.{◌≡◌, Contains}
 use Rattle.gq_text.specs.declared.place.Span.{Span}
 use Rattle.gq_tree.specs.Names.{spread_names}
 use Rattle.gq_tree.specs.Plain.{NameOf}
-use Rattle.gq_found.specs.declared.code.Code.TheVariants.{FragmentCycle}
-use Rattle.gq_found.specs.declared.fault.Fault.{Fault}
+use Rattle.gq_fault.specs.declared.code.Code.TheVariants.{FragmentCycle}
+use Rattle.gq_fault.specs.declared.fault.Fault.{Fault}
 use Rattle.gq_document.specs.Definitions.{FragmentOf}
 use Rattle.gq_document.specs.Executable.{ExecutableOf}
 use Rattle.gq_document.specs.Reaches.{Reaches}
-use Rattle.gq_found.specs.FaultPlaces.{fault_at}
+use Rattle.gq_fault.specs.FaultPlaces.{fault_at}
 
 -- The name of a spread in a fragment, where a fragment of that name reaches the one in which the spread stands. Where
 -- the fragment spreads itself, the two are one.

@@ -2,7 +2,7 @@
 use Rattle.std.specs.Prelude.{◌≡◌, ◌↔◌, ℕ, ◌+◌, List, [], ◌∷◌, Some, Contains, length, slice_get, bytes_eq, if◌then◌else◌}
 use Rattle.gq_text.specs.declared.place.Span.{Span}
 use Rattle.gq_tree.specs.Plain.{Sels}
-use Rattle.gq_reach.specs.Reach.{row}
+use Rattle.gq_graph.specs.Reach.{row}
 use Rattle.gq_types.specs.Entries.{Text}
 use Rattle.gq_document.specs.Definitions.{OperationOf, FragmentOf}
 use Rattle.gq_document.specs.Reaches.{IsSpreadIn, Reaches}

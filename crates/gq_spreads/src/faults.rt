@@ -1,6 +1,6 @@
 //! All that is wrong with fragments and their spreads.
 ghost use Rattle.std.specs.Prelude.{OnOk};
-ghost use Rattle.gq_found.specs.Adds.{AddsExactly};
+ghost use Rattle.gq_fault.specs.Adds.{AddsExactly};
 ghost use Rattle.gq_document.specs.Executable.{executable_view};
 ghost use Rattle.gq_spreads.specs.SpreadFaults.{IsSpreadFault};
 ghost use Rattle.gq_spreads.specs.Spreads.{AreSpreads};
@@ -11,7 +11,7 @@ use crate::fragment_spreads_must_not_form_cycles::add_fragment_cycles;
 use crate::fragments_must_be_used::add_unused_fragments;
 use crate::spreads::Spreads;
 use gq_document::Executable;
-use gq_found::Fault;
+use gq_fault::Fault;
 use gq_text::NoMemory;
 use std::alloc::Global;
 

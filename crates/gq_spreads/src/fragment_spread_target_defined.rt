@@ -1,6 +1,6 @@
 //! Fragment spread target defined (section 5.5.2.1).
 ghost use Rattle.std.specs.Prelude.{◌≡◌, ◌++◌, OnOk};
-ghost use Rattle.gq_found.specs.Adds.{AddsExactly};
+ghost use Rattle.gq_fault.specs.Adds.{AddsExactly};
 ghost use Rattle.gq_tree.specs.Names.{names_at};
 ghost use Rattle.gq_tree.specs.Views.{name_of, sels_view};
 ghost use Rattle.gq_document.specs.Definitions.{operations_view, fragments_view};
@@ -11,7 +11,7 @@ ghost use Rattle.gq_spreads.specs.Helping.Rows.{texts};
 
 use crate::fragment_names::FragmentNames;
 use gq_document::{Executable, FragmentEntry, OperationEntry};
-use gq_found::{Code, Fault};
+use gq_fault::{Code, Fault};
 use gq_text::NoMemory;
 use gq_tree::{Name, Selection, spread_names};
 use std::alloc::Global;

@@ -1,7 +1,7 @@
 //! Fragment spreads must not form cycles (section 5.5.2.2), in time linear in the spreads: a spread leads back exactly if
 //! its fragment and the one in which it stands are of one component.
 ghost use Rattle.std.specs.Prelude.{◌≡◌, ◌<◌, ◌++◌, All, OnOk, length};
-ghost use Rattle.gq_found.specs.Adds.{AddsExactly};
+ghost use Rattle.gq_fault.specs.Adds.{AddsExactly};
 ghost use Rattle.gq_tree.specs.Names.{names_at};
 ghost use Rattle.gq_tree.specs.Views.{name_of};
 ghost use Rattle.gq_document.specs.Definitions.{fragments_view};
@@ -14,8 +14,8 @@ ghost use Rattle.gq_spreads.specs.Spreads.{AreSpreads};
 use crate::fragment_names::FragmentNames;
 use crate::spreads::Spreads;
 use gq_document::{Executable, FragmentEntry};
-use gq_found::{Code, Fault};
-use gq_reach::components;
+use gq_fault::{Code, Fault};
+use gq_graph::components;
 use gq_text::NoMemory;
 use gq_tree::{Name, spread_names};
 use std::alloc::Global;

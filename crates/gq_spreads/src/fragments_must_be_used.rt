@@ -1,7 +1,7 @@
 //! Fragments must be used (section 5.5.1.4).
 ghost use Rattle.std.specs.Prelude.{◌≡◌, ◌<◌, ◌++◌, length, All, IfOk, OnOk};
-ghost use Rattle.gq_found.specs.Adds.{AddsExactly};
-ghost use Rattle.gq_reach.specs.Components.{Also};
+ghost use Rattle.gq_fault.specs.Adds.{AddsExactly};
+ghost use Rattle.gq_graph.specs.Components.{Also};
 ghost use Rattle.gq_document.specs.Definitions.{fragment_view, fragments_view};
 ghost use Rattle.gq_document.specs.Executable.{executable_view};
 ghost use Rattle.gq_spreads.specs.FragmentsMustBeUsed.{IsUnusedFragment};
@@ -10,8 +10,8 @@ ghost use Rattle.gq_spreads.specs.Spreads.{AreSpreads};
 
 use crate::spreads::Spreads;
 use gq_document::{Executable, FragmentEntry};
-use gq_found::{Code, Fault};
-use gq_reach::mark_all;
+use gq_fault::{Code, Fault};
+use gq_graph::mark_all;
 use gq_text::NoMemory;
 use std::alloc::Global;
 

@@ -1,6 +1,6 @@
 //! Which fragments are spread in each operation and each fragment, and which an operation reaches.
 ghost use Rattle.std.specs.Prelude.{◌≡◌, ◌++◌, ◌<◌, IfOk, OnOk, length, map};
-ghost use Rattle.gq_reach.specs.Reach.{NoneTwice};
+ghost use Rattle.gq_graph.specs.Reach.{NoneTwice};
 ghost use Rattle.gq_tree.specs.Names.{names_at};
 ghost use Rattle.gq_tree.specs.Views.{sels_view};
 ghost use Rattle.gq_document.specs.Definitions.{operations_view, fragments_view};
@@ -10,7 +10,7 @@ ghost use Rattle.gq_spreads.specs.Spreads.{AreSpreads, AreReached};
 
 use crate::fragment_names::FragmentNames;
 use gq_document::{Executable, FragmentEntry, OperationEntry};
-use gq_reach::reach_rows;
+use gq_graph::reach_rows;
 use gq_text::NoMemory;
 use gq_tree::{Name, Selection, spread_names};
 use std::alloc::Global;

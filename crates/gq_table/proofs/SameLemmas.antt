@@ -11,7 +11,7 @@ use Rattle.gq_meaning.proofs.TextLemmas.{same_text}
 use Rattle.gq_table.specs.Rows.{same_bool, same_leaf, same_says, same_key, same_part, same_call}
 use Rattle.gq_table.specs.Helping.CallTexts.{leaf_text, says_text, key_text, values_text, tree_text, call_text}
 use Rattle.gq_table.specs.Helping.Index.{call_digest, text_digest, spread_out}
-use Rattle.gq_table.specs.Views.{under, value_step, entry_step, value_view}
+use Rattle.gq_table.specs.Views.{alone, under, value_step, entry_step, value_view}
 use Rattle.gq_table.specs.declared.values.Value.{Value as Coded}
 use Rattle.gq_table.specs.declared.values.Entry.{Entry}
 use Rattle.gq_table.specs.declared.values.Value.TheOpen.{Value-F}
@@ -36,6 +36,19 @@ key_seen (Value-F.Object es) = refl
 -- a value by itself has no key
 pub value_key : (v : Coded) → (value_view v).label.key ≡ None
 value_key v = ap (λ (t : Value). t.label.key) (view_seen v) ∙ key_seen (out-Value v)
+
+null_seen : (x : Value-F Coded Entry) → value.is_null (seen x).label.says ≡ agree_trees same_part (alone value.null none) (seen x)
+null_seen Value-F.Null = refl
+null_seen (Value-F.Leaf v) = refl
+null_seen (Value-F.Enum n) = refl
+null_seen (Value-F.List vs) = refl
+null_seen (Value-F.Object es) = refl
+
+-- what is the same as null is null
+pub null_alike : (v w : Coded) → value_view v ≡ alone value.null none → value.is_null (value_view w).label.says ≡ agree_trees same_part (value_view v) (value_view w)
+null_alike v w is =
+    ap (λ (t : Value). value.is_null t.label.says) (view_seen w) ∙ null_seen (out-Value w) ∙ ap (agree_trees same_part (alone value.null none)) (sym (view_seen w))
+    ∙ ap (λ (t : Value). agree_trees same_part t (value_view w)) (sym is)
 
 and_grouped : (a b c : Bool) → (a && b && c) ≡ (a && (b && c))
 and_grouped true b c = refl

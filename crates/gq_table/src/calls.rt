@@ -2,7 +2,7 @@
 ghost use Rattle.std.specs.Prelude.{◌≡◌, ◌++◌, List, ℕ, map, string_bytes, IfOk, OnOk};
 ghost use Rattle.std.specs.Str.{bytes_eq};
 ghost use Rattle.gq_tree.specs.Forest.{none, agree, agree_trees};
-ghost use Rattle.gq_meaning.specs.Values.{null, enum, leaf as says_leaf};
+ghost use Rattle.gq_meaning.specs.Values.{enum, leaf as says_leaf};
 ghost use Rattle.gq_table.specs.Rows.{same_leaf, same_part, same_call};
 ghost use Rattle.gq_table.specs.Views.{alone, leaf_view, value_view, values_view, entry_view, entries_view, call_of};
 ghost use Rattle.gq_table.specs.Helping.CallTexts.{leaf_text, content_text, tree_text, values_text, call_text};
@@ -132,19 +132,6 @@ pub(crate) fn same_call(a: Call, b: Call) -> bool
 }
 
 #[tactic(auto, using(crate::proofs::Trees::values))]
-fn is_null(value: &Value) -> bool
-    ensures { result ≡ agree_trees same_part (alone null none) (value_view value.now) }
-{
-    match value {
-        Value::Null => true,
-        Value::Leaf(_) => false,
-        Value::Enum(_) => false,
-        Value::List(_) => false,
-        Value::Object(_) => false,
-    }
-}
-
-#[tactic(auto, using(crate::proofs::Trees::values))]
 fn is_leaf(value: &Value, leaf: &Leaf) -> bool
     ensures { result ≡ agree_trees same_part (alone (says_leaf (leaf_view leaf.now)) none) (value_view value.now) }
 {
@@ -198,7 +185,7 @@ fn same_value(a: &Value, b: &Value) -> bool
     ensures { result ≡ agree_trees same_part (value_view a.now) (value_view b.now) }
 {
     match a {
-        Value::Null => is_null(b),
+        Value::Null => b.is_null(),
         Value::Leaf(leaf) => is_leaf(b, leaf),
         Value::Enum(name) => is_enum(b, name.as_str()),
         Value::List(items) => match b {

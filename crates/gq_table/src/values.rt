@@ -1,5 +1,6 @@
 //! Values as execution sees them (GraphQL, October 2021, section 6): of variables and arguments, and of leaf types.
 ghost use Rattle.std.specs.Prelude.{◌≡◌, IfOk, map};
+ghost use Rattle.gq_meaning.specs.Values.{is_null};
 ghost use Rattle.gq_table.specs.Views.{value_view, entry_view};
 
 use gq_text::{NoMemory, SmallText};
@@ -51,6 +52,20 @@ impl Value {
         ensures { IfOk result (λ v. value_view v ≡ value_view self.now) }
     {
         copied_value(alloc, self)
+    }
+
+    /// Whether it is null.
+    #[tactic(auto, using(crate::proofs::Trees::values))]
+    pub fn is_null(&self) -> bool
+        ensures { result ≡ is_null (value_view self.now).label.says }
+    {
+        match self {
+            Value::Null => true,
+            Value::Leaf(_) => false,
+            Value::Enum(_) => false,
+            Value::List(_) => false,
+            Value::Object(_) => false,
+        }
     }
 }
 

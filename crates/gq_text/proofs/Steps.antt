@@ -9,7 +9,9 @@ use Rattle.std.specs.Str.{chars, IsUtf8, IsCharBoundary, continuation_len}
 use Rattle.std.proofs.lemmas.List.{drop_all, length-drop, length-append, get_or-drop}
 use Rattle.std.proofs.lemmas.List.Sums.{take_while-cons, sum_by-cons}
 use Rattle.gq_text.specs.declared.place.Position.{Position}
-use Rattle.gq_text.specs.Place.{before_lines, next_line, on_first, off, pos, len_utf16, ends_line, lines, is_content, content, fitting, byte_count, unit_count, offset_in, position_in}
+use Rattle.gq_text.specs.declared.place.PositionEncoding.{PositionEncoding}
+use Rattle.gq_text.specs.declared.place.PositionEncoding.TheVariants.{Utf8, Utf16}
+use Rattle.gq_text.specs.Place.{before_lines, next_line, on_first, off, pos, code_units, ends_line, lines, is_content, content, fitting, byte_count, unit_count, offset_in, position_in}
 
 -- a text that is not empty: its first character, and the rest
 pub record FirstChar (s : List ℕ) : Type 0 where
@@ -33,18 +35,33 @@ first_char s (c ∷ cs, w) lt = record {
   read = chars_past_char s (encodes cs) c (c ∷ cs, w) (sym w.1);
 }
 
+-- how many code units the character takes that begins with the byte b
+abbrev pub units_of_lead : PositionEncoding → ℕ → ℕ
+units_of_lead Utf8 b = continuation_len b + 1
+units_of_lead Utf16 b = cond (nat_lt b 240) 1 2
+
+-- a character takes a code unit, and no more of them than bytes
+pub code_units_bounds : (encoding : PositionEncoding) (c : ℕ) → (1 ≤ code_units encoding c) × (code_units encoding c ≤ len_utf8 c)
+code_units_bounds Utf8 c = (omega (arith, len_utf8_bounds c), omega arith)
+code_units_bounds Utf16 c = (grind (arith, nat_tests), grind (arith, nat_tests))
+
 -- what the first byte of a character tells of it
 pub record Lead (b c : ℕ) : Type 0 where
   pub width : continuation_len b + 1 ≡ len_utf8 c
-  pub units : cond (nat_lt b 240) 1 2 ≡ len_utf16 c
+  pub units : (encoding : PositionEncoding) → units_of_lead encoding b ≡ code_units encoding c
   pub feed : (b == 10) ≡ (c == 10)
   pub return : (b == 13) ≡ (c == 13)
+
+lead_units : (encoding : PositionEncoding) (c : ℕ) (rest : List ℕ) → units_of_lead encoding (get_or (encode c ++ rest) 0 0) ≡ code_units encoding c
+unfolding encode
+lead_units Utf8 c rest = grind (arith, nat_tests)
+lead_units Utf16 c rest = grind (arith, nat_tests)
 
 pub lead : (c : ℕ) (rest : List ℕ) → Lead (get_or (encode c ++ rest) 0 0) c
 unfolding encode
 lead c rest = record {
   width = grind (arith, nat_tests);
-  units = grind (arith, nat_tests);
+  units = λ encoding. lead_units encoding c rest;
   feed = grind (arith, nat_tests);
   return = grind (arith, nat_tests);
 }
@@ -77,17 +94,6 @@ pub lines_go_on : (c : ℕ) (cs l : List ℕ) (ls : List (List ℕ)) → ends_li
 unfolding lines
 lines_go_on c cs l ls e f = rw (e, f) refl
 
--- what stands on lines before the one that is looked for
-offset_skip_by : (b : Bool) (c : ℕ) (cs : List ℕ) (n k : ℕ) → ends_line c cs ≡ b → offset_in (lines (c ∷ cs)) (suc n) k ≡ len_utf8 c + offset_in (lines cs) (cond b n (suc n)) k
-unfolding offset_in
-offset_skip_by true c cs n k e = rw (lines_end c cs e) (omega arith)
-offset_skip_by false c cs n k e =
-    let w = first_line cs in
-    rw (lines_go_on c cs w.first w.others e w.is) (rw w.is (omega (arith, sum_by-cons len_utf8 c w.first)))
-
-pub offset_skip : (c : ℕ) (cs : List ℕ) (n k : ℕ) → offset_in (lines (c ∷ cs)) (suc n) k ≡ len_utf8 c + offset_in (lines cs) (cond (ends_line c cs) n (suc n)) k
-offset_skip c cs n k = offset_skip_by (ends_line c cs) c cs n k refl
-
 -- a character on the line that is looked for
 content-cons : (c : ℕ) (l : List ℕ) → content (c ∷ l) ≡ cond (is_content c) (c ∷ content l) []
 content-cons c l = take_while-cons is_content c l
@@ -99,54 +105,16 @@ sum_cond : (b : Bool) (f : ℕ → ℕ) (c : ℕ) (xs : List ℕ) → sum_by f (
 sum_cond true f c xs = sum_by-cons f c xs
 sum_cond false f c xs = refl
 
-walk_in : (b : Bool) (c k : ℕ) (l : List ℕ) (ls : List (List ℕ)) → is_content c ≡ b
-    → offset_in ((c ∷ l) ∷ ls) 0 k ≡ cond (b && nat_le (len_utf16 c) k) (len_utf8 c + offset_in (l ∷ ls) 0 (k - len_utf16 c)) 0
-unfolding offset_in
-walk_in false c k l ls e = rw (content-cons c l, e) refl
-walk_in true c k l ls e =
-    rw (content-cons c l, e) (sum_cond (nat_le (len_utf16 c) k) len_utf8 c (fitting len_utf16 (k - len_utf16 c) (content l)))
-
-offset_walk_by : (b : Bool) (c : ℕ) (cs : List ℕ) (k : ℕ) → ends_line c cs ≡ b
-    → offset_in (lines (c ∷ cs)) 0 k ≡ cond (is_content c && nat_le (len_utf16 c) k) (len_utf8 c + offset_in (lines cs) 0 (k - len_utf16 c)) 0
-offset_walk_by true c cs k e =
-    rw (lines_end c cs e) (walk_in (is_content c) c k [] (lines cs) refl ∙ rw (ends_is_no_content c cs e) refl)
-offset_walk_by false c cs k e =
-    let w = first_line cs in
-    rw (lines_go_on c cs w.first w.others e w.is) (rw w.is (walk_in (is_content c) c k w.first w.others refl))
-
-pub offset_walk : (c : ℕ) (cs : List ℕ) (k : ℕ)
-    → offset_in (lines (c ∷ cs)) 0 k ≡ cond (is_content c && nat_le (len_utf16 c) k) (len_utf8 c + offset_in (lines cs) 0 (k - len_utf16 c)) 0
-offset_walk c cs k = offset_walk_by (ends_line c cs) c cs k refl
-
 -- the place that is looked for is the start of what is left, or lies further on
 pub fitting_none : (cs : List ℕ) → fitting len_utf8 0 cs ≡ []
 fitting_none [] = refl
 fitting_none (c ∷ cs) = grind (arith, nat_tests, len_utf8_bounds c)
-
-on_first_start : (l : List ℕ) → on_first l 0 ≡ record { line = 0; character = 0 }
-on_first_start l = ap (λ (x : List ℕ). let p : Position = record { line = 0; character = unit_count x } in p) (fitting_none (content l))
 
 within : (i n : ℕ) (p q : Position) → i < n → cond (nat_lt i n) p q ≡ p
 within i n p q h = grind (arith, nat_tests)
 
 beyond : (i n : ℕ) (p q : Position) → n ≤ i → cond (nat_lt i n) p q ≡ q
 beyond i n p q h = grind (arith, nat_tests)
-
-start_in : (c : ℕ) (l : List ℕ) (ls : List (List ℕ)) → position_in ((c ∷ l) ∷ ls) 0 ≡ record { line = 0; character = 0 }
-unfolding position_in
-start_in c l [] = on_first_start (c ∷ l)
-start_in c l (m ∷ ls) =
-    let lt : 0 < byte_count (c ∷ l) = omega (arith, sum_by-cons len_utf8 c l, len_utf8_bounds c) in
-    within 0 (byte_count (c ∷ l)) (on_first (c ∷ l) 0) (next_line (position_in (m ∷ ls) (0 - byte_count (c ∷ l)))) lt ∙ on_first_start (c ∷ l)
-
-start_by : (b : Bool) (c : ℕ) (cs : List ℕ) → ends_line c cs ≡ b → position_in (lines (c ∷ cs)) 0 ≡ record { line = 0; character = 0 }
-start_by true c cs e = rw (lines_end c cs e) (start_in c [] (lines cs))
-start_by false c cs e = let w = first_line cs in rw (lines_go_on c cs w.first w.others e w.is) (start_in c w.first w.others)
-
-pub position_start : (cs : List ℕ) → position_in (lines cs) 0 ≡ record { line = 0; character = 0 }
-unfolding position_in lines
-position_start [] = refl
-position_start (c ∷ cs) = start_by (ends_line c cs) c cs refl
 
 -- the place, with u code units more in front of it on its line, where that is the first
 abbrev pub pushed : ℕ → Position → Position
@@ -162,74 +130,124 @@ no_content_after c (d ∷ ds) l ls e f g =
     let is : l ≡ d ∷ [] = cc in
     rw is (content-cons d [] ∙ rw (ends_is_no_content d ds ends) refl)
 
-units_on : (b : Bool) (c i : ℕ) (l : List ℕ) → is_content c ≡ b → len_utf8 c ≤ i → (b ≡ false → content l ≡ [])
-    → unit_count (fitting len_utf8 i (content (c ∷ l))) ≡ cond b (len_utf16 c) 0 + unit_count (fitting len_utf8 (i - len_utf8 c) (content l))
-units_on false c i l e h k = rw (content-cons c l, e, k refl) refl
-units_on true c i l e h k =
-    let fits : nat_le (len_utf8 c) i ≡ true = grind (arith, nat_tests) in
-    let shape : content (c ∷ l) ≡ c ∷ content l = content-cons c l ∙ rw e refl in
-    ap (λ (xs : List ℕ). unit_count (fitting len_utf8 i xs)) shape
-    ∙ (ap (λ (b : Bool). unit_count (cond b (c ∷ fitting len_utf8 (i - len_utf8 c) (content l)) [])) fits
-    ∙ sum_by-cons len_utf16 c (fitting len_utf8 (i - len_utf8 c) (content l)))
-
-on_first_go_on : (c i : ℕ) (l : List ℕ) → len_utf8 c ≤ i → (is_content c ≡ false → content l ≡ [])
-    → on_first (c ∷ l) i ≡ pushed (cond (is_content c) (len_utf16 c) 0) (on_first l (i - len_utf8 c))
-on_first_go_on c i l h k = ap (λ (u : ℕ). let p : Position = record { line = 0; character = u } in p) (units_on (is_content c) c i l refl h k)
-
 pushed_next : (u : ℕ) (p : Position) → pushed u (next_line p) ≡ next_line p
 pushed_next u p = grind (arith, nat_tests)
 
-go_on_more : (c i : ℕ) (l m : List ℕ) (ls : List (List ℕ)) → len_utf8 c ≤ i → (is_content c ≡ false → content l ≡ [])
-    → (i < byte_count (c ∷ l)) ⊎ (byte_count (c ∷ l) ≤ i)
-    → position_in ((c ∷ l) ∷ m ∷ ls) i ≡ pushed (cond (is_content c) (len_utf16 c) 0) (position_in (l ∷ m ∷ ls) (i - len_utf8 c))
-unfolding position_in
-go_on_more c i l m ls h k (inl lt) =
-    let u = cond (is_content c) (len_utf16 c) 0 in
-    let more : i - len_utf8 c < byte_count l = omega (arith, sum_by-cons len_utf8 c l) in
-    within i (byte_count (c ∷ l)) (on_first (c ∷ l) i) (next_line (position_in (m ∷ ls) (i - byte_count (c ∷ l)))) lt
-    ∙ (on_first_go_on c i l h k
-    ∙ sym (ap (pushed u) (within (i - len_utf8 c) (byte_count l) (on_first l (i - len_utf8 c)) (next_line (position_in (m ∷ ls) (i - len_utf8 c - byte_count l))) more)))
-go_on_more c i l m ls h k (inr le) =
-    let u = cond (is_content c) (len_utf16 c) 0 in
-    let more : byte_count l ≤ i - len_utf8 c = omega (arith, sum_by-cons len_utf8 c l) in
-    let same : i - byte_count (c ∷ l) ≡ i - len_utf8 c - byte_count l = omega (arith, sum_by-cons len_utf8 c l) in
-    beyond i (byte_count (c ∷ l)) (on_first (c ∷ l) i) (next_line (position_in (m ∷ ls) (i - byte_count (c ∷ l)))) le
-    ∙ (ap (λ (j : ℕ). next_line (position_in (m ∷ ls) j)) same
-    ∙ (sym (pushed_next u (position_in (m ∷ ls) (i - len_utf8 c - byte_count l)))
-    ∙ sym (ap (pushed u) (beyond (i - len_utf8 c) (byte_count l) (on_first l (i - len_utf8 c)) (next_line (position_in (m ∷ ls) (i - len_utf8 c - byte_count l))) more))))
+module _ (encoding : PositionEncoding) where
+  -- what stands on lines before the one that is looked for
+  offset_skip_by : (b : Bool) (c : ℕ) (cs : List ℕ) (n k : ℕ) → ends_line c cs ≡ b → offset_in encoding (lines (c ∷ cs)) (suc n) k ≡ len_utf8 c + offset_in encoding (lines cs) (cond b n (suc n)) k
+  unfolding offset_in
+  offset_skip_by true c cs n k e = rw (lines_end c cs e) (omega arith)
+  offset_skip_by false c cs n k e =
+      let w = first_line cs in
+      rw (lines_go_on c cs w.first w.others e w.is) (rw w.is (omega (arith, sum_by-cons len_utf8 c w.first)))
 
-ended : (c i : ℕ) (l : List ℕ) (ls : List (List ℕ)) → len_utf8 c ≤ i → position_in ((c ∷ []) ∷ l ∷ ls) i ≡ next_line (position_in (l ∷ ls) (i - len_utf8 c))
-unfolding position_in
-ended c i l ls h =
-    let is : byte_count (c ∷ []) ≡ len_utf8 c = omega (arith, sum_by-cons len_utf8 c []) in
-    let le : byte_count (c ∷ []) ≤ i = omega arith in
-    beyond i (byte_count (c ∷ [])) (on_first (c ∷ []) i) (next_line (position_in (l ∷ ls) (i - byte_count (c ∷ [])))) le
-    ∙ ap (λ (n : ℕ). next_line (position_in (l ∷ ls) (i - n))) is
+  pub offset_skip : (c : ℕ) (cs : List ℕ) (n k : ℕ) → offset_in encoding (lines (c ∷ cs)) (suc n) k ≡ len_utf8 c + offset_in encoding (lines cs) (cond (ends_line c cs) n (suc n)) k
+  offset_skip c cs n k = offset_skip_by (ends_line c cs) c cs n k refl
 
-go_on : (c i : ℕ) (l : List ℕ) (ls : List (List ℕ)) → len_utf8 c ≤ i → (is_content c ≡ false → content l ≡ [])
-    → position_in ((c ∷ l) ∷ ls) i ≡ pushed (cond (is_content c) (len_utf16 c) 0) (position_in (l ∷ ls) (i - len_utf8 c))
-unfolding position_in
-go_on c i l [] h k = on_first_go_on c i l h k
-go_on c i l (m ∷ ls) h k = go_on_more c i l m ls h k (cases_lt i (byte_count (c ∷ l)))
+  walk_in : (b : Bool) (c k : ℕ) (l : List ℕ) (ls : List (List ℕ)) → is_content c ≡ b
+      → offset_in encoding ((c ∷ l) ∷ ls) 0 k ≡ cond (b && nat_le (code_units encoding c) k) (len_utf8 c + offset_in encoding (l ∷ ls) 0 (k - code_units encoding c)) 0
+  unfolding offset_in
+  walk_in false c k l ls e = rw (content-cons c l, e) refl
+  walk_in true c k l ls e =
+      rw (content-cons c l, e) (sum_cond (nat_le (code_units encoding c) k) len_utf8 c (fitting (code_units encoding) (k - code_units encoding c) (content l)))
 
-position_by : (b : Bool) (c : ℕ) (cs : List ℕ) (i : ℕ) → len_utf8 c ≤ i → ends_line c cs ≡ b
-    → position_in (lines (c ∷ cs)) i ≡ cond b (next_line (position_in (lines cs) (i - len_utf8 c))) (pushed (cond (is_content c) (len_utf16 c) 0) (position_in (lines cs) (i - len_utf8 c)))
-position_by true c cs i h e =
-    let w = first_line cs in
-    rw (lines_end c cs e) (rw w.is (ended c i w.first w.others h))
-position_by false c cs i h e =
-    let w = first_line cs in
-    rw (lines_go_on c cs w.first w.others e w.is) (rw w.is (go_on c i w.first w.others h (λ f. no_content_after c cs w.first w.others e f w.is)))
+  offset_walk_by : (b : Bool) (c : ℕ) (cs : List ℕ) (k : ℕ) → ends_line c cs ≡ b
+      → offset_in encoding (lines (c ∷ cs)) 0 k ≡ cond (is_content c && nat_le (code_units encoding c) k) (len_utf8 c + offset_in encoding (lines cs) 0 (k - code_units encoding c)) 0
+  offset_walk_by true c cs k e =
+      rw (lines_end c cs e) (walk_in (is_content c) c k [] (lines cs) refl ∙ rw (ends_is_no_content c cs e) refl)
+  offset_walk_by false c cs k e =
+      let w = first_line cs in
+      rw (lines_go_on c cs w.first w.others e w.is) (rw w.is (walk_in (is_content c) c k w.first w.others refl))
 
-pub position_step : (c : ℕ) (cs : List ℕ) (i : ℕ) → len_utf8 c ≤ i
-    → position_in (lines (c ∷ cs)) i ≡ cond (ends_line c cs) (next_line (position_in (lines cs) (i - len_utf8 c))) (pushed (cond (is_content c) (len_utf16 c) 0) (position_in (lines cs) (i - len_utf8 c)))
-position_step c cs i h = position_by (ends_line c cs) c cs i h refl
+  pub offset_walk : (c : ℕ) (cs : List ℕ) (k : ℕ)
+      → offset_in encoding (lines (c ∷ cs)) 0 k ≡ cond (is_content c && nat_le (code_units encoding c) k) (len_utf8 c + offset_in encoding (lines cs) 0 (k - code_units encoding c)) 0
+  offset_walk c cs k = offset_walk_by (ends_line c cs) c cs k refl
 
--- at the end of the text
-pub offset_end : (n k : ℕ) → offset_in (lines []) n k ≡ 0
-unfolding offset_in lines
-offset_end zero k = refl
-offset_end (suc n) k = refl
+  on_first_start : (l : List ℕ) → on_first encoding l 0 ≡ record { line = 0; character = 0 }
+  on_first_start l = ap (λ (x : List ℕ). let p : Position = record { line = 0; character = unit_count encoding x } in p) (fitting_none (content l))
+
+  start_in : (c : ℕ) (l : List ℕ) (ls : List (List ℕ)) → position_in encoding ((c ∷ l) ∷ ls) 0 ≡ record { line = 0; character = 0 }
+  unfolding position_in
+  start_in c l [] = on_first_start (c ∷ l)
+  start_in c l (m ∷ ls) =
+      let lt : 0 < byte_count (c ∷ l) = omega (arith, sum_by-cons len_utf8 c l, len_utf8_bounds c) in
+      within 0 (byte_count (c ∷ l)) (on_first encoding (c ∷ l) 0) (next_line (position_in encoding (m ∷ ls) (0 - byte_count (c ∷ l)))) lt ∙ on_first_start (c ∷ l)
+
+  start_by : (b : Bool) (c : ℕ) (cs : List ℕ) → ends_line c cs ≡ b → position_in encoding (lines (c ∷ cs)) 0 ≡ record { line = 0; character = 0 }
+  start_by true c cs e = rw (lines_end c cs e) (start_in c [] (lines cs))
+  start_by false c cs e = let w = first_line cs in rw (lines_go_on c cs w.first w.others e w.is) (start_in c w.first w.others)
+
+  pub position_start : (cs : List ℕ) → position_in encoding (lines cs) 0 ≡ record { line = 0; character = 0 }
+  unfolding position_in lines
+  position_start [] = refl
+  position_start (c ∷ cs) = start_by (ends_line c cs) c cs refl
+
+  units_on : (b : Bool) (c i : ℕ) (l : List ℕ) → is_content c ≡ b → len_utf8 c ≤ i → (b ≡ false → content l ≡ [])
+      → unit_count encoding (fitting len_utf8 i (content (c ∷ l))) ≡ cond b (code_units encoding c) 0 + unit_count encoding (fitting len_utf8 (i - len_utf8 c) (content l))
+  units_on false c i l e h k = rw (content-cons c l, e, k refl) refl
+  units_on true c i l e h k =
+      let fits : nat_le (len_utf8 c) i ≡ true = grind (arith, nat_tests) in
+      let shape : content (c ∷ l) ≡ c ∷ content l = content-cons c l ∙ rw e refl in
+      ap (λ (xs : List ℕ). unit_count encoding (fitting len_utf8 i xs)) shape
+      ∙ (ap (λ (b : Bool). unit_count encoding (cond b (c ∷ fitting len_utf8 (i - len_utf8 c) (content l)) [])) fits
+      ∙ sum_by-cons (code_units encoding) c (fitting len_utf8 (i - len_utf8 c) (content l)))
+
+  on_first_go_on : (c i : ℕ) (l : List ℕ) → len_utf8 c ≤ i → (is_content c ≡ false → content l ≡ [])
+      → on_first encoding (c ∷ l) i ≡ pushed (cond (is_content c) (code_units encoding c) 0) (on_first encoding l (i - len_utf8 c))
+  on_first_go_on c i l h k = ap (λ (u : ℕ). let p : Position = record { line = 0; character = u } in p) (units_on (is_content c) c i l refl h k)
+
+  go_on_more : (c i : ℕ) (l m : List ℕ) (ls : List (List ℕ)) → len_utf8 c ≤ i → (is_content c ≡ false → content l ≡ [])
+      → (i < byte_count (c ∷ l)) ⊎ (byte_count (c ∷ l) ≤ i)
+      → position_in encoding ((c ∷ l) ∷ m ∷ ls) i ≡ pushed (cond (is_content c) (code_units encoding c) 0) (position_in encoding (l ∷ m ∷ ls) (i - len_utf8 c))
+  unfolding position_in
+  go_on_more c i l m ls h k (inl lt) =
+      let u = cond (is_content c) (code_units encoding c) 0 in
+      let more : i - len_utf8 c < byte_count l = omega (arith, sum_by-cons len_utf8 c l) in
+      within i (byte_count (c ∷ l)) (on_first encoding (c ∷ l) i) (next_line (position_in encoding (m ∷ ls) (i - byte_count (c ∷ l)))) lt
+      ∙ (on_first_go_on c i l h k
+      ∙ sym (ap (pushed u) (within (i - len_utf8 c) (byte_count l) (on_first encoding l (i - len_utf8 c)) (next_line (position_in encoding (m ∷ ls) (i - len_utf8 c - byte_count l))) more)))
+  go_on_more c i l m ls h k (inr le) =
+      let u = cond (is_content c) (code_units encoding c) 0 in
+      let more : byte_count l ≤ i - len_utf8 c = omega (arith, sum_by-cons len_utf8 c l) in
+      let same : i - byte_count (c ∷ l) ≡ i - len_utf8 c - byte_count l = omega (arith, sum_by-cons len_utf8 c l) in
+      beyond i (byte_count (c ∷ l)) (on_first encoding (c ∷ l) i) (next_line (position_in encoding (m ∷ ls) (i - byte_count (c ∷ l)))) le
+      ∙ (ap (λ (j : ℕ). next_line (position_in encoding (m ∷ ls) j)) same
+      ∙ (sym (pushed_next u (position_in encoding (m ∷ ls) (i - len_utf8 c - byte_count l)))
+      ∙ sym (ap (pushed u) (beyond (i - len_utf8 c) (byte_count l) (on_first encoding l (i - len_utf8 c)) (next_line (position_in encoding (m ∷ ls) (i - len_utf8 c - byte_count l))) more))))
+
+  ended : (c i : ℕ) (l : List ℕ) (ls : List (List ℕ)) → len_utf8 c ≤ i → position_in encoding ((c ∷ []) ∷ l ∷ ls) i ≡ next_line (position_in encoding (l ∷ ls) (i - len_utf8 c))
+  unfolding position_in
+  ended c i l ls h =
+      let is : byte_count (c ∷ []) ≡ len_utf8 c = omega (arith, sum_by-cons len_utf8 c []) in
+      let le : byte_count (c ∷ []) ≤ i = omega arith in
+      beyond i (byte_count (c ∷ [])) (on_first encoding (c ∷ []) i) (next_line (position_in encoding (l ∷ ls) (i - byte_count (c ∷ [])))) le
+      ∙ ap (λ (n : ℕ). next_line (position_in encoding (l ∷ ls) (i - n))) is
+
+  go_on : (c i : ℕ) (l : List ℕ) (ls : List (List ℕ)) → len_utf8 c ≤ i → (is_content c ≡ false → content l ≡ [])
+      → position_in encoding ((c ∷ l) ∷ ls) i ≡ pushed (cond (is_content c) (code_units encoding c) 0) (position_in encoding (l ∷ ls) (i - len_utf8 c))
+  unfolding position_in
+  go_on c i l [] h k = on_first_go_on c i l h k
+  go_on c i l (m ∷ ls) h k = go_on_more c i l m ls h k (cases_lt i (byte_count (c ∷ l)))
+
+  position_by : (b : Bool) (c : ℕ) (cs : List ℕ) (i : ℕ) → len_utf8 c ≤ i → ends_line c cs ≡ b
+      → position_in encoding (lines (c ∷ cs)) i ≡ cond b (next_line (position_in encoding (lines cs) (i - len_utf8 c))) (pushed (cond (is_content c) (code_units encoding c) 0) (position_in encoding (lines cs) (i - len_utf8 c)))
+  position_by true c cs i h e =
+      let w = first_line cs in
+      rw (lines_end c cs e) (rw w.is (ended c i w.first w.others h))
+  position_by false c cs i h e =
+      let w = first_line cs in
+      rw (lines_go_on c cs w.first w.others e w.is) (rw w.is (go_on c i w.first w.others h (λ f. no_content_after c cs w.first w.others e f w.is)))
+
+  pub position_step : (c : ℕ) (cs : List ℕ) (i : ℕ) → len_utf8 c ≤ i
+      → position_in encoding (lines (c ∷ cs)) i ≡ cond (ends_line c cs) (next_line (position_in encoding (lines cs) (i - len_utf8 c))) (pushed (cond (is_content c) (code_units encoding c) 0) (position_in encoding (lines cs) (i - len_utf8 c)))
+  position_step c cs i h = position_by (ends_line c cs) c cs i h refl
+
+  -- at the end of the text
+  pub offset_end : (n k : ℕ) → offset_in encoding (lines []) n k ≡ 0
+  unfolding offset_in lines
+  offset_end zero k = refl
+  offset_end (suc n) k = refl
 
 -- one character further, of the bytes of a text
 abbrev pub last_byte : List ℕ → ℕ → Bool
@@ -242,15 +260,21 @@ width_at t at = continuation_len (get_or t at 0) + 1
 abbrev pub content_byte : List ℕ → ℕ → Bool
 content_byte t at = not (get_or t at 0 == 10) && not (get_or t at 0 == 13)
 
-abbrev pub units_at : List ℕ → ℕ → ℕ
-units_at t at = cond (nat_lt (get_or t at 0) 240) 1 2
+abbrev pub units_at : PositionEncoding → List ℕ → ℕ → ℕ
+units_at encoding t at = units_of_lead encoding (get_or t at 0)
+
+units_at-le : (encoding : PositionEncoding) (t : List ℕ) (at : ℕ) → units_at encoding t at ≤ width_at t at
+units_at-le Utf8 t at = omega arith
+units_at-le Utf16 t at = grind (arith, nat_tests)
 
 -- what was read of a byte, where that is the byte at `at`
 pub width_read : (t : List ℕ) (at b n : ℕ) → n ≡ continuation_len b + 1 → b ≡ get_or t at 0 → n ≡ width_at t at
 width_read t at b n e f = e ∙ ap (λ (x : ℕ). continuation_len x + 1) f
 
-pub units_read : (t : List ℕ) (at b n : ℕ) → n ≡ cond (nat_lt b 240) 1 2 → b ≡ get_or t at 0 → n ≡ units_at t at
-units_read t at b n e f = e ∙ ap (λ (x : ℕ). cond (nat_lt x 240) 1 2) f
+pub units_read : (encoding : PositionEncoding) (t : List ℕ) (at b n : ℕ) → (encoding ≡ Utf8 → n ≡ continuation_len b + 1) → (encoding ≡ Utf16 → n ≡ cond (nat_lt b 240) 1 2)
+    → b ≡ get_or t at 0 → n ≡ units_at encoding t at
+units_read Utf8 t at b n e f g = e refl ∙ ap (λ (x : ℕ). continuation_len x + 1) g
+units_read Utf16 t at b n e f g = f refl ∙ ap (λ (x : ℕ). cond (nat_lt x 240) 1 2) g
 
 pub last_read : (t : List ℕ) (at : ℕ) (b last : Bool) → b ≡ last_byte t at → b ≡ last → last_byte t at ≡ last
 last_read t at b last e f = sym e ∙ f
@@ -266,7 +290,7 @@ pub record Step (t : List ℕ) (at : ℕ) : Type 0 where
   pub spelled : drop at t ≡ encode char ++ drop (at + width_at t at) t
   pub text : IsUtf8 (drop (at + width_at t at) t)
   pub width : width_at t at ≡ len_utf8 char
-  pub units : units_at t at ≡ len_utf16 char
+  pub units : (encoding : PositionEncoding) → units_at encoding t at ≡ code_units encoding char
   pub inside : at + width_at t at ≤ length t
   pub ends : last_byte t at ≡ ends_line char (from_byte t (at + width_at t at))
   pub is_content : content_byte t at ≡ is_content char
@@ -309,78 +333,11 @@ step_of t at lt w =
 pub step : (t : List ℕ) (at : ℕ) → IsUtf8 (drop at t) → at < length t → Step t at
 step t at u lt = step_of t at lt (first_char (drop at t) u (omega (arith, length-drop at t)))
 
--- the same three steps, by the bytes of a text
-offset_line_of : (t : List ℕ) (at n k : ℕ) → Step t at
-    → offset_in (lines (from_byte t at)) (suc n) k ≡ width_at t at + offset_in (lines (from_byte t (at + width_at t at))) (cond (last_byte t at) n (suc n)) k
-offset_line_of t at n k w =
-    let next = from_byte t (at + width_at t at) in
-    ap (λ (cs : List ℕ). offset_in (lines cs) (suc n) k) w.read
-    ∙ (offset_skip w.char next n k
-    ∙ rw (w.ends, w.width) refl)
-
-pub offset_line : (t : List ℕ) (at n k : ℕ) → IsUtf8 (drop at t) → at < length t
-    → offset_in (lines (from_byte t at)) (suc n) k ≡ width_at t at + offset_in (lines (from_byte t (at + width_at t at))) (cond (last_byte t at) n (suc n)) k
-offset_line t at n k u lt = offset_line_of t at n k (step t at u lt)
-
-offset_content_of : (t : List ℕ) (at k : ℕ) → Step t at
-    → offset_in (lines (from_byte t at)) 0 k ≡ cond (content_byte t at && nat_le (units_at t at) k) (width_at t at + offset_in (lines (from_byte t (at + width_at t at))) 0 (k - units_at t at)) 0
-offset_content_of t at k w =
-    let next = from_byte t (at + width_at t at) in
-    ap (λ (cs : List ℕ). offset_in (lines cs) 0 k) w.read
-    ∙ (offset_walk w.char next k
-    ∙ rw (w.is_content, w.units, w.width) refl)
-
-pub offset_content : (t : List ℕ) (at k : ℕ) → IsUtf8 (drop at t) → at < length t
-    → offset_in (lines (from_byte t at)) 0 k ≡ cond (content_byte t at && nat_le (units_at t at) k) (width_at t at + offset_in (lines (from_byte t (at + width_at t at))) 0 (k - units_at t at)) 0
-offset_content t at k u lt = offset_content_of t at k (step t at u lt)
-
--- where a text is at its end, nothing is left to look for
-pub offset_past : (t : List ℕ) (at n k : ℕ) → length t ≤ at → offset_in (lines (from_byte t at)) n k ≡ 0
-offset_past t at n k le = ap (λ (bs : List ℕ). offset_in (lines (chars bs)) n k) (drop_all at t le) ∙ rw chars-nil (offset_end n k)
-
 -- of the text t, what is looked for lies so many lines and code units after the byte `at`
-pub record Ahead (t : List ℕ) (p : Position) (at line character : ℕ) : Type 0 where
+pub record Ahead (encoding : PositionEncoding) (t : List ℕ) (p : Position) (at line character : ℕ) : Type 0 where
   pub text : IsUtf8 (drop at t)
   pub inside : at ≤ length t
-  pub found : off t p ≡ at + offset_in (lines (from_byte t at)) line character
-
-ahead_line_of : (t : List ℕ) (p : Position) (at n k : ℕ) (last : Bool) → Step t at → Ahead t p at (suc n) k → last_byte t at ≡ last
-    → offset_in (lines (from_byte t at)) (suc n) k ≡ width_at t at + offset_in (lines (from_byte t (at + width_at t at))) (cond (last_byte t at) n (suc n)) k
-    → Ahead t p (at + width_at t at) (cond last n (suc n)) k
-ahead_line_of t p at n k last w a e f = record {
-  text = w.text;
-  inside = w.inside;
-  found =
-      let g : offset_in (lines (from_byte t (at + width_at t at))) (cond (last_byte t at) n (suc n)) k ≡ offset_in (lines (from_byte t (at + width_at t at))) (cond last n (suc n)) k = rw e refl in
-      omega (arith, a.found, f, g);
-}
-
-pub ahead_line : (t : List ℕ) (p : Position) (at n k : ℕ) (last : Bool) → Ahead t p at n k → 0 < n → at < length t → last_byte t at ≡ last
-    → Ahead t p (at + width_at t at) (cond last (n - 1) n) k
-ahead_line t p at zero k last a h lt e = absurd (omega arith)
-ahead_line t p at (suc n) k last a h lt e =
-    let less : suc n - 1 ≡ n = omega arith in
-    rw less (ahead_line_of t p at n k last (step t at a.text lt) a e (offset_line t at n k a.text lt))
-
-pub ahead_content : (t : List ℕ) (p : Position) (at k : ℕ) → Ahead t p at 0 k → at < length t → (content_byte t at && nat_le (units_at t at) k) ≡ true
-    → Ahead t p (at + width_at t at) 0 (k - units_at t at)
-ahead_content t p at k a lt e =
-    let w = step t at a.text lt in
-    let f : offset_in (lines (from_byte t at)) 0 k ≡ width_at t at + offset_in (lines (from_byte t (at + width_at t at))) 0 (k - units_at t at) = offset_content t at k a.text lt ∙ rw e refl in
-    record {
-      text = w.text;
-      inside = w.inside;
-      found = omega (arith, a.found, f);
-    }
-
-pub ahead_stops : (t : List ℕ) (p : Position) (at k : ℕ) → Ahead t p at 0 k → at < length t → (content_byte t at && nat_le (units_at t at) k) ≡ false
-    → at ≡ off t p
-ahead_stops t p at k a lt e =
-    let f : offset_in (lines (from_byte t at)) 0 k ≡ 0 = offset_content t at k a.text lt ∙ rw e refl in
-    omega (arith, a.found, f)
-
-pub ahead_ends : (t : List ℕ) (p : Position) (at n k : ℕ) → Ahead t p at n k → length t ≤ at → at ≡ off t p
-ahead_ends t p at n k a le = omega (arith, a.found, offset_past t at n k le)
+  pub found : off encoding t p ≡ at + offset_in encoding (lines (from_byte t at)) line character
 
 -- no character of a text begins inside another
 two_bytes : (a b : ℕ) (rest : List ℕ) (k : ℕ) → 0 < k → k < 2 → 128 ≤ b → b < 192 → (128 ≤ get_or (a ∷ b ∷ rest) k 0) × (get_or (a ∷ b ∷ rest) k 0 < 192)
@@ -448,64 +405,132 @@ moved_pushed : (n u v : ℕ) (p : Position) → moved n u (pushed v p) ≡ moved
 moved_pushed n u v p = grind (arith, nat_tests)
 
 -- of the text t, `at` lies on a line, behind so many code units of it, and not behind offset
-pub record Behind (t : List ℕ) (offset at line units : ℕ) : Type 0 where
+pub record Behind (encoding : PositionEncoding) (t : List ℕ) (offset at line units : ℕ) : Type 0 where
   pub text : IsUtf8 (drop at t)
   pub inside : at ≤ offset
   pub line_small : line ≤ at
   pub units_small : units ≤ at
-  pub found : pos t offset ≡ moved line units (position_in (lines (from_byte t at)) (offset - at))
-
-position_byte_of : (t : List ℕ) (at i : ℕ) → Step t at → width_at t at ≤ i
-    → position_in (lines (from_byte t at)) i
-    ≡ cond (last_byte t at) (next_line (position_in (lines (from_byte t (at + width_at t at))) (i - width_at t at)))
-    (pushed (cond (content_byte t at) (units_at t at) 0) (position_in (lines (from_byte t (at + width_at t at))) (i - width_at t at)))
-position_byte_of t at i w h =
-    let next = from_byte t (at + width_at t at) in
-    let fits : len_utf8 w.char ≤ i = rw (← w.width) h in
-    ap (λ (cs : List ℕ). position_in (lines cs) i) w.read
-    ∙ (position_step w.char next i fits
-    ∙ rw (w.ends, w.is_content, w.units, w.width) refl)
+  pub found : pos encoding t offset ≡ moved line units (position_in encoding (lines (from_byte t at)) (offset - at))
 
 line_small_by : (last : Bool) (t : List ℕ) (at line : ℕ) → line ≤ at → cond last (line + 1) line ≤ at + width_at t at
 line_small_by true t at line h = omega arith
 line_small_by false t at line h = omega arith
 
-units_small_by : (last inside : Bool) (t : List ℕ) (at units : ℕ) → units ≤ at → cond last 0 (units + cond inside (units_at t at) 0) ≤ at + width_at t at
-units_small_by true inside t at units h = omega arith
-units_small_by false false t at units h = omega arith
-units_small_by false true t at units h = grind (arith, nat_tests)
-
 moved_step : (last : Bool) (n u v : ℕ) (p : Position) → moved n u (cond last (next_line p) (pushed v p)) ≡ moved (cond last (n + 1) n) (cond last 0 (u + v)) p
 moved_step true n u v p = moved_next n u p
 moved_step false n u v p = moved_pushed n u v p
 
-behind_step_of : (t : List ℕ) (offset at line units : ℕ) (last inside : Bool) → Step t at → Behind t offset at line units → at + width_at t at ≤ offset
-    → last_byte t at ≡ last → content_byte t at ≡ inside
-    → Behind t offset (at + width_at t at) (cond last (line + 1) line) (cond last 0 (units + cond inside (units_at t at) 0))
-behind_step_of t offset at line units last inside w b h e f = record {
-  text = w.text;
-  inside = h;
-  line_small = line_small_by last t at line b.line_small;
-  units_small = units_small_by last inside t at units b.units_small;
-  found =
-      let p = position_in (lines (from_byte t (at + width_at t at))) (offset - (at + width_at t at)) in
-      let same : offset - at - width_at t at ≡ offset - (at + width_at t at) = omega arith in
-      let ahead : position_in (lines (from_byte t at)) (offset - at) ≡ cond last (next_line p) (pushed (cond inside (units_at t at) 0) p) =
-      position_byte_of t at (offset - at) w (omega arith) ∙ rw (e, f, same) refl in
-      b.found ∙ (ap (moved line units) ahead ∙ moved_step last line units (cond inside (units_at t at) 0) p);
-}
+module _ (encoding : PositionEncoding) where
+  -- the same three steps, by the bytes of a text
+  offset_line_of : (t : List ℕ) (at n k : ℕ) → Step t at
+      → offset_in encoding (lines (from_byte t at)) (suc n) k ≡ width_at t at + offset_in encoding (lines (from_byte t (at + width_at t at))) (cond (last_byte t at) n (suc n)) k
+  offset_line_of t at n k w =
+      let next = from_byte t (at + width_at t at) in
+      ap (λ (cs : List ℕ). offset_in encoding (lines cs) (suc n) k) w.read
+      ∙ (offset_skip encoding w.char next n k
+      ∙ rw (w.ends, w.width) refl)
 
-pub behind_step : (t : List ℕ) (offset at line units : ℕ) (last inside : Bool) → Behind t offset at line units → at < length t → IsCharBoundary t offset → at < offset
-    → last_byte t at ≡ last → content_byte t at ≡ inside
-    → Behind t offset (at + width_at t at) (cond last (line + 1) line) (cond last 0 (units + cond inside (units_at t at) 0))
-behind_step t offset at line units last inside b lt k h e f =
-    behind_step_of t offset at line units last inside (step t at b.text lt) b (boundary_step t at offset b.text lt k h) e f
+  pub offset_line : (t : List ℕ) (at n k : ℕ) → IsUtf8 (drop at t) → at < length t
+      → offset_in encoding (lines (from_byte t at)) (suc n) k ≡ width_at t at + offset_in encoding (lines (from_byte t (at + width_at t at))) (cond (last_byte t at) n (suc n)) k
+  offset_line t at n k u lt = offset_line_of t at n k (step t at u lt)
 
-pub behind_ends : (t : List ℕ) (offset at line units : ℕ) → Behind t offset at line units → offset ≤ at → pos t offset ≡ record { line = line; character = units }
-behind_ends t offset at line units b le =
-    let none : offset - at ≡ 0 = omega arith in
-    let start : position_in (lines (from_byte t at)) (offset - at) ≡ record { line = 0; character = 0 } = rw none (position_start (from_byte t at)) in
-    b.found ∙ (ap (moved line units) start ∙ rw (add-zero units) refl)
+  offset_content_of : (t : List ℕ) (at k : ℕ) → Step t at
+      → offset_in encoding (lines (from_byte t at)) 0 k ≡ cond (content_byte t at && nat_le (units_at encoding t at) k) (width_at t at + offset_in encoding (lines (from_byte t (at + width_at t at))) 0 (k - units_at encoding t at)) 0
+  offset_content_of t at k w =
+      let next = from_byte t (at + width_at t at) in
+      ap (λ (cs : List ℕ). offset_in encoding (lines cs) 0 k) w.read
+      ∙ (offset_walk encoding w.char next k
+      ∙ rw (w.is_content, w.units encoding, w.width) refl)
 
-pub ahead_boundary : (t : List ℕ) (p : Position) (at n k : ℕ) → Ahead t p at n k → IsCharBoundary t at
-ahead_boundary t p at n k a = IsCharBoundary-from_drop t at a.inside a.text
+  pub offset_content : (t : List ℕ) (at k : ℕ) → IsUtf8 (drop at t) → at < length t
+      → offset_in encoding (lines (from_byte t at)) 0 k ≡ cond (content_byte t at && nat_le (units_at encoding t at) k) (width_at t at + offset_in encoding (lines (from_byte t (at + width_at t at))) 0 (k - units_at encoding t at)) 0
+  offset_content t at k u lt = offset_content_of t at k (step t at u lt)
+
+  -- where a text is at its end, nothing is left to look for
+  pub offset_past : (t : List ℕ) (at n k : ℕ) → length t ≤ at → offset_in encoding (lines (from_byte t at)) n k ≡ 0
+  offset_past t at n k le = ap (λ (bs : List ℕ). offset_in encoding (lines (chars bs)) n k) (drop_all at t le) ∙ rw chars-nil (offset_end encoding n k)
+
+  ahead_line_of : (t : List ℕ) (p : Position) (at n k : ℕ) (last : Bool) → Step t at → Ahead encoding t p at (suc n) k → last_byte t at ≡ last
+      → offset_in encoding (lines (from_byte t at)) (suc n) k ≡ width_at t at + offset_in encoding (lines (from_byte t (at + width_at t at))) (cond (last_byte t at) n (suc n)) k
+      → Ahead encoding t p (at + width_at t at) (cond last n (suc n)) k
+  ahead_line_of t p at n k last w a e f = record {
+    text = w.text;
+    inside = w.inside;
+    found =
+        let g : offset_in encoding (lines (from_byte t (at + width_at t at))) (cond (last_byte t at) n (suc n)) k ≡ offset_in encoding (lines (from_byte t (at + width_at t at))) (cond last n (suc n)) k = rw e refl in
+        omega (arith, a.found, f, g);
+  }
+
+  pub ahead_line : (t : List ℕ) (p : Position) (at n k : ℕ) (last : Bool) → Ahead encoding t p at n k → 0 < n → at < length t → last_byte t at ≡ last
+      → Ahead encoding t p (at + width_at t at) (cond last (n - 1) n) k
+  ahead_line t p at zero k last a h lt e = absurd (omega arith)
+  ahead_line t p at (suc n) k last a h lt e =
+      let less : suc n - 1 ≡ n = omega arith in
+      rw less (ahead_line_of t p at n k last (step t at a.text lt) a e (offset_line t at n k a.text lt))
+
+  pub ahead_content : (t : List ℕ) (p : Position) (at k : ℕ) → Ahead encoding t p at 0 k → at < length t → (content_byte t at && nat_le (units_at encoding t at) k) ≡ true
+      → Ahead encoding t p (at + width_at t at) 0 (k - units_at encoding t at)
+  ahead_content t p at k a lt e =
+      let w = step t at a.text lt in
+      let f : offset_in encoding (lines (from_byte t at)) 0 k ≡ width_at t at + offset_in encoding (lines (from_byte t (at + width_at t at))) 0 (k - units_at encoding t at) = offset_content t at k a.text lt ∙ rw e refl in
+      record {
+        text = w.text;
+        inside = w.inside;
+        found = omega (arith, a.found, f);
+      }
+
+  pub ahead_stops : (t : List ℕ) (p : Position) (at k : ℕ) → Ahead encoding t p at 0 k → at < length t → (content_byte t at && nat_le (units_at encoding t at) k) ≡ false
+      → at ≡ off encoding t p
+  ahead_stops t p at k a lt e =
+      let f : offset_in encoding (lines (from_byte t at)) 0 k ≡ 0 = offset_content t at k a.text lt ∙ rw e refl in
+      omega (arith, a.found, f)
+
+  pub ahead_ends : (t : List ℕ) (p : Position) (at n k : ℕ) → Ahead encoding t p at n k → length t ≤ at → at ≡ off encoding t p
+  ahead_ends t p at n k a le = omega (arith, a.found, offset_past t at n k le)
+
+  position_byte_of : (t : List ℕ) (at i : ℕ) → Step t at → width_at t at ≤ i
+      → position_in encoding (lines (from_byte t at)) i
+      ≡ cond (last_byte t at) (next_line (position_in encoding (lines (from_byte t (at + width_at t at))) (i - width_at t at)))
+      (pushed (cond (content_byte t at) (units_at encoding t at) 0) (position_in encoding (lines (from_byte t (at + width_at t at))) (i - width_at t at)))
+  position_byte_of t at i w h =
+      let next = from_byte t (at + width_at t at) in
+      let fits : len_utf8 w.char ≤ i = rw (← w.width) h in
+      ap (λ (cs : List ℕ). position_in encoding (lines cs) i) w.read
+      ∙ (position_step encoding w.char next i fits
+      ∙ rw (w.ends, w.is_content, w.units encoding, w.width) refl)
+
+  units_small_by : (last inside : Bool) (t : List ℕ) (at units : ℕ) → units ≤ at → cond last 0 (units + cond inside (units_at encoding t at) 0) ≤ at + width_at t at
+  units_small_by true inside t at units h = omega arith
+  units_small_by false false t at units h = omega arith
+  units_small_by false true t at units h = omega (arith, units_at-le encoding t at)
+
+  behind_step_of : (t : List ℕ) (offset at line units : ℕ) (last inside : Bool) → Step t at → Behind encoding t offset at line units → at + width_at t at ≤ offset
+      → last_byte t at ≡ last → content_byte t at ≡ inside
+      → Behind encoding t offset (at + width_at t at) (cond last (line + 1) line) (cond last 0 (units + cond inside (units_at encoding t at) 0))
+  behind_step_of t offset at line units last inside w b h e f = record {
+    text = w.text;
+    inside = h;
+    line_small = line_small_by last t at line b.line_small;
+    units_small = units_small_by last inside t at units b.units_small;
+    found =
+        let p = position_in encoding (lines (from_byte t (at + width_at t at))) (offset - (at + width_at t at)) in
+        let same : offset - at - width_at t at ≡ offset - (at + width_at t at) = omega arith in
+        let ahead : position_in encoding (lines (from_byte t at)) (offset - at) ≡ cond last (next_line p) (pushed (cond inside (units_at encoding t at) 0) p) =
+        position_byte_of t at (offset - at) w (omega arith) ∙ rw (e, f, same) refl in
+        b.found ∙ (ap (moved line units) ahead ∙ moved_step last line units (cond inside (units_at encoding t at) 0) p);
+  }
+
+  pub behind_step : (t : List ℕ) (offset at line units : ℕ) (last inside : Bool) → Behind encoding t offset at line units → at < length t → IsCharBoundary t offset → at < offset
+      → last_byte t at ≡ last → content_byte t at ≡ inside
+      → Behind encoding t offset (at + width_at t at) (cond last (line + 1) line) (cond last 0 (units + cond inside (units_at encoding t at) 0))
+  behind_step t offset at line units last inside b lt k h e f =
+      behind_step_of t offset at line units last inside (step t at b.text lt) b (boundary_step t at offset b.text lt k h) e f
+
+  pub behind_ends : (t : List ℕ) (offset at line units : ℕ) → Behind encoding t offset at line units → offset ≤ at → pos encoding t offset ≡ record { line = line; character = units }
+  behind_ends t offset at line units b le =
+      let none : offset - at ≡ 0 = omega arith in
+      let start : position_in encoding (lines (from_byte t at)) (offset - at) ≡ record { line = 0; character = 0 } = rw none (position_start encoding (from_byte t at)) in
+      b.found ∙ (ap (moved line units) start ∙ rw (add-zero units) refl)
+
+  pub ahead_boundary : (t : List ℕ) (p : Position) (at n k : ℕ) → Ahead encoding t p at n k → IsCharBoundary t at
+  ahead_boundary t p at n k a = IsCharBoundary-from_drop t at a.inside a.text

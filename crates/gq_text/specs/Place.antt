@@ -4,6 +4,8 @@ use Rattle.std.specs.Prelude.{ℕ, zero, suc, ◌+◌, ◌-◌, Bool, not, ◌&&
 use Rattle.std.specs.Char.{len_utf8}
 use Rattle.std.specs.Str.{chars}
 use Rattle.gq_text.specs.declared.place.Position.{Position}
+use Rattle.gq_text.specs.declared.place.PositionEncoding.{PositionEncoding}
+use Rattle.gq_text.specs.declared.place.PositionEncoding.TheVariants.{Utf8, Utf16}
 
 -- LF and CR
 abbrev pub line_feed : ℕ
@@ -15,6 +17,11 @@ carriage_return = 13
 -- how many UTF-16 code units a character takes
 abbrev pub len_utf16 : ℕ → ℕ
 len_utf16 c = if nat_lt c 0x1_0000 then 1 else 2
+
+-- how many code units a character takes in an encoding: in UTF-8 a byte is a code unit
+abbrev pub code_units : PositionEncoding → ℕ → ℕ
+code_units Utf8 c = len_utf8 c
+code_units Utf16 c = len_utf16 c
 
 -- whether the character c is the last of its line, where rest follows it: LF is, and CR where no LF follows
 abbrev pub ends_line : ℕ → List ℕ → Bool
@@ -42,39 +49,39 @@ abbrev pub fitting : (ℕ → ℕ) → ℕ → List ℕ → List ℕ
 fitting measure n [] = []
 fitting measure n (c ∷ cs) = if nat_le (measure c) n then c ∷ fitting measure (n - measure c) cs else []
 
--- how many bytes, and how many UTF-16 code units, the characters take
+-- how many bytes, and how many code units of an encoding, the characters take
 abbrev pub byte_count : List ℕ → ℕ
 byte_count cs = sum_by len_utf8 cs
 
-abbrev pub unit_count : List ℕ → ℕ
-unit_count cs = sum_by len_utf16 cs
+abbrev pub unit_count : PositionEncoding → List ℕ → ℕ
+unit_count encoding cs = sum_by (code_units encoding) cs
 
 -- the place one line further down
 abbrev pub next_line : Position → Position
 next_line p = record { line = p.line + 1; character = p.character }
 
 -- on the first of the lines, i bytes after its start
-abbrev pub on_first : List ℕ → ℕ → Position
-on_first l i = record { line = 0; character = unit_count (fitting len_utf8 i (content l)) }
+abbrev pub on_first : PositionEncoding → List ℕ → ℕ → Position
+on_first encoding l i = record { line = 0; character = unit_count encoding (fitting len_utf8 i (content l)) }
 
 -- the place i bytes after the start of the lines: the line that holds it, and the code units between the start of
 -- that line and it, its end not counted
-unfoldable pub position_in : List (List ℕ) → ℕ → Position
-position_in [] i = record { line = 0; character = 0 }
-position_in (l ∷ []) i = on_first l i
-position_in (l ∷ m ∷ ls) i = if nat_lt i (byte_count l) then on_first l i else next_line (position_in (m ∷ ls) (i - byte_count l))
+unfoldable pub position_in : PositionEncoding → List (List ℕ) → ℕ → Position
+position_in encoding [] i = record { line = 0; character = 0 }
+position_in encoding (l ∷ []) i = on_first encoding l i
+position_in encoding (l ∷ m ∷ ls) i = if nat_lt i (byte_count l) then on_first encoding l i else next_line (position_in encoding (m ∷ ls) (i - byte_count l))
 
 -- the bytes before a place: all lines before it, and of its own line as many characters as fit into its code units,
 -- the end not counted; past the last line, all bytes
-unfoldable pub offset_in : List (List ℕ) → ℕ → ℕ → ℕ
-offset_in [] line character = 0
-offset_in (l ∷ ls) zero character = byte_count (fitting len_utf16 character (content l))
-offset_in (l ∷ ls) (suc line) character = byte_count l + offset_in ls line character
+unfoldable pub offset_in : PositionEncoding → List (List ℕ) → ℕ → ℕ → ℕ
+offset_in encoding [] line character = 0
+offset_in encoding (l ∷ ls) zero character = byte_count (fitting (code_units encoding) character (content l))
+offset_in encoding (l ∷ ls) (suc line) character = byte_count l + offset_in encoding ls line character
 
 -- the position of the byte offset i in the text bs
-abbrev pub pos : List ℕ → ℕ → Position
-pos bs i = position_in (lines (chars bs)) i
+abbrev pub pos : PositionEncoding → List ℕ → ℕ → Position
+pos encoding bs i = position_in encoding (lines (chars bs)) i
 
 -- the byte offset of the position p in the text bs
-abbrev pub off : List ℕ → Position → ℕ
-off bs p = offset_in (lines (chars bs)) p.line p.character
+abbrev pub off : PositionEncoding → List ℕ → Position → ℕ
+off encoding bs p = offset_in encoding (lines (chars bs)) p.line p.character

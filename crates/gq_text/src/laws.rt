@@ -7,13 +7,13 @@ pub fn lines_are_cuts()
     ensures { LinesAreCuts }
 {}
 
-/// The position of a place leads back to it, unless it splits a CRLF.
+/// In each encoding, the position of a place leads back to it, unless it splits a CRLF.
 pub fn positions_lead_back()
     ensures { PositionsLeadBack }
 {}
 
-/// The offset of a position never falls as the position rises. So the smaller of the offsets of a range's two ends is that
-/// of the end that stands first.
+/// In each encoding, the offset of a position never falls as the position rises. So the smaller of the offsets of a
+/// range's two ends is that of the end that stands first.
 pub fn offsets_never_fall()
     ensures { OffsetsNeverFall }
 {}

@@ -14,7 +14,7 @@ pub mod text;
 pub use buffer::{Buffer, NoMemory, VecBuffer};
 pub use bytes::Bytes;
 pub use owned::{Items, OwnedText};
-pub use place::{Position, Span};
+pub use place::{Position, PositionEncoding, Span};
 pub use replacement::Replacement;
 pub use scan::{offset_in, position_in, positions_in};
 pub use small::SmallText;

@@ -3,38 +3,44 @@ ghost use Rattle.std.specs.Prelude.{◌≡◌, ℕ, ◌+◌, ◌<◌, ◌≤◌,
 ghost use Rattle.std.specs.List.Sorted.{IsNonDecreasing};
 ghost use Rattle.std.specs.Str.{IsUtf8, IsCharBoundary, continuation_len};
 ghost use Rattle.gq_text.specs.Place.{pos, off};
+ghost use Rattle.gq_text.specs.declared.place.PositionEncoding.TheVariants.{Utf8, Utf16};
 
 use crate::buffer::NoMemory;
 use crate::bytes::Bytes;
-use crate::place::Position;
+use crate::place::{Position, PositionEncoding};
 use std::alloc::Global;
 
 /// The offset in bytes of a position in a text. In the middle of a character it means that character's start, past its
 /// line's content that content's end, and past the last line the text's end (LSP 3.17, "Position").
-pub fn offset_in(text: &str, position: Position) -> usize
-    ensures offset { result ≡ off text.now position }
+pub fn offset_in(encoding: PositionEncoding, text: &str, position: Position) -> usize
+    ensures offset { result ≡ off encoding text.now position }
     ensures boundary { IsCharBoundary text.now result }
 {
-    find_offset(&text, position)
+    find_offset(encoding, &text, position)
 }
 
 /// The position of an offset in bytes of a text.
-pub fn position_in(text: &str, offset: usize) -> Position
+pub fn position_in(encoding: PositionEncoding, text: &str, offset: usize) -> Position
     requires fits { length text.now ≤ 2 ^ 30 }
     requires boundary { IsCharBoundary text.now offset }
-    ensures { result ≡ pos text.now offset }
+    ensures { result ≡ pos encoding text.now offset }
 {
-    find_position(&text, offset)
+    find_position(encoding, &text, offset)
 }
 
 /// The positions of offsets in bytes of a text that never fall, found in one pass over the text.
-pub fn positions_in(alloc: Global, text: &str, offsets: &[usize]) -> Result<Vec<Position>, NoMemory>
+pub fn positions_in(
+    alloc: Global,
+    encoding: PositionEncoding,
+    text: &str,
+    offsets: &[usize],
+) -> Result<Vec<Position>, NoMemory>
     requires fits { length text.now ≤ 2 ^ 30 }
     requires boundaries { All (IsCharBoundary text.now) offsets.now }
     requires ascending { IsNonDecreasing offsets.now }
-    ensures { IfOk result (λ positions. positions.items ≡ map (pos text.now) offsets.now) }
+    ensures { IfOk result (λ positions. positions.items ≡ map (pos encoding text.now) offsets.now) }
 {
-    find_positions(alloc, &text, offsets)
+    find_positions(alloc, encoding, &text, offsets)
 }
 
 /// How many bytes the character takes that begins with this byte.
@@ -52,11 +58,15 @@ fn width_of(lead: u8) -> usize
     }
 }
 
-/// How many UTF-16 code units the character takes that begins with this byte.
-fn units_of(lead: u8) -> u32
-    ensures { result ≡ (if nat_lt lead 240 then 1 else 2) }
+/// How many code units the character takes that begins with this byte.
+fn units_of(encoding: PositionEncoding, lead: u8) -> u32
+    ensures utf8 { encoding ≡ Utf8 → result ≡ continuation_len lead + 1 }
+    ensures utf16 { encoding ≡ Utf16 → result ≡ (if nat_lt lead 240 then 1 else 2) }
 {
-    if lead < 0xf0 { 1 } else { 2 }
+    match encoding {
+        PositionEncoding::Utf8 => width_of(lead) as u32,
+        PositionEncoding::Utf16 => { if lead < 0xf0 { 1 } else { 2 } }
+    }
 }
 
 /// Whether the byte at `at` is the last of its line.
@@ -77,9 +87,13 @@ fn is_last_of_line<B: Bytes>(bytes: &B, at: usize) -> bool
 }
 
 /// The offset of a position.
-pub(crate) fn find_offset<B: Bytes>(bytes: &B, position: Position) -> usize
+pub(crate) fn find_offset<B: Bytes>(
+    encoding: PositionEncoding,
+    bytes: &B,
+    position: Position,
+) -> usize
     requires { IsUtf8 (B.contents bytes.now) }
-    ensures offset { result ≡ off (B.contents bytes.now) position }
+    ensures offset { result ≡ off encoding (B.contents bytes.now) position }
     ensures boundary { IsCharBoundary (B.contents bytes.now) result }
 {
     let len = bytes.len();
@@ -97,7 +111,7 @@ pub(crate) fn find_offset<B: Bytes>(bytes: &B, position: Position) -> usize
     let mut room = position.character;
     'characters: while at < len {
         let lead = bytes.byte(at);
-        let units = units_of(lead);
+        let units = units_of(encoding, lead);
         if lead == b'\n' || lead == b'\r' || units > room {
             return at;
         }
@@ -109,6 +123,7 @@ pub(crate) fn find_offset<B: Bytes>(bytes: &B, position: Position) -> usize
 
 /// The position of an offset, by the position of an earlier one.
 fn position_after<B: Bytes>(
+    encoding: PositionEncoding,
     bytes: &B,
     earlier: usize,
     position: Position,
@@ -116,11 +131,11 @@ fn position_after<B: Bytes>(
 ) -> Position
     requires utf8 { IsUtf8 (B.contents bytes.now) }
     requires fits { length (B.contents bytes.now) ≤ 2 ^ 30 }
-    requires known { position ≡ pos (B.contents bytes.now) earlier }
+    requires known { position ≡ pos encoding (B.contents bytes.now) earlier }
     requires from { IsCharBoundary (B.contents bytes.now) earlier }
     requires boundary { IsCharBoundary (B.contents bytes.now) offset }
     requires ordered { earlier ≤ offset }
-    ensures { result ≡ pos (B.contents bytes.now) offset }
+    ensures { result ≡ pos encoding (B.contents bytes.now) offset }
 {
     let mut at = earlier;
     let mut line = position.line;
@@ -131,7 +146,7 @@ fn position_after<B: Bytes>(
             line += 1;
             character = 0;
         } else if lead != b'\r' {
-            character += units_of(lead);
+            character += units_of(encoding, lead);
         }
         at += width_of(lead);
     }
@@ -145,18 +160,23 @@ const START: Position = Position {
 };
 
 /// The position of an offset.
-pub(crate) fn find_position<B: Bytes>(bytes: &B, offset: usize) -> Position
+pub(crate) fn find_position<B: Bytes>(
+    encoding: PositionEncoding,
+    bytes: &B,
+    offset: usize,
+) -> Position
     requires utf8 { IsUtf8 (B.contents bytes.now) }
     requires fits { length (B.contents bytes.now) ≤ 2 ^ 30 }
     requires boundary { IsCharBoundary (B.contents bytes.now) offset }
-    ensures { result ≡ pos (B.contents bytes.now) offset }
+    ensures { result ≡ pos encoding (B.contents bytes.now) offset }
 {
-    position_after(bytes, 0, START, offset)
+    position_after(encoding, bytes, 0, START, offset)
 }
 
 /// The positions of offsets that never fall, each found from the one before.
 pub(crate) fn find_positions<B: Bytes>(
     alloc: Global,
+    encoding: PositionEncoding,
     bytes: &B,
     offsets: &[usize],
 ) -> Result<Vec<Position>, NoMemory>
@@ -164,13 +184,13 @@ pub(crate) fn find_positions<B: Bytes>(
     requires fits { length (B.contents bytes.now) ≤ 2 ^ 30 }
     requires boundaries { All (IsCharBoundary (B.contents bytes.now)) offsets.now }
     requires ascending { IsNonDecreasing offsets.now }
-    ensures { IfOk result (λ positions. positions.items ≡ map (pos (B.contents bytes.now)) offsets.now) }
+    ensures { IfOk result (λ positions. positions.items ≡ map (pos encoding (B.contents bytes.now)) offsets.now) }
 {
     let mut positions = Vec::with_capacity(alloc, offsets.len())?;
     let mut earlier = 0;
     let mut position = START;
     for offset in offsets {
-        position = position_after(bytes, earlier, position, *offset);
+        position = position_after(encoding, bytes, earlier, position, *offset);
         earlier = *offset;
         positions.push(position)?;
     }

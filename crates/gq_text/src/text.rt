@@ -8,7 +8,7 @@ ghost use Rattle.gq_text.specs.Bytes.{IsText, spliced};
 
 use crate::buffer::{Buffer, NoMemory, VecBuffer};
 use crate::owned::OwnedText;
-use crate::place::{Position, Span};
+use crate::place::{Position, PositionEncoding, Span};
 use crate::scan;
 use std::alloc::Global;
 use std::marker::Model;
@@ -111,28 +111,33 @@ impl<B: Buffer> Text<B> {
 
     /// The offset in bytes of a position. In the middle of a character it means that character's start, past its line's
     /// content that content's end, and past the last line the text's end.
-    pub fn offset_of(&self, position: Position) -> usize
-        ensures offset { result ≡ off self.now position }
+    pub fn offset_of(&self, encoding: PositionEncoding, position: Position) -> usize
+        ensures offset { result ≡ off encoding self.now position }
         ensures boundary { IsCharBoundary self.now result }
     {
-        scan::find_offset(&self.buffer, position)
+        scan::find_offset(encoding, &self.buffer, position)
     }
 
     /// The position of an offset in bytes.
-    pub fn position_of(&self, offset: usize) -> Position
+    pub fn position_of(&self, encoding: PositionEncoding, offset: usize) -> Position
         requires { IsCharBoundary self.now offset }
-        ensures { result ≡ pos self.now offset }
+        ensures { result ≡ pos encoding self.now offset }
     {
-        scan::find_position(&self.buffer, offset)
+        scan::find_position(encoding, &self.buffer, offset)
     }
 
     /// The positions of offsets in bytes that never fall, found in one pass over the text.
-    pub fn positions_of(&self, alloc: Global, offsets: &[usize]) -> Result<Vec<Position>, NoMemory>
+    pub fn positions_of(
+        &self,
+        alloc: Global,
+        encoding: PositionEncoding,
+        offsets: &[usize],
+    ) -> Result<Vec<Position>, NoMemory>
         requires boundaries { All (IsCharBoundary self.now) offsets.now }
         requires ascending { IsNonDecreasing offsets.now }
-        ensures { IfOk result (λ positions. positions.items ≡ map (pos self.now) offsets.now) }
+        ensures { IfOk result (λ positions. positions.items ≡ map (pos encoding self.now) offsets.now) }
     {
-        scan::find_positions(alloc, &self.buffer, offsets)
+        scan::find_positions(alloc, encoding, &self.buffer, offsets)
     }
 
     /// Replaces what stands in the span. An error leaves the text as it was.
@@ -154,9 +159,9 @@ impl<B: Buffer> Text<B> {
     }
 
     /// Makes one change.
-    fn apply(&mut self, change: &Change) -> Result<(), TextError>
-        ensures ok { OnOk result (self.new ≡ after_change self.old change.now) }
-        ensures too_large { (result ≡ Err TextError.TooLarge) ↔ (2 ^ 22 < length (after_change self.old change.now)) }
+    fn apply(&mut self, encoding: PositionEncoding, change: &Change) -> Result<(), TextError>
+        ensures ok { OnOk result (self.new ≡ after_change encoding self.old change.now) }
+        ensures too_large { (result ≡ Err TextError.TooLarge) ↔ (2 ^ 22 < length (after_change encoding self.old change.now)) }
         ensures err { OnErr result (self.new ≡ self.old) }
     {
         match change {
@@ -165,8 +170,8 @@ impl<B: Buffer> Text<B> {
                 self.splice(Span { start: 0, end }, text.as_str())
             }
             Change::Part(range, text) => {
-                let a = self.offset_of(range.start);
-                let b = self.offset_of(range.end);
+                let a = self.offset_of(encoding, range.start);
+                let b = self.offset_of(encoding, range.end);
                 let span = Span {
                     start: a.min(b),
                     end: a.max(b),
@@ -188,30 +193,40 @@ impl<B: Buffer> Text<B> {
 
     /// Makes the changes in order, each in the result of the one before: all of them or none. Several changes are made
     /// in a copy of the text, so `NoMemory` may come before `TooLarge`; one alone is made in place.
-    pub fn apply_changes(&mut self, alloc: Global, changes: &[Change]) -> Result<(), TextError>
-        ensures ok { OnOk result (self.new ≡ after_changes self.old changes.now) }
-        ensures fits { OnOk result (FitEach self.old changes.now) }
-        ensures too_large { result ≡ Err TextError.TooLarge → ¬ FitEach self.old changes.now }
-        ensures too_large_alone { length changes.now ≤ 1 → ¬ FitEach self.old changes.now → result ≡ Err TextError.TooLarge }
+    pub fn apply_changes(
+        &mut self,
+        alloc: Global,
+        encoding: PositionEncoding,
+        changes: &[Change],
+    ) -> Result<(), TextError>
+        ensures ok { OnOk result (self.new ≡ after_changes encoding self.old changes.now) }
+        ensures fits { OnOk result (FitEach encoding self.old changes.now) }
+        ensures too_large { result ≡ Err TextError.TooLarge → ¬ FitEach encoding self.old changes.now }
+        ensures too_large_alone { length changes.now ≤ 1 → ¬ FitEach encoding self.old changes.now → result ≡ Err TextError.TooLarge }
         ensures err { OnErr result (self.new ≡ self.old) }
     {
         match changes {
             [] => Ok(()),
-            [change] => self.apply(change),
-            _ => self.apply_each(alloc, changes),
+            [change] => self.apply(encoding, change),
+            _ => self.apply_each(alloc, encoding, changes),
         }
     }
 
     /// Makes the changes in order, in a copy of the text.
-    fn apply_each(&mut self, alloc: Global, changes: &[Change]) -> Result<(), TextError>
-        ensures ok { OnOk result (self.new ≡ after_changes self.old changes.now) }
-        ensures fits { OnOk result (FitEach self.old changes.now) }
-        ensures too_large { result ≡ Err TextError.TooLarge → ¬ FitEach self.old changes.now }
+    fn apply_each(
+        &mut self,
+        alloc: Global,
+        encoding: PositionEncoding,
+        changes: &[Change],
+    ) -> Result<(), TextError>
+        ensures ok { OnOk result (self.new ≡ after_changes encoding self.old changes.now) }
+        ensures fits { OnOk result (FitEach encoding self.old changes.now) }
+        ensures too_large { result ≡ Err TextError.TooLarge → ¬ FitEach encoding self.old changes.now }
         ensures err { OnErr result (self.new ≡ self.old) }
     {
         let mut copy = self.copy(alloc)?;
         for change in changes {
-            copy.apply(change)?;
+            copy.apply(encoding, change)?;
         }
         *self = copy;
         Ok(())

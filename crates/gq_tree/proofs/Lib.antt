@@ -3,3 +3,4 @@ pub mod Trees
 pub mod NameLemmas
 pub mod ValueLemmas
 pub mod Sameness
+pub mod Crossing

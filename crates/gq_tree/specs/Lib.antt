@@ -4,3 +4,5 @@ pub mod Views
 pub mod Names
 pub mod Same
 pub mod NamedTypes
+pub mod Wrapping
+pub mod Readings

@@ -1,4 +1,4 @@
--- Tests of sameness, places aside: what the code of sameness computes. Public contracts speak of `erase` alone.
+-- Tests of sameness, places aside: what the code of sameness computes. What is proved of whole documents speaks of `erase` alone.
 use Rattle.std.specs.Prelude.{List, [], ◌∷◌, Option, Some, None, Bool, true, false, ◌&&◌, ℕ, nat_eq}
 use Rattle.std.specs.Bool.{beq}
 use Rattle.std.specs.Str.{bytes_eq}

@@ -3,6 +3,7 @@
 
 pub mod laws;
 pub mod names;
+pub mod parsed;
 pub mod same;
 pub mod tree;
 pub mod type_system;
@@ -10,6 +11,7 @@ pub mod types;
 pub mod value;
 
 pub use names::{fragment_names, spread_names};
+pub use parsed::Parsed;
 pub use same::are_same_arguments;
 pub use tree::{
     Definition, Document, Field, Fragment, InlineFragment, Name, Operation, OperationKind,

@@ -16,7 +16,8 @@ pub fn are_same_arguments(a: &[Argument], b: &[Argument]) -> bool
     have_same_arguments(a, b)
 }
 
-fn have_same_text(a: &Name, b: &Name) -> bool
+/// Whether the two names are spelled the same.
+pub fn have_same_text(a: &Name, b: &Name) -> bool
     ensures { result ≡ same_names (name_of a.now) (name_of b.now) }
 {
     a.text.as_str() == b.text.as_str()
@@ -28,9 +29,10 @@ fn have_same_spelling(a: &Literal, b: &Literal) -> bool
     a.text.as_str() == b.text.as_str()
 }
 
+/// Whether the two values are the same, places aside.
 #[cycle(same)]
 #[tactic(auto, using(crate::proofs::Trees::values))]
-fn same_value(a: &Value, b: &Value) -> bool
+pub fn same_value(a: &Value, b: &Value) -> bool
     ensures { result ≡ same_values (value_view a.now) (value_view b.now) }
 {
     match (a, b) {
@@ -99,7 +101,8 @@ fn same_argument(a: &Argument, b: &Argument) -> bool
     same_value(&a.value, &b.value)
 }
 
-fn have_same_arguments(a: &[Argument], b: &[Argument]) -> bool
+/// What `are_same_arguments` decides, by the test of each argument with the one at its place in the other list.
+pub fn have_same_arguments(a: &[Argument], b: &[Argument]) -> bool
     ensures { result ≡ all_same same_values (map argument_view a.now) (map argument_view b.now) }
 {
     if a.len() != b.len() {

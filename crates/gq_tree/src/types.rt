@@ -1,7 +1,9 @@
 //! Type references (GraphQL, October 2021, section 2.11).
 ghost use Rattle.std.specs.Prelude.{◌≡◌};
+ghost use Rattle.std.specs.Option.{option_map};
 ghost use Rattle.gq_tree.specs.NamedTypes.{named_type, base_name};
 ghost use Rattle.gq_tree.specs.Views.{name_of, type_view};
+ghost use Rattle.gq_tree.specs.Wrapping.{is_non_null, item_of};
 
 use crate::tree::Name;
 
@@ -11,6 +13,32 @@ pub enum TypeRef {
     Named(Name),
     List(Box<TypeRef>),
     NonNull(Box<TypeRef>),
+}
+
+impl TypeRef {
+    /// Whether it is a type without null (section 3.12).
+    #[tactic(auto, using(crate::proofs::Trees::types))]
+    pub fn is_non_null(&self) -> bool
+        ensures { result ≡ is_non_null (type_view self.now) }
+    {
+        match self {
+            TypeRef::Named(_) => false,
+            TypeRef::List(_) => false,
+            TypeRef::NonNull(_) => true,
+        }
+    }
+
+    /// The type of the items of a list, which may be without null; `None` for any other type (section 3.11).
+    #[tactic(auto, using(crate::proofs::Trees::types))]
+    pub fn item_type(&self) -> Option<&TypeRef>
+        ensures { option_map (λ item. type_view item.now) result ≡ item_of (type_view self.now) }
+    {
+        match self {
+            TypeRef::Named(_) => None,
+            TypeRef::List(item) => Some(item),
+            TypeRef::NonNull(inner) => inner.item_type(),
+        }
+    }
 }
 
 /// The name inside lists and types without null (section 3.4.1).

@@ -1,5 +1,8 @@
 //! Values (GraphQL, October 2021, section 2.9), and what holds them: arguments and directives. Spans are in bytes of
 //! the text.
+ghost use Rattle.std.specs.Prelude.{◌≡◌};
+ghost use Rattle.gq_tree.specs.Views.{value_view};
+ghost use Rattle.gq_tree.specs.Wrapping.{is_null};
 
 use crate::tree::Name;
 use gq_text::{SmallText, Span};
@@ -43,6 +46,26 @@ pub enum Value {
         fields: Vec<ObjectField>,
         span: Span,
     },
+}
+
+impl Value {
+    /// Whether it is the literal null (section 2.9.5).
+    #[tactic(auto, using(crate::proofs::Trees::values))]
+    pub fn is_null(&self) -> bool
+        ensures { result ≡ is_null (value_view self.now).label.says }
+    {
+        match self {
+            Value::Variable(_) => false,
+            Value::Int(_) => false,
+            Value::Float(_) => false,
+            Value::String(_) => false,
+            Value::Boolean { .. } => false,
+            Value::Null { .. } => true,
+            Value::Enum(_) => false,
+            Value::List { .. } => false,
+            Value::Object { .. } => false,
+        }
+    }
 }
 
 /// A field of an input object value (section 2.9.8).

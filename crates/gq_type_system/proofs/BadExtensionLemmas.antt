@@ -2,13 +2,13 @@
 use Rattle.std.proofs.Common.{◌≡◌, true, false, List, ◌↔◌, Contains, sym, refl, subst}
 use Rattle.std.specs.Option.{option_map_or}
 use Rattle.gq_text.specs.declared.place.Span.{Span}
-use Rattle.gq_found.specs.declared.code.Code.TheVariants.{BadExtension}
-use Rattle.gq_found.specs.declared.fault.Fault.{Fault}
+use Rattle.gq_fault.specs.declared.code.Code.TheVariants.{BadExtension}
+use Rattle.gq_fault.specs.declared.fault.Fault.{Fault}
 use Rattle.gq_tree.specs.Plain.{TypeSystemOf, schema, type_definition, directive_definition}
 use Rattle.gq_types.specs.Entries.{EntryOf, Numbered}
 use Rattle.gq_types.specs.Kinds.{kind_of, same_kind}
 use Rattle.gq_types.specs.Joined.{kind_named, judged}
-use Rattle.gq_found.specs.FaultPlaces.{fault_at}
+use Rattle.gq_fault.specs.FaultPlaces.{fault_at}
 use Rattle.gq_type_system.specs.BadExtension.{IsBadExtension}
 use Rattle.gq_type_system.specs.Helping.BadExtensionPlaces.{bad_extension, bad_extension_at, bad_extensions}
 use Rattle.gq_names.proofs.RepeatLemmas.{contains_none}

@@ -5,7 +5,7 @@ use Rattle.std.specs.List.{list_any}
 use Rattle.std.specs.Option.{option_map_or}
 use Rattle.std.proofs.lemmas.List.{length-map}
 use Rattle.gq_text.specs.declared.place.Span.{Span}
-use Rattle.gq_reach.specs.Reach.{row, InRange, LeadsBack}
+use Rattle.gq_graph.specs.Reach.{row, InRange, LeadsBack}
 use Rattle.gq_tree.specs.Plain.{InputOf}
 use Rattle.gq_types.specs.Entries.{Text, EntryOf}
 use Rattle.gq_types.specs.Joined.{type_number}

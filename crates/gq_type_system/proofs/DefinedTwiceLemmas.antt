@@ -3,13 +3,13 @@ use Rattle.std.proofs.Common.{◌≡◌, ℕ, ◌≤◌, Bool, true, false, List
 use Rattle.std.proofs.lemmas.Bool.{ltb-true}
 use Rattle.std.proofs.lemmas.Slice.Eq.{bytes_eq-Decides}
 use Rattle.gq_text.specs.declared.place.Span.{Span}
-use Rattle.gq_found.specs.declared.code.Code.TheVariants.{DefinedTwice}
-use Rattle.gq_found.specs.declared.fault.Fault.{Fault}
+use Rattle.gq_fault.specs.declared.code.Code.TheVariants.{DefinedTwice}
+use Rattle.gq_fault.specs.declared.fault.Fault.{Fault}
 use Rattle.gq_tree.specs.Plain.{TypeSystemOf, schema, type_definition, directive_definition}
 use Rattle.gq_types.specs.Entries.{EntryOf, Numbered, numbered}
 use Rattle.gq_types.specs.BuiltIn.{defines_built_in}
 use Rattle.gq_types.specs.Joined.{is_type_named, is_directive_named, is_schema, judged}
-use Rattle.gq_found.specs.FaultPlaces.{fault_over}
+use Rattle.gq_fault.specs.FaultPlaces.{fault_over}
 use Rattle.gq_type_system.specs.DefinedTwice.{Defined, a_type, a_directive, the_schema, defined_by, definition_place, IsDefinedTwice}
 use Rattle.gq_type_system.specs.DefinedTwicePlaces.{is_before, is_defined_before, defined_twice_at, all_defined_twice}
 use Rattle.gq_type_system.proofs.NumberLemmas.{from_before, to_before, stands_at_number}

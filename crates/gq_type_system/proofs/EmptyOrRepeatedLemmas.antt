@@ -2,8 +2,8 @@
 use Rattle.std.proofs.Common.{◌≡◌, suc, ◌+◌, true, false, List, [], ◌∷◌, ◌++◌, Option, Some, None, ◌⊎◌, inl, inr, ◌↔◌, Contains, sym, ap, refl, subst, arith, length, eqb-true}
 use Rattle.std.proofs.lemmas.List.Elements.{Contains-append_left, Contains-append_right, Contains-append_cases}
 use Rattle.gq_text.specs.declared.place.Span.{Span}
-use Rattle.gq_found.specs.declared.code.Code.TheVariants.{EmptyOrRepeated}
-use Rattle.gq_found.specs.declared.fault.Fault.{Fault}
+use Rattle.gq_fault.specs.declared.code.Code.TheVariants.{EmptyOrRepeated}
+use Rattle.gq_fault.specs.declared.fault.Fault.{Fault}
 use Rattle.gq_names.specs.Repeats.{repeated}
 use Rattle.gq_names.proofs.RepeatLemmas.{contains_none, repeated_is}
 use Rattle.gq_tree.specs.Plain.{NameOf, DirectiveOf, BodyOf, TypeSystemOf, schema, type_definition, directive_definition}
@@ -11,7 +11,7 @@ use Rattle.gq_type_system.specs.declared.parts.Part.{Part}
 use Rattle.gq_type_system.specs.declared.parts.Part.TheVariants.{Fields, Interfaces, Members, Values, InputFields}
 use Rattle.gq_types.specs.Entries.{EntryOf, Numbered}
 use Rattle.gq_types.specs.Joined.{judged}
-use Rattle.gq_found.specs.FaultPlaces.{fault_at}
+use Rattle.gq_fault.specs.FaultPlaces.{fault_at}
 use Rattle.gq_type_system.specs.Parts.{part_names, required_part}
 use Rattle.gq_type_system.specs.EmptyOrRepeated.{IsEmptyType, IsRepeatedPart, IsRepeatedArgument, argument_lists}
 use Rattle.gq_type_system.specs.Helping.EmptyOrRepeatedPlaces.{is_nothing, empty_part, empty_type, empty_type_at, empty_types, repeated_fault, repeated_part, repeated_parts_of, repeated_parts, all_parts, repeated_argument, repeated_arguments_in, repeated_arguments_at, repeated_arguments, empty_or_repeated}

@@ -2,15 +2,15 @@
 use Rattle.std.proofs.Common.{◌≡◌, ℕ, Bool, true, false, ◌||◌, if◌then◌else◌, List, [], ◌++◌, not, refl, ap, sym, ◌∙◌, subst, Contains, ◌⊎◌, ⊎_elim, inl, inr, Option, Some, None, nat_eq, eqb-true, eq-eqb}
 use Rattle.std.specs.Prelude.{slice_index_or}
 use Rattle.gq_text.specs.declared.place.Span.{Span}
-use Rattle.gq_found.specs.declared.code.Code.TheVariants.{EndlessInput}
-use Rattle.gq_found.specs.declared.fault.Fault.{Fault}
+use Rattle.gq_fault.specs.declared.code.Code.TheVariants.{EndlessInput}
+use Rattle.gq_fault.specs.declared.fault.Fault.{Fault}
 use Rattle.gq_tree.specs.Plain.{NameOf, scalar_type, object_type, interface_type, union_type, enum_type, input_type, TypeSystemOf, schema, type_definition, directive_definition}
 use Rattle.gq_types.specs.Entries.{Text, EntryOf, Numbered, numbered}
 use Rattle.gq_types.specs.BuiltIn.{defines_built_in}
 use Rattle.gq_types.specs.Joined.{type_number}
-use Rattle.gq_found.specs.FaultPlaces.{fault_at}
+use Rattle.gq_fault.specs.FaultPlaces.{fault_at}
 use Rattle.gq_type_system.specs.EndlessInputs.{IsEndless, by_non_null, by_default, input_object_in, IsEndlessInput}
-use Rattle.gq_found.specs.Adds.{AddsExactly}
+use Rattle.gq_fault.specs.Adds.{AddsExactly}
 use Rattle.gq_type_system.specs.Helping.EndlessInputsPlaces.{MarksNonNull, MarksByDefault, fault_if, is_number, endless_named, endless_input, endless_inputs}
 use Rattle.gq_type_system.proofs.Gathered.{in_only}
 use Rattle.gq_types.proofs.Gathered.{nothing_in as in_none, first as in_first, from_flat, to_flat, from_filter, to_filter}

@@ -3,7 +3,7 @@ use Rattle.std.proofs.Common.{◌≡◌, ℕ, zero, suc, ◌+◌, ◌<◌, List,
 use Rattle.std.specs.Prelude.{slice_get}
 use Rattle.std.proofs.lemmas.List.{at_drop_more, length-map}
 use Rattle.std.proofs.lemmas.List.Elements.{Contains-get_or}
-use Rattle.gq_reach.specs.Reach.{row, InRange}
+use Rattle.gq_graph.specs.Reach.{row, InRange}
 use Rattle.gq_types.specs.Entries.{EntryOf, Numbered, numbered_from, numbered, entry_view, entries_view}
 use Rattle.gq_types.specs.declared.entry.Entry.{Entry}
 use Rattle.gq_type_system.specs.Helping.EndlessInputsPlaces.{row_items}

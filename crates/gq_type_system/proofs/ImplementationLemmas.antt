@@ -5,8 +5,8 @@ use Rattle.std.specs.Option.{option_map_or}
 use Rattle.std.specs.Str.{bytes_eq}
 use Rattle.std.specs.Cmp.Lexicographic.{bytes_decides}
 use Rattle.gq_text.specs.declared.place.Span.{Span}
-use Rattle.gq_found.specs.declared.code.Code.TheVariants.{BadImplementation}
-use Rattle.gq_found.specs.declared.fault.Fault.{Fault}
+use Rattle.gq_fault.specs.declared.code.Code.TheVariants.{BadImplementation}
+use Rattle.gq_fault.specs.declared.fault.Fault.{Fault}
 use Rattle.gq_tree.specs.Plain.{NameOf, DirectiveOf, InputOf, FieldDefinitionOf, BodyOf, scalar_type, object_type, interface_type, union_type, enum_type, input_type, TypeSystemOf, schema, type_definition, directive_definition}
 use Rattle.gq_tree.specs.Same.{same_types}
 use Rattle.gq_tree.proofs.Sameness.{types_decide}
@@ -15,7 +15,7 @@ use Rattle.gq_types.specs.BuiltIn.{defines_built_in}
 use Rattle.gq_types.specs.Entries.{Text, EntryOf, Numbered, numbered}
 use Rattle.gq_type_system.specs.Implementations.{Implements, Inherits, BreaksField, has_no_subtype, lacks_argument, has_other_type, requires_argument, BreaksImplementation, declares_itself, lacks_interface, lacks_field, breaks_field, IsBadImplementation}
 use Rattle.gq_type_system.specs.Helping.ImplementationsPlaces.{breaks_argument, breaks_argument_named, breaks_arguments, requires_named, requires_further, breaks_own_field, breaks_inherited, breaks_field_named, breaks_fields, lacks_further, lacks_interfaces, breaks_interface_at, breaks_interface, breaks_implementation, told_of, bad_implementation, bad_implementation_at, bad_implementations}
-use Rattle.gq_found.specs.FaultPlaces.{fault_at}
+use Rattle.gq_fault.specs.FaultPlaces.{fault_at}
 use Rattle.gq_types.specs.Joined.{In, type_number, judged, fields_in_body, interfaces_in_body, fields_of, interfaces_of}
 use Rattle.gq_types.specs.Kinds.{kind_of}
 use Rattle.gq_types.specs.LookUps.{has_kind, field_in, declares_in}

@@ -2,7 +2,7 @@
 use Rattle.std.proofs.Common.{◌≡◌, List, Option, Some, None, ◌↔◌, Contains, sym, refl, subst}
 use Rattle.std.specs.List.{list_any}
 use Rattle.std.proofs.lemmas.List.Folds.{Any-from_list_any, list_any-from_Any}
-use Rattle.gq_found.specs.declared.fault.Fault.{Fault}
+use Rattle.gq_fault.specs.declared.fault.Fault.{Fault}
 use Rattle.gq_tree.specs.declared.tree.OperationKind.TheVariants.{Query}
 use Rattle.gq_names.proofs.RepeatLemmas.{contains_none}
 use Rattle.gq_types.specs.Entries.{Text, EntryOf}

@@ -7,7 +7,7 @@ use Rattle.std.specs.Cmp.Lexicographic.{bytes_decides}
 use Rattle.std.proofs.lemmas.List.{length-map}
 use Rattle.std.proofs.lemmas.List.Quantifiers.{position-Some}
 use Rattle.gq_text.specs.declared.place.Span.{Span}
-use Rattle.gq_reach.specs.Reach.{row, InRange, LeadsBack}
+use Rattle.gq_graph.specs.Reach.{row, InRange, LeadsBack}
 use Rattle.gq_tree.specs.Plain.{NameOf, TypeOf, named, list_of, non_null, InputOf, TypeSystemOf, schema, type_definition, directive_definition}
 use Rattle.gq_types.specs.Entries.{Text, EntryOf, numbered}
 use Rattle.gq_types.specs.Joined.{In, type_number, is_type_named, inputs_of, parts_in, inputs_in_body, body_in, joined, owner}

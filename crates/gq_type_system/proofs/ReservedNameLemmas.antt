@@ -4,12 +4,12 @@ use Rattle.std.specs.List.{starts_with}
 use Rattle.std.proofs.lemmas.Bool.Decides.{Decides-eqb}
 use Rattle.std.proofs.lemmas.Slice.Eq.{starts_is}
 use Rattle.gq_text.specs.declared.place.Span.{Span}
-use Rattle.gq_found.specs.declared.code.Code.TheVariants.{ReservedName}
-use Rattle.gq_found.specs.declared.fault.Fault.{Fault}
+use Rattle.gq_fault.specs.declared.code.Code.TheVariants.{ReservedName}
+use Rattle.gq_fault.specs.declared.fault.Fault.{Fault}
 use Rattle.gq_tree.specs.Plain.{NameOf}
 use Rattle.gq_types.specs.Entries.{EntryOf, Numbered}
 use Rattle.gq_types.specs.Joined.{judged}
-use Rattle.gq_found.specs.FaultPlaces.{fault_at}
+use Rattle.gq_fault.specs.FaultPlaces.{fault_at}
 use Rattle.gq_type_system.specs.Uses.{defined_names}
 use Rattle.gq_type_system.specs.ReservedName.{IsReservedName}
 use Rattle.gq_type_system.specs.Helping.ReservedNamePlaces.{reserved_name, reserved_names_at, reserved_names}

@@ -3,8 +3,8 @@ use Rattle.std.proofs.Common.{◌≡◌, ℕ, zero, suc, ◌+◌, ◌≤◌, Boo
 use Rattle.std.proofs.lemmas.Bool.{ltb-true, ltb-false}
 use Rattle.std.proofs.lemmas.List.Elements.{Contains-append_left, Contains-append_right, Contains-append_cases}
 use Rattle.gq_text.specs.declared.place.Span.{Span}
-use Rattle.gq_found.specs.declared.code.Code.TheVariants.{EmptyOrRepeated, WrongKindOfType}
-use Rattle.gq_found.specs.declared.fault.Fault.{Fault}
+use Rattle.gq_fault.specs.declared.code.Code.TheVariants.{EmptyOrRepeated, WrongKindOfType}
+use Rattle.gq_fault.specs.declared.fault.Fault.{Fault}
 use Rattle.gq_names.specs.Repeats.{StandsAt}
 use Rattle.gq_names.proofs.RepeatLemmas.{contains_none, contains_first}
 use Rattle.gq_tree.specs.Plain.{RootOf}
@@ -13,7 +13,7 @@ use Rattle.gq_types.specs.declared.entry.TypeKind.TheVariants as kind
 use Rattle.gq_types.specs.Entries.{Text, EntryOf}
 use Rattle.gq_types.specs.Kinds.{same_kind}
 use Rattle.gq_types.specs.Joined.{In, kind_named}
-use Rattle.gq_found.specs.FaultPlaces.{fault_at}
+use Rattle.gq_fault.specs.FaultPlaces.{fault_at}
 use Rattle.gq_types.specs.Roots.{roots_of}
 use Rattle.gq_type_system.specs.Helping.Walk.{at_each_number}
 use Rattle.gq_type_system.specs.RootTypes.{IsFirstRoot, IsRepeatedRoot, IsNoObject, IsSharedRoot}

@@ -1,9 +1,9 @@
 -- What the rules put is what is wrong.
 use Rattle.std.proofs.Common.{◌≡◌, List, ◌++◌, Contains, subst, sym, ap, ◌∙◌, ⊎_elim, inl, inr, ◌↔◌, ◌⊎◌}
 use Rattle.std.proofs.lemmas.List.Elements.{Contains-append_left, Contains-append_right, Contains-append_cases}
-use Rattle.gq_found.specs.declared.fault.Fault.{Fault}
+use Rattle.gq_fault.specs.declared.fault.Fault.{Fault}
 use Rattle.gq_types.specs.Entries.{EntryOf}
-use Rattle.gq_found.specs.Adds.{AddsExactly}
+use Rattle.gq_fault.specs.Adds.{AddsExactly}
 use Rattle.gq_type_system.specs.DefinedTwicePlaces.{all_defined_twice}
 use Rattle.gq_type_system.specs.Helping.BadExtensionPlaces.{bad_extensions}
 use Rattle.gq_type_system.specs.Helping.ReservedNamePlaces.{reserved_names}

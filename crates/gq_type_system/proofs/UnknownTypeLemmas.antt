@@ -1,10 +1,10 @@
 -- What is told of unknown types is what the relation says.
 use Rattle.std.proofs.Common.{List, ◌↔◌, Contains, is_none, ap}
-use Rattle.gq_found.specs.declared.code.Code.TheVariants.{UnknownType}
-use Rattle.gq_found.specs.declared.fault.Fault.{Fault}
+use Rattle.gq_fault.specs.declared.code.Code.TheVariants.{UnknownType}
+use Rattle.gq_fault.specs.declared.fault.Fault.{Fault}
 use Rattle.gq_types.specs.Entries.{EntryOf, Numbered}
 use Rattle.gq_types.specs.Joined.{kind_named, judged}
-use Rattle.gq_found.specs.FaultPlaces.{fault_at}
+use Rattle.gq_fault.specs.FaultPlaces.{fault_at}
 use Rattle.gq_type_system.specs.Uses.{UseOf, used_types}
 use Rattle.gq_type_system.specs.UnknownType.{IsUnknownType}
 use Rattle.gq_type_system.specs.Helping.UnknownTypePlaces.{unknown_type, unknown_types_at, unknown_types}

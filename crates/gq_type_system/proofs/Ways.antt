@@ -1,6 +1,6 @@
 -- Ways of one step or more, carried from one naming of what they lead over to another.
 use Rattle.std.proofs.Common.{◌≡◌, ℕ, List, Contains, subst, ◌↔◌}
-use Rattle.gq_reach.specs.Reach.{Reach, LeadsBack, start, step as reach_step}
+use Rattle.gq_graph.specs.Reach.{Reach, LeadsBack, start, step as reach_step}
 use Rattle.gq_type_system.specs.EndlessInputs.{Way, step, further}
 
 module _ {V : Type 0} (Graph : V → V → Type 0) where

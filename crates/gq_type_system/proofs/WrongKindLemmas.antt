@@ -1,11 +1,11 @@
 -- What is told of types of wrong kinds is what the relation says.
 use Rattle.std.proofs.Common.{true, List, ◌↔◌, Contains, ap, ◌∙◌}
 use Rattle.std.specs.Option.{option_map_or}
-use Rattle.gq_found.specs.declared.code.Code.TheVariants.{WrongKindOfType}
-use Rattle.gq_found.specs.declared.fault.Fault.{Fault}
+use Rattle.gq_fault.specs.declared.code.Code.TheVariants.{WrongKindOfType}
+use Rattle.gq_fault.specs.declared.fault.Fault.{Fault}
 use Rattle.gq_types.specs.Entries.{EntryOf, Numbered}
 use Rattle.gq_types.specs.Joined.{kind_named, judged}
-use Rattle.gq_found.specs.FaultPlaces.{fault_at}
+use Rattle.gq_fault.specs.FaultPlaces.{fault_at}
 use Rattle.gq_type_system.specs.Uses.{UseOf, used_types}
 use Rattle.gq_type_system.specs.WrongKind.{suits, IsWrongKind}
 use Rattle.gq_type_system.specs.Helping.WrongKindPlaces.{wrong_kind, wrong_kinds_at, wrong_kinds}

@@ -4,8 +4,8 @@
 use Rattle.std.specs.Prelude.{◌≡◌, List, [], ◌∷◌, ◌++◌, Option, Some, None, Contains, map, flat_map}
 use Rattle.std.specs.Option.{option_map_or}
 use Rattle.gq_text.specs.declared.place.Span.{Span}
-use Rattle.gq_found.specs.declared.code.Code.TheVariants.{BadDirectiveOrDefault}
-use Rattle.gq_found.specs.declared.fault.Fault.{Fault}
+use Rattle.gq_fault.specs.declared.code.Code.TheVariants.{BadDirectiveOrDefault}
+use Rattle.gq_fault.specs.declared.fault.Fault.{Fault}
 use Rattle.gq_tree.specs.declared.type_system.DirectiveLocation.{DirectiveLocation}
 use Rattle.gq_tree.specs.declared.type_system.DirectiveLocation.TheVariants as location
 use Rattle.gq_tree.specs.Plain.{Val, DirectiveOf, InputOf, FieldDefinitionOf, EnumValueOf, BodyOf, scalar_type, object_type, interface_type, union_type, enum_type, input_type, TypeSystemOf, schema, type_definition, directive_definition}

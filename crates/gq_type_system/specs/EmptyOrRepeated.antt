@@ -2,14 +2,14 @@
 -- or of a directive have one name (sections 3.6.1 and 3.13). Extensions count with the type that they extend.
 use Rattle.std.specs.Prelude.{◌≡◌, ℕ, ◌<◌, false, List, [], ◌∷◌, Option, Some, Contains, length, map}
 use Rattle.gq_text.specs.declared.place.Span.{Span}
-use Rattle.gq_found.specs.declared.code.Code.TheVariants.{EmptyOrRepeated}
-use Rattle.gq_found.specs.declared.fault.Fault.{Fault}
+use Rattle.gq_fault.specs.declared.code.Code.TheVariants.{EmptyOrRepeated}
+use Rattle.gq_fault.specs.declared.fault.Fault.{Fault}
 use Rattle.gq_names.specs.Repeats.{IsRepeated}
 use Rattle.gq_tree.specs.Plain.{NameOf, DirectiveOf, InputOf, BodyOf, TypeSystemOf, schema, type_definition, directive_definition}
 use Rattle.gq_type_system.specs.declared.parts.Part.{Part}
 use Rattle.gq_types.specs.Entries.{EntryOf, Numbered}
 use Rattle.gq_types.specs.Joined.{In, judged, fields_in_body}
-use Rattle.gq_found.specs.FaultPlaces.{fault_at}
+use Rattle.gq_fault.specs.FaultPlaces.{fault_at}
 use Rattle.gq_type_system.specs.Parts.{part_names, required_part}
 
 -- a type that is defined and has no part of the kind that it must have

@@ -1,8 +1,8 @@
 -- A schema has a root type for queries (section 3.3.1).
 use Rattle.std.specs.Prelude.{◌≡◌, ◌≢◌, List, None, Contains}
 use Rattle.gq_text.specs.declared.place.Span.{Span}
-use Rattle.gq_found.specs.declared.code.Code.TheVariants.{NoQueryRoot}
-use Rattle.gq_found.specs.declared.fault.Fault.{Fault}
+use Rattle.gq_fault.specs.declared.code.Code.TheVariants.{NoQueryRoot}
+use Rattle.gq_fault.specs.declared.fault.Fault.{Fault}
 use Rattle.gq_tree.specs.declared.tree.OperationKind.TheVariants.{Query}
 use Rattle.gq_tree.specs.Plain.{RootOf}
 use Rattle.gq_types.specs.Entries.{EntryOf}

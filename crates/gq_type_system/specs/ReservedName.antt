@@ -1,12 +1,12 @@
 -- Names that begin with two underscores are reserved for introspection (section 3.3, "Reserved names"; section 4.3).
 use Rattle.std.specs.Prelude.{◌≡◌, List, ◌++◌, Contains, codes}
 use Rattle.gq_text.specs.declared.place.Span.{Span}
-use Rattle.gq_found.specs.declared.code.Code.TheVariants.{ReservedName}
-use Rattle.gq_found.specs.declared.fault.Fault.{Fault}
+use Rattle.gq_fault.specs.declared.code.Code.TheVariants.{ReservedName}
+use Rattle.gq_fault.specs.declared.fault.Fault.{Fault}
 use Rattle.gq_tree.specs.Plain.{NameOf}
 use Rattle.gq_types.specs.Entries.{Text, EntryOf, Numbered}
 use Rattle.gq_types.specs.Joined.{judged}
-use Rattle.gq_found.specs.FaultPlaces.{fault_at}
+use Rattle.gq_fault.specs.FaultPlaces.{fault_at}
 use Rattle.gq_type_system.specs.Uses.{defined_names}
 
 -- a name that is defined and begins so

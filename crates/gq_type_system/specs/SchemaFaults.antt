@@ -1,6 +1,6 @@
 -- What is wrong with a type system: each fault that a rule demands, one case a rule (section 3).
 use Rattle.std.specs.Prelude.{List}
-use Rattle.gq_found.specs.declared.fault.Fault.{Fault}
+use Rattle.gq_fault.specs.declared.fault.Fault.{Fault}
 use Rattle.gq_types.specs.Entries.{EntryOf}
 use Rattle.gq_type_system.specs.DefinedTwice.{IsDefinedTwice}
 use Rattle.gq_type_system.specs.BadExtension.{IsBadExtension}

@@ -1,10 +1,10 @@
 -- A type that is named must be defined (section 3.4.1; for extensions and roots sections 3.3.1, 3.6 to 3.10).
 use Rattle.std.specs.Prelude.{◌≡◌, List, None, Contains}
-use Rattle.gq_found.specs.declared.code.Code.TheVariants.{UnknownType}
-use Rattle.gq_found.specs.declared.fault.Fault.{Fault}
+use Rattle.gq_fault.specs.declared.code.Code.TheVariants.{UnknownType}
+use Rattle.gq_fault.specs.declared.fault.Fault.{Fault}
 use Rattle.gq_types.specs.Entries.{EntryOf, Numbered}
 use Rattle.gq_types.specs.Joined.{kind_named, judged}
-use Rattle.gq_found.specs.FaultPlaces.{fault_at}
+use Rattle.gq_fault.specs.FaultPlaces.{fault_at}
 use Rattle.gq_type_system.specs.Uses.{UseOf, used_types}
 
 -- a name of a type that nothing defines

@@ -2,8 +2,8 @@
 -- field an input type (section 3.4.2), a member of a union is an object type (section 3.8), and what is implemented is an
 -- interface (sections 3.6 and 3.7).
 use Rattle.std.specs.Prelude.{◌≡◌, Bool, true, false, List, Some, Contains}
-use Rattle.gq_found.specs.declared.code.Code.TheVariants.{WrongKindOfType}
-use Rattle.gq_found.specs.declared.fault.Fault.{Fault}
+use Rattle.gq_fault.specs.declared.code.Code.TheVariants.{WrongKindOfType}
+use Rattle.gq_fault.specs.declared.fault.Fault.{Fault}
 use Rattle.gq_types.specs.declared.entry.TypeKind.{TypeKind}
 use Rattle.gq_types.specs.declared.entry.TypeKind.TheVariants as kind
 use Rattle.gq_type_system.specs.declared.uses.Wants.{Wants}
@@ -11,7 +11,7 @@ use Rattle.gq_type_system.specs.declared.uses.Wants.TheVariants.{OutputType, Inp
 use Rattle.gq_types.specs.Entries.{EntryOf, Numbered}
 use Rattle.gq_types.specs.Kinds.{is_input, is_output, same_kind}
 use Rattle.gq_types.specs.Joined.{kind_named, judged}
-use Rattle.gq_found.specs.FaultPlaces.{fault_at}
+use Rattle.gq_fault.specs.FaultPlaces.{fault_at}
 use Rattle.gq_type_system.specs.Uses.{UseOf, used_types}
 
 -- The types of root operations are judged by a rule of their own.

@@ -5,7 +5,7 @@ ghost use Rattle.gq_type_system.specs.Helping.BadExtensionPlaces.{bad_extension,
 ghost use Rattle.gq_types.specs.Look.{types_view};
 
 use crate::judged::is_judged;
-use gq_found::{Code, Fault};
+use gq_fault::{Code, Fault};
 use gq_text::NoMemory;
 use gq_tree::TypeSystemDefinition;
 use gq_types::{Entry, TypeKind, Types};

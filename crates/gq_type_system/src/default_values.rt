@@ -1,32 +1,19 @@
 //! The types one of whose input fields leads back to itself by default values (section 3.10).
 ghost use Rattle.std.specs.Prelude.{◌≡◌, ◌++◌, map, flat_map, IfOk, OnOk};
 ghost use Rattle.gq_tree.specs.Views.{type_view, value_view, values_view, entries_view};
-ghost use Rattle.gq_values.specs.Literals.{items_of_type};
-ghost use Rattle.gq_type_system.specs.Helping.DefaultValuesPlaces.{field_view, fields_view, type_in, type_at, field_type, keys_in, has_default, numbers_of, absent_number, absent_numbers, absent_in, below_of, gathered, gathered_of, field_leads, any_marked};
+ghost use Rattle.gq_type_system.specs.Helping.DefaultValuesPlaces.{field_view, fields_view, type_at, field_type, keys_in, has_default, numbers_of, absent_number, absent_numbers, absent_in, below_of, gathered, gathered_of, field_leads, any_marked};
 ghost use Rattle.gq_type_system.specs.Helping.EndlessInputsPlaces.{MarksByDefault, row_items};
 ghost use Rattle.gq_types.specs.Look.{types_view, text_of};
 
 use crate::input_fields::{Field, InputFields, input_fields};
 use crate::marks::is_marked;
+use gq_graph::on_cycles;
 use gq_names::NameList;
-use gq_reach::on_cycles;
 use gq_text::NoMemory;
 use gq_tree::{ObjectField, TypeRef, Value};
 use gq_types::Types;
 use gq_values::expected_type::input_object_at;
 use std::alloc::Global;
-
-/// The type of the items of a list literal at that type.
-#[tactic(auto, using(gq_tree::proofs::Trees::types))]
-fn item_type(type_ref: &TypeRef) -> Option<&TypeRef>
-    ensures { type_at result ≡ type_in (items_of_type (type_view type_ref.now)) }
-{
-    match type_ref {
-        TypeRef::Named(_) => None,
-        TypeRef::List(item) => Some(item),
-        TypeRef::NonNull(inner) => item_type(inner),
-    }
-}
 
 /// The type of the field of that name of an input object.
 fn field_type<'a>(types: &'a Types, type_name: Option<&str>, name: &str) -> Option<&'a TypeRef>
@@ -171,7 +158,7 @@ fn put_items(
 ) -> Result<(), NoMemory>
     ensures { OnOk result (row.new.items ≡ row.old.items ++ gathered (types_view types.now) (absent_in (types_view types.now) all.now) (below_of (types_view types.now) (type_view expected.now)) (values_view items.now)) }
 {
-    let item = item_type(expected);
+    let item = expected.item_type();
     for value in items {
         put_value(alloc, types, all, value, item, row)?;
     }

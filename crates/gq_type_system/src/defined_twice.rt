@@ -7,7 +7,7 @@ ghost use Rattle.gq_types.specs.Entries.{entry_view};
 ghost use Rattle.gq_types.specs.Look.{types_view};
 
 use crate::judged::is_judged;
-use gq_found::{Code, Fault};
+use gq_fault::{Code, Fault};
 use gq_text::{NoMemory, Span};
 use gq_tree::TypeSystemDefinition;
 use gq_types::{Entry, Types};

@@ -10,7 +10,7 @@ ghost use Rattle.gq_type_system.specs.Helping.DirectivesAndDefaultsPlaces.{site_
 
 use crate::directive_sites::{DirectiveSite, own_site, put_inputs, put_sites};
 use crate::judged::is_judged;
-use gq_found::{Code, Fault};
+use gq_fault::{Code, Fault};
 use gq_names::NameList;
 use gq_text::NoMemory;
 use gq_tree::{Directive, InputValueDefinition};

@@ -7,7 +7,7 @@ ghost use Rattle.gq_types.specs.Look.{types_view};
 
 use crate::judged::is_judged;
 use crate::parts::{NameIn, Part, fields_in, part_names};
-use gq_found::{Code, Fault};
+use gq_fault::{Code, Fault};
 use gq_names::NameList;
 use gq_text::NoMemory;
 use gq_tree::{FieldDefinition, InputValueDefinition, TypeSystemDefinition};

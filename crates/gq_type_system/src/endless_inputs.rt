@@ -3,7 +3,7 @@
 ghost use Rattle.std.specs.Prelude.{◌≡◌, ◌++◌, OnOk};
 ghost use Rattle.gq_tree.specs.Views.{type_system_view};
 ghost use Rattle.gq_type_system.specs.EndlessInputs.{input_object_in, IsEndlessInput};
-ghost use Rattle.gq_found.specs.Adds.{AddsExactly};
+ghost use Rattle.gq_fault.specs.Adds.{AddsExactly};
 ghost use Rattle.gq_type_system.specs.Helping.EndlessInputsPlaces.{name_at, endless_named, endless_input, endless_inputs};
 ghost use Rattle.gq_types.specs.Entries.{entry_view};
 ghost use Rattle.gq_types.specs.Look.{types_view};
@@ -11,7 +11,7 @@ ghost use Rattle.gq_types.specs.Look.{types_view};
 use crate::default_values::marked_by_default;
 use crate::marks::is_marked;
 use crate::required_inputs::marked_non_null;
-use gq_found::{Code, Fault};
+use gq_fault::{Code, Fault};
 use gq_text::NoMemory;
 use gq_tree::{Name, TypeBody, TypeSystemDefinition};
 use gq_types::{Entry, Types};

@@ -1,8 +1,8 @@
 //! All that is wrong with a type system.
 ghost use Rattle.std.specs.Prelude.{◌≡◌, ◌++◌, ◌↔◌, Contains, IfOk, OnOk};
 ghost use Rattle.std.specs.List.Sorted.{IsStrictlySortedBy};
-ghost use Rattle.gq_found.specs.declared.fault.Fault.{Fault};
-ghost use Rattle.gq_found.specs.Order.{fault_cmp};
+ghost use Rattle.gq_fault.specs.declared.fault.Fault.{Fault};
+ghost use Rattle.gq_fault.specs.Order.{fault_cmp};
 ghost use Rattle.gq_types.specs.Look.{types_view};
 ghost use Rattle.gq_type_system.specs.SchemaFaults.{IsSchemaFault};
 ghost use Rattle.gq_type_system.specs.Helping.SchemaFaultsPlaces.{name_faults, part_faults};
@@ -18,7 +18,7 @@ use crate::reserved_name::add_reserved_names;
 use crate::root_types::add_wrong_roots;
 use crate::unknown_type::add_unknown_types;
 use crate::wrong_kind::add_wrong_kinds;
-use gq_found::{Fault, put_in_order};
+use gq_fault::{Fault, put_in_order};
 use gq_text::NoMemory;
 use gq_types::Types;
 use std::alloc::Global;

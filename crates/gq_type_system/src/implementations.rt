@@ -9,7 +9,7 @@ ghost use Rattle.gq_types.specs.Look.{types_view};
 ghost use Rattle.gq_types.specs.Names.{field_named};
 ghost use Rattle.gq_types.specs.SubtypesTests.{covers, may_be_subtype_name};
 
-use gq_found::{Code, Fault};
+use gq_fault::{Code, Fault};
 use gq_text::NoMemory;
 use gq_tree::{FieldDefinition, Name, TypeBody, TypeRef, TypeSystemDefinition};
 use gq_types::{Arguments, DefinedField, Entry, TypeKind, Types, is_required};

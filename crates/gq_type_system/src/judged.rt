@@ -3,16 +3,10 @@ ghost use Rattle.std.specs.Prelude.{◌≡◌, not};
 ghost use Rattle.std.specs.List.{list_any};
 ghost use Rattle.std.specs.Str.{bytes_eq};
 ghost use Rattle.gq_tree.specs.Views.{type_system_view, body_view};
-ghost use Rattle.gq_types.specs.BuiltIn.{defines_built_in, built_in_scalars, built_in_directives};
+ghost use Rattle.gq_types.specs.BuiltIn.{defines_built_in, built_in_directives};
 
 use gq_tree::{TypeBody, TypeSystemDefinition};
-
-/// Whether it is the name of a scalar that is built in (section 3.5).
-fn is_built_in_scalar(name: &str) -> bool
-    ensures { result ≡ list_any (bytes_eq name.now) built_in_scalars }
-{
-    name == "Int" || name == "Float" || name == "String" || name == "Boolean" || name == "ID"
-}
+use gq_types::is_built_in_scalar;
 
 /// Whether it is the name of a directive that is built in (section 3.13).
 fn is_built_in_directive(name: &str) -> bool

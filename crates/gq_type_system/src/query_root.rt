@@ -6,7 +6,7 @@ ghost use Rattle.gq_types.specs.Look.{types_view};
 ghost use Rattle.gq_type_system.specs.Helping.QueryRootPlaces.{is_for_queries, no_query_root};
 
 use crate::root_entries::{RootIn, roots_of};
-use gq_found::{Code, Fault};
+use gq_fault::{Code, Fault};
 use gq_text::NoMemory;
 use gq_tree::OperationKind;
 use gq_types::Types;

@@ -5,7 +5,7 @@ ghost use Rattle.gq_type_system.specs.Helping.EndlessInputsPlaces.{name_at, name
 ghost use Rattle.gq_types.specs.Look.{types_view};
 
 use crate::input_fields::{inputs_at, type_name};
-use gq_reach::on_cycles;
+use gq_graph::on_cycles;
 use gq_text::NoMemory;
 use gq_tree::{InputValueDefinition, Name, TypeRef};
 use gq_types::Types;

@@ -10,7 +10,7 @@ ghost use Rattle.gq_type_system.specs.Helping.UsesViews.{names_view};
 
 use crate::judged::is_judged;
 use crate::uses::put_defined_names;
-use gq_found::{Code, Fault};
+use gq_fault::{Code, Fault};
 use gq_text::NoMemory;
 use gq_tree::Name;
 use gq_types::{Entry, Types};

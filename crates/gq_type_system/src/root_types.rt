@@ -7,7 +7,7 @@ ghost use Rattle.gq_types.specs.Roots.{default_root};
 ghost use Rattle.gq_type_system.specs.Helping.RootTypesPlaces.{taken_view, has_kind, has_text, taken_default, defaults, is_wrong_kind, root_code, root_told, roots_told, taken_after, wrong_roots_of, wrong_roots};
 
 use crate::root_entries::{RootIn, roots_of};
-use gq_found::{Code, Fault};
+use gq_fault::{Code, Fault};
 use gq_text::NoMemory;
 use gq_tree::OperationKind;
 use gq_types::{TypeKind, Types};

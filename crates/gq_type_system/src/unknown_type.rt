@@ -8,7 +8,7 @@ ghost use Rattle.gq_type_system.specs.Helping.UnknownTypePlaces.{unknown_type, u
 
 use crate::judged::is_judged;
 use crate::uses::{Use, put_used_types};
-use gq_found::{Code, Fault};
+use gq_fault::{Code, Fault};
 use gq_text::NoMemory;
 use gq_types::{Entry, Types};
 use std::alloc::Global;

@@ -11,7 +11,7 @@ ghost use Rattle.gq_type_system.specs.Helping.WrongKindPlaces.{wrong_kind, wrong
 
 use crate::judged::is_judged;
 use crate::uses::{Use, Wants, put_used_types};
-use gq_found::{Code, Fault};
+use gq_fault::{Code, Fault};
 use gq_text::NoMemory;
 use gq_types::{Entry, TypeKind, Types};
 use std::alloc::Global;

@@ -42,6 +42,9 @@ built_in =
 abbrev pub built_in_scalars : List Text
 built_in_scalars = codes "Int" ∷ codes "Float" ∷ codes "String" ∷ codes "Boolean" ∷ codes "ID" ∷ []
 
+abbrev pub is_built_in_scalar : Text → Bool
+is_built_in_scalar text = list_any (bytes_eq text) built_in_scalars
+
 abbrev pub built_in_directives : List Text
 built_in_directives = codes "skip" ∷ codes "include" ∷ codes "deprecated" ∷ codes "specifiedBy" ∷ []
 
@@ -49,7 +52,7 @@ built_in_directives = codes "skip" ∷ codes "include" ∷ codes "deprecated" �
 abbrev pub defines_built_in : TypeSystemOf Span → Bool
 defines_built_in (schema extends description directives roots place) = false
 defines_built_in (type_definition true description name directives body place) = false
-defines_built_in (type_definition false description name directives scalar_type place) = list_any (bytes_eq name.text) built_in_scalars
+defines_built_in (type_definition false description name directives scalar_type place) = is_built_in_scalar name.text
 defines_built_in (type_definition false description name directives (object_type interfaces fields) place) = false
 defines_built_in (type_definition false description name directives (interface_type interfaces fields) place) = false
 defines_built_in (type_definition false description name directives (union_type members) place) = false

@@ -1,18 +1,14 @@
 -- Arguments and input fields that must be given (sections 3.6.1 and 3.10), and those of them that are not given.
-use Rattle.std.specs.Prelude.{Bool, true, false, List, map, is_none, not, ◌&&◌}
+use Rattle.std.specs.Prelude.{Bool, false, List, map, is_none, not, ◌&&◌}
 use Rattle.std.specs.Option.{option_map_or}
 use Rattle.std.specs.List.{list_any}
 use Rattle.std.specs.Str.{bytes_eq}
 use Rattle.gq_text.specs.declared.place.Span.{Span}
-use Rattle.gq_tree.specs.Plain.{TypeOf, named, list_of, non_null, InputOf}
+use Rattle.gq_tree.specs.Plain.{InputOf}
+use Rattle.gq_tree.specs.Wrapping.{is_non_null}
 use Rattle.gq_types.specs.Entries.{Text, EntryOf}
 use Rattle.gq_types.specs.Joined.{type_number, inputs_of}
 use Rattle.gq_types.specs.Names.{argument_named}
-
-abbrev pub is_non_null : {P : Type 0} → TypeOf P → Bool
-is_non_null (named name) = false
-is_non_null (list_of item) = false
-is_non_null (non_null inner) = true
 
 -- an input field or argument is required if its type has no null and it has no default (sections 3.6.1 and 3.10)
 abbrev pub is_required : InputOf Span → Bool

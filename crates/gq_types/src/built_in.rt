@@ -6,7 +6,7 @@ ghost use Rattle.gq_tree.specs.Plain.{NameOf, TypeOf, named, non_null};
 ghost use Rattle.gq_tree.specs.Views.{name_of, type_view, value_view, input_view};
 ghost use Rattle.gq_tree.specs.declared.type_system.DirectiveLocation.TheVariants as location;
 ghost use Rattle.gq_types.specs.Entries.{entry_view, entries_view};
-ghost use Rattle.gq_types.specs.BuiltIn.{nowhere, name, scalar, argument, directive, no_longer_supported, built_in};
+ghost use Rattle.gq_types.specs.BuiltIn.{nowhere, name, scalar, argument, directive, no_longer_supported, built_in, is_built_in_scalar};
 
 use crate::entry::Entry;
 use gq_text::{NoMemory, SmallText, Span};
@@ -15,6 +15,13 @@ use gq_tree::{
     TypeDefinition, TypeRef, TypeSystemDefinition, Value,
 };
 use std::alloc::Global;
+
+/// Whether it is the name of a scalar that is built in (section 3.5).
+pub fn is_built_in_scalar(name: &str) -> bool
+    ensures { result ≡ is_built_in_scalar name.now }
+{
+    name == "Int" || name == "Float" || name == "String" || name == "Boolean" || name == "ID"
+}
 
 /// The scalars and directives that are built in.
 pub(crate) fn built_in(alloc: Global) -> Result<Vec<Entry>, NoMemory>

@@ -4,7 +4,7 @@
 
 mod argument_names;
 pub mod arguments;
-mod built_in;
+pub mod built_in;
 mod declarers;
 mod definitions;
 pub mod entry;
@@ -24,6 +24,7 @@ pub mod types;
 mod uses;
 
 pub use arguments::Arguments;
+pub use built_in::is_built_in_scalar;
 pub use entry::{Entry, TypeKind};
 pub use required::is_required;
 pub use types::{DefinedField, Types};

@@ -2,12 +2,12 @@
 ghost use Rattle.std.specs.Prelude.{◌≡◌, ◌++◌, [], IfOk, OnOk, map, not};
 ghost use Rattle.std.specs.List.{list_any};
 ghost use Rattle.std.specs.Str.{bytes_eq};
-ghost use Rattle.gq_tree.specs.Views.{input_view, type_view};
+ghost use Rattle.gq_tree.specs.Views.{input_view};
 ghost use Rattle.gq_types.specs.Arguments.{argument_texts};
 ghost use Rattle.gq_types.specs.Entries.{entries_view};
 ghost use Rattle.gq_types.specs.Joined.{inputs_in_body};
 ghost use Rattle.gq_types.specs.LookUps.{parts_of_entry};
-ghost use Rattle.gq_types.specs.Required.{is_non_null, is_required};
+ghost use Rattle.gq_types.specs.Required.{is_required};
 ghost use Rattle.gq_types.specs.Helping.RequiredNames.{required_after, inputs_among, AreRequired};
 ghost use Rattle.gq_types.specs.Helping.Tables.{lists_of, AreJoined};
 
@@ -16,25 +16,14 @@ use crate::parts::numbers_at;
 use crate::places::inputs_in;
 use gq_names::NameList;
 use gq_text::NoMemory;
-use gq_tree::{InputValueDefinition, TypeRef};
+use gq_tree::InputValueDefinition;
 use std::alloc::Global;
-
-#[tactic(auto, using(gq_tree::proofs::Trees::types))]
-fn is_non_null(type_ref: &TypeRef) -> bool
-    ensures { result ≡ is_non_null (type_view type_ref.now) }
-{
-    match type_ref {
-        TypeRef::Named(_) => false,
-        TypeRef::List(_) => false,
-        TypeRef::NonNull(_) => true,
-    }
-}
 
 /// Whether the argument or input field must be given: its type has no null, and it has no default (sections 3.6.1 and 3.10).
 pub fn is_required(input: &InputValueDefinition) -> bool
     ensures { result ≡ is_required (input_view input.now) }
 {
-    is_non_null(&input.type_ref) && input.default.is_none()
+    input.type_ref.is_non_null() && input.default.is_none()
 }
 
 /// Puts the names of these behind others, and the names of those that are required. Of doubles the first is meant.

@@ -6,12 +6,12 @@ use Rattle.gq_text.specs.declared.place.Span.{Span}
 use Rattle.gq_tree.specs.Plain.{NameOf, Val, InputOf}
 use Rattle.gq_names.specs.Repeats.{repeated}
 use Rattle.gq_names.proofs.RepeatLemmas.{contains_none, contains_first, repeated_is}
-use Rattle.gq_found.specs.declared.code.Code.TheVariants.{UnknownArgument, ArgumentNotUnique, ArgumentMissing}
-use Rattle.gq_found.specs.declared.fault.Fault.{Fault}
+use Rattle.gq_fault.specs.declared.code.Code.TheVariants.{UnknownArgument, ArgumentNotUnique, ArgumentMissing}
+use Rattle.gq_fault.specs.declared.fault.Fault.{Fault}
 use Rattle.gq_types.specs.Entries.{EntryOf}
 use Rattle.gq_types.specs.Names.{argument_named}
 use Rattle.gq_types.specs.Required.{is_any_missing}
-use Rattle.gq_found.specs.FaultPlaces.{fault_at}
+use Rattle.gq_fault.specs.FaultPlaces.{fault_at}
 use Rattle.gq_values.specs.LiteralPlaces.{texts}
 use Rattle.gq_values.specs.ArgumentFaults.{argument_names, argument_at, IsArgumentFault, unknown_argument, argument_not_unique, argument_missing, fault_in_value}
 use Rattle.gq_values.specs.ArgumentPlaces.{repeated_arguments, unknown_argument_at, unknown_arguments, missing_among, known_faults, value_faults_under, value_faults_of, argument_value_faults, argument_faults}

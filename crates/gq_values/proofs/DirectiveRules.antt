@@ -9,11 +9,11 @@ use Rattle.gq_tree.specs.Plain.{DirectiveOf, TypeSystemOf}
 use Rattle.gq_tree.specs.Same.{same_locations}
 use Rattle.gq_names.specs.Repeats.{repeated_after, IsRepeatedAfter}
 use Rattle.gq_names.proofs.RepeatLemmas.{contains_none, contains_first, repeated_after_is}
-use Rattle.gq_found.specs.declared.code.Code.TheVariants.{UnknownDirective, DirectiveInWrongPlace, DirectiveRepeated}
-use Rattle.gq_found.specs.declared.fault.Fault.{Fault}
+use Rattle.gq_fault.specs.declared.code.Code.TheVariants.{UnknownDirective, DirectiveInWrongPlace, DirectiveRepeated}
+use Rattle.gq_fault.specs.declared.fault.Fault.{Fault}
 use Rattle.gq_types.specs.Entries.{Text, EntryOf}
 use Rattle.gq_types.specs.Names.{directive_named}
-use Rattle.gq_found.specs.FaultPlaces.{fault_at}
+use Rattle.gq_fault.specs.FaultPlaces.{fault_at}
 use Rattle.gq_values.specs.ArgumentPlaces.{argument_faults}
 use Rattle.gq_types.specs.Arguments.{directive_arguments}
 use Rattle.gq_types.specs.Directives.{locations_in}

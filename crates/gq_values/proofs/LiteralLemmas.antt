@@ -9,7 +9,7 @@ use Rattle.gq_tree.specs.declared.value.ObjectField.{ObjectField}
 use Rattle.gq_tree.specs.declared.value.Value.TheVariants as value_variant
 use Rattle.gq_tree.proofs.Trees.{view_list, view_object}
 use Rattle.gq_tree.proofs.ValueLemmas.{value_key}
-use Rattle.gq_found.specs.declared.fault.Fault.{Fault}
+use Rattle.gq_fault.specs.declared.fault.Fault.{Fault}
 use Rattle.gq_types.specs.Entries.{EntryOf}
 use Rattle.gq_values.specs.Literals.{Expected, part_at, items_at, field_at}
 use Rattle.gq_values.proofs.Steps.{both_done}

@@ -14,8 +14,8 @@ use Rattle.gq_tree.specs.Forest.{none, more}
 use Rattle.gq_tree.specs.Plain.{NameOf, Says, Val, Vals, TypeOf, named, list_of, non_null, InputOf, variable, int, float, string, boolean, null, enum, list, object}
 use Rattle.gq_names.specs.Repeats.{repeated}
 use Rattle.gq_names.proofs.RepeatLemmas.{contains_none, contains_first, repeated_is}
-use Rattle.gq_found.specs.declared.code.Code.TheVariants.{WrongValue, UnknownInputField, InputFieldNotUnique, InputFieldMissing}
-use Rattle.gq_found.specs.declared.fault.Fault.{Fault}
+use Rattle.gq_fault.specs.declared.code.Code.TheVariants.{WrongValue, UnknownInputField, InputFieldNotUnique, InputFieldMissing}
+use Rattle.gq_fault.specs.declared.fault.Fault.{Fault}
 use Rattle.gq_types.specs.declared.entry.TypeKind.{TypeKind}
 use Rattle.gq_types.specs.declared.entry.TypeKind.TheVariants as kind
 use Rattle.gq_types.specs.Entries.{Text, EntryOf}
@@ -23,7 +23,7 @@ use Rattle.gq_types.specs.Joined.{In, type_number, kind_named, inputs_of}
 use Rattle.gq_types.specs.Names.{input_named, argument_named}
 use Rattle.gq_types.specs.Required.{is_required, is_missing, is_missing_by, is_any_missing, is_field_missing}
 use Rattle.gq_values.specs.Literals.{fits, fits_kind, Expected, at_type, at_any, part_at, StandsIn, here, within, after, is_input_object, input_object_at}
-use Rattle.gq_found.specs.FaultPlaces.{fault_at, fault_over}
+use Rattle.gq_fault.specs.FaultPlaces.{fault_at, fault_over}
 use Rattle.gq_values.specs.LiteralFaults.{entry_names, HasNone, literal_place, first_byte, IsFaultOf, wrong_value, unknown_field, field_not_unique, field_missing, IsLiteralFault}
 use Rattle.gq_values.specs.LiteralPlaces.{texts, repeated_fields, unknown_field_at, unknown_fields, missing_fields, field_faults, names_in, entry_faults, type_faults, own_faults, faults_in, literal_faults}
 use Rattle.gq_types.proofs.Gathered.{only, from_if, to_if, found as from_find, from_any, to_any, from_flat, to_flat, from_map_as as from_map, to_map_as as to_map}

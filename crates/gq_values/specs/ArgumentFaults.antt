@@ -4,13 +4,13 @@ use Rattle.gq_text.specs.declared.place.Span.{Span}
 use Rattle.gq_tree.specs.Forest.{row}
 use Rattle.gq_tree.specs.Plain.{NameOf, Val, InputOf}
 use Rattle.gq_names.specs.Repeats.{IsRepeated}
-use Rattle.gq_found.specs.declared.code.Code.TheVariants.{UnknownArgument, ArgumentNotUnique, ArgumentMissing}
-use Rattle.gq_found.specs.declared.fault.Fault.{Fault}
+use Rattle.gq_fault.specs.declared.code.Code.TheVariants.{UnknownArgument, ArgumentNotUnique, ArgumentMissing}
+use Rattle.gq_fault.specs.declared.fault.Fault.{Fault}
 use Rattle.gq_types.specs.Entries.{Text, EntryOf}
 use Rattle.gq_types.specs.Names.{argument_named}
 use Rattle.gq_types.specs.Required.{is_required}
 use Rattle.gq_values.specs.Literals.{Expected, at_any, at_input}
-use Rattle.gq_found.specs.FaultPlaces.{fault_at}
+use Rattle.gq_fault.specs.FaultPlaces.{fault_at}
 use Rattle.gq_values.specs.LiteralFaults.{entry_names, HasNone, IsLiteralFault}
 
 -- the names of arguments, in order

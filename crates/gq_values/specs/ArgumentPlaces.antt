@@ -5,13 +5,13 @@ use Rattle.gq_text.specs.declared.place.Span.{Span}
 use Rattle.gq_tree.specs.Plain.{NameOf, Val, InputOf}
 use Rattle.gq_tree.specs.Views.{input_view}
 use Rattle.gq_names.specs.Repeats.{repeated_after}
-use Rattle.gq_found.specs.declared.code.Code.TheVariants.{UnknownArgument, ArgumentNotUnique, ArgumentMissing}
-use Rattle.gq_found.specs.declared.fault.Fault.{Fault}
+use Rattle.gq_fault.specs.declared.code.Code.TheVariants.{UnknownArgument, ArgumentNotUnique, ArgumentMissing}
+use Rattle.gq_fault.specs.declared.fault.Fault.{Fault}
 use Rattle.gq_types.specs.declared.arguments.Arguments.{Arguments}
 use Rattle.gq_types.specs.Entries.{Text, EntryOf}
 use Rattle.gq_types.specs.Names.{argument_named}
 use Rattle.gq_types.specs.Required.{is_any_missing}
-use Rattle.gq_found.specs.FaultPlaces.{fault_at}
+use Rattle.gq_fault.specs.FaultPlaces.{fault_at}
 use Rattle.gq_values.specs.LiteralPlaces.{texts, literal_faults}
 use Rattle.gq_values.specs.ArgumentFaults.{argument_names, argument_at}
 

@@ -6,13 +6,13 @@ use Rattle.gq_tree.specs.declared.type_system.DirectiveLocation.{DirectiveLocati
 use Rattle.gq_tree.specs.Plain.{DirectiveOf, TypeSystemOf, schema, type_definition, directive_definition}
 use Rattle.gq_tree.specs.Same.{same_locations}
 use Rattle.gq_names.specs.Repeats.{IsRepeatedAfter}
-use Rattle.gq_found.specs.declared.code.Code.TheVariants.{UnknownDirective, DirectiveInWrongPlace, DirectiveRepeated}
-use Rattle.gq_found.specs.declared.fault.Fault.{Fault}
+use Rattle.gq_fault.specs.declared.code.Code.TheVariants.{UnknownDirective, DirectiveInWrongPlace, DirectiveRepeated}
+use Rattle.gq_fault.specs.declared.fault.Fault.{Fault}
 use Rattle.gq_types.specs.Arguments.{directive_arguments}
 use Rattle.gq_types.specs.Directives.{locations_in}
 use Rattle.gq_types.specs.Entries.{Text, EntryOf}
 use Rattle.gq_types.specs.Names.{directive_named}
-use Rattle.gq_found.specs.FaultPlaces.{fault_at}
+use Rattle.gq_fault.specs.FaultPlaces.{fault_at}
 use Rattle.gq_values.specs.ArgumentFaults.{IsArgumentFault}
 
 -- whether the definition of a directive is repeatable (section 3.13)

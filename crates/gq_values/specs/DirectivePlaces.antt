@@ -7,13 +7,13 @@ use Rattle.gq_tree.specs.declared.type_system.DirectiveLocation.{DirectiveLocati
 use Rattle.gq_tree.specs.Plain.{NameOf, DirectiveOf, TypeSystemOf}
 use Rattle.gq_tree.specs.Same.{same_locations}
 use Rattle.gq_names.specs.Repeats.{repeated_after}
-use Rattle.gq_found.specs.declared.code.Code.TheVariants.{UnknownDirective, DirectiveInWrongPlace, DirectiveRepeated}
-use Rattle.gq_found.specs.declared.fault.Fault.{Fault}
+use Rattle.gq_fault.specs.declared.code.Code.TheVariants.{UnknownDirective, DirectiveInWrongPlace, DirectiveRepeated}
+use Rattle.gq_fault.specs.declared.fault.Fault.{Fault}
 use Rattle.gq_types.specs.Arguments.{directive_arguments}
 use Rattle.gq_types.specs.Directives.{locations_in}
 use Rattle.gq_types.specs.Entries.{Text, EntryOf}
 use Rattle.gq_types.specs.Names.{directive_named}
-use Rattle.gq_found.specs.FaultPlaces.{fault_at}
+use Rattle.gq_fault.specs.FaultPlaces.{fault_at}
 use Rattle.gq_values.specs.ArgumentPlaces.{argument_faults}
 use Rattle.gq_values.specs.DirectiveFaults.{is_repeatable}
 

@@ -4,13 +4,13 @@ use Rattle.gq_text.specs.declared.place.Span.{Span}
 use Rattle.gq_tree.specs.Forest.{none, more}
 use Rattle.gq_tree.specs.Plain.{NameOf, Says, Val, Vals, TypeOf, InputOf, variable, int, float, string, boolean, null, enum, list, object}
 use Rattle.gq_names.specs.Repeats.{IsRepeated}
-use Rattle.gq_found.specs.declared.code.Code.TheVariants.{WrongValue, UnknownInputField, InputFieldNotUnique, InputFieldMissing}
-use Rattle.gq_found.specs.declared.fault.Fault.{Fault}
+use Rattle.gq_fault.specs.declared.code.Code.TheVariants.{WrongValue, UnknownInputField, InputFieldNotUnique, InputFieldMissing}
+use Rattle.gq_fault.specs.declared.fault.Fault.{Fault}
 use Rattle.gq_types.specs.Entries.{Text, EntryOf}
 use Rattle.gq_types.specs.Names.{input_named}
 use Rattle.gq_types.specs.Required.{is_required}
 use Rattle.gq_values.specs.Literals.{fits, Expected, at_type, Holds, input_object_at}
-use Rattle.gq_found.specs.FaultPlaces.{fault_at, fault_over}
+use Rattle.gq_fault.specs.FaultPlaces.{fault_at, fault_over}
 
 abbrev pub key_in : Option (NameOf Span) → List (NameOf Span)
 key_in None = []

@@ -5,16 +5,17 @@ use Rattle.gq_text.specs.declared.place.Span.{Span}
 use Rattle.gq_tree.specs.Forest.{none, more}
 use Rattle.gq_tree.specs.Plain.{NameOf, Says, Val, Vals, variable, int, float, string, boolean, null, enum, list, object}
 use Rattle.gq_tree.specs.Views.{value_view}
+use Rattle.gq_tree.specs.Wrapping.{is_null}
 use Rattle.gq_tree.specs.declared.value.Value.{Value}
 use Rattle.gq_tree.specs.declared.value.ObjectField.{ObjectField}
 use Rattle.gq_names.specs.Repeats.{repeated_after}
-use Rattle.gq_found.specs.declared.code.Code.TheVariants.{WrongValue, UnknownInputField, InputFieldNotUnique, InputFieldMissing}
-use Rattle.gq_found.specs.declared.fault.Fault.{Fault}
+use Rattle.gq_fault.specs.declared.code.Code.TheVariants.{WrongValue, UnknownInputField, InputFieldNotUnique, InputFieldMissing}
+use Rattle.gq_fault.specs.declared.fault.Fault.{Fault}
 use Rattle.gq_types.specs.Entries.{Text, EntryOf}
 use Rattle.gq_types.specs.Names.{input_named}
 use Rattle.gq_types.specs.Required.{is_field_missing}
-use Rattle.gq_values.specs.Literals.{is_variable, is_null, is_object_literal, fits, Expected, at_type, at_any, part_at, field_at, input_object_at}
-use Rattle.gq_found.specs.FaultPlaces.{fault_at, fault_over}
+use Rattle.gq_values.specs.Literals.{is_variable, is_object_literal, fits, Expected, at_type, at_any, part_at, field_at, input_object_at}
+use Rattle.gq_fault.specs.FaultPlaces.{fault_at, fault_over}
 use Rattle.gq_values.specs.LiteralFaults.{entry_names, literal_place, first_byte}
 
 abbrev pub texts : List (NameOf Span) → List Text

@@ -5,10 +5,11 @@ use Rattle.std.specs.Option.{option_map_or}
 use Rattle.gq_text.specs.declared.place.Span.{Span}
 use Rattle.gq_tree.specs.Forest.{none, more}
 use Rattle.gq_tree.specs.Plain.{NameOf, Says, Part, Val, Vals, TypeOf, named, list_of, non_null, InputOf, variable, int, float, string, boolean, null, enum, list, object}
+use Rattle.gq_tree.specs.Wrapping.{item_of, is_null}
 use Rattle.gq_types.specs.declared.entry.TypeKind.{TypeKind}
 use Rattle.gq_types.specs.declared.entry.TypeKind.TheVariants as kind
 use Rattle.gq_types.specs.Entries.{Text, EntryOf}
-use Rattle.gq_types.specs.BuiltIn.{built_in_scalars}
+use Rattle.gq_types.specs.BuiltIn.{is_built_in_scalar}
 use Rattle.gq_types.specs.Joined.{kind_named}
 use Rattle.gq_types.specs.Kinds.{is_input}
 use Rattle.gq_types.specs.Names.{input_named, has_value}
@@ -26,10 +27,6 @@ is_int_32 (c ∷ cs) = if nat_eq c 45 then nat_le (digits_from 0 cs) (2 ^ 31) el
 abbrev pub is_variable : {P : Type 0} → Says P → Bool
 is_variable (variable name place) = true
 is_variable _ = false
-
-abbrev pub is_null : {P : Type 0} → Says P → Bool
-is_null (null place) = true
-is_null _ = false
 
 abbrev pub is_list : {P : Type 0} → Says P → Bool
 is_list (list place) = true
@@ -62,9 +59,6 @@ fits_enum es text (string spelling place) = false
 fits_enum es text (boolean value place) = false
 fits_enum es text (list place) = false
 fits_enum es text (object place) = false
-
-abbrev pub is_built_in_scalar : Text → Bool
-is_built_in_scalar text = list_any (bytes_eq text) built_in_scalars
 
 -- A custom scalar accepts every literal, an input object an object literal. What no type is, or no input type, is not tested.
 abbrev pub fits_kind : {P : Type 0} → List EntryOf → Text → Option TypeKind → Says P → Bool
@@ -100,13 +94,8 @@ abbrev pub default_at : List EntryOf → TypeOf Span → Expected
 default_at es t = if is_input_type es t then at_type t else at_any
 
 -- the items of a list literal
-abbrev pub items_of_type : TypeOf Span → Expected
-items_of_type (named name) = at_any
-items_of_type (list_of item) = at_type item
-items_of_type (non_null inner) = items_of_type inner
-
 abbrev pub items_at : Expected → Expected
-items_at (at_type t) = items_of_type t
+items_at (at_type t) = option_map_or at_type (item_of t) at_any
 items_at at_any = at_any
 
 abbrev pub is_input_object : Option TypeKind → Bool

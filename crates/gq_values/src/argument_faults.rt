@@ -8,7 +8,7 @@ ghost use Rattle.gq_values.specs.ArgumentPlaces.{definitions_view, repeated_argu
 
 use crate::expected_type::ExpectedType;
 use crate::literal_faults::add_literal_faults;
-use gq_found::{Code, Fault, add_fault, fault_at};
+use gq_fault::{Code, Fault, add_fault, fault_at};
 use gq_names::NameList;
 use gq_text::NoMemory;
 use gq_tree::{Argument, Name};

@@ -5,7 +5,7 @@ ghost use Rattle.gq_types.specs.Look.{types_view};
 ghost use Rattle.gq_values.specs.DirectivePlaces.{directive_texts, faults_of_directive, faults_of_directives, may_repeat, repetition_at, repetitions, directive_faults};
 
 use crate::argument_faults::add_argument_faults;
-use gq_found::{Code, Fault, add_fault, fault_at};
+use gq_fault::{Code, Fault, add_fault, fault_at};
 use gq_names::NameList;
 use gq_text::NoMemory;
 use gq_tree::{Directive, DirectiveLocation};

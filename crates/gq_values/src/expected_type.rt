@@ -1,7 +1,7 @@
 //! What a literal is read at (GraphQL, October 2021, section 5.6).
 ghost use Rattle.std.specs.Prelude.{◌≡◌};
 ghost use Rattle.gq_tree.specs.Views.{type_view};
-ghost use Rattle.gq_values.specs.Literals.{is_input_type, default_at, items_of_type, items_at, at_input, at_field, field_at, input_object_at};
+ghost use Rattle.gq_values.specs.Literals.{is_input_type, default_at, items_at, at_input, at_field, field_at, input_object_at};
 ghost use Rattle.gq_types.specs.Names.{input_named};
 ghost use Rattle.gq_types.specs.Look.{types_view, text_of};
 ghost use Rattle.gq_values.specs.ExpectedTypes.{expected_view};
@@ -43,23 +43,15 @@ pub fn default_at<'a>(types: &Types, type_ref: &'a TypeRef) -> ExpectedType<'a>
     }
 }
 
-#[tactic(auto, using(gq_tree::proofs::Trees::types))]
-fn items_of_type(type_ref: &TypeRef) -> ExpectedType<'_>
-    ensures { expected_view result ≡ items_of_type (type_view type_ref.now) }
-{
-    match type_ref {
-        TypeRef::Named(_) => ExpectedType::AtAny,
-        TypeRef::List(item) => ExpectedType::AtType(item),
-        TypeRef::NonNull(inner) => items_of_type(inner),
-    }
-}
-
 /// What the items of a list literal are read at.
 pub fn items_at(reading: ExpectedType<'_>) -> ExpectedType<'_>
     ensures { expected_view result ≡ items_at (expected_view reading.entry) }
 {
     match reading {
-        ExpectedType::AtType(type_ref) => items_of_type(type_ref),
+        ExpectedType::AtType(type_ref) => match type_ref.item_type() {
+            Some(item) => ExpectedType::AtType(item),
+            None => ExpectedType::AtAny,
+        },
         ExpectedType::AtAny => ExpectedType::AtAny,
     }
 }

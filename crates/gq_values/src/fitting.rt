@@ -2,12 +2,12 @@
 ghost use Rattle.std.specs.Prelude.{◌≡◌, ◌≤◌, ◌^◌, nat_le};
 ghost use Rattle.gq_tree.specs.Views.{type_view, value_view};
 ghost use Rattle.gq_types.specs.Joined.{kind_named};
-ghost use Rattle.gq_values.specs.Literals.{digits_from, is_int_32, is_null, is_list, is_built_in_scalar, fits_built_in, fits_enum, fits_kind, fits};
+ghost use Rattle.gq_values.specs.Literals.{digits_from, is_int_32, is_list, fits_built_in, fits_enum, fits_kind, fits};
 ghost use Rattle.gq_types.specs.Look.{types_view};
 ghost use Rattle.gq_values.specs.LiteralPlaces.{fits_input_object};
 
 use gq_tree::{TypeRef, Value};
-use gq_types::{TypeKind, Types};
+use gq_types::{TypeKind, Types, is_built_in_scalar};
 
 /// Whether these decimal digits spell a number up to the limit.
 fn are_digits_within(digits: &[u8], limit: u64) -> bool
@@ -32,30 +32,6 @@ pub fn is_int_32(text: &str) -> bool
         [] => false,
         [45, digits @ ..] => are_digits_within(digits, 2_147_483_648),
         digits => are_digits_within(digits, 2_147_483_647),
-    }
-}
-
-/// Whether it is the name of a built-in scalar (section 3.5).
-pub fn is_built_in_scalar(name: &str) -> bool
-    ensures { result ≡ is_built_in_scalar name.now }
-{
-    name == "Int" || name == "Float" || name == "String" || name == "Boolean" || name == "ID"
-}
-
-#[tactic(auto, using(gq_tree::proofs::Trees::values))]
-fn is_null(value: &Value) -> bool
-    ensures { result ≡ is_null (value_view value.now).label.says }
-{
-    match value {
-        Value::Variable(_) => false,
-        Value::Int(_) => false,
-        Value::Float(_) => false,
-        Value::String(_) => false,
-        Value::Boolean { .. } => false,
-        Value::Null { .. } => true,
-        Value::Enum(_) => false,
-        Value::List { .. } => false,
-        Value::Object { .. } => false,
     }
 }
 
@@ -151,13 +127,13 @@ pub fn fits(types: &Types, type_ref: &TypeRef, value: &Value) -> bool
     match type_ref {
         TypeRef::Named(name) => fits_named(types, name.text.as_str(), value),
         TypeRef::List(item) => {
-            if is_list(value) || is_null(value) {
+            if is_list(value) || value.is_null() {
                 return true;
             }
             fits(types, item, value)
         }
         TypeRef::NonNull(inner) => {
-            if is_null(value) {
+            if value.is_null() {
                 return false;
             }
             fits(types, inner, value)

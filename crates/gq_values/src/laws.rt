@@ -3,7 +3,7 @@ ghost use Rattle.std.specs.Prelude.{ℕ, List, Option, Contains, ◌↔◌};
 ghost use Rattle.gq_text.specs.declared.place.Span.{Span};
 ghost use Rattle.gq_tree.specs.declared.type_system.DirectiveLocation.{DirectiveLocation};
 ghost use Rattle.gq_tree.specs.Plain.{NameOf, Val, InputOf, DirectiveOf};
-ghost use Rattle.gq_found.specs.declared.fault.Fault.{Fault};
+ghost use Rattle.gq_fault.specs.declared.fault.Fault.{Fault};
 ghost use Rattle.gq_types.specs.Entries.{Text, EntryOf};
 ghost use Rattle.gq_values.specs.Literals.{Expected};
 ghost use Rattle.gq_values.specs.LiteralFaults.{IsLiteralFault};

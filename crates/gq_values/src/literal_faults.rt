@@ -8,7 +8,7 @@ ghost use Rattle.gq_values.specs.ExpectedTypes.{expected_view};
 
 use crate::expected_type::{ExpectedType, field_at, input_object_at, items_at};
 use crate::fitting::fits;
-use gq_found::{Code, Fault, add_fault, fault_at, fault_over};
+use gq_fault::{Code, Fault, add_fault, fault_at, fault_over};
 use gq_names::NameList;
 use gq_text::{NoMemory, Span};
 use gq_tree::{ObjectField, Value};

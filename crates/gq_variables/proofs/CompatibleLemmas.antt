@@ -5,7 +5,7 @@ use Rattle.std.specs.Cmp.Lexicographic.{bytes_decides}
 use Rattle.gq_text.specs.declared.place.Span.{Span}
 use Rattle.gq_tree.specs.Plain.{TypeOf, named, list_of, non_null, VariableOf}
 use Rattle.gq_types.proofs.Gathered.{and_parts, and_both, not_true, not_false}
-use Rattle.gq_types.specs.Required.{is_non_null}
+use Rattle.gq_tree.specs.Wrapping.{is_non_null}
 use Rattle.gq_variables.specs.AllVariableUsagesAreAllowed.{AreCompatible, both_non_null, variable_non_null, both_lists, same_name, is_value, IsAllowed, by_default, by_type}
 use Rattle.gq_variables.specs.Helping.VariablePlaces.{are_compatible, defaults, is_allowed}
 

@@ -8,11 +8,11 @@ use Rattle.std.proofs.lemmas.Option.{slice_get-map}
 use Rattle.std.proofs.lemmas.List.{length-map, get_or-replicate, get_or_past, length-replicate}
 use Rattle.std.proofs.lemmas.List.Elements.{All-nil, All-cons, All-append, All-weaker, All-contains, Contains-get_or, Contains-append_left, Contains-append_right}
 use Rattle.gq_names.specs.UnderNames.{one_if}
-use Rattle.gq_reach.specs.Reach.{Reach, start, step, row}
-use Rattle.gq_reach.specs.Transposed.{Transposed}
-use Rattle.gq_reach.specs.Components.{Also}
-use Rattle.gq_reach.proofs.Searching.{row_at as row_read_at}
-use Rattle.gq_reach.proofs.Walking.{row_below_all}
+use Rattle.gq_graph.specs.Reach.{Reach, start, step, row}
+use Rattle.gq_graph.specs.Transposed.{Transposed}
+use Rattle.gq_graph.specs.Components.{Also}
+use Rattle.gq_graph.proofs.Searching.{row_at as row_read_at}
+use Rattle.gq_graph.proofs.Walking.{row_below_all}
 use Rattle.gq_types.proofs.Gathered.{nothing_in, first, from_filter, to_filter}
 use Rattle.gq_document.specs.Definitions.{FragmentOf}
 use Rattle.gq_document.specs.Executable.{ExecutableOf}

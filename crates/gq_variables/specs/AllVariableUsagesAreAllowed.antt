@@ -2,13 +2,13 @@
 use Rattle.std.specs.Prelude.{◌≡◌, Bool, true, false, List, Option, Some, None, Contains, is_some, not, ◌||◌}
 use Rattle.gq_text.specs.declared.place.Span.{Span}
 use Rattle.gq_tree.specs.Plain.{NameOf, Val, TypeOf, named, list_of, non_null, VariableOf}
-use Rattle.gq_found.specs.declared.code.Code.TheVariants.{VariableNotAllowedHere}
-use Rattle.gq_found.specs.declared.fault.Fault.{Fault}
+use Rattle.gq_fault.specs.declared.code.Code.TheVariants.{VariableNotAllowedHere}
+use Rattle.gq_fault.specs.declared.fault.Fault.{Fault}
 use Rattle.gq_types.specs.Entries.{EntryOf}
 use Rattle.gq_types.specs.Joined.{kind_named}
-use Rattle.gq_values.specs.Literals.{at_type, is_null}
-use Rattle.gq_types.specs.Required.{is_non_null}
-use Rattle.gq_found.specs.FaultPlaces.{fault_at}
+use Rattle.gq_values.specs.Literals.{at_type}
+use Rattle.gq_tree.specs.Wrapping.{is_non_null, is_null}
+use Rattle.gq_fault.specs.FaultPlaces.{fault_at}
 use Rattle.gq_document.specs.Definitions.{OperationOf}
 use Rattle.gq_tree.specs.NamedTypes.{base_name}
 use Rattle.gq_document.specs.Executable.{ExecutableOf}

@@ -1,6 +1,6 @@
 -- What is wrong with variables: each fault that a rule demands, one case a rule (section 5.8).
 use Rattle.std.specs.Prelude.{Contains}
-use Rattle.gq_found.specs.declared.fault.Fault.{Fault}
+use Rattle.gq_fault.specs.declared.fault.Fault.{Fault}
 use Rattle.gq_document.specs.Definitions.{OperationOf}
 use Rattle.gq_document.specs.Executable.{ExecutableOf}
 use Rattle.gq_variables.specs.VariableUniqueness.{IsNotUnique}

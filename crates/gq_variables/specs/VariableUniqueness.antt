@@ -3,9 +3,9 @@ use Rattle.std.specs.Prelude.{◌≡◌}
 use Rattle.gq_text.specs.declared.place.Span.{Span}
 use Rattle.gq_tree.specs.Plain.{VariableOf}
 use Rattle.gq_names.specs.Repeats.{IsRepeated}
-use Rattle.gq_found.specs.declared.code.Code.TheVariants.{VariableNotUnique}
-use Rattle.gq_found.specs.declared.fault.Fault.{Fault}
-use Rattle.gq_found.specs.FaultPlaces.{fault_at}
+use Rattle.gq_fault.specs.declared.code.Code.TheVariants.{VariableNotUnique}
+use Rattle.gq_fault.specs.declared.fault.Fault.{Fault}
+use Rattle.gq_fault.specs.FaultPlaces.{fault_at}
 use Rattle.gq_document.specs.Definitions.{OperationOf}
 
 -- a variable whose name an earlier one has

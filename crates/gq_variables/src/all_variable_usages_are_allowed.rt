@@ -10,7 +10,7 @@ ghost use Rattle.gq_variables.specs.Helping.Views.{place_view, use_view, uses_vi
 use crate::compatible::is_allowed;
 use crate::uses::{Place, Use};
 use crate::variables::Variables;
-use gq_found::{Code, Fault, add_fault_at};
+use gq_fault::{Code, Fault, add_fault_at};
 use gq_text::NoMemory;
 use gq_tree::{TypeRef, VariableDefinition, base_name};
 use gq_types::Types;

@@ -6,7 +6,7 @@ ghost use Rattle.gq_variables.specs.Helping.Views.{use_view, uses_view};
 
 use crate::uses::Use;
 use crate::variables::Variables;
-use gq_found::{Code, Fault, add_fault_at};
+use gq_fault::{Code, Fault, add_fault_at};
 use gq_text::NoMemory;
 
 fn add_if_not_defined(

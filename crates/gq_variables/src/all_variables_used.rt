@@ -5,7 +5,7 @@ ghost use Rattle.gq_variables.specs.Helping.VariablePlaces.{use_texts, not_used_
 ghost use Rattle.gq_variables.specs.Helping.Views.{uses_view};
 
 use crate::uses::Use;
-use gq_found::{Code, Fault, add_fault_at};
+use gq_fault::{Code, Fault, add_fault_at};
 use gq_names::NameList;
 use gq_text::NoMemory;
 use gq_tree::VariableDefinition;

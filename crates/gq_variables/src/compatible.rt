@@ -2,7 +2,6 @@
 ghost use Rattle.std.specs.Prelude.{◌≡◌};
 ghost use Rattle.std.specs.Option.{option_map};
 ghost use Rattle.gq_tree.specs.Views.{type_view, value_view, variable_view};
-ghost use Rattle.gq_types.specs.Required.{is_non_null};
 ghost use Rattle.gq_variables.specs.AllVariableUsagesAreAllowed.{is_value};
 ghost use Rattle.gq_variables.specs.Helping.VariablePlaces.{are_compatible, defaults, is_allowed};
 
@@ -32,34 +31,12 @@ pub(crate) fn are_compatible(variable: &TypeRef, location: &TypeRef) -> bool
     }
 }
 
-#[tactic(auto, using(gq_tree::proofs::Trees::types))]
-fn is_non_null(type_ref: &TypeRef) -> bool
-    ensures { result ≡ is_non_null (type_view type_ref.now) }
-{
-    match type_ref {
-        TypeRef::Named(_) => false,
-        TypeRef::List(_) => false,
-        TypeRef::NonNull(_) => true,
-    }
-}
-
 /// Whether it is there, and not the literal null.
-#[tactic(auto, using(gq_tree::proofs::Trees::values))]
 fn is_value(default: &Option<Value>) -> bool
     ensures { result ≡ is_value (option_map value_view default.now) }
 {
     match default {
-        Some(value) => match value {
-            Value::Null { .. } => false,
-            Value::Variable(_) => true,
-            Value::Int(_) => true,
-            Value::Float(_) => true,
-            Value::String(_) => true,
-            Value::Boolean { .. } => true,
-            Value::Enum(_) => true,
-            Value::List { .. } => true,
-            Value::Object { .. } => true,
-        },
+        Some(value) => !value.is_null(),
         None => false,
     }
 }
@@ -68,7 +45,7 @@ fn is_value(default: &Option<Value>) -> bool
 fn defaults(variable: &VariableDefinition, place_has_default: bool) -> bool
     ensures { result ≡ defaults (variable_view variable.now) place_has_default }
 {
-    !is_non_null(&variable.type_ref) && (is_value(&variable.default) || place_has_default)
+    !variable.type_ref.is_non_null() && (is_value(&variable.default) || place_has_default)
 }
 
 /// Whether the variable may stand at a place of that type, where the place has a default value or not.

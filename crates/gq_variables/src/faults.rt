@@ -1,6 +1,6 @@
 //! What is wrong with variables (GraphQL, October 2021, section 5.8).
 ghost use Rattle.std.specs.Prelude.{◌≡◌, ◌++◌, ◌<◌, OnOk, map, flat_map, length};
-ghost use Rattle.gq_found.specs.Adds.{AddsExactly};
+ghost use Rattle.gq_fault.specs.Adds.{AddsExactly};
 ghost use Rattle.gq_tree.specs.Views.{variable_view};
 ghost use Rattle.gq_types.specs.Look.{types_view};
 ghost use Rattle.gq_document.specs.Definitions.{operation_view, operations_view, fragments_view};
@@ -22,8 +22,8 @@ use crate::variable_uniqueness::add_not_unique;
 use crate::variables::Variables;
 use crate::variables_are_input_types::add_not_of_input_type;
 use gq_document::{Executable, OperationEntry};
-use gq_found::Fault;
-use gq_reach::reach_rows;
+use gq_fault::Fault;
+use gq_graph::reach_rows;
 use gq_spreads::Spreads;
 use gq_text::NoMemory;
 use gq_tree::VariableDefinition;

@@ -1,7 +1,7 @@
 //! The fragments that have to be gone over for the uses of variables: those in which one stands, and those that lead to such a
 //! fragment by spreads.
 ghost use Rattle.std.specs.Prelude.{◌≡◌, ◌<◌, All, IfOk, filter, length, map, slice_index_or, false};
-ghost use Rattle.gq_reach.specs.Reach.{row, InRange};
+ghost use Rattle.gq_graph.specs.Reach.{row, InRange};
 ghost use Rattle.gq_types.specs.Look.{types_view};
 ghost use Rattle.gq_document.specs.Definitions.{fragments_view};
 ghost use Rattle.gq_document.specs.Executable.{executable_view};
@@ -12,8 +12,8 @@ ghost use Rattle.gq_variables.specs.Helping.Views.{rows_view};
 
 use crate::uses::Use;
 use gq_document::Executable;
-use gq_reach::transposed::transposed;
-use gq_reach::{mark_all, reach_rows};
+use gq_graph::transposed::transposed;
+use gq_graph::{mark_all, reach_rows};
 use gq_spreads::Spreads;
 use gq_text::NoMemory;
 use std::alloc::Global;

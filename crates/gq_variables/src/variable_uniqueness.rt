@@ -3,7 +3,7 @@ ghost use Rattle.std.specs.Prelude.{◌≡◌, ◌++◌, OnOk};
 ghost use Rattle.gq_variables.specs.Helping.VariablePlaces.{not_unique};
 ghost use Rattle.gq_variables.specs.Helping.Views.{variables_view};
 
-use gq_found::{Code, Fault, add_fault_at};
+use gq_fault::{Code, Fault, add_fault_at};
 use gq_text::NoMemory;
 use gq_tree::VariableDefinition;
 

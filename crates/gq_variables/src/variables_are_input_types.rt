@@ -4,7 +4,7 @@ ghost use Rattle.gq_tree.specs.Views.{variable_view};
 ghost use Rattle.gq_types.specs.Look.{types_view};
 ghost use Rattle.gq_variables.specs.Helping.VariablePlaces.{names_input_type, not_of_input_type_at, not_of_input_type};
 
-use gq_found::{Code, Fault, add_fault_at};
+use gq_fault::{Code, Fault, add_fault_at};
 use gq_text::NoMemory;
 use gq_tree::{VariableDefinition, base_name};
 use gq_types::Types;

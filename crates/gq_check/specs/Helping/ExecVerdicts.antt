@@ -11,7 +11,7 @@ use Rattle.gq_project.specs.declared.document.Doc.{Doc}
 use Rattle.gq_rules.specs.Validity.{IsValid}
 use Rattle.gq_response.specs.Responses.{ResponseOf}
 use Rattle.gq_response.specs.Texts.{response_text}
-use Rattle.gq_exec.specs.Executed.{IsExecuted}
+use Rattle.gq_law_rewrites.specs.Executed.{IsExecuted}
 use Rattle.gq_check.specs.Checks.{SinkAfter, Wrote, WroteInPart}
 use Rattle.gq_check.specs.Helping.Verdicts.{IsTold}
 use Rattle.gq_check.specs.Execution.{exec_fault_line, exec_fault_status, ExecOutcome, IsExecOutcome, exec_output, exec_error, exec_status}

@@ -2,7 +2,8 @@
 use Rattle.std.specs.Prelude.{◌≡◌, ℕ, ◌≤◌, List, [], ◌∷◌}
 use Rattle.std.specs.Str.{IsCharBoundary}
 use Rattle.gq_text.specs.Place.{pos}
-use Rattle.gq_found.specs.declared.found.Found.{Found}
+use Rattle.gq_text.specs.declared.place.PositionEncoding.TheVariants.{Utf16}
+use Rattle.gq_fault.specs.declared.found.Found.{Found}
 
 -- the key of the first fault
 abbrev pub first_key : List Found → List ℕ
@@ -14,7 +15,7 @@ pub record StartsAt (key text : List ℕ) (last start : ℕ) (found : Found) : T
   pub of_key : found.key ≡ key
   pub behind : last ≤ start
   pub boundary : IsCharBoundary text start
-  pub same : pos text start ≡ pos text found.span.start
+  pub same : pos Utf16 text start ≡ pos Utf16 text found.span.start
 
 -- as many faults at the front of the list as there are starts are of that key, and start there in order
 abbrev pub AreStarts : List ℕ → List ℕ → ℕ → List Found → List ℕ → Type 0

@@ -3,7 +3,7 @@ use Rattle.std.specs.Prelude.{◌≡◌, List, []}
 use Rattle.gq_check.specs.declared.files.File.{File}
 use Rattle.gq_check.specs.declared.judging.Verdict.{Verdict}
 use Rattle.gq_project.specs.declared.document.Doc.{Doc}
-use Rattle.gq_found.specs.declared.found.Found.{Found}
+use Rattle.gq_fault.specs.declared.found.Found.{Found}
 use Rattle.gq_rules.specs.Validity.{IsInvalid, IsReportOf}
 use Rattle.gq_check.specs.Checks.{Outcome, IsOutcome, output_of, error_of, status_of}
 use Rattle.gq_check.specs.Lines.{lines_of}

@@ -10,10 +10,10 @@ use Rattle.gq_edit.specs.declared.edit.DocumentEdit.{DocumentEdit}
 use Rattle.gq_edit.specs.Replacements.{AreDisjoint}
 use Rattle.gq_types.specs.Entries.{Text}
 use Rattle.gq_index.specs.declared.occurrence.Occurrence.{Occurrence}
-use Rattle.gq_index.specs.Occurrences.{DefinitionOf, definitions_in, uses_in}
-use Rattle.gq_rewrite.specs.Renamings.{Renaming}
-use Rattle.gq_rewrite.specs.Changed.{changed_in_document}
-use Rattle.gq_rewrite.specs.Projects.{edit_if_any, number_behind}
+use Rattle.gq_index.specs.Occurrences.{DefinitionOf, occurrences_in_file, definitions_in, uses_in}
+use Rattle.gq_renamed.specs.Renamings.{Renaming}
+use Rattle.gq_renamed.specs.Changed.{changed_in_document}
+use Rattle.gq_renamed.specs.Projects.{edit_if_any, number_behind}
 
 abbrev pub stands_in : ℕ → Occurrence → Bool
 stands_in file o = o.file == file
@@ -45,9 +45,6 @@ occurrences_at file names = map (λ n. record { file = file; span = n.place }) n
 abbrev pub changed_occurrences : (ℕ → Renaming) → ℕ → ℕ → List (List (Def Span)) → List Occurrence
 changed_occurrences rule k file [] = []
 changed_occurrences rule k file (tree ∷ trees) = occurrences_at file (changed_in_document rule k tree) ++ changed_occurrences rule (number_behind tree k) (file + 1) trees
-
-abbrev pub occurrences_in_file : ℕ → List Span → List Occurrence
-occurrences_in_file file spans = map (λ s. record { file = file; span = s }) spans
 
 -- where the variable of that name stands in a definition, at its definitions and uses
 abbrev pub variable_occurrences : DefinitionOf → Text → List Occurrence

@@ -2,7 +2,7 @@
 use Rattle.std.specs.Prelude.{List, [], Option}
 use Rattle.std.specs.Option.{option_map}
 use Rattle.gq_text.specs.declared.place.Span.{Span}
-use Rattle.gq_found.specs.declared.fault.Fault.{Fault}
+use Rattle.gq_fault.specs.declared.fault.Fault.{Fault}
 use Rattle.gq_tree.specs.Plain.{InputOf, Head, field, spread, inline}
 use Rattle.gq_types.specs.Entries.{Text, EntryOf}
 use Rattle.gq_document.specs.Selections.{selected_field, SelectedOf}

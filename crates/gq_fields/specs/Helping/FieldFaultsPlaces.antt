@@ -1,7 +1,7 @@
 -- What the rules put, in the order of operations and fragments, computed.
 use Rattle.std.specs.Prelude.{ℕ, List, ◌++◌, Option, flat_map, is_some}
 use Rattle.gq_text.specs.declared.place.Span.{Span}
-use Rattle.gq_found.specs.declared.fault.Fault.{Fault}
+use Rattle.gq_fault.specs.declared.fault.Fault.{Fault}
 use Rattle.gq_tree.specs.Plain.{NameOf, Val, VariableOf}
 use Rattle.gq_types.specs.Entries.{Text, EntryOf}
 use Rattle.gq_values.specs.ArgumentPlaces.{argument_faults}

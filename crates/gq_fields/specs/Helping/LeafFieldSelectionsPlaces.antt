@@ -1,8 +1,8 @@
 -- What is told of selections below fields, at one selection, computed.
 use Rattle.std.specs.Prelude.{ℕ, Bool, List, [], ◌∷◌, Option, Some, None, if◌then◌else◌, is_some, not}
 use Rattle.gq_text.specs.declared.place.Span.{Span}
-use Rattle.gq_found.specs.declared.code.Code.TheVariants.{WrongSelections}
-use Rattle.gq_found.specs.declared.fault.Fault.{Fault}
+use Rattle.gq_fault.specs.declared.code.Code.TheVariants.{WrongSelections}
+use Rattle.gq_fault.specs.declared.fault.Fault.{Fault}
 use Rattle.gq_tree.specs.Plain.{NameOf, Head, field, spread, inline}
 use Rattle.gq_types.specs.declared.entry.TypeKind.{TypeKind}
 use Rattle.gq_types.specs.Entries.{EntryOf}
@@ -10,7 +10,7 @@ use Rattle.gq_types.specs.Kinds.{is_composite}
 use Rattle.gq_types.specs.Joined.{kind_named}
 use Rattle.gq_document.specs.Selections.{FieldOf, selected_field, SelectedOf}
 use Rattle.gq_tree.specs.NamedTypes.{base_name}
-use Rattle.gq_found.specs.FaultPlaces.{fault_at}
+use Rattle.gq_fault.specs.FaultPlaces.{fault_at}
 
 -- whether the two differ
 abbrev pub differ : Bool → Bool → Bool

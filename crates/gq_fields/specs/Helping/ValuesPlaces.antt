@@ -1,7 +1,7 @@
 -- What is told of the default value of one variable, computed.
 use Rattle.std.specs.Prelude.{ℕ, List, [], Option, Some, None}
 use Rattle.gq_text.specs.declared.place.Span.{Span}
-use Rattle.gq_found.specs.declared.fault.Fault.{Fault}
+use Rattle.gq_fault.specs.declared.fault.Fault.{Fault}
 use Rattle.gq_tree.specs.Plain.{TypeOf, VariableOf, Val}
 use Rattle.gq_types.specs.Entries.{EntryOf}
 use Rattle.gq_values.specs.Literals.{default_at}

@@ -5,8 +5,8 @@ use Rattle.std.specs.Option.{option_map_or}
 use Rattle.gq_text.specs.declared.place.Span.{Span}
 use Rattle.gq_tree.specs.Plain.{NameOf, Head, field, spread, inline}
 use Rattle.gq_names.specs.Repeats.{repeated_after}
-use Rattle.gq_found.specs.declared.code.Code.TheVariants.{FragmentNameNotUnique, UnknownTypeCondition, ConditionNotComposite, SpreadNotPossible}
-use Rattle.gq_found.specs.declared.fault.Fault.{Fault}
+use Rattle.gq_fault.specs.declared.code.Code.TheVariants.{FragmentNameNotUnique, UnknownTypeCondition, ConditionNotComposite, SpreadNotPossible}
+use Rattle.gq_fault.specs.declared.fault.Fault.{Fault}
 use Rattle.gq_types.specs.declared.entry.TypeKind.{TypeKind}
 use Rattle.gq_types.specs.Entries.{Text, EntryOf}
 use Rattle.gq_types.specs.Kinds.{is_composite}
@@ -17,7 +17,7 @@ use Rattle.gq_document.specs.Definitions.{FragmentOf}
 use Rattle.gq_document.specs.Selections.{SelectedOf, operation_selections, fragment_selections}
 use Rattle.gq_document.specs.Executable.{ExecutableOf}
 use Rattle.gq_spreads.specs.Spreads.{places_from}
-use Rattle.gq_found.specs.FaultPlaces.{fault_over, fault_at, first_bytes}
+use Rattle.gq_fault.specs.FaultPlaces.{fault_over, fault_at, first_bytes}
 
 abbrev pub name_texts : List FragmentOf → List Text
 name_texts fs = map (λ f. f.name.text) fs

@@ -1,7 +1,7 @@
 -- The graph in which a variable's group is reached, computed.
 use Rattle.std.specs.Prelude.{◌≡◌, ℕ, ◌+◌, ◌<◌, Bool, true, false, List, [], ◌∷◌, ◌++◌, Contains, map, if◌then◌else◌, ◌-◌}
 use Rattle.std.specs.Bool.{nat_lt}
-use Rattle.gq_reach.specs.Reach.{Reach}
+use Rattle.gq_graph.specs.Reach.{Reach}
 
 -- What is known of the definitions of a project, by their numbers: which fragments each spreads, which definitions spread each,
 -- which are operations, and which use the variable.

@@ -2,7 +2,7 @@
 use Rattle.std.specs.Prelude.{ℕ, Bool, false, not, nat_eq, length, slice_get}
 use Rattle.std.specs.Option.{option_map_or}
 use Rattle.gq_names.specs.UnderNames.{items_under}
-use Rattle.gq_reach.specs.Reach.{row}
+use Rattle.gq_graph.specs.Reach.{row}
 use Rattle.gq_types.specs.Entries.{Text}
 use Rattle.gq_index.specs.declared.index.Index.{Index}
 use Rattle.gq_index.specs.Helping.GroupGraphs.{Sharing}

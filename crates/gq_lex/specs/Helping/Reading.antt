@@ -8,7 +8,7 @@ use Rattle.gq_lex.specs.declared.token.BadKind.TheVariants.{Char}
 use Rattle.gq_lex.specs.declared.lexer.Class.{Class}
 use Rattle.gq_lex.specs.declared.lexer.Class.TheVariants.{Blank, Mark, Hash, Dot, Letter, Figure, Quotation, Sign, Other}
 use Rattle.gq_lex.specs.Bytes.{is_white_space, is_line_terminator, is_name_start, is_name_continue, is_comment_byte, is_digit, punctuator}
-use Rattle.gq_lex.specs.Scanning.{Piece, number_at, quoted_at}
+use Rattle.gq_lex.specs.Scanning.{ScanResult, number_at, quoted_at}
 use Rattle.gq_lex.specs.Strings.{is_quote}
 use Rattle.gq_lex.specs.Tokens.{IsIgnored, IsToken, IsStuck, fault_kind}
 
@@ -31,10 +31,10 @@ class_of b =
     else (if b == 239 then Mark else (if b == 35 then Hash else (if b == 46 then Dot else (if is_quote b then Quotation else sign_class (punctuator b)))))))
 
 -- these bytes
-abbrev pub whole_at : List ℕ → List ℕ → Option Kind → Piece
+abbrev pub whole_at : List ℕ → List ℕ → Option Kind → ScanResult
 whole_at bs want kind = if starts_with nat_eq bs want then Ok (kind, length want) else Err Char
 
-abbrev pub piece_by : Class → List ℕ → Piece
+abbrev pub piece_by : Class → List ℕ → ScanResult
 piece_by Blank bs = Ok (None, 1)
 piece_by Mark bs = whole_at bs (239 ∷ 187 ∷ 191 ∷ []) None
 piece_by Hash bs = Ok (None, 1 + prefix_len is_comment_byte (drop 1 bs))
@@ -46,7 +46,7 @@ piece_by (Sign kind) bs = Ok (Some kind, 1)
 piece_by Other bs = Err Char
 
 -- what stands at the front
-unfoldable pub piece_at : List ℕ → Piece
+unfoldable pub piece_at : List ℕ → ScanResult
 piece_at bs = piece_by (class_of (slice_index bs 0)) bs
 
 -- an ignored part, or a token of a kind

@@ -3,7 +3,7 @@ use Rattle.std.specs.Prelude.{◌≡◌, ℕ, ◌<◌, ◌≤◌, Bool, true, fa
 use Rattle.std.specs.Option.{option_map}
 use Rattle.std.specs.Str.{bytes_eq}
 use Rattle.gq_tree.specs.Plain.{erase_values}
-use Rattle.gq_reach.specs.Reach.{Reach}
+use Rattle.gq_graph.specs.Reach.{Reach}
 use Rattle.gq_types.specs.Entries.{Text, EntryOf}
 use Rattle.gq_document.specs.FieldSets.{FieldAt, key}
 use Rattle.gq_merging.specs.Shapes.{Shape, shape_of}

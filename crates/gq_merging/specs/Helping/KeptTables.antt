@@ -1,6 +1,6 @@
 -- What the search keeps of fragments that are spread together, computed.
 use Rattle.std.specs.Prelude.{◌≡◌, ◌↔◌, ◌⊎◌, ℕ, List, ◌++◌, Some, Contains, map, slice_get}
-use Rattle.gq_found.specs.declared.fault.Fault.{Fault}
+use Rattle.gq_fault.specs.declared.fault.Fault.{Fault}
 use Rattle.gq_types.specs.Entries.{Text}
 use Rattle.gq_document.specs.FieldSets.{key}
 use Rattle.gq_merging.specs.Helping.SetTables.{MemberOf, RowOf}

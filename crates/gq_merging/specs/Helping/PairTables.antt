@@ -1,8 +1,8 @@
 -- Pairs of selection sets by numbers, and the pairs of fields of one key in them, computed. Of `count` sets, the pair
 -- of the sets i and j has the number i * count + j.
 use Rattle.std.specs.Prelude.{◌≡◌, ℕ, ◌+◌, ◌*◌, ◌/◌, ◌%◌, ◌<◌, Bool, true, false, List, ◌++◌, Contains, length, slice_index_or}
-use Rattle.gq_found.specs.declared.fault.Fault.{Fault}
-use Rattle.gq_found.specs.Adds.{AddsExactly}
+use Rattle.gq_fault.specs.declared.fault.Fault.{Fault}
+use Rattle.gq_fault.specs.Adds.{AddsExactly}
 use Rattle.gq_types.specs.Entries.{EntryOf}
 use Rattle.gq_document.specs.FieldSets.{key}
 use Rattle.gq_merging.specs.FieldsMerge.{leads_on, Differ, IsNoLater, fault_of}

@@ -1,6 +1,6 @@
 -- Groups of selection sets whose fields meet, and what the search over them finds, computed.
 use Rattle.std.specs.Prelude.{◌≡◌, ◌↔◌, ◌⊎◌, ℕ, ◌<◌, ◌≤◌, Bool, true, false, List, [], ◌∷◌, ◌++◌, Option, Some, None, if◌then◌else◌, IfSome, IfNone, Contains, length, take, slice_get, slice_index_or}
-use Rattle.gq_found.specs.declared.fault.Fault.{Fault}
+use Rattle.gq_fault.specs.declared.fault.Fault.{Fault}
 use Rattle.gq_document.specs.FieldSets.{key}
 use Rattle.gq_merging.specs.FieldsMerge.{leads_on, IsNoLater}
 use Rattle.gq_merging.specs.Helping.Comparisons.{is_no_later}

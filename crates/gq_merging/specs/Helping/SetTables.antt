@@ -4,7 +4,7 @@ use Rattle.std.specs.Option.{option_map_or}
 use Rattle.gq_text.specs.declared.place.Span.{Span}
 use Rattle.gq_tree.specs.Forest.{none, more}
 use Rattle.gq_tree.specs.Plain.{Head, field, spread, inline, Sel, Sels}
-use Rattle.gq_reach.specs.Reach.{Reach}
+use Rattle.gq_graph.specs.Reach.{Reach}
 use Rattle.gq_spreads.specs.Spreads.{places_from}
 use Rattle.gq_types.specs.Entries.{Text, EntryOf}
 use Rattle.gq_document.specs.Executable.{ExecutableOf}

@@ -1,6 +1,6 @@
 -- Which selection sets the search for faults does not start at, computed.
 use Rattle.std.specs.Prelude.{◌≡◌, ◌⊎◌, ℕ, ◌<◌, Bool, true, false, List, [], ◌∷◌, Contains, length, slice_index_or}
-use Rattle.gq_reach.specs.Reach.{Reach}
+use Rattle.gq_graph.specs.Reach.{Reach}
 
 -- it is not passed over, and leads to the number
 pub record LeadsTo (next : ℕ → List ℕ) (passed : List Bool) (n : ℕ) : Type 0 where

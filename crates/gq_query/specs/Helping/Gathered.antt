@@ -22,9 +22,6 @@ field_place_in file text fields = option_map (λ f. record { file = file; span =
 abbrev pub field_places_at : List EntryOf → Text → ℕ → Option Occurrence
 field_places_at es text number = option_and_then (λ e. field_place_in e.file text (parts_of_entry fields_in_body es number)) (slice_get es number)
 
-abbrev pub occurrence_in : ℕ → Span → Occurrence
-occurrence_in file span = record { file = file; span = span }
-
 -- where the name stands among some names of the definition of that number
 abbrev pub places_at : (Def Span → List (NameOf Span)) → List DefinitionOf → Text → ℕ → List Occurrence
 places_at names ds text number = option_map_or (λ d. occurrences_of d.file text (names d.definition)) (slice_get ds number) []

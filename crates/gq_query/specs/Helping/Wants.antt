@@ -2,7 +2,7 @@
 use Rattle.std.specs.Prelude.{Bool, List, IsTrue, ◌⊎◌}
 use Rattle.gq_index.specs.declared.occurrence.Occurrence.{Occurrence}
 use Rattle.gq_index.specs.Occurrences.{DefinitionOf}
-use Rattle.gq_spans.specs.Mentions.{MentionOf}
+use Rattle.gq_mentions.specs.Mentions.{MentionOf}
 use Rattle.gq_query.specs.References.{IsUse, IsDeclaration}
 
 abbrev pub IsWanted : List DefinitionOf → Bool → Bool → MentionOf → Occurrence → Type 0

@@ -1,7 +1,7 @@
 -- Why a target may not have the new name.
 use Rattle.std.specs.Prelude.{◌≡◌, ℕ, Bool, not, List, Option, Some, None, if◌then◌else◌}
 use Rattle.gq_index.specs.Occurrences.{DefinitionOf}
-use Rattle.gq_target.specs.declared.target.TargetKind.{TargetKind}
+use Rattle.gq_mentions.specs.declared.target.TargetKind.{TargetKind}
 use Rattle.gq_rename.specs.declared.refusal.Refusal.{Refusal}
 use Rattle.gq_rename.specs.declared.refusal.Refusal.TheVariants.{ProjectInvalid, NothingHere, BadName, SameName, NameTaken, DirectiveInWay, NoPossibleType, NotSiblings, NotRedundant, TooLarge, SelfCheck, NoMemory}
 use Rattle.gq_rename.specs.Asks.{MayBeCalled, IsTaken}

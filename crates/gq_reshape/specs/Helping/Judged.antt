@@ -3,13 +3,13 @@ use Rattle.std.specs.Prelude.{◌≡◌, ℕ, false, List, [], Option, Some, Non
 use Rattle.gq_project.specs.declared.document.Doc.{Doc}
 use Rattle.gq_edit.specs.declared.edit.DocumentEdit.{DocumentEdit}
 use Rattle.gq_edit.specs.Edits.{after_edit, is_too_large}
-use Rattle.gq_read.specs.declared.reader.Parsed.{Parsed}
+use Rattle.gq_tree.specs.declared.parsed.Parsed.{Parsed}
 use Rattle.gq_rename.specs.declared.refusal.Refusal.{Refusal}
 use Rattle.gq_rename.specs.declared.refusal.Refusal.TheVariants.{ProjectInvalid, NothingHere, BadName, SameName, NameTaken, DirectiveInWay, NoPossibleType, NotSiblings, NotRedundant, TooLarge, SelfCheck, NoMemory}
 use Rattle.gq_rename.specs.Asks.{trees_of}
 use Rattle.gq_rename.specs.Rename.{IsTooLarge}
-use Rattle.gq_pieces.specs.Pieces.{replacements_in}
-use Rattle.gq_regroup.specs.Rewrites.{Rewrite}
+use Rattle.gq_reshape.specs.Placed.{replacements_in}
+use Rattle.gq_rewritten.specs.Rewrites.{Rewrite}
 use Rattle.gq_reshape.specs.Helping.Limits.{OnePasses, NonePasses}
 use Rattle.gq_reshape.specs.Helping.Rereading.{is_edited, AreRewrittenFrom}
 use Rattle.gq_reshape.specs.Cuts.{Cut, edits_of, PassesCheck}
@@ -49,7 +49,7 @@ IsEdited documents edits (Err NoMemory) = Unit {0}
 
 -- nothing is replaced in documents in which nothing may change
 abbrev pub IsQuiet : Cut → Type 0
-IsQuiet cut = (file : ℕ) → is_edited cut.rewrite file ≡ false → replacements_in cut.pieces file ≡ []
+IsQuiet cut = (file : ℕ) → is_edited cut.rewrite file ≡ false → replacements_in cut.replacements file ≡ []
 
 -- what is wrong with the documents after an edit, which are read so
 abbrev pub IsVerdict : Rewrite → List Doc → (before after : List Parsed) → Option Refusal → Type 0

@@ -2,10 +2,10 @@
 use Rattle.std.specs.Prelude.{◌≡◌, ℕ, suc, Bool, true, false, ◌||◌, nat_eq, List, [], ◌∷◌}
 use Rattle.std.specs.Option.{option_map_or}
 use Rattle.gq_tree.specs.Plain.{erase_document}
-use Rattle.gq_read.specs.declared.reader.Parsed.{Parsed}
-use Rattle.gq_read.specs.declared.reader.Parsed.TheVariants as reading
-use Rattle.gq_document.specs.Definitions.{definitions_read}
-use Rattle.gq_regroup.specs.Rewrites.{Rewrite, rewritten_document}
+use Rattle.gq_tree.specs.declared.parsed.Parsed.{Parsed}
+use Rattle.gq_tree.specs.declared.parsed.Parsed.TheVariants as reading
+use Rattle.gq_tree.specs.Readings.{definitions_read}
+use Rattle.gq_rewritten.specs.Rewrites.{Rewrite, rewritten_document}
 
 -- whether something may change in the document of that number
 abbrev pub is_edited : Rewrite → ℕ → Bool

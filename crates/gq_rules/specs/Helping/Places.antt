@@ -3,12 +3,12 @@ use Rattle.std.specs.Prelude.{ℕ, ◌+◌, List, [], ◌∷◌, ◌++◌, Optio
 use Rattle.std.specs.List.{list_any}
 use Rattle.gq_text.specs.declared.place.Span.{Span}
 use Rattle.gq_tree.specs.Plain.{Def, TypeSystemOf}
-use Rattle.gq_found.specs.declared.code.Code.TheVariants.{Syntax, OverLimit, MixedFile}
-use Rattle.gq_found.specs.declared.fault.Fault.{Fault}
-use Rattle.gq_read.specs.declared.reader.Parsed.{Parsed}
-use Rattle.gq_read.specs.declared.reader.Parsed.TheVariants as reading
-use Rattle.gq_document.specs.Definitions.{definitions_read}
-use Rattle.gq_found.specs.FaultPlaces.{fault_over}
+use Rattle.gq_fault.specs.declared.code.Code.TheVariants.{Syntax, OverLimit, MixedFile}
+use Rattle.gq_fault.specs.declared.fault.Fault.{Fault}
+use Rattle.gq_tree.specs.declared.parsed.Parsed.{Parsed}
+use Rattle.gq_tree.specs.declared.parsed.Parsed.TheVariants as reading
+use Rattle.gq_tree.specs.Readings.{definitions_read}
+use Rattle.gq_fault.specs.FaultPlaces.{fault_over}
 use Rattle.gq_type_system.specs.DefinedTwice.{definition_place}
 use Rattle.gq_rules.specs.Unread.{fault_before}
 use Rattle.gq_rules.specs.ExecutableDefinitions.{is_executable, first_of_type_system}

@@ -1,6 +1,6 @@
 -- What the rules tell by groups, each of which a thread looks for, computed.
 use Rattle.std.specs.Prelude.{◌⊎◌}
-use Rattle.gq_found.specs.declared.fault.Fault.{Fault}
+use Rattle.gq_fault.specs.declared.fault.Fault.{Fault}
 use Rattle.gq_document.specs.Executable.{ExecutableOf}
 use Rattle.gq_fragments.specs.OperationFaults.{IsOperationFault}
 use Rattle.gq_fragments.specs.FragmentFaults.{IsFragmentFault}

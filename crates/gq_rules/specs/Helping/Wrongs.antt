@@ -1,8 +1,8 @@
 -- What is put behind faults for a type system and the definitions over it, computed: the faults of the type system
 -- and, where nothing is told by then, those of the rules.
 use Rattle.std.specs.Prelude.{◌≡◌, ◌↔◌, ◌++◌, List, [], Contains}
-use Rattle.gq_found.specs.declared.fault.Fault.{Fault}
-use Rattle.gq_found.specs.Adds.{AddsExactly}
+use Rattle.gq_fault.specs.declared.fault.Fault.{Fault}
+use Rattle.gq_fault.specs.Adds.{AddsExactly}
 use Rattle.gq_document.specs.Executable.{ExecutableOf}
 use Rattle.gq_type_system.specs.SchemaFaults.{IsSchemaFault}
 use Rattle.gq_rules.specs.RuleFaults.{IsRuleFault}

@@ -6,12 +6,12 @@ use Rattle.std.specs.declared.alloc.Global.{Global}
 use Rattle.gq_text.specs.declared.place.Span.{Span}
 use Rattle.gq_tree.specs.Names.{spread_names}
 use Rattle.gq_tree.specs.Plain.{NameOf}
-use Rattle.gq_found.specs.declared.code.Code.TheVariants.{FragmentCycle}
-use Rattle.gq_found.specs.declared.fault.Fault.{Fault}
-use Rattle.gq_reach.specs.Reach.{row, LeadToEachOther}
+use Rattle.gq_fault.specs.declared.code.Code.TheVariants.{FragmentCycle}
+use Rattle.gq_fault.specs.declared.fault.Fault.{Fault}
+use Rattle.gq_graph.specs.Reach.{row, LeadToEachOther}
 use Rattle.gq_types.specs.Entries.{Text}
 use Rattle.gq_document.specs.Definitions.{FragmentOf}
-use Rattle.gq_found.specs.FaultPlaces.{fault_at}
+use Rattle.gq_fault.specs.FaultPlaces.{fault_at}
 use Rattle.gq_spreads.specs.Spreads.{places_from}
 
 -- two numbers are of one component exactly if each of them leads to the other

@@ -2,13 +2,13 @@
 use Rattle.std.specs.Prelude.{ℕ, true, false, List, [], ◌∷◌, if◌then◌else◌, flat_map}
 use Rattle.std.specs.Option.{option_map_or}
 use Rattle.gq_text.specs.declared.place.Span.{Span}
-use Rattle.gq_found.specs.declared.code.Code.TheVariants.{BadExtension}
-use Rattle.gq_found.specs.declared.fault.Fault.{Fault}
+use Rattle.gq_fault.specs.declared.code.Code.TheVariants.{BadExtension}
+use Rattle.gq_fault.specs.declared.fault.Fault.{Fault}
 use Rattle.gq_tree.specs.Plain.{TypeSystemOf, schema, type_definition, directive_definition}
 use Rattle.gq_types.specs.Entries.{EntryOf, Numbered}
 use Rattle.gq_types.specs.Kinds.{kind_of, same_kind}
 use Rattle.gq_types.specs.Joined.{kind_named, judged}
-use Rattle.gq_found.specs.FaultPlaces.{fault_at}
+use Rattle.gq_fault.specs.FaultPlaces.{fault_at}
 
 abbrev pub bad_extension : List EntryOf → ℕ → TypeSystemOf Span → List Fault
 bad_extension es file (schema extends description directives roots place) = []

@@ -1,15 +1,15 @@
 -- What is told of types without parts and of parts that stand twice, computed.
 use Rattle.std.specs.Prelude.{ℕ, Bool, true, false, List, [], ◌∷◌, ◌++◌, Option, Some, None, if◌then◌else◌, flat_map, map, nat_eq, length}
 use Rattle.gq_text.specs.declared.place.Span.{Span}
-use Rattle.gq_found.specs.declared.code.Code.TheVariants.{EmptyOrRepeated}
-use Rattle.gq_found.specs.declared.fault.Fault.{Fault}
+use Rattle.gq_fault.specs.declared.code.Code.TheVariants.{EmptyOrRepeated}
+use Rattle.gq_fault.specs.declared.fault.Fault.{Fault}
 use Rattle.gq_names.specs.Repeats.{repeated_after}
 use Rattle.gq_tree.specs.Plain.{NameOf, InputOf, TypeSystemOf, schema, type_definition, directive_definition}
 use Rattle.gq_type_system.specs.declared.parts.Part.{Part}
 use Rattle.gq_type_system.specs.declared.parts.Part.TheVariants.{Fields, Interfaces, Members, Values, InputFields}
 use Rattle.gq_types.specs.Entries.{Text, EntryOf, Numbered}
 use Rattle.gq_types.specs.Joined.{In, judged}
-use Rattle.gq_found.specs.FaultPlaces.{fault_at}
+use Rattle.gq_fault.specs.FaultPlaces.{fault_at}
 use Rattle.gq_type_system.specs.Parts.{part_names, required_part}
 use Rattle.gq_type_system.specs.EmptyOrRepeated.{argument_lists}
 use Rattle.gq_type_system.specs.Helping.Walk.{at_each_number}

@@ -4,9 +4,9 @@ use Rattle.std.specs.List.{list_any}
 use Rattle.std.specs.Option.{option_map_or}
 use Rattle.std.specs.Str.{bytes_eq}
 use Rattle.gq_text.specs.declared.place.Span.{Span}
-use Rattle.gq_found.specs.declared.code.Code.{Code}
-use Rattle.gq_found.specs.declared.code.Code.TheVariants.{EmptyOrRepeated, WrongKindOfType}
-use Rattle.gq_found.specs.declared.fault.Fault.{Fault}
+use Rattle.gq_fault.specs.declared.code.Code.{Code}
+use Rattle.gq_fault.specs.declared.code.Code.TheVariants.{EmptyOrRepeated, WrongKindOfType}
+use Rattle.gq_fault.specs.declared.fault.Fault.{Fault}
 use Rattle.gq_tree.specs.declared.tree.OperationKind.{OperationKind}
 use Rattle.gq_tree.specs.declared.tree.OperationKind.TheVariants.{Query, Mutation, Subscription}
 use Rattle.gq_tree.specs.Plain.{RootOf}
@@ -17,7 +17,7 @@ use Rattle.gq_type_system.specs.declared.root_types.Taken.{Taken}
 use Rattle.gq_types.specs.Entries.{Text, EntryOf}
 use Rattle.gq_types.specs.Kinds.{same_kind}
 use Rattle.gq_types.specs.Joined.{In, kind_named}
-use Rattle.gq_found.specs.FaultPlaces.{fault_at}
+use Rattle.gq_fault.specs.FaultPlaces.{fault_at}
 use Rattle.gq_types.specs.Roots.{roots_of, default_root}
 use Rattle.gq_type_system.specs.Helping.Walk.{at_each_number}
 

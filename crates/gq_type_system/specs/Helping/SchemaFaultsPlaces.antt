@@ -1,6 +1,6 @@
 -- What the rules put, one after the other, computed.
 use Rattle.std.specs.Prelude.{List, ◌++◌}
-use Rattle.gq_found.specs.declared.fault.Fault.{Fault}
+use Rattle.gq_fault.specs.declared.fault.Fault.{Fault}
 use Rattle.gq_types.specs.Entries.{EntryOf}
 use Rattle.gq_type_system.specs.DefinedTwicePlaces.{all_defined_twice}
 use Rattle.gq_type_system.specs.Helping.BadExtensionPlaces.{bad_extensions}

@@ -1,10 +1,10 @@
 -- What is told of unknown types, in the order of the entries, computed.
 use Rattle.std.specs.Prelude.{ℕ, List, [], ◌∷◌, if◌then◌else◌, flat_map, is_none}
-use Rattle.gq_found.specs.declared.code.Code.TheVariants.{UnknownType}
-use Rattle.gq_found.specs.declared.fault.Fault.{Fault}
+use Rattle.gq_fault.specs.declared.code.Code.TheVariants.{UnknownType}
+use Rattle.gq_fault.specs.declared.fault.Fault.{Fault}
 use Rattle.gq_types.specs.Entries.{EntryOf, Numbered}
 use Rattle.gq_types.specs.Joined.{kind_named, judged}
-use Rattle.gq_found.specs.FaultPlaces.{fault_at}
+use Rattle.gq_fault.specs.FaultPlaces.{fault_at}
 use Rattle.gq_type_system.specs.Uses.{UseOf, used_types}
 
 abbrev pub unknown_type : List EntryOf → ℕ → UseOf → List Fault

@@ -1,6 +1,6 @@
 -- The judged entries among some whose numbers go on from one, and what is told at each number, computed.
 use Rattle.std.specs.Prelude.{ℕ, ◌+◌, List, [], ◌∷◌, ◌++◌, filter, not}
-use Rattle.gq_found.specs.declared.fault.Fault.{Fault}
+use Rattle.gq_fault.specs.declared.fault.Fault.{Fault}
 use Rattle.gq_types.specs.Entries.{EntryOf, Numbered, numbered_from}
 use Rattle.gq_types.specs.BuiltIn.{defines_built_in}
 

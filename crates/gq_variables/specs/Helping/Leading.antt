@@ -1,7 +1,7 @@
 -- Which fragments have to be gone over for the uses of variables. Only contracts of private functions speak of it.
 use Rattle.std.specs.Prelude.{◌≡◌, ◌<◌, ℕ, ◌+◌, Bool, true, false, List, [], ◌∷◌, ◌++◌, Some, All, Contains, length, not, nat_eq, slice_get, slice_index_or}
 use Rattle.gq_names.specs.UnderNames.{one_if}
-use Rattle.gq_reach.specs.Reach.{Reach, row, InRange}
+use Rattle.gq_graph.specs.Reach.{Reach, row, InRange}
 use Rattle.gq_document.specs.Definitions.{OperationOf, FragmentOf}
 use Rattle.gq_document.specs.Executable.{ExecutableOf}
 use Rattle.gq_spreads.specs.Spreads.{ReachesNumber}

@@ -6,14 +6,14 @@ use Rattle.std.specs.Str.{bytes_eq}
 use Rattle.gq_text.specs.declared.place.Span.{Span}
 use Rattle.gq_tree.specs.Plain.{TypeOf, named, list_of, non_null, VariableOf}
 use Rattle.gq_names.specs.Repeats.{repeated_after}
-use Rattle.gq_found.specs.declared.code.Code.TheVariants.{VariableNotUnique, VariableNotOfInputType, VariableNotDefined, VariableNotUsed, VariableNotAllowedHere}
-use Rattle.gq_found.specs.declared.fault.Fault.{Fault}
+use Rattle.gq_fault.specs.declared.code.Code.TheVariants.{VariableNotUnique, VariableNotOfInputType, VariableNotDefined, VariableNotUsed, VariableNotAllowedHere}
+use Rattle.gq_fault.specs.declared.fault.Fault.{Fault}
 use Rattle.gq_types.specs.Entries.{Text, EntryOf}
 use Rattle.gq_types.specs.Joined.{kind_named}
 use Rattle.gq_types.specs.Kinds.{is_input}
 use Rattle.gq_values.specs.Literals.{Expected, at_type, at_any}
-use Rattle.gq_types.specs.Required.{is_non_null}
-use Rattle.gq_found.specs.FaultPlaces.{fault_at}
+use Rattle.gq_tree.specs.Wrapping.{is_non_null}
+use Rattle.gq_fault.specs.FaultPlaces.{fault_at}
 use Rattle.gq_document.specs.Definitions.{OperationOf}
 use Rattle.gq_tree.specs.NamedTypes.{base_name}
 use Rattle.gq_variables.specs.Uses.{PlaceOf, UseOf}

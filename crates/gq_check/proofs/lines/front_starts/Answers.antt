@@ -1,7 +1,8 @@
 use Rattle.std.proofs.Common.{◌∙◌, ◌+◌, [], ◌∷◌, rules, subst, sym, ap, append-nil, drop, arith}
 use Rattle.std.proofs.lemmas.List.{drop_more}
-use Rattle.gq_found.specs.declared.found.Found.{Found}
+use Rattle.gq_fault.specs.declared.found.Found.{Found}
 use Rattle.gq_check.specs.Helping.Starts.{StartsAt, AreStarts, first_key}
+use Rattle.gq_text.specs.declared.place.PositionEncoding.TheVariants.{Utf16}
 use Rattle.gq_text.proofs.Floors.{pos-floor}
 use Rattle.gq_check.proofs.LineLemmas.{starts-more, first_key-is, same_text}
 use Rattle.gq_check.proofs.lines.front_starts.Goals as goal
@@ -18,7 +19,7 @@ loop-item-preserved c =
       of_key = sym c.as_str.ensures ∙ same_text _ _ c.if-ne.ensures ∙ c.as_str-key.ensures ∙ first_key-is c.args.found.now c.index-found-0.result c.requires;
       behind = omega arith;
       boundary = c.floor_char_boundary-start.ensures.boundary;
-      same = pos-floor c.args.text.now start item.span.start c.utf8.text c.floor_char_boundary-start.ensures.bound c.floor_char_boundary-start.ensures.nearest;
+      same = pos-floor Utf16 c.args.text.now start item.span.start c.utf8.text c.floor_char_boundary-start.ensures.bound c.floor_char_boundary-start.ensures.nearest;
     } in
     let next = drop_more c.args.found.now c.loop-item.item-index item c.loop-item-test.true ∙ ap (λ (f : Found). f ∷ drop (c.loop-item.item-index + 1) c.args.found.now) (sym c.item-item.is) in
     record {

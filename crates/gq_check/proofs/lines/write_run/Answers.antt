@@ -1,5 +1,6 @@
 use Rattle.std.proofs.Common.{◌<◌, ◌≤◌, ◌^◌, ◌∙◌, length, map, rules, ap, arith}
 use Rattle.gq_text.specs.Place.{pos}
+use Rattle.gq_text.specs.declared.place.PositionEncoding.TheVariants.{Utf16}
 use Rattle.gq_check.specs.Lines.{text_at}
 use Rattle.gq_check.specs.Helping.Starts.{first_key}
 use Rattle.gq_check.proofs.LineLemmas.{starts-boundaries, starts-ascend, first_key-is, fits-text_at, lines-more, position-at, positions-fit}
@@ -20,7 +21,7 @@ positions_in-requires-clause-ascending c =
 
 pub bounds-found-index : goal.bounds-found-index
 bounds-found-index c =
-    let are = c.deref-position-items.ensures.value ∙ c.in_ok-positions.ensures ∙ ap (map (pos c.text_of-text.result.now)) c.deref.ensures.value in
+    let are = c.deref-position-items.ensures.value ∙ c.in_ok-positions.ensures ∙ ap (map (pos Utf16 c.text_of-text.result.now)) c.deref.ensures.value in
     let fit = positions-fit (first_key c.args.found.now) c.text_of-text.result.now c.args.found.now c.in_ok-starts.starts.items c.deref-position-items.result.now c.in_ok-starts.ensures.starts are in
     omega arith
 
@@ -30,7 +31,7 @@ offset_bounds-found-index c = let below : c.loop-index.index < length c.args.fou
 pub loop-index-preserved : goal.loop-index-preserved
 loop-index-preserved c =
     let item = c.index-found-index.result in
-    let are = c.deref-position-items.ensures.value ∙ c.in_ok-positions.ensures ∙ ap (map (pos c.text_of-text.result.now)) c.deref.ensures.value in
+    let are = c.deref-position-items.ensures.value ∙ c.in_ok-positions.ensures ∙ ap (map (pos Utf16 c.text_of-text.result.now)) c.deref.ensures.value in
     let fit = positions-fit (first_key c.args.found.now) c.text_of-text.result.now c.args.found.now c.in_ok-starts.starts.items c.deref-position-items.result.now c.in_ok-starts.ensures.starts are in
     let key = c.as_str.ensures ∙ first_key-is c.args.found.now c.index-found-0.result c.requires.some in
     let at = position-at c.args.project.now c.args.found.now c.text_of-text.result.now c.as_str.result.now c.in_ok-starts.starts.items c.deref-position-items.result.now c.loop-index.index item
@@ -39,6 +40,6 @@ loop-index-preserved c =
 
 pub returns-clause-within : goal.returns-clause-within
 returns-clause-within c =
-    let are = c.in_ok-positions.ensures ∙ ap (map (pos c.text_of-text.result.now)) c.deref.ensures.value in
+    let are = c.in_ok-positions.ensures ∙ ap (map (pos Utf16 c.text_of-text.result.now)) c.deref.ensures.value in
     let fit = positions-fit (first_key c.args.found.now) c.text_of-text.result.now c.args.found.now c.in_ok-starts.starts.items c.in_ok-positions.positions.items c.in_ok-starts.ensures.starts are in
     omega arith

@@ -6,7 +6,7 @@ use Rattle.gq_tree.specs.Views.{value_view, type_view}
 use Rattle.std.specs.List.{find}
 use Rattle.std.specs.Str.{bytes_eq}
 use Rattle.gq_types.specs.Joined.{kind_named}
-use Rattle.gq_types.specs.Required.{is_non_null}
+use Rattle.gq_tree.specs.Wrapping.{is_non_null}
 use Rattle.gq_types.specs.Look.{types_view}
 use Rattle.gq_table.specs.Views.{value_view as given_value}
 use Rattle.gq_table.proofs.Trees.{view_null}

@@ -3,7 +3,7 @@ use Rattle.std.specs.Option.{option_map}
 use Rattle.std.proofs.lemmas.Result.{IfOk-weaker}
 use Rattle.gq_tree.specs.Views.{document_view}
 use Rattle.gq_types.specs.Look.{types_view}
-use Rattle.gq_sets.specs.SetViews.{set_view}
+use Rattle.gq_document.specs.SetViews.{set_view}
 use Rattle.gq_completion.proofs.FieldLemmas.{of_set}
 use Rattle.gq_completion.proofs.fields.fields_in.Goals as goal
 

@@ -1,8 +1,8 @@
 use Rattle.std.proofs.Common.{◌≡◌, drop}
 use Rattle.std.specs.Option.{option_map, option_or}
 use Rattle.gq_completion.specs.Sets.{encloses}
-use Rattle.gq_sets.specs.SetViews.{set_view, sets_view}
-use Rattle.gq_sets.specs.Last.{find_last}
+use Rattle.gq_document.specs.SetViews.{set_view, sets_view}
+use Rattle.gq_document.specs.Last.{find_last}
 use Rattle.gq_completion.proofs.sets.last_enclosing.Given as goal
 
 abbrev pub invariant-loop-set : goal.invariant-loop-set

@@ -2,7 +2,7 @@ use Rattle.std.proofs.Common.{◌≡◌, drop, map}
 use Rattle.std.specs.Prelude.{nat_le}
 use Rattle.std.specs.Option.{option_map, option_or}
 use Rattle.gq_lex.specs.Tokens.{lexeme_of}
-use Rattle.gq_sets.specs.Last.{find_last}
+use Rattle.gq_document.specs.Last.{find_last}
 use Rattle.gq_completion.proofs.tokens.last_ending.Given as goal
 
 abbrev pub invariant-loop-token : goal.invariant-loop-token

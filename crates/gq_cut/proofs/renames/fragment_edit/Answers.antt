@@ -1,5 +1,5 @@
 use Rattle.std.proofs.Common.{◌≡◌, ◌∙◌}
-use Rattle.gq_rewrite.specs.Renamings.{fragment_called}
+use Rattle.gq_renamed.specs.Renamings.{fragment_called}
 use Rattle.gq_cut.proofs.RunLemmas.{cut_apart, cut_edits, cut_in_order}
 use Rattle.gq_cut.proofs.FragmentCut.{fragment_changes}
 use Rattle.gq_cut.proofs.renames.fragment_edit.Goals as goal

@@ -9,6 +9,6 @@ abbrev pub invariant-loop-document_edit : goal.invariant-loop-document_edit
 invariant-loop-document_edit l = record {
   fit : FitDocuments l.project (drop l.document_edit-index l.document_edit-items);
   whole :
-      l.document_changes ++ filter_map (λ edit. option_map (document_edit_of edit) (document_of l.project edit)) (drop l.document_edit-index l.document_edit-items)
-      ≡ filter_map (λ edit. option_map (document_edit_of edit) (document_of l.project edit)) l.edit;
+      l.document_changes ++ filter_map (λ edit. option_map (document_edit_of l.encoding edit) (document_of l.project edit)) (drop l.document_edit-index l.document_edit-items)
+      ≡ filter_map (λ edit. option_map (document_edit_of l.encoding edit) (document_of l.project edit)) l.edit;
 }

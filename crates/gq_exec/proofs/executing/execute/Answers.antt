@@ -1,6 +1,6 @@
 use Rattle.std.proofs.Common.{List, subst}
 use Rattle.gq_project.specs.declared.document.Doc.{Doc}
-use Rattle.gq_read.specs.Parsed.{AreParsed}
+use Rattle.gq_parse.specs.Parsed.{AreParsed}
 use Rattle.gq_types.specs.Look.{text_of}
 use Rattle.gq_document.specs.Definitions.{operations_of, fragments_of, operations_view, fragments_view}
 use Rattle.gq_exec.proofs.Meant.{ranked}

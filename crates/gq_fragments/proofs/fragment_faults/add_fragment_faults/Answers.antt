@@ -1,5 +1,5 @@
 use Rattle.std.proofs.lemmas.Result.{on_ok_weaker}
-use Rattle.gq_found.proofs.PutLemmas.{puts_list}
+use Rattle.gq_fault.proofs.PutLemmas.{puts_list}
 use Rattle.gq_document.specs.Executable.{executable_view}
 use Rattle.gq_fragments.specs.FragmentFaults.{IsFragmentFault}
 use Rattle.gq_fragments.specs.Helping.FragmentPlaces.{fragment_faults}

@@ -1,8 +1,8 @@
 use Rattle.std.proofs.Common.{◌≡◌, ◌++◌, drop}
 use Rattle.std.specs.List.{flat_map, enumerate_from}
-use Rattle.gq_document.specs.Definitions.{in_document}
+use Rattle.gq_tree.specs.Readings.{in_document}
 use Rattle.gq_index.specs.Occurrences.{executable_in, executables}
-use Rattle.gq_index.specs.Helping.Views.{definitions_view}
+use Rattle.gq_index.specs.Views.{definitions_view}
 use Rattle.gq_index.proofs.definitions.executables.Given as goal
 
 abbrev pub invariant-loop-file : goal.invariant-loop-file

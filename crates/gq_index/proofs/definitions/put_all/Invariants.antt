@@ -1,7 +1,7 @@
 use Rattle.std.proofs.Common.{◌≡◌, ◌++◌, drop, flat_map, map}
 use Rattle.gq_tree.specs.Views.{def_view}
 use Rattle.gq_index.specs.Occurrences.{executable_in}
-use Rattle.gq_index.specs.Helping.Views.{definitions_view}
+use Rattle.gq_index.specs.Views.{definitions_view}
 use Rattle.gq_index.proofs.definitions.put_all.Given as goal
 
 abbrev pub invariant-loop-definition : goal.invariant-loop-definition

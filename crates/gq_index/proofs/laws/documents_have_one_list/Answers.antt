@@ -1,5 +1,5 @@
 use Rattle.std.proofs.Common.{◌∙◌, sym}
-use Rattle.gq_document.proofs.OneReading.{same_in_documents}
+use Rattle.gq_parse.proofs.OneReading.{same_in_documents}
 use Rattle.gq_index.specs.Occurrences.{executable_in}
 use Rattle.gq_index.proofs.laws.documents_have_one_list.Goals as goal
 

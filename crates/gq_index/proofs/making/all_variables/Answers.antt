@@ -1,7 +1,7 @@
 use Rattle.std.proofs.Common.{rules, ◌≡◌, ◌++◌, ◌∷◌, [], ◌+◌, ◌<◌, length, sym, ap, subst, ◌∙◌, Some}
 use Rattle.std.specs.Prelude.{slice_get}
 use Rattle.std.proofs.lemmas.List.{length_push}
-use Rattle.gq_index.specs.Helping.Views.{definition_view, definitions_view}
+use Rattle.gq_index.specs.Views.{definition_view, definitions_view}
 use Rattle.gq_index.proofs.VariableLemmas.{Each, each_more, seen_at}
 use Rattle.gq_index.proofs.making.all_variables.Goals as goal
 

@@ -1,6 +1,6 @@
 use Rattle.std.proofs.Common.{◌≡◌, ◌++◌, drop}
 use Rattle.gq_index.specs.Occurrences.{definition_places}
-use Rattle.gq_index.specs.Helping.Views.{definitions_view}
+use Rattle.gq_index.specs.Views.{definitions_view}
 use Rattle.gq_index.proofs.places.definition_places.Given as goal
 
 abbrev pub invariant-loop-one : goal.invariant-loop-one

@@ -2,7 +2,7 @@ use Rattle.std.proofs.Common.{◌≡◌, ◌++◌, drop}
 use Rattle.gq_names.specs.UnderNames.{items_under}
 use Rattle.gq_types.specs.Entries.{Text}
 use Rattle.gq_index.specs.Occurrences.{fragment_spreads}
-use Rattle.gq_index.specs.Helping.Views.{definitions_view}
+use Rattle.gq_index.specs.Views.{definitions_view}
 use Rattle.gq_index.proofs.places.fragment_spreads.Given as goal
 
 abbrev pub invariant-loop-one : goal.invariant-loop-one

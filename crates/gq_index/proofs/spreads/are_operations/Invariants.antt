@@ -1,6 +1,6 @@
 use Rattle.std.proofs.Common.{◌≡◌, ◌++◌, drop, map}
 use Rattle.gq_index.specs.Occurrences.{is_operation}
-use Rattle.gq_index.specs.Helping.Views.{definitions_view}
+use Rattle.gq_index.specs.Views.{definitions_view}
 use Rattle.gq_index.proofs.spreads.are_operations.Given as goal
 
 abbrev pub invariant-loop-one : goal.invariant-loop-one

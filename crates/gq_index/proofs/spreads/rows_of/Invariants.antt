@@ -1,7 +1,7 @@
 use Rattle.std.proofs.Common.{◌≡◌, ◌++◌, drop, map}
 use Rattle.gq_names.specs.UnderNames.{items_under}
 use Rattle.gq_index.specs.Helping.SpreadNumbers.{rows_under}
-use Rattle.gq_index.specs.Helping.Views.{definitions_view}
+use Rattle.gq_index.specs.Views.{definitions_view}
 use Rattle.gq_index.proofs.spreads.rows_of.Given as goal
 
 abbrev pub invariant-loop-one : goal.invariant-loop-one

@@ -1,7 +1,7 @@
 use Rattle.std.proofs.Common.{◌≡◌, ◌∙◌, map}
 use Rattle.gq_names.specs.UnderNames.{items_under}
 use Rattle.gq_index.specs.Helping.SpreadNumbers.{fragment_numbers, spread_rows}
-use Rattle.gq_index.specs.Helping.Views.{definitions_view}
+use Rattle.gq_index.specs.Views.{definitions_view}
 use Rattle.gq_index.proofs.SpreadLemmas.{rows_same, rows_hold, rows_in_range}
 use Rattle.gq_index.proofs.spreads.spread_rows.Goals as goal
 

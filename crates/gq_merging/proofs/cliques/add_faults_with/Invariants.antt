@@ -1,5 +1,5 @@
 use Rattle.std.proofs.Common.{take}
-use Rattle.gq_found.specs.Adds.{AddsExactly}
+use Rattle.gq_fault.specs.Adds.{AddsExactly}
 use Rattle.gq_merging.specs.Helping.PairTables.{IsGiven, IsFaultOf}
 use Rattle.gq_merging.specs.Helping.SearchTables.{IsWith}
 use Rattle.gq_merging.specs.Helping.Views.{member_view, members_view, look_view}

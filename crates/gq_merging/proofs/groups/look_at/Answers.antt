@@ -1,7 +1,7 @@
 use Rattle.std.proofs.Common.{◌≡◌, ◌<◌, ◌∙◌, Some, All, length, sym, ap, subst, arith}
 use Rattle.std.specs.List.{flat_map}
 use Rattle.std.proofs.lemmas.Option.{same_Some}
-use Rattle.gq_reach.specs.Reach.{row}
+use Rattle.gq_graph.specs.Reach.{row}
 use Rattle.gq_merging.specs.Helping.GroupTables.{AreReached}
 use Rattle.gq_merging.specs.Helping.SetTables.{members_at}
 use Rattle.gq_merging.specs.Helping.Views.{rows_view}

@@ -3,7 +3,7 @@ use Rattle.std.proofs.lemmas.Bool.Decides.{nat_tests}
 use Rattle.std.proofs.lemmas.List.{nil_from_length}
 use Rattle.std.proofs.lemmas.Option.{slice_get_read}
 use Rattle.std.proofs.lemmas.Result.{IfOk-weaker}
-use Rattle.gq_reach.specs.Reach.{Reach, row}
+use Rattle.gq_graph.specs.Reach.{Reach, row}
 use Rattle.gq_merging.proofs.ClassLemmas.{lone_reaches}
 use Rattle.gq_merging.proofs.members.reached_sets.Goals as goal
 

@@ -1,5 +1,5 @@
 use Rattle.std.proofs.Common.{true, false, All, subst}
-use Rattle.gq_reach.specs.Reach.{Reach, row}
+use Rattle.gq_graph.specs.Reach.{Reach, row}
 use Rattle.gq_merging.specs.Helping.StartTables.{SetsMarks}
 use Rattle.gq_merging.proofs.StartLemmas.{passes}
 use Rattle.gq_merging.proofs.passed.passed_rows.Goals as goal

@@ -1,7 +1,7 @@
 use Rattle.std.proofs.Common.{◌≡◌, ◌++◌, drop}
-use Rattle.gq_spans.specs.Views.{mentions_view}
+use Rattle.gq_mentions.specs.Views.{mentions_view}
 use Rattle.gq_query.specs.Asked.{mentions_of}
-use Rattle.gq_query.specs.Helping.Views.{definitions_view}
+use Rattle.gq_index.specs.Views.{definitions_view}
 use Rattle.gq_query.proofs.asking.mentions_of.Given as goal
 
 abbrev pub invariant-loop-number : goal.invariant-loop-number

@@ -1,7 +1,7 @@
 use Rattle.std.proofs.Common.{subst}
 use Rattle.std.proofs.lemmas.Result.{IfOk-weaker}
 use Rattle.gq_types.specs.Entries.{Text}
-use Rattle.gq_spans.specs.Views.{mention_view}
+use Rattle.gq_mentions.specs.Views.{mention_view}
 use Rattle.gq_query.specs.Places.{type_place}
 use Rattle.gq_query.specs.Schemas.{BySchema}
 use Rattle.gq_query.proofs.Telling.{exactly_told}

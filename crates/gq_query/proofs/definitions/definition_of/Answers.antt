@@ -1,8 +1,8 @@
 use Rattle.std.proofs.lemmas.Result.{IfOk-weaker}
 use Rattle.gq_index.specs.Occurrences.{executables}
-use Rattle.gq_spans.specs.declared.mention.MentionKind.TheVariants as kind
-use Rattle.gq_spans.specs.Views.{mention_view}
-use Rattle.gq_query.specs.Helping.Views.{definitions_view}
+use Rattle.gq_mentions.specs.declared.mention.MentionKind.TheVariants as kind
+use Rattle.gq_mentions.specs.Views.{mention_view}
+use Rattle.gq_index.specs.Views.{definitions_view}
 use Rattle.gq_query.proofs.Defining.{of_fragment, of_variable, of_kind}
 use Rattle.gq_query.proofs.definitions.definition_of.Goals as goal
 

@@ -1,7 +1,7 @@
 use Rattle.std.proofs.lemmas.Result.{IfOk-weaker}
-use Rattle.gq_spans.specs.Views.{mention_view}
+use Rattle.gq_mentions.specs.Views.{mention_view}
 use Rattle.gq_query.specs.Places.{defined_field_place}
-use Rattle.gq_query.specs.Helping.Views.{definitions_view}
+use Rattle.gq_index.specs.Views.{definitions_view}
 use Rattle.gq_query.proofs.Telling.{exactly_told}
 use Rattle.gq_query.proofs.definitions.field_definition.Goals as goal
 

@@ -2,10 +2,10 @@ use Rattle.std.proofs.Common.{subst}
 use Rattle.std.proofs.lemmas.Result.{IfOk-weaker}
 use Rattle.gq_types.specs.Entries.{Text}
 use Rattle.gq_index.specs.Occurrences.{executables}
-use Rattle.gq_spans.specs.declared.mention.MentionKind.TheVariants as kind
-use Rattle.gq_spans.specs.Views.{mention_view}
+use Rattle.gq_mentions.specs.declared.mention.MentionKind.TheVariants as kind
+use Rattle.gq_mentions.specs.Views.{mention_view}
 use Rattle.gq_query.specs.Schemas.{BySchema}
-use Rattle.gq_query.specs.Helping.Views.{definitions_view}
+use Rattle.gq_index.specs.Views.{definitions_view}
 use Rattle.gq_query.specs.Words.{condition_told}
 use Rattle.gq_query.proofs.Defining.{told_by_kind}
 use Rattle.gq_query.proofs.hovers.told_of.Goals as goal

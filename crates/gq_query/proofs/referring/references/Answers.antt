@@ -1,7 +1,7 @@
 use Rattle.std.proofs.Common.{List, subst, sym}
 use Rattle.gq_project.specs.declared.document.Doc.{Doc}
-use Rattle.gq_read.specs.declared.reader.Parsed.{Parsed}
-use Rattle.gq_read.specs.Parsed.{AreParsed}
+use Rattle.gq_tree.specs.declared.parsed.Parsed.{Parsed}
+use Rattle.gq_parse.specs.Parsed.{AreParsed}
 use Rattle.gq_query.proofs.referring.references.Goals as goal
 
 pub returns : goal.returns

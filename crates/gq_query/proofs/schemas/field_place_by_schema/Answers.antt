@@ -1,18 +1,17 @@
-use Rattle.std.proofs.Common.{subst}
-use Rattle.gq_schema.specs.SchemaResults.{IsFaultOf}
+use Rattle.std.proofs.Common.{Option, Some, None, refl, ap, subst, ◌∙◌}
+use Rattle.std.specs.Option.{option_map}
 use Rattle.gq_types.specs.Look.{types_view}
-use Rattle.gq_spans.specs.Views.{mention_view}
-use Rattle.gq_query.specs.Helping.Views.{definitions_view}
+use Rattle.gq_mentions.specs.Views.{mention_view}
+use Rattle.gq_index.specs.Views.{definitions_view}
 use Rattle.gq_query.specs.Places.{defined_field_place}
-use Rattle.gq_query.proofs.Telling.{by_schema, without_schema}
+use Rattle.gq_query.specs.Schemas.{BySchema}
+use Rattle.gq_query.proofs.Telling.{told_by}
 use Rattle.gq_query.proofs.schemas.field_place_by_schema.Goals as goal
 
-pub returns-in-Ok : goal.returns-in-Ok
-returns-in-Ok c =
-    by_schema c.args.project.now (λ es. defined_field_place es (definitions_view c.args.definitions.now) (mention_view c.args.mention.now))
-    (types_view c.in-Ok.schema) (types_view c.types.result.now) c.types.ensures.same c.in-Ok.ensures.schema c.in-Ok.ensures.valid c.in_ok-place-in-Ok.place c.in_ok-place-in-Ok.ensures
+pub returns-in_ok-place-in-Some : goal.returns-in_ok-place-in-Some
+returns-in_ok-place-in-Some c =
+    told_by c.args.project.now (λ es. defined_field_place es (definitions_view c.args.definitions.now) (mention_view c.args.mention.now)) (Some (types_view c.in-Some.schema)) c.in_ok-place-in-Some.place
+    (subst (λ o. BySchema c.args.project.now (λ es. Some es) (option_map types_view o)) c.in-Some.is c.in_ok-schema.ensures) (c.in_ok-place-in-Some.ensures ∙ ap (λ es. defined_field_place es (definitions_view c.args.definitions.now) (mention_view c.args.mention.now)) c.types.ensures.same)
 
-pub returns-in-Err-Faults : goal.returns-in-Err-Faults
-returns-in-Err-Faults c =
-    without_schema c.args.project.now (λ es. defined_field_place es (definitions_view c.args.definitions.now) (mention_view c.args.mention.now)) c.documents_have_one_type_system.ensures.not_both
-    c.in-Err-Faults.field-0-0.items (subst (λ fault. IsFaultOf c.args.project.now fault) c.in-Err-Faults.field-0-is c.in-Err-Faults.ensures.faults)
+pub returns-in-None : goal.returns-in-None
+returns-in-None c = told_by c.args.project.now (λ es. defined_field_place es (definitions_view c.args.definitions.now) (mention_view c.args.mention.now)) None None (subst (λ o. BySchema c.args.project.now (λ es. Some es) (option_map types_view o)) c.in-None.is c.in_ok-schema.ensures) refl

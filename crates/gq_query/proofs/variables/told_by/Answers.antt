@@ -4,7 +4,7 @@ use Rattle.gq_types.specs.Entries.{Text}
 use Rattle.gq_index.specs.VariableGroups.{VariableGroup}
 use Rattle.gq_query.specs.Helping.Gathered.{first_of}
 use Rattle.gq_query.specs.Groups.{variable_at}
-use Rattle.gq_query.specs.Helping.Views.{definitions_view}
+use Rattle.gq_index.specs.Views.{definitions_view}
 use Rattle.gq_query.specs.Words.{variable_words}
 use Rattle.gq_query.proofs.Exact.{variable_is_told}
 use Rattle.gq_query.proofs.variables.told_by.Goals as goal

@@ -1,7 +1,7 @@
 use Rattle.std.proofs.Common.{◌≡◌, drop}
 use Rattle.gq_query.specs.Helping.Gathered.{first_of}
 use Rattle.gq_query.specs.Groups.{variable_at}
-use Rattle.gq_query.specs.Helping.Views.{definitions_view}
+use Rattle.gq_index.specs.Views.{definitions_view}
 use Rattle.gq_query.proofs.variables.variable_among.Given as goal
 
 abbrev pub invariant-loop-number : goal.invariant-loop-number

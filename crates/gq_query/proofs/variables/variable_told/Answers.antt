@@ -1,5 +1,5 @@
 use Rattle.std.proofs.Common.{◌∙◌, List, refl, sym, subst}
-use Rattle.gq_spans.specs.Views.{mention_view}
+use Rattle.gq_mentions.specs.Views.{mention_view}
 use Rattle.gq_index.specs.Indexed.{IsIndexOf}
 use Rattle.gq_index.specs.Occurrences.{DefinitionOf, executables}
 use Rattle.gq_query.specs.Hovers.{IsVariableTold}

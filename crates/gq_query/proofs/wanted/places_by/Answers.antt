@@ -4,7 +4,7 @@ use Rattle.gq_types.specs.Entries.{Text}
 use Rattle.gq_index.specs.Occurrences.{fragment_definitions, fragment_spreads}
 use Rattle.gq_index.specs.VariableGroups.{VariableGroup}
 use Rattle.gq_index.specs.VariableNames.{used_variables, defined_variables}
-use Rattle.gq_spans.specs.Views.{mention_view}
+use Rattle.gq_mentions.specs.Views.{mention_view}
 use Rattle.gq_query.specs.Helping.Gathered.{if_wanted, places_among}
 use Rattle.gq_query.proofs.Exact.{fragment_wanted, variable_wanted}
 use Rattle.gq_query.proofs.wanted.places_by.Goals as goal

@@ -1,6 +1,6 @@
 use Rattle.std.proofs.Common.{◌↔◌, List, Contains, subst}
 use Rattle.gq_index.specs.declared.occurrence.Occurrence.{Occurrence}
-use Rattle.gq_spans.specs.Views.{mention_view}
+use Rattle.gq_mentions.specs.Views.{mention_view}
 use Rattle.gq_query.specs.Helping.Wants.{IsWanted}
 use Rattle.gq_query.proofs.Exact.{exactly_of}
 use Rattle.gq_query.proofs.wanted.wanted_by.Goals as goal

@@ -1,5 +1,5 @@
 use Rattle.std.proofs.Common.{subst, refl}
-use Rattle.gq_spans.specs.Views.{mention_view}
+use Rattle.gq_mentions.specs.Views.{mention_view}
 use Rattle.gq_index.specs.Occurrences.{executables}
 use Rattle.gq_query.specs.Order.{AreExactly}
 use Rattle.gq_query.specs.Helping.Wants.{IsWanted}

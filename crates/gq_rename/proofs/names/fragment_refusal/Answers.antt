@@ -1,5 +1,5 @@
 use Rattle.std.proofs.Common.{sym, ◌∙◌}
-use Rattle.gq_target.specs.declared.target.TargetKind.TheVariants as kind
+use Rattle.gq_mentions.specs.declared.target.TargetKind.TheVariants as kind
 use Rattle.gq_rename.proofs.Naming.{first_of, same_texts, other_texts, is_empty_list, is_some_list}
 use Rattle.gq_rename.proofs.Taken.{fragment_taken, fragment_free}
 use Rattle.gq_rename.proofs.names.fragment_refusal.Goals as goal

@@ -1,5 +1,5 @@
 use Rattle.std.proofs.Common.{sym, ◌∙◌}
-use Rattle.gq_target.specs.declared.target.TargetKind.TheVariants as kind
+use Rattle.gq_mentions.specs.declared.target.TargetKind.TheVariants as kind
 use Rattle.gq_rename.proofs.Naming.{same_texts, other_texts, by_test}
 use Rattle.gq_rename.proofs.Taken.{variable_taken, variable_free}
 use Rattle.gq_rename.proofs.names.variable_refusal.Goals as goal

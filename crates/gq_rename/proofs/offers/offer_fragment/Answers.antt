@@ -1,6 +1,6 @@
 use Rattle.std.proofs.Common.{Some, None, refl}
-use Rattle.gq_rewrite.specs.Renamings.{fragment_called}
-use Rattle.gq_target.specs.declared.target.TargetKind.TheVariants as kind
+use Rattle.gq_renamed.specs.Renamings.{fragment_called}
+use Rattle.gq_mentions.specs.declared.target.TargetKind.TheVariants as kind
 use Rattle.gq_rename.proofs.Offering.{refused, made, kept, fragment_changes, refusal_of}
 use Rattle.gq_rename.proofs.offers.offer_fragment.Goals as goal
 

@@ -1,7 +1,7 @@
 use Rattle.std.proofs.Common.{Some, None, refl}
 use Rattle.gq_cut.specs.Cut.{variable_in}
 use Rattle.gq_cut.proofs.VariableCut.{may_name}
-use Rattle.gq_target.specs.declared.target.TargetKind.TheVariants as kind
+use Rattle.gq_mentions.specs.declared.target.TargetKind.TheVariants as kind
 use Rattle.gq_rename.proofs.Offering.{refused, made, kept, variable_changes, refusal_of, group_is, group_named}
 use Rattle.gq_rename.proofs.offers.offer_group.Goals as goal
 

@@ -6,17 +6,17 @@ use Rattle.gq_rename.proofs.targets.target_by.Goals as goal
 
 pub returns-in_default : goal.returns-in_default
 returns-in_default c rs are =
-    found_nowhere c.documents-documents.result.now c.args.project.now c.args.key.now c.args.offset rs c.documents-documents.ensures.all are c.in_default.ensures
+    found_nowhere c.args.project.now c.args.key.now c.args.offset rs are c.in_default.ensures
 
 pub returns : goal.returns
 returns c =
     IfOk-weaker c.target_at.result _ _
     (λ found of rs are.
-    found_there c.documents-documents.result.now c.args.project.now c.args.key.now c.args.offset rs c.requires.definitions c.places.result.now c.in-Some.file c.count_before-first.result c.index-documents-file.result found
-    c.documents-documents.ensures.all are
+    found_there c.args.project.now c.args.key.now c.args.offset rs c.requires.definitions c.places.result.now c.in-Some.file c.count_before-first.result c.index-documents-file.result found
+    are
     (c.documents_have_one_list.ensures c.args.project.now c.requires.definitions (executables rs) c.requires.of_documents (record { readings = rs; are_readings = are; is = refl }))
     c.in-Some.ensures
-    (place_at c.documents-documents.result.now c.args.key.now c.in-Some.file c.index-documents-file.result c.in-Some.ensures c.index-documents-file.is)
+    (place_at c.documents-documents.result.now c.args.project.now c.args.key.now c.in-Some.file c.index-documents-file.result c.documents-documents.ensures.all c.in-Some.ensures c.index-documents-file.is)
     (c.places.ensures c.requires.definitions c.requires.is_index)
     c.count_before-first.ensures.count
     of)

@@ -2,11 +2,11 @@ use Rattle.std.proofs.Common.{◌≡◌, ◌∙◌, List, Option, Some, None, su
 use Rattle.gq_project.specs.declared.document.Doc.{Doc}
 use Rattle.gq_edit.specs.declared.edit.DocumentEdit.{DocumentEdit}
 use Rattle.gq_edit.specs.Edits.{after_edit, is_too_large}
-use Rattle.gq_read.specs.Parsed.{AreParsed}
-use Rattle.gq_regroup.specs.Rewrites.{Rewrite}
-use Rattle.gq_regroup.specs.Views.{rewrite_of}
+use Rattle.gq_parse.specs.Parsed.{AreParsed}
+use Rattle.gq_rewritten.specs.Rewrites.{Rewrite}
+use Rattle.gq_rewritten.specs.Views.{rewrite_of}
 use Rattle.gq_rename.specs.declared.refusal.Refusal.{Refusal}
-use Rattle.gq_rename.specs.Helping.Checked.{IsValidated}
+use Rattle.gq_rename.specs.Checked.{IsValidated}
 use Rattle.gq_reshape.specs.Cuts.{edits_of}
 use Rattle.gq_reshape.specs.Helping.Judged.{IsVerdict}
 use Rattle.gq_reshape.proofs.Judging.{as_many_after, refused, judged, same_edit}

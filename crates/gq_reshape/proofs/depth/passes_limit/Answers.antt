@@ -1,6 +1,6 @@
 use Rattle.std.proofs.Common.{subst}
 use Rattle.gq_tree.specs.Views.{document_view}
-use Rattle.gq_read.specs.Parsed.{IsParsed}
+use Rattle.gq_parse.specs.Parsed.{IsParsed}
 use Rattle.gq_reshape.proofs.depth.passes_limit.Goals as goal
 
 pub returns-in-Tree : goal.returns-in-Tree

@@ -1,7 +1,7 @@
 use Rattle.std.proofs.Common.{◌∙◌, List, subst}
 use Rattle.gq_project.specs.declared.document.Doc.{Doc}
 use Rattle.gq_project.specs.Documents.{IsInOrder}
-use Rattle.gq_read.specs.Parsed.{AreParsed}
+use Rattle.gq_parse.specs.Parsed.{AreParsed}
 use Rattle.gq_types.specs.Look.{types_view}
 use Rattle.gq_schema.specs.SchemaOf.{IsTypeSystemOf}
 use Rattle.gq_reshape.specs.Extract.{extract_cut}

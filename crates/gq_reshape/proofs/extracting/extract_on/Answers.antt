@@ -1,7 +1,7 @@
 use Rattle.std.proofs.Common.{◌∙◌, ℕ, List, subst, sym}
 use Rattle.gq_tree.specs.Views.{sels_view}
 use Rattle.gq_project.specs.declared.document.Doc.{Doc}
-use Rattle.gq_read.specs.Parsed.{AreParsed}
+use Rattle.gq_parse.specs.Parsed.{AreParsed}
 use Rattle.gq_rules.specs.Validity.{IsValid}
 use Rattle.gq_reshape.specs.Extract.{extract_at}
 use Rattle.gq_reshape.specs.Helping.Judged.{IsJudged}

@@ -1,7 +1,7 @@
 use Rattle.std.proofs.Common.{◌∙◌, sym, ap}
 use Rattle.std.specs.Option.{option_map}
 use Rattle.gq_types.specs.Look.{types_view}
-use Rattle.gq_sets.specs.SetViews.{set_view, sets_view}
+use Rattle.gq_document.specs.SetViews.{set_view, sets_view}
 use Rattle.gq_reshape.specs.Extract.{run_at, innermost_at}
 use Rattle.gq_reshape.proofs.ExtractOffers.{no_run}
 use Rattle.gq_reshape.proofs.extracting.extract_place.Goals as goal

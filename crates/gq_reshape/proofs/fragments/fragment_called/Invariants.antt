@@ -1,7 +1,8 @@
 use Rattle.std.proofs.Common.{◌≡◌, drop, find, flat_map}
 use Rattle.std.specs.List.{enumerate_from}
 use Rattle.std.specs.Str.{bytes_eq}
-use Rattle.gq_document.specs.Definitions.{fragment_in, in_document, fragments_of}
+use Rattle.gq_tree.specs.Readings.{in_document}
+use Rattle.gq_document.specs.Definitions.{fragment_in, fragments_of}
 use Rattle.gq_reshape.proofs.fragments.fragment_called.Given as goal
 
 abbrev pub invariant-loop-file : goal.invariant-loop-file

@@ -1,7 +1,7 @@
 use Rattle.std.proofs.Common.{◌≡◌, ◌∙◌, ◌<◌, Bool, List, ap, sym, subst, map, length, arith}
 use Rattle.gq_tree.specs.Views.{name_of, directive_view}
 use Rattle.gq_project.specs.declared.document.Doc.{Doc}
-use Rattle.gq_read.specs.Parsed.{AreParsed}
+use Rattle.gq_parse.specs.Parsed.{AreParsed}
 use Rattle.gq_reshape.specs.Helping.Fragments.{fragment_found}
 use Rattle.gq_reshape.specs.Inline.{inline_at, is_only_spread}
 use Rattle.gq_reshape.specs.Helping.Judged.{IsJudged}

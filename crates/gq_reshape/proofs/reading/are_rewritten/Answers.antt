@@ -1,5 +1,5 @@
 use Rattle.std.proofs.Common.{◌≡◌, ◌<◌, false, sym, ◌∙◌, length, get_or, arith}
-use Rattle.gq_regroup.specs.Views.{rewrite_of}
+use Rattle.gq_rewritten.specs.Views.{rewrite_of}
 use Rattle.gq_reshape.specs.Helping.Rereading.{is_edited}
 use Rattle.gq_reshape.proofs.LowLemmas.{behind, get_or_any}
 use Rattle.gq_reshape.proofs.reading.are_rewritten.Goals as goal

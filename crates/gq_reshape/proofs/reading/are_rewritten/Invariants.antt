@@ -1,5 +1,5 @@
 use Rattle.std.proofs.Common.{◌↔◌, drop}
-use Rattle.gq_regroup.specs.Views.{rewrite_of}
+use Rattle.gq_rewritten.specs.Views.{rewrite_of}
 use Rattle.gq_reshape.specs.Helping.Rereading.{AreRewrittenFrom}
 use Rattle.gq_reshape.proofs.reading.are_rewritten.Given as goal
 

@@ -1,7 +1,7 @@
 use Rattle.std.proofs.Common.{drop, map}
 use Rattle.std.specs.List.{AllByRecursion}
 use Rattle.gq_tree.specs.Views.{def_view}
-use Rattle.gq_regroup.specs.Views.{IsExecutable}
+use Rattle.gq_rewritten.specs.Views.{IsExecutable}
 use Rattle.gq_reshape.proofs.reading.is_executable.Given as goal
 
 abbrev pub invariant-loop-definition : goal.invariant-loop-definition

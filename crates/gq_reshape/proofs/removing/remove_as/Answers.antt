@@ -1,6 +1,6 @@
 use Rattle.std.proofs.Common.{◌≡◌, ◌∙◌, List, Some, slice_get, refl, ap}
 use Rattle.gq_project.specs.declared.document.Doc.{Doc}
-use Rattle.gq_reshape.specs.Remove.{remove_at, remove_pieces}
+use Rattle.gq_reshape.specs.Remove.{remove_at, remove_replacements}
 use Rattle.gq_reshape.proofs.Quiet.{remove_quiet, slice_is}
 use Rattle.gq_reshape.proofs.removing.remove_as.Goals as goal
 
@@ -8,5 +8,5 @@ pub returns-clause-judged : goal.returns-clause-judged
 returns-clause-judged c document at =
     let listed : slice_get c.documents.result.now c.args.file ≡ Some document = ap (λ (ds : List Doc). slice_get ds c.args.file) (c.documents.ensures.all ∙ c.project.ensures.same) ∙ at in
     let text_is = c.as_str-text.ensures ∙ ap (λ (d : Doc). d.text) (slice_is c.documents.result.now c.args.file document c.index-documents-file.result listed) in
-    let pieces : c.deref.result.now ≡ remove_pieces c.args.file document.text c.args.place c.args.braces = c.deref.ensures.value ∙ c.in_ok-pieces.ensures ∙ ap (λ text. remove_pieces c.args.file text c.args.place c.args.braces) text_is in
-    c.checked_edit.ensures.judged (remove_at c.args.file document.text c.args.place c.args.braces) pieces refl (remove_quiet c.args.file document.text c.args.place c.args.braces)
+    let replacements : c.deref.result.now ≡ remove_replacements c.args.file document.text c.args.place c.args.braces = c.deref.ensures.value ∙ c.in_ok-replacements.ensures ∙ ap (λ text. remove_replacements c.args.file text c.args.place c.args.braces) text_is in
+    c.checked_edit.ensures.judged (remove_at c.args.file document.text c.args.place c.args.braces) replacements refl (remove_quiet c.args.file document.text c.args.place c.args.braces)

@@ -1,7 +1,7 @@
 use Rattle.std.proofs.Common.{◌∙◌, refl, ap, sym}
 use Rattle.gq_text.specs.declared.place.Span.{Span}
 use Rattle.gq_types.specs.Look.{types_view}
-use Rattle.gq_sets.specs.SetViews.{sets_view}
+use Rattle.gq_document.specs.SetViews.{sets_view}
 use Rattle.gq_select.specs.Meant.{is_inline, meant, document_sets}
 use Rattle.gq_select.specs.Views.{standing_view}
 use Rattle.gq_reshape.specs.Asks.{tree_at}

@@ -1,5 +1,5 @@
 use Rattle.std.proofs.Common.{ap, ◌∙◌}
-use Rattle.gq_found.specs.Tells.{told}
+use Rattle.gq_fault.specs.Tells.{told}
 use Rattle.gq_rules.proofs.report.report_of.Goals as goal
 
 pub returns : goal.returns

@@ -1,4 +1,4 @@
-use Rattle.gq_found.proofs.PutLemmas.{puts_both}
+use Rattle.gq_fault.proofs.PutLemmas.{puts_both}
 use Rattle.gq_rules.proofs.rule_faults.add_reach_faults.Goals as goal
 
 pub returns : goal.returns

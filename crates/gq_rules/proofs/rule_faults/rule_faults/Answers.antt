@@ -1,6 +1,6 @@
 use Rattle.std.proofs.Common.{subst}
 use Rattle.gq_document.specs.Executable.{executable_view}
-use Rattle.gq_found.specs.Adds.{AddsExactly}
+use Rattle.gq_fault.specs.Adds.{AddsExactly}
 use Rattle.gq_rules.specs.RuleFaults.{IsRuleFault}
 use Rattle.gq_rules.proofs.RuleLemmas.{puts_groups}
 use Rattle.gq_rules.proofs.rule_faults.rule_faults.Goals as goal

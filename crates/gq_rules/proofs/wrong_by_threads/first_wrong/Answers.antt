@@ -3,7 +3,7 @@ use denote.Param.Send.{sendable}
 use Rattle.std.proofs.Crossing.{send, sync}
 use Rattle.gq_document.specs.Executable.{executable_view}
 use Rattle.gq_document.proofs.Crossing.{Executable-sync}
-use Rattle.gq_found.specs.Adds.{AddsExactly}
+use Rattle.gq_fault.specs.Adds.{AddsExactly}
 use Rattle.gq_rules.specs.Helping.RuleGroups.{IsDefinitionOrMergingFault, IsOtherFault}
 use Rattle.gq_rules.specs.Helping.Wrongs.{IsWrong}
 use Rattle.gq_rules.proofs.RuleLemmas.{puts_rules}

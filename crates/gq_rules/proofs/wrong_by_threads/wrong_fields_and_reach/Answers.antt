@@ -4,7 +4,7 @@ use Rattle.std.proofs.Crossing.{crosses}
 use Rattle.gq_document.specs.Executable.{executable_view}
 use Rattle.gq_document.proofs.Crossing.{Executable-sync}
 use Rattle.gq_fields.specs.FieldFaults.{IsFieldFault}
-use Rattle.gq_found.specs.Adds.{AddsExactly}
+use Rattle.gq_fault.specs.Adds.{AddsExactly}
 use Rattle.gq_rules.specs.Helping.RuleGroups.{IsReachFault}
 use Rattle.gq_rules.specs.Helping.Wrongs.{IsWrong}
 use Rattle.gq_rules.proofs.RuleLemmas.{puts_then_found}

@@ -1,5 +1,5 @@
 use Rattle.std.proofs.Common.{◌≡◌, drop}
-use Rattle.gq_sets.specs.SetViews.{sets_view}
+use Rattle.gq_document.specs.SetViews.{sets_view}
 use Rattle.gq_select.specs.Runs.{find_run}
 use Rattle.gq_select.proofs.runs.find_run.Given as goal
 

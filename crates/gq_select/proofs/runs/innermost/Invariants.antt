@@ -1,6 +1,6 @@
 use Rattle.std.proofs.Common.{◌≡◌, drop}
 use Rattle.std.specs.Option.{option_map, option_or}
-use Rattle.gq_sets.specs.SetViews.{set_view, sets_view}
+use Rattle.gq_document.specs.SetViews.{set_view, sets_view}
 use Rattle.gq_select.specs.Runs.{innermost}
 use Rattle.gq_select.proofs.runs.innermost.Given as goal
 

@@ -1,5 +1,5 @@
 use Rattle.std.specs.Option.{option_map}
-use Rattle.gq_sets.specs.SetViews.{sets_view}
+use Rattle.gq_document.specs.SetViews.{sets_view}
 use Rattle.gq_select.specs.Meant.{is_meant, meant}
 use Rattle.gq_select.specs.Views.{is_of_kind, standing_view}
 use Rattle.gq_select.proofs.MeantLemmas.{meant_later}

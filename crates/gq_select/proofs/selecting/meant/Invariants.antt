@@ -1,6 +1,6 @@
 use Rattle.std.proofs.Common.{◌≡◌, None, drop}
 use Rattle.std.specs.Option.{option_map}
-use Rattle.gq_sets.specs.SetViews.{sets_view}
+use Rattle.gq_document.specs.SetViews.{sets_view}
 use Rattle.gq_select.specs.Meant.{begins_last, is_meant, standing}
 use Rattle.gq_select.specs.Views.{is_of_kind, standing_view}
 use Rattle.gq_select.proofs.selecting.meant.Given as goal

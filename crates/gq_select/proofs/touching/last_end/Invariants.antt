@@ -1,7 +1,7 @@
 use Rattle.std.proofs.Common.{◌≡◌, drop, map}
 use Rattle.std.specs.Option.{option_map, option_or}
 use Rattle.gq_lex.specs.Tokens.{lexeme_of}
-use Rattle.gq_sets.specs.Last.{find_last}
+use Rattle.gq_document.specs.Last.{find_last}
 use Rattle.gq_select.specs.Touched.{is_touched}
 use Rattle.gq_select.proofs.touching.last_end.Given as goal
 

@@ -1,6 +1,6 @@
 use Rattle.std.proofs.Common.{List, ℕ, Vec, Global, sym, subst}
 use Rattle.std.proofs.lemmas.Result.{on_ok_weaker}
-use Rattle.gq_reach.specs.Reach.{InRange}
+use Rattle.gq_graph.specs.Reach.{InRange}
 use Rattle.gq_document.specs.Executable.{executable_view}
 use Rattle.gq_spreads.specs.Helping.FragmentSpreadsMustNotFormCyclesPlaces.{AreComponents}
 use Rattle.gq_spreads.proofs.RowLemmas.{fragments_in_range}

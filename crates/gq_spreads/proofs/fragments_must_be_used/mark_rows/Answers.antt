@@ -1,5 +1,5 @@
 use Rattle.std.proofs.Common.{List, ℕ, sym, subst, ◌∙◌}
-use Rattle.gq_reach.specs.Components.{Also}
+use Rattle.gq_graph.specs.Components.{Also}
 use Rattle.gq_spreads.proofs.MarkLemmas.{also_row}
 use Rattle.gq_spreads.proofs.fragments_must_be_used.mark_rows.Goals as goal
 

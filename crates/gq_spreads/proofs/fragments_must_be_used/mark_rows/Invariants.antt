@@ -1,5 +1,5 @@
 use Rattle.std.proofs.Common.{◌≡◌, take, length}
-use Rattle.gq_reach.specs.Components.{Also}
+use Rattle.gq_graph.specs.Components.{Also}
 use Rattle.gq_spreads.specs.Helping.FragmentsMustBeUsedPlaces.{all_numbers}
 use Rattle.gq_spreads.proofs.fragments_must_be_used.mark_rows.Given as goal
 

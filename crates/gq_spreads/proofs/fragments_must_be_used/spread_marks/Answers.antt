@@ -1,5 +1,5 @@
 use Rattle.std.proofs.Common.{rules, ◌≡◌, List, ℕ, Bool, false, Vec, Global, replicate, subst}
-use Rattle.gq_reach.specs.Components.{Also}
+use Rattle.gq_graph.specs.Components.{Also}
 use Rattle.gq_spreads.specs.Helping.FragmentsMustBeUsedPlaces.{all_numbers}
 use Rattle.gq_spreads.proofs.MarkLemmas.{marks_rows}
 use Rattle.gq_spreads.proofs.fragments_must_be_used.spread_marks.Goals as goal

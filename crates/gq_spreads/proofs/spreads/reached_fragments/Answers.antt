@@ -1,8 +1,8 @@
 use Rattle.std.proofs.Common.{◌<◌, List, ℕ, Vec, Global, length, sym, ap, subst, ◌∙◌, arith}
 use Rattle.std.specs.Prelude.{All}
-use Rattle.gq_reach.specs.Reach.{row, InRange}
+use Rattle.gq_graph.specs.Reach.{row, InRange}
 use Rattle.gq_document.specs.Executable.{executable_view}
-use Rattle.gq_reach.proofs.Searching.{row_at}
+use Rattle.gq_graph.proofs.Searching.{row_at}
 use Rattle.gq_spreads.proofs.RowLemmas.{fragments_in_range}
 use Rattle.gq_spreads.proofs.ReachLemmas.{starts_in_range, reached_ok}
 use Rattle.gq_spreads.proofs.spreads.reached_fragments.Goals as goal

@@ -1,7 +1,11 @@
-use Rattle.std.proofs.Common.{sym}
+use Rattle.std.proofs.Common.{sym, ap, ◌∙◌}
 use Rattle.gq_table.specs.Views.{value_view, entry_view}
-use Rattle.gq_table.proofs.SameLemmas.{rows_apart, alike_values, other_names}
+use Rattle.gq_table.proofs.SameLemmas.{null_alike, rows_apart, alike_values, other_names}
+use Rattle.gq_table.proofs.Trees.{view_null}
 use Rattle.gq_table.proofs.calls.+same.Goals as goal
+
+pub same_value-returns-in-Null : goal.same_value-returns-in-Null
+same_value-returns-in-Null t c = c.is_null.ensures ∙ null_alike c.args.a.now c.args.b.now (ap value_view c.in-Null.is ∙ view_null)
 
 pub same_values-returns-then-a-b : goal.same_values-returns-then-a-b
 same_values-returns-then-a-b t c = sym (rows_apart value_view c.args.a.now c.args.b.now c.if-a-b.true)

@@ -1,7 +1,7 @@
 use Rattle.std.proofs.Common.{sym, subst}
 use Rattle.std.proofs.lemmas.Result.{on_ok_weaker}
 use Rattle.gq_type_system.specs.EndlessInputs.{IsEndlessInput}
-use Rattle.gq_found.specs.Adds.{AddsExactly}
+use Rattle.gq_fault.specs.Adds.{AddsExactly}
 use Rattle.gq_type_system.specs.Helping.EndlessInputsPlaces.{MarksNonNull, MarksByDefault}
 use Rattle.gq_types.specs.Look.{types_view}
 use Rattle.gq_type_system.proofs.EndlessInputLemmas.{puts_endless}

@@ -2,8 +2,8 @@ use Rattle.std.proofs.Common.{◌≡◌, ◌<◌, ◌++◌, ap, ◌∙◌, flat_
 use Rattle.std.specs.Prelude.{All}
 use Rattle.std.proofs.lemmas.List.Elements.{All-contains}
 use Rattle.std.proofs.lemmas.Result.{on_ok_weaker}
-use Rattle.gq_reach.specs.Reach.{Reach, row}
-use Rattle.gq_reach.proofs.Searching.{row_at as read_row}
+use Rattle.gq_graph.specs.Reach.{Reach, row}
+use Rattle.gq_graph.proofs.Searching.{row_at as read_row}
 use Rattle.gq_types.specs.Look.{types_view}
 use Rattle.gq_document.specs.Definitions.{operation_view, fragments_view}
 use Rattle.gq_document.specs.Executable.{executable_view}

@@ -1,4 +1,4 @@
-use Rattle.gq_found.specs.Adds.{AddsExactly}
+use Rattle.gq_fault.specs.Adds.{AddsExactly}
 use Rattle.gq_document.specs.Executable.{executable_view}
 use Rattle.gq_variables.specs.Helping.VariablePlaces.{IsFaultBefore}
 use Rattle.gq_variables.proofs.faults.add_variable_faults.Given as goal

@@ -1,6 +1,6 @@
 use Rattle.std.proofs.Common.{◌≡◌, ◌<◌, length, map, List, ℕ, Bool, false, sym, ap, subst, ◌∙◌, Vec, Global}
 use Rattle.std.specs.Prelude.{All, filter, slice_index_or}
-use Rattle.gq_reach.specs.Reach.{row, InRange}
+use Rattle.gq_graph.specs.Reach.{row, InRange}
 use Rattle.gq_document.specs.Executable.{executable_view}
 use Rattle.gq_spreads.proofs.RowLemmas.{operation_rows_below, fragments_in_range}
 use Rattle.gq_variables.specs.Helping.Leading.{LeadToUses}

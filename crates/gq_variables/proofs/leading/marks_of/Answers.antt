@@ -1,10 +1,10 @@
 use Rattle.std.proofs.Common.{rules, ◌≡◌, ◌+◌, ◌<◌, length, List, ℕ, Bool, false, replicate, sym, ap, subst, ◌∙◌, arith, Vec, Global}
 use Rattle.std.specs.Prelude.{All}
 use Rattle.std.proofs.lemmas.List.Elements.{All-weaker}
-use Rattle.gq_reach.specs.Reach.{InRange}
-use Rattle.gq_reach.specs.Transposed.{Transposed}
-use Rattle.gq_reach.specs.Components.{Also}
-use Rattle.gq_reach.proofs.Turning.{turned_in_range}
+use Rattle.gq_graph.specs.Reach.{InRange}
+use Rattle.gq_graph.specs.Transposed.{Transposed}
+use Rattle.gq_graph.specs.Components.{Also}
+use Rattle.gq_graph.proofs.Turning.{turned_in_range}
 use Rattle.gq_variables.specs.Helping.Leading.{numbers_with_uses}
 use Rattle.gq_variables.specs.Helping.Views.{rows_view}
 use Rattle.gq_variables.proofs.LeadingLemmas.{numbers_below, lead_to_uses}

@@ -2,8 +2,9 @@ use Rattle.std.proofs.Common.{ℕ, List, flat_map, sym, ap, ◌∙◌}
 use Rattle.std.proofs.lemmas.List.{map-id}
 use Rattle.std.proofs.lemmas.Iterator.Adapters.{YieldsList-from_vec}
 use Rattle.std.proofs.lemmas.Iterator.Consumers.{YieldsList-end, YieldsList-from_enumerate}
-use Rattle.gq_read.specs.declared.reader.Parsed.{Parsed}
-use Rattle.gq_document.specs.Definitions.{operation_in, fragment_in, entry_in, in_document}
+use Rattle.gq_tree.specs.declared.parsed.Parsed.{Parsed}
+use Rattle.gq_tree.specs.Readings.{in_document}
+use Rattle.gq_document.specs.Definitions.{operation_in, fragment_in, entry_in}
 use Rattle.gq_document.proofs.definitions.Definitions.of.Goals as goal
 
 -- src/definitions.rt:40:5

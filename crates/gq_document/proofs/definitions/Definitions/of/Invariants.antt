@@ -1,6 +1,7 @@
 use Rattle.std.proofs.Common.{◌≡◌, flat_map}
 use Rattle.gq_types.specs.Entries.{entries_view}
-use Rattle.gq_document.specs.Definitions.{operation_in, fragment_in, entry_in, in_document, operations_view, fragments_view}
+use Rattle.gq_tree.specs.Readings.{in_document}
+use Rattle.gq_document.specs.Definitions.{operation_in, fragment_in, entry_in, operations_view, fragments_view}
 use Rattle.gq_document.proofs.definitions.Definitions.of.Given as goal
 
 abbrev pub invariant-loop-file : goal.invariant-loop-file

@@ -1,7 +1,7 @@
 use Rattle.std.proofs.Common.{rules, ◌≡◌, ◌<◌, ◌+◌, length, ℕ, Vec, Global, subst, sym, ap, ◌∙◌, map, false}
 use Rattle.std.proofs.lemmas.Result.{IfOk-weaker}
-use Rattle.gq_reach.specs.Reach.{row}
-use Rattle.gq_reach.proofs.Searching.{row_at}
+use Rattle.gq_graph.specs.Reach.{row}
+use Rattle.gq_graph.proofs.Searching.{row_at}
 use Rattle.gq_index.specs.Helping.Shared.{shared, operation_at}
 use Rattle.gq_index.proofs.GroupLemmas.{leading_further}
 use Rattle.gq_index.proofs.group.Shared.next_of_leading.Goals as goal

@@ -1,6 +1,6 @@
 use Rattle.std.proofs.Common.{rules, ◌≡◌, ◌+◌, ℕ, Vec, Global, sym, ap, ◌∙◌, map, true, false, ◌++◌, ◌∷◌, []}
-use Rattle.gq_reach.specs.Reach.{row}
-use Rattle.gq_reach.proofs.Searching.{row_at}
+use Rattle.gq_graph.specs.Reach.{row}
+use Rattle.gq_graph.proofs.Searching.{row_at}
 use Rattle.gq_index.specs.Helping.Shared.{shared, uses_at}
 use Rattle.gq_index.proofs.GroupLemmas.{reached_user, reached_other}
 use Rattle.gq_index.proofs.group.Shared.next_of_reached.Goals as goal

@@ -7,7 +7,7 @@ use Rattle.std.proofs.lemmas.List.Kept.{Contains-dedup_nat, Contains-from_dedup}
 use Rattle.std.proofs.lemmas.List.Sorted.{Contains-permutation, IsPermutation-sym}
 use Rattle.std.proofs.lemmas.Map.Keys.{IsStrictlyIncreasing-dedup}
 use Rattle.std.proofs.lemmas.Bool.{lt-ltb, ltb-true}
-use Rattle.gq_reach.specs.Reach.{Reach}
+use Rattle.gq_graph.specs.Reach.{Reach}
 use Rattle.gq_types.proofs.Gathered.{from_filter, to_filter}
 use Rattle.gq_index.specs.Helping.GroupGraphs.{leads_of}
 use Rattle.gq_index.specs.Helping.Shared.{shared}

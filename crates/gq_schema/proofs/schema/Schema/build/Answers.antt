@@ -2,8 +2,8 @@ use Rattle.std.proofs.Common.{ap, subst, ◌∙◌, ◌++◌, length, arith}
 use Rattle.std.proofs.lemmas.List.{nil_from_length}
 use Rattle.std.proofs.lemmas.Bool.Decides.{nat_tests}
 use Rattle.std.proofs.lemmas.Result.{err_from_is_err_and}
-use Rattle.gq_found.specs.Tells.{told}
-use Rattle.gq_read.specs.Parsed.{AreParsed}
+use Rattle.gq_fault.specs.Tells.{told}
+use Rattle.gq_parse.specs.Parsed.{AreParsed}
 use Rattle.gq_types.specs.Look.{types_view}
 use Rattle.gq_types.specs.BuiltIn.{built_in}
 use Rattle.gq_schema.proofs.SchemaLemmas.{none_found, faults_found}

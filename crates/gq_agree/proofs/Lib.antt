@@ -1,9 +1,0 @@
-pub mod Expanded
-pub mod SelectedFields
-pub mod Parents
-pub mod OneName
-pub mod Fitting
-pub mod Places
-pub mod Known
-pub mod RootTypes
-pub mod Valid

@@ -1,3 +1,0 @@
-pub mod GivenValues
-pub mod Kept
-pub mod Helping

@@ -1,7 +1,0 @@
-pub mod Fragments
-pub mod Given
-pub mod World
-pub mod Views
-pub mod Groups
-pub mod Answers
-pub mod Operations

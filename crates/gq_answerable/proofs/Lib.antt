@@ -1,2 +1,0 @@
-pub mod Existing
-pub mod Requests

@@ -1,6 +1,0 @@
-use Rattle.std.proofs.Common.{◌≡◌, ◌++◌, map, take}
-use Rattle.gq_answers.specs.Locations.{location_in}
-use Rattle.gq_answers.proofs.locations.put_in_document.Given as goal
-
-abbrev pub invariant-loop-occurrence : goal.invariant-loop-occurrence
-invariant-loop-occurrence l = l.locations ≡ l.initial.locations ++ map (λ o. location_in o l.document) (take l.occurrence-index l.occurrences)

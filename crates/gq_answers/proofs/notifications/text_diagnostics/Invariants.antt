@@ -1,6 +1,0 @@
-use Rattle.std.proofs.Common.{◌≡◌, map, take}
-use Rattle.gq_answers.specs.Notifications.{diagnostic_in}
-use Rattle.gq_answers.proofs.notifications.text_diagnostics.Given as goal
-
-abbrev pub invariant-loop-one : goal.invariant-loop-one
-invariant-loop-one l = l.diagnostics ≡ map (diagnostic_in l.text) (take l.one-index l.found)

@@ -1,7 +1,0 @@
-use Rattle.gq_answers.proofs.Asking.{tells_hover}
-use Rattle.gq_answers.proofs.queries.find_hover.Goals as goal
-
-pub returns : goal.returns
-returns c = λ id.
-    tells_hover c.args.project.now c.as_str-key.result.now c.text_of-text.result.now c.offset_in.result c.args.params.now c.as_str-key.ensures c.text_of-text.ensures.text c.offset_in.ensures.offset
-    id c.in_ok-found.found c.place_hover.result c.in_ok-found.ensures c.place_hover.ensures

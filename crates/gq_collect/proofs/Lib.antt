@@ -1,0 +1,4 @@
+pub mod CollectLemmas
+pub mod DirectiveWalks
+pub mod FragmentLemmas
+pub mod GroupLemmas

@@ -1,0 +1,4 @@
+pub mod Loops
+pub mod Roots
+pub mod OperationLemmas
+pub mod Fields

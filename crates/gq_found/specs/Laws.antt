@@ -1,8 +1,0 @@
--- What the numbers of codes mean.
-use Rattle.std.specs.Prelude.{◌≡◌}
-use Rattle.gq_found.specs.declared.code.Code.{Code}
-use Rattle.gq_found.specs.Codes.{number_of}
-
--- no two codes have one number
-abbrev pub NumbersTellCodes : Type 0
-NumbersTellCodes = (a b : Code) → number_of a ≡ number_of b → a ≡ b

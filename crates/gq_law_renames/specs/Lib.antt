@@ -1,0 +1,4 @@
+pub mod Uses
+pub mod GivenValues
+pub mod Kept
+pub mod Helping

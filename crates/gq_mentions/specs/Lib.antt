@@ -1,0 +1,5 @@
+pub mod Mentions
+pub mod Meant
+pub mod Renameables
+pub mod Targets
+pub mod Views

@@ -1,0 +1,22 @@
+use Rattle.std.proofs.Common.{◌≡◌, ◌∙◌, ◌++◌, subst, sym, ap, drop, IfOk}
+use Rattle.std.proofs.lemmas.List.{take-append-drop}
+use Rattle.gq_parse.specs.Parsed.{AreParsed}
+use Rattle.gq_parse.proofs.ReadingLemmas.{both_read}
+use denote.Param.Send.{sendable}
+use Rattle.std.proofs.Crossing.{crosses}
+use Rattle.gq_tree.proofs.Crossing.{Parsed-send}
+use Rattle.gq_parse.proofs.reader.+halves.Goals as goal
+
+pub join-front-requires-send-A : goal.join-front-requires-send-A
+join-front-requires-send-A g t c κs within = search (sendable, crosses, Parsed-send) depth 12
+
+pub returns : goal.returns
+returns g t c =
+    let front = c.split_at.result.0.now in
+    let back = c.split_at.result.1.now in
+    let cut : c.args.documents.now ≡ front ++ back = sym (take-append-drop c.middle_of.result c.args.documents.now)
+    ∙ ap (λ xs. xs ++ drop c.middle_of.result c.args.documents.now) (sym c.split_at.ensures.front) ∙ ap (λ xs. front ++ xs) (sym c.split_at.ensures.back) in
+    subst (λ xs. AreParsed c.args.documents.now xs) (sym c.in_ok-append.ensures.items)
+    (both_read c.args.documents.now front back c.in_ok-readings.readings.items c.in_ok-back.field-0.items cut
+    (subst (λ r. IfOk r (λ readings. AreParsed front readings.items)) c.in_ok-readings.was c.join-front.ensures.first)
+    (subst (λ r. IfOk r (λ readings. AreParsed back readings.items)) c.in_ok-back.was c.join-front.ensures.second))

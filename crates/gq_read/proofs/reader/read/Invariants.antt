@@ -1,7 +1,0 @@
--- what is read so far are the readings of the documents so far
-use Rattle.std.proofs.Common.{take}
-use Rattle.gq_read.specs.Parsed.{AreParsed}
-use Rattle.gq_read.proofs.reader.read.Given as goal
-
-abbrev pub invariant-loop-document : goal.invariant-loop-document
-invariant-loop-document l = AreParsed (take l.document-index l.documents) l.readings.items

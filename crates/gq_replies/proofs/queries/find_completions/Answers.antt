@@ -1,0 +1,13 @@
+use Rattle.std.proofs.lemmas.Result.{IfOk-weaker}
+use Rattle.std.proofs.Common.{◌∙◌, ap, map}
+use Rattle.gq_replies.specs.Answers.{item_of}
+use Rattle.gq_replies.proofs.Asking.{tells_completions}
+use Rattle.gq_replies.proofs.queries.find_completions.Goals as goal
+
+pub returns : goal.returns
+returns c =
+    IfOk-weaker c.completion_items.result _ _
+    (λ items is id.
+    tells_completions c.args.encoding c.args.project.now c.as_str-key.result.now c.text_of.result.now c.offset_in-offset.result c.args.params.now c.as_str-key.ensures c.text_of.ensures.text c.offset_in-offset.ensures.offset
+    id c.in_ok-found.found.items items c.in_ok-found.ensures (is ∙ ap (map item_of) c.deref.ensures.value))
+    c.completion_items.ensures

@@ -1,0 +1,175 @@
+//! Hovers, completions and what a rename would be of, by positions.
+ghost use Rattle.std.specs.Prelude.{◌≡◌, ◌≤◌, ◌^◌, length, map, option_map, IfOk};
+ghost use Rattle.gq_edit.specs.Workspace.{AreTexts};
+ghost use Rattle.gq_rpc.specs.declared.messages.Id.{Id};
+ghost use Rattle.gq_rpc.specs.declared.messages.Outgoing.TheVariants as outgoing;
+ghost use Rattle.gq_replies.specs.Answers.{text_at, hover_in, item_kind, item_of, prepared_in, TellsHover, TellsDefinitions, TellsReferences, TellsCompletions, TellsPrepared};
+
+use crate::locations::locations;
+use crate::ranges::range_in;
+use gq_completion::{Completion, CompletionKind, complete};
+use gq_project::Project;
+use gq_query::{definition, hover, references};
+use gq_rename::prepare;
+use gq_rpc::{
+    CompletionItem, CompletionItemKind, Hover, Location, PrepareRename, ReferenceParams,
+    TextDocumentPositionParams,
+};
+use gq_text::{Items, NoMemory, OwnedText, PositionEncoding, Span, offset_in};
+use std::alloc::Global;
+
+/// The text of the document of that key. Where there is none, nothing.
+pub(crate) fn text_of<'p>(project: &'p Project, key: &str) -> &'p str
+    requires { AreTexts project.now }
+    ensures text { result.now ≡ text_at project.now key.now }
+    ensures fits { length result.now ≤ 2 ^ 22 }
+{
+    match project.get(key) {
+        Some(document) => document.text.as_str(),
+        None => "",
+    }
+}
+
+/// What is shown at the position.
+pub(crate) fn find_hover(
+    alloc: Global,
+    encoding: PositionEncoding,
+    project: &Project,
+    params: &TextDocumentPositionParams,
+) -> Result<Option<Hover>, NoMemory>
+    requires { AreTexts project.now }
+    ensures { IfOk result (λ shown. (id : Id) → TellsHover encoding project.now id params.now (outgoing.Hover id shown)) }
+{
+    let key = params.key.as_str();
+    let text = text_of(project, key);
+    let offset = offset_in(encoding, text, params.position);
+    let found = hover(alloc, project, key, offset)?;
+    Ok(place_hover(encoding, text, found))
+}
+
+/// What is shown, with its range in the text.
+fn place_hover(
+    encoding: PositionEncoding,
+    text: &str,
+    found: Option<gq_query::Hover>,
+) -> Option<Hover>
+    requires { length text.now ≤ 2 ^ 22 }
+    ensures { result ≡ option_map (hover_in encoding text.now) found }
+{
+    let found = found?;
+    Some(Hover {
+        value: found.value,
+        range: range_in(encoding, text, found.span),
+    })
+}
+
+/// The definitions of what stands at the position.
+pub(crate) fn find_definitions(
+    alloc: Global,
+    encoding: PositionEncoding,
+    project: &Project,
+    params: &TextDocumentPositionParams,
+) -> Result<Items<Location>, NoMemory>
+    requires { AreTexts project.now }
+    ensures { IfOk result (λ located. (id : Id) → TellsDefinitions encoding project.now id params.now (outgoing.Locations id located)) }
+{
+    let key = params.key.as_str();
+    let offset = offset_in(encoding, text_of(project, key), params.position);
+    let found = definition(alloc, project, key, offset)?;
+    locations(alloc, encoding, project.documents(), &found)
+}
+
+/// The references to what stands at the position.
+pub(crate) fn find_references(
+    alloc: Global,
+    encoding: PositionEncoding,
+    project: &Project,
+    params: &ReferenceParams,
+) -> Result<Items<Location>, NoMemory>
+    requires { AreTexts project.now }
+    ensures { IfOk result (λ located. (id : Id) → TellsReferences encoding project.now id params.now (outgoing.Locations id located)) }
+{
+    let key = params.key.as_str();
+    let offset = offset_in(encoding, text_of(project, key), params.position);
+    let found = references(alloc, project, key, offset, params.include_declaration)?;
+    locations(alloc, encoding, project.documents(), &found)
+}
+
+/// What may be written at the position.
+pub(crate) fn find_completions(
+    alloc: Global,
+    encoding: PositionEncoding,
+    project: &Project,
+    params: &TextDocumentPositionParams,
+) -> Result<Items<CompletionItem>, NoMemory>
+    requires { AreTexts project.now }
+    ensures { IfOk result (λ items. (id : Id) → TellsCompletions encoding project.now id params.now (outgoing.Completions id items)) }
+{
+    let key = params.key.as_str();
+    let offset = offset_in(encoding, text_of(project, key), params.position);
+    let found = complete(alloc, project, key, offset)?;
+    completion_items(alloc, &found)
+}
+
+fn completion_items(alloc: Global, found: &[Completion]) -> Result<Items<CompletionItem>, NoMemory>
+    ensures { IfOk result (λ items. items ≡ map item_of found.now) }
+{
+    let mut items = Items::new(alloc);
+    for completion in found {
+        items.push(CompletionItem {
+            kind: kind_of(completion.kind),
+            label: completion.label.copied(alloc)?,
+        })?;
+    }
+    Ok(items)
+}
+
+fn kind_of(kind: CompletionKind) -> CompletionItemKind
+    ensures { result ≡ item_kind kind }
+{
+    match kind {
+        CompletionKind::Field => CompletionItemKind::Field,
+        CompletionKind::Variable => CompletionItemKind::Variable,
+        CompletionKind::Fragment => CompletionItemKind::Reference,
+    }
+}
+
+/// The name that a rename at the position would change.
+pub(crate) fn find_prepared(
+    alloc: Global,
+    encoding: PositionEncoding,
+    project: &Project,
+    params: &TextDocumentPositionParams,
+) -> Result<Option<PrepareRename>, NoMemory>
+    requires { AreTexts project.now }
+    ensures { IfOk result (λ prepared. (id : Id) → TellsPrepared encoding project.now id params.now (outgoing.Prepared id prepared)) }
+{
+    let key = params.key.as_str();
+    let text = text_of(project, key);
+    let offset = offset_in(encoding, text, params.position);
+    let found = prepare(alloc, project, key, offset)?;
+    place_name(alloc, encoding, text, found)
+}
+
+/// The text of the span, and its range.
+fn place_name(
+    alloc: Global,
+    encoding: PositionEncoding,
+    text: &str,
+    found: Option<Span>,
+) -> Result<Option<PrepareRename>, NoMemory>
+    requires { length text.now ≤ 2 ^ 22 }
+    ensures { IfOk result (λ prepared. prepared ≡ option_map (prepared_in encoding text.now) found) }
+{
+    let Some(span) = found else {
+        return Ok(None);
+    };
+    let Some(name) = text.get(span.start..span.end) else {
+        // not met: the ends of a name stand between characters
+        return Err(NoMemory);
+    };
+    Ok(Some(PrepareRename {
+        placeholder: OwnedText::from_str(alloc, name)?,
+        range: range_in(encoding, text, span),
+    }))
+}

@@ -1,5 +1,0 @@
-use Rattle.gq_rewrite.proofs.ProjectRenaming.{renamed_projects_read as renamed_projects}
-use Rattle.gq_rewrite.proofs.laws.renamed_projects_read.Goals as goal
-
-pub returns : goal.returns
-returns start rule new documents trees in_order are_trees is_name may = renamed_projects rule new documents trees in_order are_trees is_name may

@@ -1,5 +1,0 @@
-use Rattle.gq_rewrite.proofs.Renaming.{renamed_texts_read as renamed_texts}
-use Rattle.gq_rewrite.proofs.laws.renamed_texts_read.Goals as goal
-
-pub returns : goal.returns
-returns start rule k new text document derives is_name may = renamed_texts rule k new text document derives is_name may

@@ -1,5 +1,0 @@
-use Rattle.gq_rewrite.proofs.Spellings.{spelled_is_name}
-use Rattle.gq_rewrite.proofs.names.is_fragment_name.Goals as goal
-
-pub returns : goal.returns
-returns c = rw c.is_free_name.ensures (spelled_is_name c.args.text.now)

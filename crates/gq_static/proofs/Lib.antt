@@ -1,9 +1,0 @@
-pub mod FieldLemmas
-pub mod TypeLemmas
-pub mod ImplementationLemmas
-pub mod SubtypeLemmas
-pub mod StaticLemmas
-pub mod RootLemmas
-pub mod BracesLemmas
-pub mod KnownLemmas
-pub mod ValidityLemmas

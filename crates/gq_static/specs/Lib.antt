@@ -1,4 +1,0 @@
-pub mod Promised
-pub mod Subtypes
-pub mod Known
-pub mod Braces

@@ -1,3 +1,0 @@
-pub mod Renameables
-pub mod Targets
-pub mod Helping

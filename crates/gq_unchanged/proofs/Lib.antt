@@ -1,3 +1,0 @@
-pub mod VariableValues
-pub mod Requests
-pub mod Restated

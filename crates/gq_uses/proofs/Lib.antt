@@ -1,2 +1,0 @@
-mod Keyed
-mod UseLaws

@@ -1,4 +1,0 @@
-//! The uses of variables, as an index tells them, are those of the rules on variables.
-#![tactic(auto)]
-
-pub mod laws;
