@@ -1,13 +1,14 @@
-//! The check of files, the execution of an operation of them, the report of a project, and whether it is valid.
+//! The check of files, and whether a project is valid.
 ghost use Rattle.std.specs.Prelude.{◌≡◌, false};
 
 use crate::no_answer::NoAnswer;
 use crate::row::{Row, project_of};
 use crate::telling::Telling;
-use gq_check::{File, check, check_by_threads, exec, words};
-use gq_found::Found;
+use gq_check::{File, check, check_by_threads};
+use gq_diagnostics::words;
+use gq_fault::Found;
 use gq_rpc::Sink;
-use gq_rules::{Valid, Why, validate};
+use gq_rules::{Valid, Why};
 use gq_text::OwnedText;
 use std::alloc::Global;
 use std::thread::Threads;
@@ -122,59 +123,6 @@ pub fn tell_check<R: Threads + Sync>(
     Ok(())
 }
 
-/// What an execution is given beside files.
-#[derive(Drop)]
-struct Given<'t> {
-    name: Option<&'t str>,
-    table: Option<Vec<u8>>,
-    variables: Option<Vec<u8>>,
-    files: Vec<File>,
-}
-
-/// What the texts of a row give to an execution: without variables those of `{}`.
-fn given_in<'t>(alloc: Global, row: &Row<'t>) -> Result<Given<'t>, NoAnswer> {
-    let mut given = Given {
-        name: None,
-        table: None,
-        variables: Some(Vec::from_slice(alloc, b"{}")?),
-        files: Vec::new(alloc),
-    };
-    for entry in &row.entries {
-        match entry.key {
-            "--op" => given.name = entry.text,
-            "--table" => given.table = entry.bytes(alloc)?,
-            "--vars" => given.variables = entry.bytes(alloc)?,
-            _ => given.files.push(File {
-                name: OwnedText::from_str(alloc, entry.key)?,
-                bytes: entry.bytes(alloc)?,
-            })?,
-        }
-    }
-    Ok(given)
-}
-
-/// Tells what the execution of an operation of the files writes, first to its output and then to its errors, and its status.
-pub fn tell_execution(alloc: Global, row: &Row<'_>, telling: &mut Telling) -> Result<(), NoAnswer> {
-    let given = given_in(alloc, row)?;
-    let mut output = Page::new(alloc);
-    let mut errors = Page::new(alloc);
-    let status = exec(
-        alloc,
-        given.name,
-        given.table.as_deref(),
-        given.variables.as_deref(),
-        &given.files,
-        &mut output,
-        &mut errors,
-    );
-    let outcome = Outcome {
-        output,
-        errors,
-        status,
-    };
-    outcome.tell(telling)
-}
-
 /// Tells what is found, a line each: the name of the text, the code, the bytes and the words.
 fn tell_found(found: &[Found], telling: &mut Telling) {
     for one in found {
@@ -188,17 +136,6 @@ fn tell_found(found: &[Found], telling: &mut Telling) {
         telling.put(" ");
         telling.put(words(one.code));
     }
-}
-
-/// Tells the report of the project, or `none` where it is empty.
-pub fn tell_report(alloc: Global, row: &Row<'_>, telling: &mut Telling) -> Result<(), NoAnswer> {
-    let project = project_of(alloc, &row.entries)?;
-    let report = validate(alloc, &project)?;
-    tell_found(&report.found, telling);
-    if telling.is_empty() {
-        telling.put("none");
-    }
-    Ok(())
 }
 
 /// Tells whether the project is valid; else why it is not, and how many documents are handed back.

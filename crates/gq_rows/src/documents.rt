@@ -6,9 +6,9 @@ use crate::telling::Telling;
 use gq_document::{
     Definitions, FragmentEntry, OperationEntry, Selected, fragment_selections, operation_selections,
 };
+use gq_parse::{read, read_by_threads};
 use gq_project::{Doc, Project};
-use gq_read::{Parsed, read, read_by_threads};
-use gq_tree::Selection;
+use gq_tree::{Parsed, Selection};
 use gq_types::Types;
 use std::alloc::Global;
 use std::thread::Threads;

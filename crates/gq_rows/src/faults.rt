@@ -1,31 +1,14 @@
-//! Faults that the rules of a crate find.
+//! What texts define, and the faults that rules find in it.
 use crate::no_answer::NoAnswer;
 use crate::row::{self, Row};
 use crate::telling::Telling;
 use gq_document::{Definitions, Executable, FragmentEntry, OperationEntry};
-use gq_fields::add_field_faults;
-use gq_found::{Fault, put_in_order};
-use gq_fragments::{add_fragment_faults, add_operation_faults};
-use gq_merging::add_merging_faults;
+use gq_fault::{Fault, put_in_order};
 use gq_parse::{Definition, parse};
-use gq_spreads::{Spreads, add_spread_faults};
-use gq_text::NoMemory;
-use gq_type_system::schema_faults;
+use gq_spreads::Spreads;
 use gq_types::{Entry, Types};
 use gq_variables::add_variable_faults;
 use std::alloc::Global;
-
-/// The rules of a crate.
-#[derive(Clone, Copy)]
-pub enum Rules {
-    Fields,
-    Operations,
-    Fragments,
-    Spreads,
-    Variables,
-    Merging,
-    TypeSystem,
-}
 
 /// What texts define, each numbered by its place among them.
 #[derive(Drop)]
@@ -99,68 +82,29 @@ pub fn documents_of(alloc: Global, texts: &[row::Entry<'_>]) -> Result<Documents
     })
 }
 
-/// Puts what the rules find.
-fn add_faults(
-    alloc: Global,
-    rules: Rules,
-    documents: &Documents,
-    faults: &mut Vec<Fault>,
-) -> Result<(), NoMemory> {
-    let executable = documents.executable();
-    match rules {
-        Rules::Fields => add_field_faults(alloc, &executable, faults),
-        Rules::Operations => add_operation_faults(alloc, &executable, faults),
-        Rules::Fragments => add_fragment_faults(alloc, &executable, faults),
-        Rules::Spreads => {
-            let spreads = Spreads::of(alloc, &executable)?;
-            add_spread_faults(alloc, &executable, &spreads, faults)
-        }
-        Rules::Variables => {
-            let spreads = Spreads::of(alloc, &executable)?;
-            add_variable_faults(alloc, &executable, &spreads, faults)
-        }
-        Rules::Merging => add_merging_faults(alloc, &executable, faults),
-        Rules::TypeSystem => {
-            *faults = schema_faults(alloc, &documents.types)?;
-            Ok(())
-        }
-    }
-}
-
-/// Whether a code is among some that blanks part; all are among none.
-fn is_among(code: &str, codes: &str) -> bool {
-    codes.is_empty() || codes.split(' ').any(|one| one == code)
-}
-
 /// Tells faults in order, each as the name of its text, its code and its bytes, or `none`.
 pub fn tell_in_order(row: &Row<'_>, faults: &mut Vec<Fault>, telling: &mut Telling) {
     put_in_order(faults);
     for fault in faults.iter() {
-        let code = fault.code.as_str();
-        if is_among(code, row.only) {
-            if !telling.is_empty() {
-                telling.put(" ");
-            }
-            row.put_key(fault.file, telling);
-            telling.put(code);
-            telling.put_span(fault.start, fault.end);
+        if !telling.is_empty() {
+            telling.put(" ");
         }
+        row.put_key(fault.file, telling);
+        telling.put(fault.code.as_str());
+        telling.put_span(fault.start, fault.end);
     }
     if telling.is_empty() {
         telling.put("none");
     }
 }
 
-/// Tells what the rules find in the texts of a row.
-pub fn tell_faults(
-    alloc: Global,
-    rules: Rules,
-    row: &Row<'_>,
-    telling: &mut Telling,
-) -> Result<(), NoAnswer> {
+/// Tells what the rules of variables find in the texts of a row.
+pub fn tell_variables(alloc: Global, row: &Row<'_>, telling: &mut Telling) -> Result<(), NoAnswer> {
     let documents = documents_of(alloc, &row.entries)?;
+    let executable = documents.executable();
+    let spreads = Spreads::of(alloc, &executable)?;
     let mut faults = Vec::new(alloc);
-    add_faults(alloc, rules, &documents, &mut faults)?;
+    add_variable_faults(alloc, &executable, &spreads, &mut faults)?;
     tell_in_order(row, &mut faults, telling);
     Ok(())
 }

@@ -2,8 +2,8 @@
 use crate::no_answer::NoAnswer;
 use crate::row::Row;
 use crate::telling::Telling;
-use gq_reach::transposed::transposed;
-use gq_reach::{are_below, components, is_in_range, on_cycles, reach_rows};
+use gq_graph::transposed::transposed;
+use gq_graph::{are_below, components, is_in_range, on_cycles, reach_rows};
 use std::alloc::Global;
 
 /// A table with so many rows, each of them holding what its number leads to: `3: 0-1 0-2 1-2` says the count and the steps.

@@ -3,13 +3,13 @@ use crate::faults::tell_in_order;
 use crate::no_answer::NoAnswer;
 use crate::row::Row;
 use crate::telling::Telling;
-use gq_found::Fault;
+use gq_fault::Fault;
 use gq_names::NameList;
 use gq_parse::{Definition, parse};
 use gq_text::NoMemory;
 use gq_tree::{Directive, DirectiveLocation, TypeSystemDefinition};
-use gq_types::{Entry, Types};
-use gq_values::fitting::{is_built_in_scalar, is_int_32};
+use gq_types::{Entry, Types, is_built_in_scalar};
+use gq_values::fitting::is_int_32;
 use gq_values::{ExpectedType, add_argument_faults, add_directive_faults, add_literal_faults};
 use std::alloc::Global;
 

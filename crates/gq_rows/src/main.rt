@@ -4,12 +4,11 @@
 
 mod arguments;
 mod checks;
-mod codes;
 mod documents;
 mod faults;
-mod frames;
 mod graphs;
 mod indexes;
+mod keys;
 mod literals;
 mod messages;
 mod names;

@@ -3,7 +3,7 @@ use crate::no_answer::NoAnswer;
 use crate::row::Row;
 use crate::telling::Telling;
 use gq_names::{ByName, NameList, repeated_names};
-use gq_rewrite::{is_fragment_name, is_name};
+use gq_renamed::{is_fragment_name, is_name};
 use std::alloc::Global;
 
 /// Puts `n0` to `n999` into a list, and answers how many of them are the first of their text.

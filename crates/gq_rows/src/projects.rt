@@ -6,6 +6,14 @@ use gq_project::{Doc, DocChange, Project};
 use gq_text::OwnedText;
 use std::alloc::Global;
 
+/// The version that a word says: a number, or `null` for none.
+fn version_in(word: &str) -> Result<Option<i64>, NoAnswer> {
+    if word == "null" {
+        return Ok(None);
+    }
+    Ok(Some(word.parse()?))
+}
+
 /// The document that words say: its key, its version and its text.
 fn document(alloc: Global, words: &str) -> Result<Doc, NoAnswer> {
     let (key, rest) = words.split_once(' ').ok_or(NoAnswer)?;
@@ -13,7 +21,7 @@ fn document(alloc: Global, words: &str) -> Result<Doc, NoAnswer> {
     Ok(Doc {
         key: OwnedText::from_str(alloc, key)?,
         uri: OwnedText::from_str(alloc, key)?,
-        version: version.parse()?,
+        version: version_in(version)?,
         text: OwnedText::from_str(alloc, text)?,
     })
 }
@@ -27,7 +35,10 @@ fn put_document(telling: &mut Telling, document: Option<&Doc>) {
     telling.put("(");
     telling.put(document.key.as_str());
     telling.put(" ");
-    telling.put_debug(&document.version);
+    match document.version {
+        Some(version) => telling.put_debug(&version),
+        None => telling.put("null"),
+    }
     telling.put(" ");
     telling.put(document.text.as_str());
     telling.put(")");

@@ -1,14 +1,13 @@
 //! What a file of rows asks of each of them.
 use crate::arguments::{tell_fragment_names, tell_same_arguments, tell_same_values};
-use crate::checks::{tell_check, tell_execution, tell_report, tell_validity};
-use crate::codes::tell_code;
+use crate::checks::{tell_check, tell_validity};
 use crate::documents::{
     tell_definitions, tell_readings, tell_readings_by_threads, tell_selections,
 };
-use crate::faults::{Rules, tell_faults};
-use crate::frames::{tell_frames, tell_key};
+use crate::faults::tell_variables;
 use crate::graphs::tell_graph;
 use crate::indexes::tell_index;
+use crate::keys::tell_key;
 use crate::literals::tell_literals;
 use crate::messages::tell_message;
 use crate::names::{tell_items, tell_names, tell_repeated, tell_spelling};
@@ -17,7 +16,7 @@ use crate::projects::tell_steps;
 use crate::row::Row;
 use crate::schemas::{tell_answer, tell_schema};
 use crate::spreads::tell_spreads;
-use crate::syntax::{tell_count, tell_fault, tell_string, tell_tokens, tell_tree};
+use crate::syntax::{tell_count, tell_string, tell_tokens, tell_tree};
 use crate::telling::Telling;
 use crate::texts::{tell_changed, tell_place};
 use crate::types::tell_types;
@@ -28,10 +27,8 @@ use std::thread::Threads;
 #[derive(Clone, Copy)]
 pub enum Question {
     Check,
-    Execution,
-    Report,
     Validity,
-    Faults(Rules),
+    Variables,
     Index,
     Definitions,
     Readings,
@@ -44,7 +41,6 @@ pub enum Question {
     Types,
     Tokens,
     Strings,
-    SyntaxFault,
     DefinitionCount,
     Tree,
     Place,
@@ -53,7 +49,6 @@ pub enum Question {
     SameValues,
     FragmentNames,
     Graph,
-    Frames,
     Message,
     Key,
     Names,
@@ -61,25 +56,16 @@ pub enum Question {
     ItemsByName,
     NameSpelling,
     Project,
-    Code,
 }
 
 impl Question {
-    /// What the file of that name asks, such as `check.rows` or `check.cycles.rows`.
+    /// What the file of that name asks, such as `check.rows` or `check.names.rows`.
     pub fn of_file(name: &str) -> Option<Question> {
         let (word, _) = name.split_once('.')?;
         Some(match word {
             "check" => Question::Check,
-            "exec" => Question::Execution,
-            "report" => Question::Report,
             "validity" => Question::Validity,
-            "fields" => Question::Faults(Rules::Fields),
-            "operations" => Question::Faults(Rules::Operations),
-            "fragments" => Question::Faults(Rules::Fragments),
-            "spreads" => Question::Faults(Rules::Spreads),
-            "variables" => Question::Faults(Rules::Variables),
-            "merging" => Question::Faults(Rules::Merging),
-            "type_system" => Question::Faults(Rules::TypeSystem),
+            "variables" => Question::Variables,
             "index" => Question::Index,
             "definitions" => Question::Definitions,
             "readings" => Question::Readings,
@@ -92,7 +78,6 @@ impl Question {
             "types" => Question::Types,
             "tokens" => Question::Tokens,
             "strings" => Question::Strings,
-            "syntax_faults" => Question::SyntaxFault,
             "definition_counts" => Question::DefinitionCount,
             "trees" => Question::Tree,
             "positions" => Question::Place,
@@ -101,7 +86,6 @@ impl Question {
             "same_values" => Question::SameValues,
             "fragment_names" => Question::FragmentNames,
             "graphs" => Question::Graph,
-            "frames" => Question::Frames,
             "messages" => Question::Message,
             "keys" => Question::Key,
             "names" => Question::Names,
@@ -109,7 +93,6 @@ impl Question {
             "items_by_name" => Question::ItemsByName,
             "name_spellings" => Question::NameSpelling,
             "projects" => Question::Project,
-            "codes" => Question::Code,
             _ => return None,
         })
     }
@@ -124,10 +107,8 @@ impl Question {
     ) -> Result<(), NoAnswer> {
         match self {
             Question::Check => tell_check(threads, alloc, row, telling),
-            Question::Execution => tell_execution(alloc, row, telling),
-            Question::Report => tell_report(alloc, row, telling),
             Question::Validity => tell_validity(alloc, row, telling),
-            Question::Faults(rules) => tell_faults(alloc, rules, row, telling),
+            Question::Variables => tell_variables(alloc, row, telling),
             Question::Index => tell_index(alloc, row, telling),
             Question::Definitions => tell_definitions(alloc, row, telling),
             Question::Readings => tell_readings(alloc, row, telling),
@@ -142,7 +123,6 @@ impl Question {
             Question::Types => tell_types(alloc, row, telling),
             Question::Tokens => tell_tokens(alloc, row, telling),
             Question::Strings => tell_string(alloc, row, telling),
-            Question::SyntaxFault => tell_fault(alloc, row, telling),
             Question::DefinitionCount => tell_count(alloc, row, telling),
             Question::Tree => tell_tree(alloc, row, telling),
             Question::Place => tell_place(alloc, row, telling),
@@ -151,7 +131,6 @@ impl Question {
             Question::SameValues => tell_same_values(alloc, row, telling),
             Question::FragmentNames => tell_fragment_names(alloc, row, telling),
             Question::Graph => tell_graph(alloc, row, telling),
-            Question::Frames => tell_frames(alloc, row, telling),
             Question::Message => tell_message(alloc, row, telling),
             Question::Key => tell_key(alloc, row, telling),
             Question::Names => tell_names(alloc, row, telling),
@@ -159,7 +138,6 @@ impl Question {
             Question::ItemsByName => tell_items(alloc, row, telling),
             Question::NameSpelling => tell_spelling(alloc, row, telling),
             Question::Project => tell_steps(alloc, row, telling),
-            Question::Code => tell_code(alloc, row, telling),
         }
     }
 }

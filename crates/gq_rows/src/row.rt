@@ -44,7 +44,7 @@ impl<'t> Entry<'t> {
         Ok(Doc {
             key: OwnedText::from_str(alloc, self.key)?,
             uri: OwnedText::from_str(alloc, self.key)?,
-            version: 1,
+            version: Some(1),
             text: OwnedText::from_string(self.text(alloc)?),
         })
     }
@@ -55,8 +55,6 @@ impl<'t> Entry<'t> {
 pub struct Row<'t> {
     /// The number of its first wanted line, counted from 1.
     pub line: usize,
-    /// The codes of the faults that are told, parted by blanks, or none where all are.
-    pub only: &'t str,
     /// The texts that are given to several rows.
     pub given: Vec<Entry<'t>>,
     /// These, and then its own.
@@ -105,8 +103,6 @@ pub fn project_of(alloc: Global, entries: &[Entry<'_>]) -> Result<Project, NoAns
 enum Line<'t> {
     /// A blank line, or one that begins with `#`.
     Comment,
-    /// `only CODES`.
-    Only(&'t str),
     /// `given NAME: TEXT`, or `given nothing`.
     Given(Entry<'t>),
     /// `NAME: TEXT`, or `NAME` alone.
@@ -128,9 +124,6 @@ impl<'t> Line<'t> {
         if let Some((text, wanted)) = line.split_once("=>") {
             return Line::Whole(text.trim(), wanted.trim());
         }
-        if let Some(codes) = line.strip_prefix("only ") {
-            return Line::Only(codes);
-        }
         match line.strip_prefix("given ") {
             Some(entry) => Line::Given(Entry::of(entry)),
             None => Line::Entry(Entry::of(line)),
@@ -142,7 +135,6 @@ impl<'t> Line<'t> {
 #[derive(Drop)]
 struct Reader<'t> {
     alloc: Global,
-    only: &'t str,
     given: Vec<Entry<'t>>,
     /// Whether a further given text stands beside those before it, as no row has come since.
     is_giving: bool,
@@ -157,7 +149,6 @@ impl<'t> Reader<'t> {
     fn new(alloc: Global) -> Reader<'t> {
         Reader {
             alloc,
-            only: "",
             given: Vec::new(alloc),
             is_giving: false,
             entries: Vec::new(alloc),
@@ -170,7 +161,6 @@ impl<'t> Reader<'t> {
     fn take(&mut self, number: usize, line: Line<'t>) -> Result<(), NoAnswer> {
         match line {
             Line::Comment => self.is_open = false,
-            Line::Only(codes) => self.only = codes,
             Line::Given(entry) => self.give(entry)?,
             Line::Entry(entry) => {
                 self.is_open = false;
@@ -222,7 +212,6 @@ impl<'t> Reader<'t> {
         self.is_giving = false;
         self.rows.push(Row {
             line,
-            only: self.only,
             given,
             entries,
             wanted: Vec::new(self.alloc),

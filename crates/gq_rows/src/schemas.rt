@@ -2,7 +2,7 @@
 use crate::no_answer::NoAnswer;
 use crate::row::{Row, project_of};
 use crate::telling::Telling;
-use gq_found::Found;
+use gq_fault::Found;
 use gq_schema::{Schema, SchemaFault};
 use gq_tree::OperationKind;
 use std::alloc::Global;

@@ -1,10 +1,10 @@
-//! Tokens, what strings stand for, trees, and where a text is at fault.
+//! Tokens, what strings stand for, and trees.
 use crate::no_answer::NoAnswer;
 use crate::printed::put_document;
 use crate::row::Row;
 use crate::telling::Telling;
 use gq_lex::{LexFault, Token, block_string_value, lex, string_value};
-use gq_parse::{Fault, parse};
+use gq_parse::parse;
 use std::alloc::Global;
 
 /// Texts of more tokens than that are told by their number.
@@ -63,21 +63,6 @@ pub fn tell_string(alloc: Global, row: &Row<'_>, telling: &mut Telling) -> Resul
     match value {
         Some(value) => telling.put(value.as_str()),
         None => telling.put("none"),
-    }
-    Ok(())
-}
-
-/// Tells where a text is at fault, behind `limit` where a limit is passed there, or `none`.
-pub fn tell_fault(alloc: Global, row: &Row<'_>, telling: &mut Telling) -> Result<(), NoAnswer> {
-    let text = row.asked(alloc)?;
-    match parse(alloc, text.as_str()) {
-        Ok(_) => telling.put("none"),
-        Err(Fault::Syntax { place }) => telling.put_number(place),
-        Err(Fault::Limit { place }) => {
-            telling.put("limit ");
-            telling.put_number(place);
-        }
-        Err(Fault::NoMemory) => return Err(NoAnswer),
     }
     Ok(())
 }

@@ -2,7 +2,7 @@
 use crate::no_answer::NoAnswer;
 use crate::row::Row;
 use crate::telling::Telling;
-use gq_text::{Change, OwnedText, Position, Range, Text, VecBuffer};
+use gq_text::{Change, OwnedText, Position, PositionEncoding, Range, Text, VecBuffer};
 use std::alloc::Global;
 
 /// The position that a word such as `1:5` says.
@@ -14,13 +14,23 @@ fn position(word: &str) -> Result<Position, NoAnswer> {
     })
 }
 
+/// What characters are counted in where the given text has that name.
+fn encoding_of(name: &str) -> PositionEncoding {
+    if name == "utf-8" {
+        PositionEncoding::Utf8
+    } else {
+        PositionEncoding::Utf16
+    }
+}
+
 /// Tells the offset of a position in the given text, and the position of that offset.
 pub fn tell_place(alloc: Global, row: &Row<'_>, telling: &mut Telling) -> Result<(), NoAnswer> {
     let asked = row.asked(alloc)?;
-    let given = row.given.first().ok_or(NoAnswer)?.text(alloc)?;
-    let text: Text<VecBuffer> = Text::from_str(alloc, given.as_str())?;
-    let offset = text.offset_of(position(asked.as_str())?);
-    let Position { line, character } = text.position_of(offset);
+    let given = row.given.first().ok_or(NoAnswer)?;
+    let encoding = encoding_of(given.key);
+    let text: Text<VecBuffer> = Text::from_str(alloc, given.text(alloc)?.as_str())?;
+    let offset = text.offset_of(encoding, position(asked.as_str())?);
+    let Position { line, character } = text.position_of(encoding, offset);
     telling.put_number(offset);
     telling.put(" ");
     telling.put_number(line as usize);
@@ -55,7 +65,8 @@ pub fn tell_changed(alloc: Global, row: &Row<'_>, telling: &mut Telling) -> Resu
     let asked = row.asked(alloc)?;
     let (before, words) = asked.as_str().split_once('|').ok_or(NoAnswer)?;
     let mut text: Text<VecBuffer> = Text::from_str(alloc, before.trim())?;
-    text.apply_changes(alloc, &changes(alloc, words)?)?;
+    let changes = changes(alloc, words)?;
+    text.apply_changes(alloc, PositionEncoding::Utf16, &changes)?;
     telling.put(text.to_string(alloc)?.as_str());
     Ok(())
 }

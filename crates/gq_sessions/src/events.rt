@@ -43,10 +43,24 @@ fn message_line(alloc: Global, message: &Outgoing) -> Result<String, NoAnswer> {
 fn change_line(alloc: Global, change: &DocChange) -> Result<String, NoAnswer> {
     let mut line = String::new(alloc);
     match change {
-        DocChange::Put(doc) => write!(line, "put {} {}", doc.key.as_str(), doc.version)?,
+        DocChange::Put(doc) => {
+            let key = doc.key.as_str();
+            match doc.version {
+                Some(version) => write!(line, "put {key} {version}")?,
+                None => write!(line, "put {key} null")?,
+            }
+        }
         DocChange::Close(key) => write!(line, "close {}", key.as_str())?,
     }
     Ok(line)
+}
+
+/// The version that a word says: a number, or `null` for none.
+fn version_in(word: &str) -> Result<Option<i64>, NoAnswer> {
+    if word == "null" {
+        return Ok(None);
+    }
+    Ok(Some(word.parse::<i64>()?))
 }
 
 /// The number behind the word, and what comes then.
@@ -115,7 +129,7 @@ impl Play {
         texts.put(Doc {
             key: OwnedText::from_str(self.alloc, key)?,
             uri: OwnedText::from_str(self.alloc, key)?,
-            version: version.parse::<i64>()?,
+            version: version_in(version)?,
             text: OwnedText::from_str(self.alloc, text)?,
         })?;
         Ok(())

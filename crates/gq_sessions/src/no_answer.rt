@@ -1,7 +1,7 @@
-//! Why a session is not judged.
+//! Why a list of events is not judged.
 use std::fmt::Debug;
 
-/// A session is not written as those of its file are, or memory or a file is refused. It has no `Debug`, so that every error that
+/// A list is not written as those of its file are, or memory or a file is refused. It has no `Debug`, so that every error that
 /// has one becomes it.
 #[derive(Drop)]
 pub struct NoAnswer;

@@ -1,3 +1,0 @@
-mod check;
-mod found;
-mod graphs;

@@ -1,2 +1,0 @@
--- What only helps to prove that the tests return.
-pub mod Trees

@@ -1,4 +1,0 @@
-mod cuts;
-mod edits;
-mod messages;
-mod runs;

@@ -1,0 +1,9 @@
+mod check;
+mod devices;
+mod refactorings;
+mod reports;
+mod runs;
+mod texts;
+mod variables;
+mod versions;
+mod words;
