@@ -14,7 +14,7 @@ found_by : (name : Text) (f : FragmentEntry) (rest : Option Definition) (o : Opt
 found_by name f rest o true h = refl
 found_by name f rest o false h = h
 
-pub fragment_found : (name : Text) (fs : List FragmentEntry) → find_definition (map definition_of (fragments_view fs)) name ≡ option_map (λ f. definition_of (fragment_view f)) (find (λ f. bytes_eq name f.definition.name.text) fs)
+pub fragment_found : (name : Text) (fs : List FragmentEntry) → find_definition (map definition_of (fragments_view fs)) name ≡ option_map (λ f. definition_of (fragment_view f)) (find (λ f. bytes_eq name f.definition.now.name.text) fs)
 fragment_found name [] = refl
 fragment_found name (f ∷ fs) =
-    found_by name f (find_definition (map definition_of (fragments_view fs)) name) (find (λ f. bytes_eq name f.definition.name.text) fs) (bytes_eq name f.definition.name.text) (fragment_found name fs)
+    found_by name f (find_definition (map definition_of (fragments_view fs)) name) (find (λ f. bytes_eq name f.definition.now.name.text) fs) (bytes_eq name f.definition.now.name.text) (fragment_found name fs)

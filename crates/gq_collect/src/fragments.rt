@@ -13,14 +13,14 @@ use std::alloc::Global;
 /// Fragments in the order of their documents and places; the first of a name is found by it.
 #[derive(Drop)]
 pub struct Fragments<'a> {
-    all: &'a [FragmentEntry],
+    all: &'a [FragmentEntry<'a>],
     names: NameList,
-    ghost are_named: { names ≡ map (λ f. f.definition.name.text) all.now },
+    ghost are_named: { names ≡ map (λ f. f.definition.now.name.text) all.now },
 }
 
 impl<'a> Fragments<'a> {
     /// These fragments.
-    pub fn of(alloc: Global, all: &'a [FragmentEntry]) -> Result<Fragments<'a>, NoMemory>
+    pub fn of(alloc: Global, all: &'a [FragmentEntry<'a>]) -> Result<Fragments<'a>, NoMemory>
         ensures { IfOk result (λ fragments. fragments.all.now ≡ all.now) }
     {
         let names = fragment_names(alloc, all)?;
@@ -28,7 +28,7 @@ impl<'a> Fragments<'a> {
     }
 
     /// The first fragment of that name.
-    pub fn named(&self, name: &str) -> Option<&'a FragmentEntry>
+    pub fn named(&self, name: &str) -> Option<&'a FragmentEntry<'a>>
         ensures { option_map (λ f. definition_of (fragment_view f.now)) result ≡ find_definition (map definition_of (fragments_view self.now.all.now)) name.now }
     {
         match self.names.place(name) {
@@ -38,8 +38,8 @@ impl<'a> Fragments<'a> {
     }
 }
 
-fn fragment_names(alloc: Global, all: &[FragmentEntry]) -> Result<NameList, NoMemory>
-    ensures { IfOk result (λ names. names ≡ map (λ f. f.definition.name.text) all.now) }
+fn fragment_names(alloc: Global, all: &[FragmentEntry<'_>]) -> Result<NameList, NoMemory>
+    ensures { IfOk result (λ names. names ≡ map (λ f. f.definition.now.name.text) all.now) }
 {
     let mut names = NameList::new(alloc);
     for fragment in all {

@@ -38,7 +38,7 @@ pub fn types(world: World<'_>) -> &Types
 }
 
 /// The definition of the fragment of that name.
-pub fn fragment<'a>(world: World<'a>, name: &str) -> Option<&'a FragmentEntry>
+pub fn fragment<'a>(world: World<'a>, name: &str) -> Option<&'a FragmentEntry<'a>>
     ensures { option_map (λ f. definition_of (fragment_view f.now)) result ≡ find_definition (definitions_in world.entry) name.now }
 {
     world.fragments.named(name)
@@ -96,7 +96,9 @@ fn arguments_of(
     field: &str,
     arguments: &[Argument],
 ) -> Result<Option<Vec<Entry>>, NoMemory>
-    ensures { IfOk result (λ o. option_map (λ es. record { type_name = object.now; number = number; field = field.now; arguments = entries_view es.items }) o ≡ call_in world.entry object.now number field.now (erase_values (map argument_view arguments.now))) }
+    ensures { IfOk result
+        (λ o. option_map (λ es. record { type_name = object.now; number = number; field = field.now; arguments = entries_view es.items }) o ≡
+        call_in world.entry object.now number field.now (erase_values (map argument_view arguments.now))) }
 {
     let _ = number;
     match types(world).field(object, field) {
@@ -137,7 +139,8 @@ fn found<'a>(
     field: &str,
     arguments: &[Entry],
 ) -> Result<Option<&'a Outcome>, NoMemory>
-    ensures is { IfOk result (λ o. option_map (λ r. answer_view r.now) o ≡ row_of (rows_view table.now) (record { type_name = object.now; number = number; field = field.now; arguments = entries_view arguments.now })) }
+    ensures is { IfOk result (λ o. option_map (λ r. answer_view r.now) o ≡ row_of (rows_view table.now)
+        (record { type_name = object.now; number = number; field = field.now; arguments = entries_view arguments.now })) }
     ensures within { IfOk result (λ o. IfSome o (λ r. depth (answer_view r.now).below ≤ deepest (rows_view table.now))) }
 {
     let call = Call {

@@ -11,15 +11,13 @@ use Rattle.gq_text.specs.declared.place.Span.{Span}
 use Rattle.gq_lex.proofs.Readings.{one_reading}
 use Rattle.gq_tree.specs.Plain.{NameOf, Def, operation, fragment, type_system}
 use Rattle.gq_tree.specs.Names.{names_in, fragment_names}
-use Rattle.gq_tree.specs.Views.{document_view}
 use Rattle.gq_project.specs.declared.document.Doc.{Doc}
 use Rattle.gq_parse.specs.Derives.{Derives}
 use Rattle.gq_parse.proofs.UniqueDocuments.{same_document}
-use Rattle.gq_tree.specs.declared.parsed.Parsed.{Parsed}
-use Rattle.gq_tree.specs.declared.parsed.Parsed.TheVariants as reading
+use Rattle.gq_tree.specs.Readings as reading
 use Rattle.gq_parse.specs.Parsed.{IsParsed, AreParsed}
 use Rattle.gq_parse.specs.Parsed as readings
-use Rattle.gq_tree.specs.Readings.{definitions_read, in_document, in_documents}
+use Rattle.gq_tree.specs.Readings.{ParsedOf, definitions_read, in_document, in_documents}
 use Rattle.gq_index.specs.declared.occurrence.Occurrence.{Occurrence}
 use Rattle.gq_index.specs.Occurrences.{DefinitionOf, AreExecutables, executable_in, executables, occurrences_of, fragment_occurrences}
 use Rattle.gq_renamed.specs.Renamings.{Renaming, fragment_called}
@@ -32,10 +30,10 @@ pub one_tree : (text : List ℕ) (a b : List (Def Span)) → Derives text a → 
 one_tree text a b p q = same_document p.derived (one_reading text p.tokens q.tokens p.reads q.reads) q.derived
 
 -- what a reading of a text with a tree defines
-pub tree_read : (text : List ℕ) (r : Parsed) (tree : List (Def Span)) → IsParsed text r → Derives text tree → definitions_read r ≡ tree
-tree_read text (reading.Tree d) tree p q = one_tree text (document_view d) tree p q
-tree_read text (reading.Syntax place) tree p q = absurd (p.0 tree q)
-tree_read text (reading.Limit place) tree p q = absurd (p.0 tree q)
+pub tree_read : (text : List ℕ) (r : ParsedOf) (tree : List (Def Span)) → IsParsed text r → Derives text tree → definitions_read r ≡ tree
+tree_read text (reading.tree d) tree p q = one_tree text d tree p q
+tree_read text (reading.syntax place) tree p q = absurd (p.0 tree q)
+tree_read text (reading.limit place) tree p q = absurd (p.0 tree q)
 
 -- the texts are compared either way round
 pub same_test : (a b : List ℕ) → bytes_eq a b ≡ bytes_eq b a
@@ -76,10 +74,10 @@ tree_stands old file (d ∷ ds) =
     ∙ sym (map-append (λ (n : NameOf Span). let o : Occurrence = record { file = file; span = n.place } in o) (filter (named old) (names_in d)) (filter (named old) (fragment_names ds)))
     ∙ ap (occurrences_at file) (sym (filter-append (named old) (names_in d) (fragment_names ds)))
 
-abbrev pub executables_from : ℕ → List Parsed → List DefinitionOf
+abbrev pub executables_from : ℕ → List ParsedOf → List DefinitionOf
 executables_from file rs = flat_map (λ r. in_document executable_in r.0 r.1) (enumerate_from file rs)
 
-project_stands : (old : List ℕ) (k file : ℕ) (documents : List Doc) (rs : List Parsed) (trees : List (List (Def Span))) → AreParsed documents rs → AreTrees documents trees →
+project_stands : (old : List ℕ) (k file : ℕ) (documents : List Doc) (rs : List ParsedOf) (trees : List (List (Def Span))) → AreParsed documents rs → AreTrees documents trees →
     flat_map (stands old) (executables_from file rs) ≡ changed_occurrences (λ n. fragment_called old) k file trees
 project_stands old k file [] [] [] readings.none none = refl
 project_stands old k file [] [] (tree ∷ trees) p q = elim q [ ]

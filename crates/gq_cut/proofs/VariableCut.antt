@@ -13,10 +13,9 @@ use Rattle.gq_text.specs.declared.place.Span.{Span}
 use Rattle.gq_tree.specs.Forest.{labels, labels_in}
 use Rattle.gq_tree.specs.Plain.{NameOf, Says, Part, Val, DirectiveOf, VariableOf, Head, Sels, Def, variable, int, float, string, boolean, null, enum, list, object, field, spread, inline, operation, fragment, type_system}
 use Rattle.gq_project.specs.declared.document.Doc.{Doc}
-use Rattle.gq_tree.specs.declared.parsed.Parsed.{Parsed}
 use Rattle.gq_parse.specs.Parsed.{AreParsed}
 use Rattle.gq_parse.specs.Parsed as readings
-use Rattle.gq_tree.specs.Readings.{in_document}
+use Rattle.gq_tree.specs.Readings.{ParsedOf, in_document}
 use Rattle.gq_index.specs.declared.occurrence.Occurrence.{Occurrence}
 use Rattle.gq_index.specs.VariableNames.{says_variable, part_variable, value_variables, argument_variables, directive_variables, head_variables, selection_variables, used_variables, defined_variables}
 use Rattle.gq_index.specs.Occurrences.{DefinitionOf, AreExecutables, executable_in, places_called, definitions_in, uses_in}
@@ -160,7 +159,7 @@ tree_numbered rule k file (d ∷ ds) rest =
     ∙ sym (append_assoc (occurrences_at file (changed_in_def (rule k) d)) (occurrences_at file (changed_in_document rule n ds)) (numbered rule (number_behind ds n) rest))
     ∙ ap (λ (os : List Occurrence). os ++ numbered rule (number_behind ds n) rest) (sym (map-append (λ (m : NameOf Span). let o : Occurrence = record { file = file; span = m.place } in o) (changed_in_def (rule k) d) (changed_in_document rule n ds)))
 
-project_numbered : (rule : ℕ → Renaming) (k file : ℕ) (documents : List Doc) (rs : List Parsed) (trees : List (List (Def Span))) → AreParsed documents rs → AreTrees documents trees →
+project_numbered : (rule : ℕ → Renaming) (k file : ℕ) (documents : List Doc) (rs : List ParsedOf) (trees : List (List (Def Span))) → AreParsed documents rs → AreTrees documents trees →
     numbered rule k (executables_from file rs) ≡ changed_occurrences rule k file trees
 project_numbered rule k file [] [] [] readings.none none = refl
 project_numbered rule k file [] [] (tree ∷ trees) p q = elim q [ ]
@@ -186,7 +185,7 @@ tree_constant : (file : ℕ) (tree : List (Def Span)) → AllByRecursion IsConst
 tree_constant file [] h = tt
 tree_constant file (d ∷ ds) h = all_append (λ e. IsConstant e.definition) (executable_in file d) (flat_map (executable_in file) ds) (constant_in file d h.0) (tree_constant file ds h.1)
 
-project_constant : (file : ℕ) (documents : List Doc) (rs : List Parsed) (trees : List (List (Def Span))) → AreParsed documents rs → AreTrees documents trees → AllByRecursion (λ e. IsConstant e.definition) (executables_from file rs)
+project_constant : (file : ℕ) (documents : List Doc) (rs : List ParsedOf) (trees : List (List (Def Span))) → AreParsed documents rs → AreTrees documents trees → AllByRecursion (λ e. IsConstant e.definition) (executables_from file rs)
 project_constant file [] [] [] readings.none none = tt
 project_constant file [] [] (tree ∷ trees) p q = elim q [ ]
 project_constant file [] (r ∷ rs) trees p q = elim p [ ]

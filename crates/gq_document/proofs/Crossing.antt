@@ -1,8 +1,11 @@
--- Types and definitions may be lent to several threads, and definitions given to one: shown from their parts.
+-- Types and definitions may be lent to several threads: shown from their parts.
 use denote.Ref.{NamedLft}
 use denote.Param.Send.{IsSend, IsSync, sendable}
 use Rattle.std.proofs.Crossing.{crosses}
-use Rattle.gq_tree.proofs.Crossing.{Operation-field_send, Operation-field_sync, Fragment-field_send, Fragment-field_sync, TypeSystemDefinition-field_sync}
+use Rattle.gq_tree.proofs.Crossing.{Operation-field_sync, Fragment-field_sync, TypeSystemDefinition-field_sync}
+use Rattle.gq_tree.proofs.tree.Name.TheSendSync as Name
+use Rattle.gq_tree.proofs.types.TypeRef.TheLaws.TheKnot.{sync-TypeRef}
+use Rattle.gq_tree.specs.contracts.types.TypeRef as TypeRef
 use Rattle.gq_document.specs.contracts.executable.Executable as Executable
 use Rattle.gq_document.specs.contracts.definitions.OperationEntry as OperationEntry
 use Rattle.gq_document.specs.contracts.definitions.FragmentEntry as FragmentEntry
@@ -23,35 +26,26 @@ Entry-sync = search (sendable, crosses, Entry-field_sync) depth 12
 Definitions-field_sync : IsSync (Definitions.the_field).row
 Definitions-field_sync = search (sendable, crosses, Entry-sync, Table.the_field_sync) depth 12
 
+TypeRef-field_sync : IsSync (TypeRef.the_field).row
+TypeRef-field_sync = search (sendable, crosses, sync-TypeRef, Name.the_field_sync) depth 12
+
 Types-field_sync : IsSync (Types.the_field).row
-Types-field_sync = search (sendable, crosses, Definitions-field_sync, Parts.the_sync, ByName.the_sync, Uses.the_field_sync) depth 16
+Types-field_sync = search (sendable, crosses, Definitions-field_sync, Parts.the_sync, ByName.the_sync, Uses.the_field_sync, TypeRef-field_sync) depth 16
 
 pub Types-sync : IsSync Types.the_row
 Types-sync = search (sendable, crosses, Types-field_sync) depth 12
 
-OperationEntry-field_send : IsSend (OperationEntry.the_field).row
-OperationEntry-field_send = search (sendable, crosses, Operation-field_send) depth 12
+OperationEntry-field_sync : (ℓ : NamedLft) → IsSync (OperationEntry.the_field ℓ).row
+OperationEntry-field_sync ℓ = search (sendable, crosses, Operation-field_sync) depth 12
 
-pub OperationEntry-send : IsSend OperationEntry.the_row
-OperationEntry-send = search (sendable, crosses, OperationEntry-field_send) depth 12
+OperationEntry-sync : (ℓ : NamedLft) → IsSync (OperationEntry.the_row ℓ)
+OperationEntry-sync ℓ = search (sendable, crosses, OperationEntry-field_sync) depth 12
 
-OperationEntry-field_sync : IsSync (OperationEntry.the_field).row
-OperationEntry-field_sync = search (sendable, crosses, Operation-field_sync) depth 12
+FragmentEntry-field_sync : (ℓ : NamedLft) → IsSync (FragmentEntry.the_field ℓ).row
+FragmentEntry-field_sync ℓ = search (sendable, crosses, Fragment-field_sync) depth 12
 
-OperationEntry-sync : IsSync OperationEntry.the_row
-OperationEntry-sync = search (sendable, crosses, OperationEntry-field_sync) depth 12
-
-FragmentEntry-field_send : IsSend (FragmentEntry.the_field).row
-FragmentEntry-field_send = search (sendable, crosses, Fragment-field_send) depth 12
-
-pub FragmentEntry-send : IsSend FragmentEntry.the_row
-FragmentEntry-send = search (sendable, crosses, FragmentEntry-field_send) depth 12
-
-FragmentEntry-field_sync : IsSync (FragmentEntry.the_field).row
-FragmentEntry-field_sync = search (sendable, crosses, Fragment-field_sync) depth 12
-
-FragmentEntry-sync : IsSync FragmentEntry.the_row
-FragmentEntry-sync = search (sendable, crosses, FragmentEntry-field_sync) depth 12
+FragmentEntry-sync : (ℓ : NamedLft) → IsSync (FragmentEntry.the_row ℓ)
+FragmentEntry-sync ℓ = search (sendable, crosses, FragmentEntry-field_sync) depth 12
 
 Executable-field_sync : (ℓ : NamedLft) → IsSync (Executable.the_field ℓ).row
 Executable-field_sync ℓ = search (sendable, crosses, Types-sync, OperationEntry-sync, FragmentEntry-sync) depth 12

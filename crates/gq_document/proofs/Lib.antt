@@ -1,3 +1,4 @@
 pub mod SelectionLemmas
 pub mod Crossing
 pub mod LastLemmas
+pub mod PartLemmas

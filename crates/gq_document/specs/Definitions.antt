@@ -6,8 +6,7 @@ use Rattle.gq_tree.specs.declared.tree.OperationKind.{OperationKind}
 use Rattle.gq_tree.specs.Plain.{NameOf, VariableOf, DirectiveOf, Sels, Def, operation, fragment, type_system}
 use Rattle.gq_tree.specs.Views.{name_of, variable_view, directive_view, sels_view}
 use Rattle.gq_types.specs.Entries.{EntryOf}
-use Rattle.gq_tree.specs.declared.parsed.Parsed.{Parsed}
-use Rattle.gq_tree.specs.Readings.{in_documents}
+use Rattle.gq_tree.specs.Readings.{ParsedOf, in_documents}
 use Rattle.gq_document.specs.declared.definitions.OperationEntry.{OperationEntry}
 use Rattle.gq_document.specs.declared.definitions.FragmentEntry.{FragmentEntry}
 
@@ -50,37 +49,37 @@ entry_in file (operation kind name variables directives set braces place) = []
 entry_in file (fragment name on directives set braces place) = []
 entry_in file (type_system definition) = record { file = file; definition = definition } ∷ []
 
-abbrev pub operations_of : List Parsed → List OperationOf
+abbrev pub operations_of : List ParsedOf → List OperationOf
 operations_of readings = in_documents operation_in readings
 
-abbrev pub fragments_of : List Parsed → List FragmentOf
+abbrev pub fragments_of : List ParsedOf → List FragmentOf
 fragments_of readings = in_documents fragment_in readings
 
-abbrev pub entries_of : List Parsed → List EntryOf
+abbrev pub entries_of : List ParsedOf → List EntryOf
 entries_of readings = in_documents entry_in readings
 
 -- what the code's operations and fragments stand for
 abbrev pub operation_view : OperationEntry → OperationOf
 operation_view e = record {
   file = e.file;
-  kind = e.definition.kind;
-  name = option_map name_of e.definition.name;
-  variables = map variable_view e.definition.variables.items;
-  directives = map directive_view e.definition.directives.items;
-  set = sels_view e.definition.set.items.items;
-  braces = e.definition.set.span;
-  place = e.definition.span;
+  kind = e.definition.now.kind;
+  name = option_map name_of e.definition.now.name;
+  variables = map variable_view e.definition.now.variables.items;
+  directives = map directive_view e.definition.now.directives.items;
+  set = sels_view e.definition.now.set.items.items;
+  braces = e.definition.now.set.span;
+  place = e.definition.now.span;
 }
 
 abbrev pub fragment_view : FragmentEntry → FragmentOf
 fragment_view e = record {
   file = e.file;
-  name = name_of e.definition.name;
-  on = name_of e.definition.on;
-  directives = map directive_view e.definition.directives.items;
-  set = sels_view e.definition.set.items.items;
-  braces = e.definition.set.span;
-  place = e.definition.span;
+  name = name_of e.definition.now.name;
+  on = name_of e.definition.now.on;
+  directives = map directive_view e.definition.now.directives.items;
+  set = sels_view e.definition.now.set.items.items;
+  braces = e.definition.now.set.span;
+  place = e.definition.now.span;
 }
 
 abbrev pub operations_view : List OperationEntry → List OperationOf

@@ -4,11 +4,12 @@ use Rattle.std.specs.Prelude.{◌≡◌, ℕ, Bool, false, List, [], ◌∷◌, 
 use Rattle.std.specs.Option.{option_map, option_map_or}
 use Rattle.gq_text.specs.declared.place.Span.{Span}
 use Rattle.gq_tree.specs.Forest.{none, more}
-use Rattle.gq_tree.specs.Plain.{TypeOf, named, non_null, InputOf, Head, field, spread, inline, Sel, Sels, Def, operation, fragment, type_system}
+use Rattle.gq_tree.specs.Plain.{TypeOf, InputOf, Head, field, spread, inline, Sel, Sels, Def, operation, fragment, type_system}
 use Rattle.gq_types.specs.Entries.{Text, EntryOf}
 use Rattle.gq_types.specs.Kinds.{is_composite}
 use Rattle.gq_types.specs.Joined.{kind_named}
 use Rattle.gq_types.specs.Names.{field_named}
+use Rattle.gq_types.specs.Typename.{typename_type}
 use Rattle.gq_types.specs.Roots.{root_of}
 use Rattle.gq_document.specs.Definitions.{OperationOf, FragmentOf}
 
@@ -17,15 +18,12 @@ pub record FieldOf : Type 0 where
   pub type_ref : TypeOf Span
   pub arguments : List (InputOf Span)
 
-abbrev pub no_span : Span
-no_span = record { start = 0; end = 0 }
-
--- `__typename` is a field of every composite type, of the type `String!` (section 4.4)
+-- `__typename` is a field of every composite type (section 4.4)
 abbrev pub typename : Text
 typename = codes "__typename"
 
 abbrev pub typename_field : FieldOf
-typename_field = record { type_ref = non_null (named (record { text = codes "String"; place = no_span })); arguments = [] }
+typename_field = record { type_ref = typename_type; arguments = [] }
 
 abbrev pub is_composite_named : List EntryOf → Text → Bool
 is_composite_named es text = option_map_or is_composite (kind_named es text) false

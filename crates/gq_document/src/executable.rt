@@ -7,6 +7,6 @@ use gq_types::Types;
 #[derive(Clone, Copy)]
 pub struct Executable<'a> {
     pub types: &'a Types,
-    pub operations: &'a [OperationEntry],
-    pub fragments: &'a [FragmentEntry],
+    pub operations: &'a [OperationEntry<'a>],
+    pub fragments: &'a [FragmentEntry<'a>],
 }

@@ -1,7 +1,7 @@
 //! The fields that selections name (GraphQL, October 2021, section 5.3).
 ghost use Rattle.std.specs.Prelude.{◌≡◌, map};
 ghost use Rattle.std.specs.Option.{option_map};
-ghost use Rattle.gq_tree.specs.Views.{input_view};
+ghost use Rattle.gq_tree.specs.Views.{type_view, input_view};
 ghost use Rattle.gq_types.specs.Look.{types_view, text_of};
 ghost use Rattle.gq_document.specs.Selections.{is_composite_named, field_on, selected_field};
 ghost use Rattle.gq_tree.specs.NamedTypes.{base_name};
@@ -25,6 +25,16 @@ impl<'a> SelectedField<'a> {
         match self {
             SelectedField::Typename => Arguments::over(&[]),
             SelectedField::Defined(field) => field.arguments,
+        }
+    }
+
+    /// Its type, where `__typename` has that of these types.
+    pub fn type_ref(self, types: &'a Types) -> &'a TypeRef
+        ensures { type_view result.now ≡ (field_view self.entry).type_ref }
+    {
+        match self {
+            SelectedField::Typename => types.typename_type(),
+            SelectedField::Defined(field) => &field.definition.type_ref,
         }
     }
 

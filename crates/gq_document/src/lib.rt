@@ -8,7 +8,7 @@ pub mod laws;
 pub mod selections;
 pub mod sets;
 
-pub use definitions::{Definitions, FragmentEntry, OperationEntry};
+pub use definitions::{Definitions, FragmentEntry, OperationEntry, take_entries};
 pub use executable::Executable;
 pub use fields::{SelectedField, field_on, is_composite_named, selected_field};
 pub use selections::{Selected, fragment_selections, operation_selections, selections_of};

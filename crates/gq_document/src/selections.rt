@@ -81,7 +81,7 @@ fn put_selections<'a>(
 pub fn operation_selections<'a>(
     alloc: Global,
     types: &'a Types,
-    operation: &'a OperationEntry,
+    operation: &OperationEntry<'a>,
 ) -> Result<Vec<Selected<'a>>, NoMemory>
     ensures { IfOk result (λ all. selections_view all.items ≡ operation_selections (types_view types.now) (operation_view operation.now)) }
 {
@@ -96,7 +96,7 @@ pub fn operation_selections<'a>(
 pub fn fragment_selections<'a>(
     alloc: Global,
     types: &'a Types,
-    fragment: &'a FragmentEntry,
+    fragment: &FragmentEntry<'a>,
 ) -> Result<Vec<Selected<'a>>, NoMemory>
     ensures { IfOk result (λ all. selections_view all.items ≡ fragment_selections (types_view types.now) (fragment_view fragment.now)) }
 {

@@ -84,7 +84,9 @@ fn put_set<'a>(
     set: &'a SelectionSet,
     sets: &mut Vec<SetIn<'a>>,
 ) -> Result<(), NoMemory>
-    ensures { OnOk result (sets_view sets.new.items ≡ sets_view sets.old.items ++ (record { parent = text_of parent.entry; braces = set.now.span; selections = sels_view set.now.items.items } ∷ sets_among (types_view types.now) (text_of parent.entry) (sels_view set.now.items.items))) }
+    ensures { OnOk result (sets_view sets.new.items ≡ sets_view sets.old.items
+        ++ (record { parent = text_of parent.entry; braces = set.now.span; selections = sels_view set.now.items.items }
+        ∷ sets_among (types_view types.now) (text_of parent.entry) (sels_view set.now.items.items))) }
 {
     sets.push(SetIn {
         parent,

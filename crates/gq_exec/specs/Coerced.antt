@@ -1,7 +1,7 @@
 -- The values of an operation's variables in a project (section 6.1.2).
 use Rattle.std.specs.Prelude.{◌≡◌, List, [], Option, Some, None, option_and_then}
 use Rattle.gq_project.specs.declared.document.Doc.{Doc}
-use Rattle.gq_tree.specs.declared.parsed.Parsed.{Parsed}
+use Rattle.gq_tree.specs.Readings.{ParsedOf}
 use Rattle.gq_parse.specs.Parsed.{AreParsed}
 use Rattle.gq_document.specs.Definitions.{OperationOf, FragmentOf}
 use Rattle.gq_document.specs.Executable.{ExecutableOf}
@@ -17,7 +17,7 @@ abbrev pub coerced_in : ExecutableOf → Option Text → Values → Option Value
 coerced_in x name raw = option_and_then (λ o. coerced_variables x.entries o.variables raw) (operation_of x.operations name)
 
 pub record AreCoercedTo (documents : List Doc) (name : Option Text) (raw : Values) (coerced : Option Values) : Type 0 where
-  pub readings : List Parsed
+  pub readings : List ParsedOf
   pub are_readings : AreParsed documents readings
   pub is : coerced ≡ coerced_in (executable_of readings) name raw
 

@@ -3,7 +3,8 @@ ghost use Rattle.std.specs.Prelude.{◌≡◌, IfOk, IfErr};
 ghost use Rattle.std.specs.Option.{option_map};
 ghost use Rattle.gq_types.specs.Look.{types_view, text_of};
 ghost use Rattle.gq_table.specs.Views.{entries_view, rows_view};
-ghost use Rattle.gq_document.specs.Definitions.{operation_view, operations_view, fragments_view};
+ghost use Rattle.gq_tree.specs.Readings.{readings_view};
+ghost use Rattle.gq_document.specs.Definitions.{operation_view, operations_of, fragments_of, operations_view, fragments_view};
 ghost use Rattle.gq_document.specs.Executable.{executable_view};
 ghost use Rattle.gq_rules.specs.Project.{defined_in};
 ghost use Rattle.gq_coerce.specs.Variables.{coerced_variables};
@@ -14,7 +15,7 @@ ghost use Rattle.gq_exec.specs.Coerced.{AreCoerced, AreCoercedTo, IsRefused, coe
 
 use crate::refusal::CoercionRefusal;
 use gq_coerce::Coercion;
-use gq_document::{Definitions, Executable, OperationEntry};
+use gq_document::{Definitions, Executable, OperationEntry, take_entries};
 use gq_executor::{operation, respond};
 use gq_law_rewrites::validity::fragments_can_be_ranked;
 use gq_parse::read;
@@ -22,6 +23,7 @@ use gq_response::Response;
 use gq_rules::Valid;
 use gq_table::{Entry, Table, Variables};
 use gq_text::NoMemory;
+use gq_tree::Parsed;
 use gq_types::Types;
 use std::alloc::Global;
 
@@ -39,23 +41,25 @@ pub fn execute(
     fragments_can_be_ranked();
     let project = valid.project();
     let readings = read(alloc, project.documents())?;
-    let definitions = Definitions::of(alloc, readings)?;
-    let response = by_definitions(alloc, definitions, name, table, &variables.entries)?;
+    let (entries, readings) = take_entries(alloc, readings)?;
+    let response = by_readings(alloc, entries, &readings, name, table, &variables.entries)?;
     Ok(response)
 }
 
-/// The response by these definitions.
-fn by_definitions(
+/// The response by these definitions of the type system, and by what executable documents are read as.
+fn by_readings(
     alloc: Global,
-    definitions: Definitions,
+    entries: Vec<gq_types::Entry>,
+    readings: &[Parsed],
     name: Option<&str>,
     table: &Table,
     raw: &[Entry],
 ) -> Result<Response, NoMemory>
-    requires { ranked_in (operations_view definitions.operations.items) (fragments_view definitions.fragments.items) (text_of name) }
-    ensures { IfOk result (λ response. IsResponse (defined_in definitions.entries.items definitions.operations.items definitions.fragments.items) (rows_view table.now) (text_of name.entry) (entries_view raw.now) (response_view response)) }
+    requires { ranked_in (operations_of (readings_view readings.now)) (fragments_of (readings_view readings.now)) (text_of name) }
+    ensures { IfOk result (λ response. IsResponse (defined_in entries.items (readings_view readings.now)) (rows_view table.now) (text_of name.entry) (entries_view raw.now) (response_view response)) }
 {
-    let types = Types::of(alloc, definitions.entries)?;
+    let types = Types::of(alloc, entries)?;
+    let definitions = Definitions::of(alloc, readings)?;
     let x = Executable {
         types: &types,
         operations: &definitions.operations,
@@ -107,21 +111,23 @@ fn coerced(
 {
     let project = valid.project();
     let readings = read(alloc, project.documents())?;
-    let definitions = Definitions::of(alloc, readings)?;
-    let found = coerced_by_definitions(alloc, definitions, name, raw)?;
+    let (entries, readings) = take_entries(alloc, readings)?;
+    let found = coerced_by_readings(alloc, entries, &readings, name, raw)?;
     Ok(found)
 }
 
-/// The same by these definitions.
-fn coerced_by_definitions(
+/// The same by these definitions of the type system, and by what executable documents are read as.
+fn coerced_by_readings(
     alloc: Global,
-    definitions: Definitions,
+    entries: Vec<gq_types::Entry>,
+    readings: &[Parsed],
     name: Option<&str>,
     raw: &[Entry],
 ) -> Result<Option<Vec<Entry>>, NoMemory>
-    ensures { IfOk result (λ found. option_map (λ es. entries_view es.items) found ≡ coerced_in (defined_in definitions.entries.items definitions.operations.items definitions.fragments.items) (text_of name.entry) (entries_view raw.now)) }
+    ensures { IfOk result (λ found. option_map (λ es. entries_view es.items) found ≡ coerced_in (defined_in entries.items (readings_view readings.now)) (text_of name.entry) (entries_view raw.now)) }
 {
-    let types = Types::of(alloc, definitions.entries)?;
+    let types = Types::of(alloc, entries)?;
+    let definitions = Definitions::of(alloc, readings)?;
     let x = Executable {
         types: &types,
         operations: &definitions.operations,
@@ -150,7 +156,7 @@ fn coerced_by(
 fn coerced_of(
     alloc: Global,
     types: &Types,
-    operation: &OperationEntry,
+    operation: &OperationEntry<'_>,
     raw: &[Entry],
 ) -> Result<Option<Vec<Entry>>, NoMemory>
     ensures { IfOk result (λ found. option_map (λ es. entries_view es.items) found ≡ coerced_variables (types_view types.now) (operation_view operation.now).variables (entries_view raw.now)) }

@@ -64,7 +64,8 @@ fn is_list(outcome: &Outcome) -> bool
 }
 
 fn fits_named(world: World, name: &str, outcome: &Outcome) -> bool
-    ensures { result ≡ (if (given_by world.entry).is_composite name.now then fits_composite (given_by world.entry) name.now (answer_view outcome.now).label else fits_leaf (given_by world.entry) name.now (answer_view outcome.now).label) }
+    ensures { result ≡ (if (given_by world.entry).is_composite name.now then fits_composite (given_by world.entry) name.now
+        (answer_view outcome.now).label else fits_leaf (given_by world.entry) name.now (answer_view outcome.now).label) }
 {
     if is_composite(world, name) {
         fits_composite(world, name, outcome)
@@ -219,7 +220,8 @@ fn answer<'a>(
 ) -> Result<Data, NoMemory>
     requires { Rankable (definitions_in world) (sets_of (asked_all group.now)) }
     ensures path { OnOk result (path.new.items ≡ path.old.items) }
-    ensures answer { IfOk result (λ d. IsAnswer world.entry (type_seen type_ref.entry) (found_seen found.entry) (asked_all group.now) (path_view path.old.items) (errors_view errors.old.items) (errors_view errors.new.items) (data_view d)) }
+    ensures answer { IfOk result (λ d. IsAnswer world.entry (type_seen type_ref.entry) (found_seen found.entry) (asked_all group.now)
+        (path_view path.old.items) (errors_view errors.old.items) (errors_view errors.new.items) (data_view d)) }
 {
     if is_unfit(world, type_ref, found) {
         put_error(alloc, path, errors)?;
@@ -248,7 +250,8 @@ fn answer_outcome<'a>(
     requires ranked { Rankable (definitions_in world) (sets_of (asked_all group.now)) }
     requires fits { is_unfit (given_by world) (type_seen type_ref) (Some (answer_view outcome.now)) ≡ false }
     ensures path { OnOk result (path.new.items ≡ path.old.items) }
-    ensures answer { IfOk result (λ d. IsAnswer world.entry (type_seen type_ref.entry) (Some (answer_view outcome.now)) (asked_all group.now) (path_view path.old.items) (errors_view errors.old.items) (errors_view errors.new.items) (data_view d)) }
+    ensures answer { IfOk result (λ d. IsAnswer world.entry (type_seen type_ref.entry) (Some (answer_view outcome.now)) (asked_all group.now)
+        (path_view path.old.items) (errors_view errors.old.items) (errors_view errors.new.items) (data_view d)) }
 {
     match outcome {
         Outcome::Nothing => Ok(Data::Null),
@@ -286,7 +289,9 @@ pub fn answer_object<'a>(
     requires ranked { Rankable (definitions_in world) (sets_of (asked_all group.now)) }
     requires fits { is_unfit (given_by world) (type_seen type_ref) (Some (record { label = result_of.object object.now number; below = none })) ≡ false }
     ensures path { OnOk result (path.new.items ≡ path.old.items) }
-    ensures answer { IfOk result (λ d. IsAnswer world.entry (type_seen type_ref.entry) (Some (record { label = result_of.object object.now number; below = none })) (asked_all group.now) (path_view path.old.items) (errors_view errors.old.items) (errors_view errors.new.items) (data_view d)) }
+    ensures answer { IfOk result
+        (λ d. IsAnswer world.entry (type_seen type_ref.entry) (Some (record { label = result_of.object object.now number; below = none }))
+        (asked_all group.now) (path_view path.old.items) (errors_view errors.old.items) (errors_view errors.new.items) (data_view d)) }
 {
     let fields = collect(alloc, world, object, group, visited)?;
     let groups = grouped(alloc, &fields)?;
@@ -323,7 +328,8 @@ fn answer_key<'a>(
     requires ranked { Rankable (definitions_in world) (sets_of (asked_all group.now)) }
     requires there { 0 < length group.now }
     ensures path { OnOk result (path.new.items ≡ path.old.items) }
-    ensures answer { IfOk result (λ r. IsFieldAnswer world.entry object.now number (asked_all group.now) (path_view path.old.items ++ result_of.key key.now ∷ []) (errors_view errors.old.items) (errors_view errors.new.items) r.0 (data_view r.1)) }
+    ensures answer { IfOk result (λ r. IsFieldAnswer world.entry object.now number (asked_all group.now)
+        (path_view path.old.items ++ result_of.key key.now ∷ []) (errors_view errors.old.items) (errors_view errors.new.items) r.0 (data_view r.1)) }
 {
     let step = Step::Key(SmallText::from_str(alloc, key)?);
     path.push(step)?;
@@ -347,7 +353,8 @@ fn answer_field<'a>(
     requires ranked { Rankable (definitions_in world) (sets_of (asked_all group.now)) }
     requires there { 0 < length group.now }
     ensures path { OnOk result (path.new.items ≡ path.old.items) }
-    ensures answer { IfOk result (λ r. IsFieldAnswer world.entry object.now number (asked_all group.now) (path_view path.old.items) (errors_view errors.old.items) (errors_view errors.new.items) r.0 (data_view r.1)) }
+    ensures answer { IfOk result (λ r. IsFieldAnswer world.entry object.now number (asked_all group.now) (path_view path.old.items)
+        (errors_view errors.old.items) (errors_view errors.new.items) r.0 (data_view r.1)) }
 {
     let first = group[0];
     if first.name == "__typename" {
@@ -376,7 +383,9 @@ fn answer_list<'a>(
     requires ranked { Rankable (definitions_in world) (sets_of (asked_all group.now)) }
     requires fits { is_unfit (given_by world) (type_seen type_ref) (Some (record { label = result_of.list; below = answers_view items.now })) ≡ false }
     ensures path { OnOk result (path.new.items ≡ path.old.items) }
-    ensures answer { IfOk result (λ d. IsAnswer world.entry (type_seen type_ref.entry) (Some (record { label = result_of.list; below = answers_view items.now })) (asked_all group.now) (path_view path.old.items) (errors_view errors.old.items) (errors_view errors.new.items) (data_view d)) }
+    ensures answer { IfOk result
+        (λ d. IsAnswer world.entry (type_seen type_ref.entry) (Some (record { label = result_of.list; below = answers_view items.now }))
+        (asked_all group.now) (path_view path.old.items) (errors_view errors.old.items) (errors_view errors.new.items) (data_view d)) }
 {
     let mut values = Vec::new(alloc);
     let mut blocked = false;
@@ -408,7 +417,8 @@ fn answer_item<'a>(
 ) -> Result<(bool, Data), NoMemory>
     requires { Rankable (definitions_in world) (sets_of (asked_all group.now)) }
     ensures path { OnOk result (path.new.items ≡ path.old.items) }
-    ensures answer { IfOk result (λ r. IsItemAnswer world.entry (type_seen type_ref.entry) (answer_view item.now) (asked_all group.now) (path_view path.old.items ++ result_of.index index ∷ []) (errors_view errors.old.items) (errors_view errors.new.items) r.0 (data_view r.1)) }
+    ensures answer { IfOk result (λ r. IsItemAnswer world.entry (type_seen type_ref.entry) (answer_view item.now) (asked_all group.now)
+        (path_view path.old.items ++ result_of.index index ∷ []) (errors_view errors.old.items) (errors_view errors.new.items) r.0 (data_view r.1)) }
 {
     let item_type = item_type(type_ref);
     path.push(Step::Index(index))?;

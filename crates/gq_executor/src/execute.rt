@@ -59,7 +59,7 @@ pub fn respond(
 }
 
 /// The operation of that name, or the only one (GetOperation, section 6.1).
-pub fn operation<'a>(x: Executable<'a>, name: Option<&str>) -> Option<&'a OperationEntry>
+pub fn operation<'a>(x: Executable<'a>, name: Option<&str>) -> Option<&'a OperationEntry<'a>>
     ensures { option_map (λ o. operation_view o.now) result ≡ operation_of (operations_view x.entry.operations.now) (text_of name.entry) }
 {
     match name {
@@ -68,7 +68,7 @@ pub fn operation<'a>(x: Executable<'a>, name: Option<&str>) -> Option<&'a Operat
     }
 }
 
-fn only(operations: &[OperationEntry]) -> Option<&OperationEntry>
+fn only<'a>(operations: &'a [OperationEntry<'a>]) -> Option<&'a OperationEntry<'a>>
     ensures { option_map (λ o. operation_view o.now) result ≡ only_operation (operations_view operations.now) }
 {
     match operations {
@@ -77,7 +77,7 @@ fn only(operations: &[OperationEntry]) -> Option<&OperationEntry>
     }
 }
 
-fn called<'a>(operations: &'a [OperationEntry], name: &str) -> Option<&'a OperationEntry>
+fn called<'a>(operations: &'a [OperationEntry<'a>], name: &str) -> Option<&'a OperationEntry<'a>>
     ensures { option_map (λ o. operation_view o.now) result ≡ find (is_called name.now) (operations_view operations.now) }
 {
     for operation in operations {
@@ -88,7 +88,7 @@ fn called<'a>(operations: &'a [OperationEntry], name: &str) -> Option<&'a Operat
     None
 }
 
-fn is_called(operation: &OperationEntry, name: &str) -> bool
+fn is_called(operation: &OperationEntry<'_>, name: &str) -> bool
     ensures { result ≡ is_called name.now (operation_view operation.now) }
 {
     match &operation.definition.name {
@@ -102,7 +102,7 @@ fn respond_with(
     alloc: Global,
     x: Executable,
     coercion: Coercion,
-    operation: &OperationEntry,
+    operation: &OperationEntry<'_>,
     table: &Table,
     variables: &Variables,
 ) -> Result<Response, NoMemory>
@@ -122,9 +122,14 @@ fn respond_with(
 }
 
 /// The response from the root object of the operation.
-fn respond_in(alloc: Global, world: World, operation: &OperationEntry) -> Result<Response, NoMemory>
+fn respond_in(
+    alloc: Global,
+    world: World,
+    operation: &OperationEntry<'_>,
+) -> Result<Response, NoMemory>
     requires { Rankable (definitions_in world) (set_of (operation_view operation.now).set) }
-    ensures { IfOk result (λ r. IsAnsweredBy (given_by world.entry) (definitions_in world.entry) (unwrap_or (root_of (types_in world.entry) (operation_view operation.now).kind) []) (set_of (operation_view operation.now).set) (response_view r)) }
+    ensures { IfOk result (λ r. IsAnsweredBy (given_by world.entry) (definitions_in world.entry)
+        (unwrap_or (root_of (types_in world.entry) (operation_view operation.now).kind) []) (set_of (operation_view operation.now).set) (response_view r)) }
 {
     match types(world).root(operation.definition.kind) {
         None => respond_at(alloc, world, "", operation),
@@ -137,7 +142,7 @@ fn respond_at(
     alloc: Global,
     world: World,
     root: &str,
-    operation: &OperationEntry,
+    operation: &OperationEntry<'_>,
 ) -> Result<Response, NoMemory>
     requires { Rankable (definitions_in world) (set_of (operation_view operation.now).set) }
     ensures { IfOk result (λ r. IsAnsweredBy (given_by world.entry) (definitions_in world.entry) root.now (set_of (operation_view operation.now).set) (response_view r)) }
@@ -177,7 +182,8 @@ fn answer_root<'a>(
     requires ranked { Rankable (definitions_in world) (set_in set.now) }
     requires type_is { type_view type_ref.now ≡ root_type root.now }
     requires is_root { (if (given_by world).is_composite root.now then (given_by world).applies root.now root.now else false) ≡ true }
-    ensures { IfOk result (λ d. IsAnswer world.entry (Some (root_type root.now)) (Some (record { label = result_of.object root.now 0; below = none })) (root_fields (set_in set.now)) [] (errors_view errors.old.items) (errors_view errors.new.items) (data_view d)) }
+    ensures { IfOk result (λ d. IsAnswer world.entry (Some (root_type root.now)) (Some (record { label = result_of.object root.now 0; below = none }))
+        (root_fields (set_in set.now)) [] (errors_view errors.old.items) (errors_view errors.new.items) (data_view d)) }
 {
     let group = [Taken {
         key: "",

@@ -24,7 +24,8 @@ fn add_faults_at(
     arguments: &[Argument],
     faults: &mut Vec<Fault>,
 ) -> Result<(), NoMemory>
-    ensures { OnOk result (faults.new.items ≡ faults.old.items ++ argument_faults (types_view types.now) file (Some (map input_view definitions.entry.all.now)) (name_of name.now) (map argument_view arguments.now)) }
+    ensures { OnOk result (faults.new.items ≡ faults.old.items ++ argument_faults (types_view types.now) file
+        (Some (map input_view definitions.entry.all.now)) (name_of name.now) (map argument_view arguments.now)) }
 {
     if definitions.all().is_empty() && arguments.is_empty() {
         return Ok(());
@@ -50,7 +51,8 @@ pub(crate) fn add_wrong_arguments(
     arguments: &[Argument],
     faults: &mut Vec<Fault>,
 ) -> Result<(), NoMemory>
-    ensures { OnOk result (faults.new.items ≡ faults.old.items ++ argument_faults (types_view types.now) file (option_map (λ f. f.arguments) (selected_field_view found.entry)) (name_of name.now) (map argument_view arguments.now)) }
+    ensures { OnOk result (faults.new.items ≡ faults.old.items ++ argument_faults (types_view types.now) file
+        (option_map (λ f. f.arguments) (selected_field_view found.entry)) (name_of name.now) (map argument_view arguments.now)) }
 {
     match found {
         Some(field) => {

@@ -37,7 +37,8 @@ fn add_faults_of_field(
     arguments: &[Argument],
     faults: &mut Vec<Fault>,
 ) -> Result<(), NoMemory>
-    ensures { OnOk result (faults.new.items ≡ faults.old.items ++ faults_of_field (types_view types.now) file (text_of parent.entry) (name_of name.now) (braces_of set.now) (map argument_view arguments.now)) }
+    ensures { OnOk result (faults.new.items ≡ faults.old.items ++ faults_of_field (types_view types.now) file (text_of parent.entry)
+        (name_of name.now) (braces_of set.now) (map argument_view arguments.now)) }
 {
     let found = selected_field(types, parent, name.text.as_str());
     add_unknown_field(types, file, parent, found, name, faults)?;
@@ -124,7 +125,7 @@ fn add_faults_of_variables(
 fn add_faults_of_operation(
     alloc: Global,
     types: &Types,
-    operation: &OperationEntry,
+    operation: &OperationEntry<'_>,
     faults: &mut Vec<Fault>,
 ) -> Result<(), NoMemory>
     ensures { OnOk result (faults.new.items ≡ faults.old.items ++ operation_faults (types_view types.now) (operation_view operation.now)) }
@@ -140,7 +141,7 @@ fn add_faults_of_operation(
 fn add_faults_of_fragment(
     alloc: Global,
     types: &Types,
-    fragment: &FragmentEntry,
+    fragment: &FragmentEntry<'_>,
     faults: &mut Vec<Fault>,
 ) -> Result<(), NoMemory>
     ensures { OnOk result (faults.new.items ≡ faults.old.items ++ fragment_faults (types_view types.now) (fragment_view fragment.now)) }
@@ -155,7 +156,7 @@ fn add_faults_of_fragment(
 fn add_faults_of_operations(
     alloc: Global,
     types: &Types,
-    operations: &[OperationEntry],
+    operations: &[OperationEntry<'_>],
     faults: &mut Vec<Fault>,
 ) -> Result<(), NoMemory>
     ensures { OnOk result (faults.new.items ≡ faults.old.items ++ operations_faults (types_view types.now) (operations_view operations.now)) }
@@ -169,7 +170,7 @@ fn add_faults_of_operations(
 fn add_faults_of_fragments(
     alloc: Global,
     types: &Types,
-    fragments: &[FragmentEntry],
+    fragments: &[FragmentEntry<'_>],
     faults: &mut Vec<Fault>,
 ) -> Result<(), NoMemory>
     ensures { OnOk result (faults.new.items ≡ faults.old.items ++ fragments_faults (types_view types.now) (fragments_view fragments.now)) }

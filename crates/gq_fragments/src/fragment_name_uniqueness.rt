@@ -12,7 +12,7 @@ use std::alloc::Global;
 /// Each name of a fragment that an earlier fragment has.
 pub(crate) fn add_repeated_names(
     alloc: Global,
-    fragments: &[FragmentEntry],
+    fragments: &[FragmentEntry<'_>],
     faults: &mut Vec<Fault>,
 ) -> Result<(), NoMemory>
     ensures { OnOk result (faults.new.items ≡ faults.old.items ++ repeated_names [] (fragments_view fragments.now)) }

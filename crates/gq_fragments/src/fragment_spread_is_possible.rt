@@ -76,7 +76,8 @@ fn add_of_numbered(
 ) -> Result<(), NoMemory>
     requires { AreAnswers (types_view executable.now.types.now) shared.old.answers }
     ensures answers { AreAnswers (types_view executable.now.types.now) shared.new.answers }
-    ensures faults { OnOk result (faults.new.items ≡ faults.old.items ++ impossible_numbered (types_view executable.now.types.now) (fragments_view executable.now.fragments.now) (selected_view selected.now) (name_of name.now) number) }
+    ensures faults { OnOk result (faults.new.items ≡ faults.old.items ++ impossible_numbered (types_view executable.now.types.now)
+        (fragments_view executable.now.fragments.now) (selected_view selected.now) (name_of name.now) number) }
 {
     match executable.fragments.get(number) {
         Some(fragment) => {
@@ -107,7 +108,8 @@ fn add_of_all_numbered(
 ) -> Result<(), NoMemory>
     requires { AreAnswers (types_view executable.now.types.now) shared.old.answers }
     ensures answers { AreAnswers (types_view executable.now.types.now) shared.new.answers }
-    ensures faults { OnOk result (faults.new.items ≡ faults.old.items ++ impossible_among (types_view executable.now.types.now) (fragments_view executable.now.fragments.now) (selected_view selected.now) (name_of name.now) numbers.now) }
+    ensures faults { OnOk result (faults.new.items ≡ faults.old.items ++ impossible_among (types_view executable.now.types.now)
+        (fragments_view executable.now.fragments.now) (selected_view selected.now) (name_of name.now) numbers.now) }
 {
     for number in numbers {
         add_of_numbered(alloc, executable, shared, selected, name, *number, faults)?;
@@ -128,7 +130,8 @@ fn add_of_spread(
     requires names { names.now.names.items ≡ name_texts (fragments_view executable.now.fragments.now) }
     requires answers { AreAnswers (types_view executable.now.types.now) shared.old.answers }
     ensures answers { AreAnswers (types_view executable.now.types.now) shared.new.answers }
-    ensures faults { OnOk result (faults.new.items ≡ faults.old.items ++ impossible_spread (types_view executable.now.types.now) (fragments_view executable.now.fragments.now) (selected_view selected.now) (name_of name.now)) }
+    ensures faults { OnOk result (faults.new.items ≡ faults.old.items ++ impossible_spread (types_view executable.now.types.now)
+        (fragments_view executable.now.fragments.now) (selected_view selected.now) (name_of name.now)) }
 {
     let mut numbers = Vec::new(alloc);
     names.put_numbers(name.text.as_str(), &mut numbers)?;
@@ -148,7 +151,8 @@ fn add_of_selected(
     requires names { names.now.names.items ≡ name_texts (fragments_view executable.now.fragments.now) }
     requires answers { AreAnswers (types_view executable.now.types.now) shared.old.answers }
     ensures answers { AreAnswers (types_view executable.now.types.now) shared.new.answers }
-    ensures faults { OnOk result (faults.new.items ≡ faults.old.items ++ impossible_at (types_view executable.now.types.now) (fragments_view executable.now.fragments.now) (selected_view selected.now)) }
+    ensures faults { OnOk result (faults.new.items ≡ faults.old.items ++ impossible_at (types_view executable.now.types.now)
+        (fragments_view executable.now.fragments.now) (selected_view selected.now)) }
 {
     match selected.selection {
         Selection::Field(_) => Ok(()),
@@ -191,7 +195,8 @@ pub(crate) fn add_impossible_spreads(
     faults: &mut Vec<Fault>,
 ) -> Result<(), NoMemory>
     requires { names.now.names.items ≡ name_texts (fragments_view executable.now.fragments.now) }
-    ensures { OnOk result (faults.new.items ≡ faults.old.items ++ impossible_spreads (types_view executable.now.types.now) (fragments_view executable.now.fragments.now) (selections_view selections.now)) }
+    ensures { OnOk result (faults.new.items ≡ faults.old.items ++ impossible_spreads (types_view executable.now.types.now)
+        (fragments_view executable.now.fragments.now) (selections_view selections.now)) }
 {
     let mut shared = SharedObjects::new(alloc);
     for selected in selections {

@@ -9,7 +9,7 @@ use gq_fault::{Code, Fault, add_fault, fault_over};
 use gq_text::NoMemory;
 
 /// The fault of the operation, if it has no name.
-fn add_anonymous(operation: &OperationEntry, faults: &mut Vec<Fault>) -> Result<(), NoMemory>
+fn add_anonymous(operation: &OperationEntry<'_>, faults: &mut Vec<Fault>) -> Result<(), NoMemory>
     ensures { OnOk result (faults.new.items ≡ faults.old.items ++ anonymous_at (operation_view operation.now)) }
 {
     match operation.definition.name {
@@ -25,7 +25,10 @@ fn add_anonymous(operation: &OperationEntry, faults: &mut Vec<Fault>) -> Result<
 }
 
 /// The faults of all operations that have no name.
-fn add_all_anonymous(operations: &[OperationEntry], faults: &mut Vec<Fault>) -> Result<(), NoMemory>
+fn add_all_anonymous(
+    operations: &[OperationEntry<'_>],
+    faults: &mut Vec<Fault>,
+) -> Result<(), NoMemory>
     ensures { OnOk result (faults.new.items ≡ faults.old.items ++ anonymous (operations_view operations.now)) }
 {
     for operation in operations {
@@ -36,7 +39,7 @@ fn add_all_anonymous(operations: &[OperationEntry], faults: &mut Vec<Fault>) -> 
 
 /// Each anonymous operation, if there are two operations or more.
 pub(crate) fn add_not_alone(
-    operations: &[OperationEntry],
+    operations: &[OperationEntry<'_>],
     faults: &mut Vec<Fault>,
 ) -> Result<(), NoMemory>
     ensures { OnOk result (faults.new.items ≡ faults.old.items ++ not_alone (operations_view operations.now)) }

@@ -12,7 +12,7 @@ use std::alloc::Global;
 
 /// The fault of the operation's name, if it is one of those before, behind which it is put.
 fn add_if_repeated(
-    operation: &OperationEntry,
+    operation: &OperationEntry<'_>,
     before: &mut NameList,
     faults: &mut Vec<Fault>,
 ) -> Result<(), NoMemory>
@@ -34,7 +34,7 @@ fn add_if_repeated(
 #[tactic(auto, using(crate::proofs::RepeatedNames::namewise))]
 pub(crate) fn add_repeated_names(
     alloc: Global,
-    operations: &[OperationEntry],
+    operations: &[OperationEntry<'_>],
     faults: &mut Vec<Fault>,
 ) -> Result<(), NoMemory>
     ensures { OnOk result (faults.new.items ≡ faults.old.items ++ repeated_names [] (operations_view operations.now)) }

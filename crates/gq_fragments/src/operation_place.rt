@@ -20,7 +20,7 @@ fn keyword_length(kind: OperationKind) -> usize
 }
 
 /// The first token of an operation: its opening brace where it begins with it, else its keyword.
-pub(crate) fn first_token(operation: &OperationEntry) -> Span
+pub(crate) fn first_token(operation: &OperationEntry<'_>) -> Span
     ensures { result ≡ first_token (operation_view operation.now) }
 {
     let place = operation.definition.span;
@@ -32,7 +32,7 @@ pub(crate) fn first_token(operation: &OperationEntry) -> Span
 }
 
 /// The name of an operation or, where it has none, its first token.
-pub(crate) fn operation_place(operation: &OperationEntry) -> Span
+pub(crate) fn operation_place(operation: &OperationEntry<'_>) -> Span
     ensures { result ≡ operation_place (operation_view operation.now) }
 {
     match &operation.definition.name {

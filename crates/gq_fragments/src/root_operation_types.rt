@@ -12,7 +12,7 @@ use gq_tree::OperationKind;
 use gq_types::Types;
 
 /// The fault of the operation, if it is a mutation.
-fn add_mutation(operation: &OperationEntry, faults: &mut Vec<Fault>) -> Result<(), NoMemory>
+fn add_mutation(operation: &OperationEntry<'_>, faults: &mut Vec<Fault>) -> Result<(), NoMemory>
     ensures { OnOk result (faults.new.items ≡ faults.old.items ++ mutation_at (operation_view operation.now)) }
 {
     match operation.definition.kind {
@@ -25,7 +25,7 @@ fn add_mutation(operation: &OperationEntry, faults: &mut Vec<Fault>) -> Result<(
 }
 
 /// The faults of all mutations.
-fn add_mutations(operations: &[OperationEntry], faults: &mut Vec<Fault>) -> Result<(), NoMemory>
+fn add_mutations(operations: &[OperationEntry<'_>], faults: &mut Vec<Fault>) -> Result<(), NoMemory>
     ensures { OnOk result (faults.new.items ≡ faults.old.items ++ mutations (operations_view operations.now)) }
 {
     for operation in operations {
@@ -37,7 +37,7 @@ fn add_mutations(operations: &[OperationEntry], faults: &mut Vec<Fault>) -> Resu
 /// Each mutation, if the schema has no root type for mutations.
 pub(crate) fn add_without_root(
     types: &Types,
-    operations: &[OperationEntry],
+    operations: &[OperationEntry<'_>],
     faults: &mut Vec<Fault>,
 ) -> Result<(), NoMemory>
     ensures { OnOk result (faults.new.items ≡ faults.old.items ++ without_root (types_view types.now) (operations_view operations.now)) }

@@ -18,7 +18,7 @@ use std::alloc::Global;
 fn put_of_operations<'a>(
     alloc: Global,
     types: &'a Types,
-    operations: &'a [OperationEntry],
+    operations: &'a [OperationEntry<'a>],
     all: &mut Vec<Selected<'a>>,
 ) -> Result<(), NoMemory>
     ensures { OnOk result (selections_view all.new.items ≡ selections_view all.old.items ++ flat_map (operation_selections (types_view types.now)) (operations_view operations.now)) }
@@ -34,7 +34,7 @@ fn put_of_operations<'a>(
 fn put_of_fragments<'a>(
     alloc: Global,
     types: &'a Types,
-    fragments: &'a [FragmentEntry],
+    fragments: &'a [FragmentEntry<'a>],
     all: &mut Vec<Selected<'a>>,
 ) -> Result<(), NoMemory>
     ensures { OnOk result (selections_view all.new.items ≡ selections_view all.old.items ++ flat_map (fragment_selections (types_view types.now)) (fragments_view fragments.now)) }

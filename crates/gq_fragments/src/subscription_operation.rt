@@ -10,7 +10,7 @@ use gq_text::NoMemory;
 use gq_tree::OperationKind;
 
 /// The fault of the operation, if it is a subscription.
-fn add_subscription(operation: &OperationEntry, faults: &mut Vec<Fault>) -> Result<(), NoMemory>
+fn add_subscription(operation: &OperationEntry<'_>, faults: &mut Vec<Fault>) -> Result<(), NoMemory>
     ensures { OnOk result (faults.new.items ≡ faults.old.items ++ subscription_at (operation_view operation.now)) }
 {
     match operation.definition.kind {
@@ -27,7 +27,7 @@ fn add_subscription(operation: &OperationEntry, faults: &mut Vec<Fault>) -> Resu
 
 /// Each subscription.
 pub(crate) fn add_subscriptions(
-    operations: &[OperationEntry],
+    operations: &[OperationEntry<'_>],
     faults: &mut Vec<Fault>,
 ) -> Result<(), NoMemory>
     ensures { OnOk result (faults.new.items ≡ faults.old.items ++ subscriptions (operations_view operations.now)) }

@@ -69,7 +69,7 @@ pub(crate) fn add_conditions_of_selections(
 /// The faults of the type conditions of fragments.
 pub(crate) fn add_conditions_of_fragments(
     types: &Types,
-    fragments: &[FragmentEntry],
+    fragments: &[FragmentEntry<'_>],
     faults: &mut Vec<Fault>,
 ) -> Result<(), NoMemory>
     ensures { OnOk result (faults.new.items ≡ faults.old.items ++ conditions_of_fragments (types_view types.now) (fragments_view fragments.now)) }

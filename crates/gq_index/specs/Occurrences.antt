@@ -7,10 +7,9 @@ use Rattle.gq_text.specs.declared.place.Span.{Span}
 use Rattle.gq_tree.specs.Plain.{NameOf, TypeSystemOf, schema, type_definition, directive_definition, Def, operation, fragment, type_system}
 use Rattle.gq_tree.specs.Names.{spread_names, names_in}
 use Rattle.gq_project.specs.declared.document.Doc.{Doc}
-use Rattle.gq_tree.specs.declared.parsed.Parsed.{Parsed}
 use Rattle.gq_parse.specs.Parsed.{AreParsed}
 use Rattle.gq_types.specs.Entries.{Text}
-use Rattle.gq_tree.specs.Readings.{in_documents}
+use Rattle.gq_tree.specs.Readings.{ParsedOf, in_documents}
 use Rattle.gq_index.specs.declared.occurrence.Occurrence.{Occurrence}
 use Rattle.gq_index.specs.VariableNames.{used_variables, defined_variables}
 
@@ -27,12 +26,12 @@ executable_in file (fragment name on directives set braces place) =
 executable_in file (type_system definition) = []
 
 -- all executable definitions, in the order of documents and places; the number of each is its place among them, from 0
-abbrev pub executables : List Parsed → List DefinitionOf
+abbrev pub executables : List ParsedOf → List DefinitionOf
 executables readings = in_documents executable_in readings
 
 -- those of documents
 pub record AreExecutables (documents : List Doc) (ds : List DefinitionOf) : Type 0 where
-  pub readings : List Parsed
+  pub readings : List ParsedOf
   pub are_readings : AreParsed documents readings
   pub is : ds ≡ executables readings
 

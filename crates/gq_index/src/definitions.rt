@@ -2,7 +2,7 @@
 ghost use Rattle.std.specs.Prelude.{◌≡◌, ◌++◌, IfOk, OnOk, flat_map, map};
 ghost use Rattle.gq_tree.specs.Names.{names_at, spread_names, names_in};
 ghost use Rattle.gq_tree.specs.Views.{def_view, type_system_view};
-ghost use Rattle.gq_tree.specs.Readings.{in_document};
+ghost use Rattle.gq_tree.specs.Readings.{in_document, parsed_view, readings_view};
 ghost use Rattle.gq_index.specs.Occurrences.{executable_in, executables, fragment_name, spreads_in, place_of, type_system_place};
 ghost use Rattle.gq_index.specs.Views.{definitions_view};
 
@@ -23,7 +23,7 @@ pub fn executables<'a>(
     alloc: Global,
     readings: &'a [Parsed],
 ) -> Result<Vec<Executable<'a>>, NoMemory>
-    ensures { IfOk result (λ all. definitions_view all.items ≡ executables readings.now) }
+    ensures { IfOk result (λ all. definitions_view all.items ≡ executables (readings_view readings.now)) }
 {
     let mut all = Vec::new(alloc);
     for (file, reading) in readings.iter().enumerate() {
@@ -37,7 +37,7 @@ fn put_reading<'a>(
     reading: &'a Parsed,
     all: &mut Vec<Executable<'a>>,
 ) -> Result<(), NoMemory>
-    ensures { OnOk result (definitions_view all.new.items ≡ definitions_view all.old.items ++ in_document executable_in file reading.now) }
+    ensures { OnOk result (definitions_view all.new.items ≡ definitions_view all.old.items ++ in_document executable_in file (parsed_view reading.now)) }
 {
     match reading {
         Parsed::Tree(document) => put_all(file, &document.definitions, all),

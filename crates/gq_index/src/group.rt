@@ -148,7 +148,8 @@ impl Index {
         definition: usize,
         name: &str,
     ) -> Result<Vec<usize>, NoMemory>
-        ensures group { IfOk result (λ numbers. (ds : List DefinitionOf) → IsIndexOf ds self.now → definition < length ds → (n : ℕ) → Contains numbers.items n ↔ VariableGroup ds name.now definition n) }
+        ensures group { IfOk result (λ numbers. (ds : List DefinitionOf) → IsIndexOf ds self.now → definition < length ds → (n : ℕ) →
+            Contains numbers.items n ↔ VariableGroup ds name.now definition n) }
         ensures past { IfOk result (λ numbers. (ds : List DefinitionOf) → IsIndexOf ds self.now → length ds ≤ definition → numbers.items ≡ []) }
         ensures ascending { IfOk result (λ numbers. IsStrictlyIncreasing numbers.items) }
     {

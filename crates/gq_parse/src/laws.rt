@@ -5,6 +5,9 @@ ghost use Rattle.gq_tree.specs.Plain.{Def};
 ghost use Rattle.gq_parse.specs.Derives.{Derives};
 ghost use Rattle.gq_parse.specs.Faults.{IsSyntaxFault, IsLimitFault};
 ghost use Rattle.gq_parse.specs.Limits.{PassesLimitAt};
+ghost use Rattle.gq_project.specs.declared.document.Doc.{Doc};
+ghost use Rattle.gq_tree.specs.Readings.{ParsedOf};
+ghost use Rattle.gq_parse.specs.Parsed.{AreParsed};
 
 /// A text has at most one tree.
 pub fn one_tree()
@@ -27,4 +30,12 @@ pub fn one_fault()
     gq_lex::laws::faults_read_as_nothing();
     gq_lex::laws::limits_are_passed();
     gq_lex::laws::tokens_stand_in_order();
+}
+
+/// Documents are read in one way: a text has one tree, or one fault at one place.
+pub fn documents_have_one_reading()
+    ensures { (documents : List Doc) (a b : List ParsedOf) → AreParsed documents a → AreParsed documents b → a ≡ b }
+{
+    one_tree();
+    one_fault();
 }

@@ -211,7 +211,8 @@ fn fielded(
     at: usize,
 ) -> Result<(Name, Vec<Directive>, FieldsAndInterfaces, usize), Miss>
     requires { at ≤ length tokens.now }
-    ensures found { IfOk result (λ x. IsFielded (name_of x.0) (map name_of x.2.interfaces.items) (map directive_view x.1.items) (map field_definition_view x.2.fields.items) (from tokens.now at) (from tokens.now x.3)) }
+    ensures found { IfOk result (λ x. IsFielded (name_of x.0) (map name_of x.2.interfaces.items) (map directive_view x.1.items)
+        (map field_definition_view x.2.fields.items) (from tokens.now at) (from tokens.now x.3)) }
     ensures within { IfOk result (λ x. (at < x.3) × (x.3 ≤ length tokens.now)) }
     ensures none { IfErr result (λ miss. miss ≢ Miss.NoMemory → LacksFielded (from tokens.now at)) }
 {

@@ -4,12 +4,13 @@ use crate::no_answer::NoAnswer;
 use crate::row::{Row, project_of};
 use crate::telling::Telling;
 use gq_document::{
-    Definitions, FragmentEntry, OperationEntry, Selected, fragment_selections, operation_selections,
+    Definitions, FragmentEntry, OperationEntry, Selected, fragment_selections,
+    operation_selections, take_entries,
 };
 use gq_parse::{read, read_by_threads};
 use gq_project::{Doc, Project};
 use gq_tree::{Parsed, Selection};
-use gq_types::Types;
+use gq_types::{Entry, Types};
 use std::alloc::Global;
 use std::thread::Threads;
 
@@ -50,11 +51,6 @@ pub fn tell_readings_by_threads<R: Threads + Sync>(
     Ok(())
 }
 
-/// What the documents of a project define.
-fn definitions(alloc: Global, project: &Project) -> Result<Definitions, NoAnswer> {
-    Ok(Definitions::of(alloc, read(alloc, project.documents())?)?)
-}
-
 /// Tells the number of the document of each definition, one kind behind the other.
 pub fn tell_definitions(
     alloc: Global,
@@ -62,15 +58,29 @@ pub fn tell_definitions(
     telling: &mut Telling,
 ) -> Result<(), NoAnswer> {
     let project = project_of(alloc, &row.entries)?;
-    let all = definitions(alloc, &project)?;
-    tell_files(alloc, &all, telling)
+    let (entries, readings) = take_entries(alloc, read(alloc, project.documents())?)?;
+    let definitions = Definitions::of(alloc, &readings)?;
+    tell_files(alloc, &entries, &definitions, telling)
 }
 
 /// Tells the numbers of the documents of definitions.
-fn tell_files(alloc: Global, all: &Definitions, telling: &mut Telling) -> Result<(), NoAnswer> {
-    let entries: Vec<usize> = all.entries.iter().map(|one| one.file).collect(alloc)?;
-    let operations: Vec<usize> = all.operations.iter().map(|one| one.file).collect(alloc)?;
-    let fragments: Vec<usize> = all.fragments.iter().map(|one| one.file).collect(alloc)?;
+fn tell_files(
+    alloc: Global,
+    entries: &[Entry],
+    definitions: &Definitions<'_>,
+    telling: &mut Telling,
+) -> Result<(), NoAnswer> {
+    let entries: Vec<usize> = entries.iter().map(|one| one.file).collect(alloc)?;
+    let operations: Vec<usize> = definitions
+        .operations
+        .iter()
+        .map(|one| one.file)
+        .collect(alloc)?;
+    let fragments: Vec<usize> = definitions
+        .fragments
+        .iter()
+        .map(|one| one.file)
+        .collect(alloc)?;
     telling.put("type system ");
     telling.put_debug(&entries);
     telling.put(", operations ");
@@ -98,7 +108,7 @@ fn tell_selected(selections: &[Selected<'_>], telling: &mut Telling) {
 fn tell_operations(
     alloc: Global,
     types: &Types,
-    operations: &[OperationEntry],
+    operations: &[OperationEntry<'_>],
     telling: &mut Telling,
 ) -> Result<(), NoAnswer> {
     for operation in operations {
@@ -111,7 +121,7 @@ fn tell_operations(
 fn tell_fragments(
     alloc: Global,
     types: &Types,
-    fragments: &[FragmentEntry],
+    fragments: &[FragmentEntry<'_>],
     telling: &mut Telling,
 ) -> Result<(), NoAnswer> {
     for fragment in fragments {
@@ -127,7 +137,8 @@ pub fn tell_selections(
     telling: &mut Telling,
 ) -> Result<(), NoAnswer> {
     let documents = documents_of(alloc, &row.entries)?;
+    let definitions = documents.definitions(alloc)?;
     let types = &documents.types;
-    tell_operations(alloc, types, &documents.operations, telling)?;
-    tell_fragments(alloc, types, &documents.fragments, telling)
+    tell_operations(alloc, types, &definitions.operations, telling)?;
+    tell_fragments(alloc, types, &definitions.fragments, telling)
 }

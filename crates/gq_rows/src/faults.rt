@@ -2,11 +2,11 @@
 use crate::no_answer::NoAnswer;
 use crate::row::{self, Row};
 use crate::telling::Telling;
-use gq_document::{Definitions, Executable, FragmentEntry, OperationEntry};
+use gq_document::{Definitions, Executable, take_entries};
 use gq_fault::{Fault, put_in_order};
-use gq_parse::{Definition, parse};
+use gq_parse::{Parsed, parse};
 use gq_spreads::Spreads;
-use gq_types::{Entry, Types};
+use gq_types::Types;
 use gq_variables::add_variable_faults;
 use std::alloc::Global;
 
@@ -14,71 +14,32 @@ use std::alloc::Global;
 #[derive(Drop)]
 pub struct Documents {
     pub types: Types,
-    pub operations: Vec<OperationEntry>,
-    pub fragments: Vec<FragmentEntry>,
+    /// What is left of them beside the type system.
+    readings: Vec<Parsed>,
 }
 
 impl Documents {
-    /// What of it is executed.
-    pub fn executable(&self) -> Executable<'_> {
-        Executable {
-            types: &self.types,
-            operations: &self.operations,
-            fragments: &self.fragments,
-        }
+    /// The operations and fragments.
+    pub fn definitions(&self, alloc: Global) -> Result<Definitions<'_>, NoAnswer> {
+        Ok(Definitions::of(alloc, &self.readings)?)
     }
 }
 
-/// Puts what the text of that number defines behind the rest.
-fn put_document(
-    alloc: Global,
-    file: usize,
-    text: &str,
-    all: &mut Definitions,
-) -> Result<(), NoAnswer> {
-    for definition in parse(alloc, text)?.definitions {
-        match definition {
-            Definition::Operation(definition) => {
-                all.operations.push(OperationEntry { file, definition })?
-            }
-            Definition::Fragment(definition) => {
-                all.fragments.push(FragmentEntry { file, definition })?
-            }
-            Definition::TypeSystem(definition) => all.entries.push(Entry { file, definition })?,
-        }
+/// What texts are read as.
+fn read_texts(alloc: Global, texts: &[row::Entry<'_>]) -> Result<Vec<Parsed>, NoAnswer> {
+    let mut readings = Vec::new(alloc);
+    for entry in texts {
+        readings.push(Parsed::Tree(parse(alloc, entry.text(alloc)?.as_str())?))?;
     }
-    Ok(())
-}
-
-/// Puts what texts define.
-fn put_documents(
-    alloc: Global,
-    texts: &[row::Entry<'_>],
-    all: &mut Definitions,
-) -> Result<(), NoAnswer> {
-    for (file, entry) in texts.iter().enumerate() {
-        put_document(alloc, file, entry.text(alloc)?.as_str(), all)?;
-    }
-    Ok(())
+    Ok(readings)
 }
 
 /// What texts define.
 pub fn documents_of(alloc: Global, texts: &[row::Entry<'_>]) -> Result<Documents, NoAnswer> {
-    let mut all = Definitions {
-        entries: Vec::new(alloc),
-        operations: Vec::new(alloc),
-        fragments: Vec::new(alloc),
-    };
-    put_documents(alloc, texts, &mut all)?;
-    let Definitions {
-        entries,
-        operations,
-        fragments,
-    } = all;
+    let (entries, readings) = take_entries(alloc, read_texts(alloc, texts)?)?;
     Ok(Documents {
         types: Types::of(alloc, entries)?,
-        operations,
-        fragments,
+        readings,
     })
 }
 
@@ -101,10 +62,20 @@ pub fn tell_in_order(row: &Row<'_>, faults: &mut Vec<Fault>, telling: &mut Telli
 /// Tells what the rules of variables find in the texts of a row.
 pub fn tell_variables(alloc: Global, row: &Row<'_>, telling: &mut Telling) -> Result<(), NoAnswer> {
     let documents = documents_of(alloc, &row.entries)?;
-    let executable = documents.executable();
+    tell_in_order(row, &mut variable_faults(alloc, &documents)?, telling);
+    Ok(())
+}
+
+/// What the rules of variables find in documents.
+fn variable_faults(alloc: Global, documents: &Documents) -> Result<Vec<Fault>, NoAnswer> {
+    let definitions = documents.definitions(alloc)?;
+    let executable = Executable {
+        types: &documents.types,
+        operations: &definitions.operations,
+        fragments: &definitions.fragments,
+    };
     let spreads = Spreads::of(alloc, &executable)?;
     let mut faults = Vec::new(alloc);
     add_variable_faults(alloc, &executable, &spreads, &mut faults)?;
-    tell_in_order(row, &mut faults, telling);
-    Ok(())
+    Ok(faults)
 }

@@ -3,6 +3,7 @@ use crate::faults::{Documents, documents_of};
 use crate::no_answer::NoAnswer;
 use crate::row::Row;
 use crate::telling::Telling;
+use gq_document::Executable;
 use gq_spreads::{FragmentNames, Spreads, reached_fragments};
 use std::alloc::Global;
 
@@ -13,7 +14,12 @@ fn tell_reached(
     number: usize,
     telling: &mut Telling,
 ) -> Result<(), NoAnswer> {
-    let executable = documents.executable();
+    let definitions = documents.definitions(alloc)?;
+    let executable = Executable {
+        types: &documents.types,
+        operations: &definitions.operations,
+        fragments: &definitions.fragments,
+    };
     let spreads = Spreads::of(alloc, &executable)?;
     if number >= executable.operations.len() {
         return Err(NoAnswer);
@@ -29,7 +35,8 @@ fn tell_named(
     name: &str,
     telling: &mut Telling,
 ) -> Result<(), NoAnswer> {
-    let names = FragmentNames::of(alloc, &documents.fragments)?;
+    let definitions = documents.definitions(alloc)?;
+    let names = FragmentNames::of(alloc, &definitions.fragments)?;
     let mut numbers = Vec::new(alloc);
     names.put_numbers(name, &mut numbers)?;
     telling.put_debug(&numbers);

@@ -4,7 +4,7 @@ use Rattle.std.proofs.lemmas.List.Elements.{Contains-append_left, Contains-appen
 use Rattle.gq_names.proofs.RepeatLemmas.{contains_none, contains_first}
 use Rattle.gq_fault.specs.declared.fault.Fault.{Fault}
 use Rattle.gq_fault.specs.Adds.{AddsExactly}
-use Rattle.gq_tree.specs.declared.parsed.Parsed.{Parsed}
+use Rattle.gq_tree.specs.Readings.{ParsedOf}
 use Rattle.gq_type_system.specs.SchemaFaults.{IsSchemaFault}
 use Rattle.gq_types.specs.Entries.{EntryOf}
 use Rattle.gq_document.specs.Definitions.{OperationOf, FragmentOf, operations_of, fragments_of}
@@ -17,7 +17,7 @@ use Rattle.gq_rules.specs.Helping.Places.{unread_at, mixed_at, each_from}
 use Rattle.gq_rules.specs.Helping.Wrongs.{PutsWrong}
 use Rattle.gq_rules.proofs.ItemLemmas.{unread_are, mixed_are}
 
-module _ (readings : List Parsed) (schema : List Fault) (are : (fault : Fault) → Contains schema fault ↔ IsSchemaFault (type_system_of readings) fault) where
+module _ (readings : List ParsedOf) (schema : List Fault) (are : (fault : Fault) → Contains schema fault ↔ IsSchemaFault (type_system_of readings) fault) where
   -- what is told whatever else is wrong
   abbrev pub told_first : List Fault
   told_first = (each_from unread_at 0 readings ++ each_from mixed_at 0 readings) ++ schema
@@ -69,7 +69,7 @@ module _ (readings : List Parsed) (schema : List Fault) (are : (fault : Fault) �
       back (demand.rule h r) = subst (λ xs. Contains xs fault) (sym is) ((p.exactly fault).1 r)
 
 -- the same, step by step as the code has it
-module _ (readings : List Parsed) (es : List EntryOf) (is : es ≡ type_system_of readings) (schema : List Fault)
+module _ (readings : List ParsedOf) (es : List EntryOf) (is : es ≡ type_system_of readings) (schema : List Fault)
     (exact : (fault : Fault) → Contains schema fault ↔ IsSchemaFault es fault) (texts all : List Fault)
     (one : texts ≡ each_from unread_at 0 readings ++ each_from mixed_at 0 readings) (two : all ≡ texts ++ schema) where
   of_project : (fault : Fault) → Contains schema fault ↔ IsSchemaFault (type_system_of readings) fault
@@ -88,7 +88,7 @@ module _ (readings : List Parsed) (es : List EntryOf) (is : es ≡ type_system_o
       (subst (λ y. AddsExactly (IsRuleFault y) (told_first readings schema of_project) final) same (subst (λ xs. AddsExactly (IsRuleFault x) xs final) all_is p))
 
 -- what the code has is what is read
-pub executable_is : (readings : List Parsed) (es : List EntryOf) (os : List OperationOf) (fs : List FragmentOf) →
+pub executable_is : (readings : List ParsedOf) (es : List EntryOf) (os : List OperationOf) (fs : List FragmentOf) →
     es ≡ type_system_of readings → os ≡ operations_of readings → fs ≡ fragments_of readings →
     record { entries = es; operations = os; fragments = fs } ≡ executable_of readings
 executable_is readings es os fs a b c =
@@ -100,7 +100,7 @@ is_one : (x : Fault) (xs : List Fault) → x ∷ xs ≡ [] → ⊥
 is_one x xs e = cc
 
 -- what is told of the texts, and what is put behind it
-pub all_are : (readings : List Parsed) (x : ExecutableOf) → x ≡ executable_of readings → (texts final : List Fault) →
+pub all_are : (readings : List ParsedOf) (x : ExecutableOf) → x ≡ executable_of readings → (texts final : List Fault) →
     texts ≡ each_from unread_at 0 readings ++ each_from mixed_at 0 readings → PutsWrong x texts final →
     (fault : Fault) → Contains final fault ↔ IsFaultOf readings fault
 all_are readings x same texts final one w fault = cases (texts ++ w.schema) refl

@@ -3,6 +3,5 @@ pub mod DemandLemmas
 pub mod WrongLemmas
 pub mod ValidityLemmas
 pub mod RuleLemmas
-pub mod OneReading
 pub mod OneReport
 pub mod TreeLemmas

@@ -1,4 +1,4 @@
--- A text has but one tree, or one fault at one place, so a project has but one report.
+-- Documents are read in one way, so a project has but one report, and is not both valid and invalid.
 use Rattle.std.proofs.Common.{◌≡◌, ◌↔◌, ℕ, List, [], ◌∷◌, map, Contains, refl, sym, ◌∙◌, ap, subst, inl, inr}
 use Rattle.std.proofs.lemmas.Cmp.{nat_cmp_total, on_total, then_total}
 use Rattle.std.proofs.lemmas.List.Elements.{All-from_recursion, All-contains}
@@ -7,21 +7,17 @@ use Rattle.std.specs.Cmp.{IsTotalOrder}
 use Rattle.std.specs.List.Sorted.{IsStrictlySortedBy}
 use Rattle.std.specs.declared.cmp.Ordering.{Ordering}
 use Rattle.std.specs.declared.cmp.Ordering.TheVariants.{Less}
-use Rattle.gq_tree.specs.Views.{document_view}
 use Rattle.gq_names.proofs.RepeatLemmas.{contains_none, contains_later, contains_first, contains_cases}
 use Rattle.gq_project.specs.declared.document.Doc.{Doc}
-use Rattle.gq_parse.specs.Faults.{IsSyntaxFault, IsLimitFault}
 use Rattle.gq_fault.specs.declared.found.Found.{Found}
 use Rattle.gq_fault.specs.declared.fault.Fault.{Fault}
 use Rattle.gq_fault.specs.Codes.{number_of}
 use Rattle.gq_fault.specs.Order.{fault_cmp}
 use Rattle.gq_fault.specs.Tells.{told}
-use Rattle.gq_tree.specs.declared.parsed.Parsed.{Parsed}
-use Rattle.gq_tree.specs.declared.parsed.Parsed.TheVariants as reading
-use Rattle.gq_parse.specs.Parsed.{IsParsed}
-use Rattle.gq_rules.specs.Validity.{IsReportOf}
-use Rattle.gq_parse.proofs.OneReading.{OneTree}
-use Rattle.gq_rules.proofs.OneReading.{said, tree, syntax_at, limit_at, all_same, demanded_back}
+use Rattle.gq_tree.specs.Readings.{ParsedOf}
+use Rattle.gq_parse.specs.Parsed.{AreParsed}
+use Rattle.gq_rules.specs.Faults.{IsFaultOf}
+use Rattle.gq_rules.specs.Validity.{IsReportOf, IsValid, IsInvalid}
 
 -- lists in order with the same members are one
 module _ {X : Type 0} {c : X → X → Ordering} (o : IsTotalOrder c) where
@@ -63,33 +59,19 @@ item_cmp_total =
     (then_total (on_total (λ (i : Fault). i.start) nat_cmp_total)
     (then_total (on_total (λ (i : Fault). number_of i.code) nat_cmp_total) (on_total (λ (i : Fault). i.end) nat_cmp_total)))
 
--- no two faults of a text, and none of both kinds
-abbrev pub OneSyntax : Type 0
-OneSyntax = (text : List ℕ) (a b : ℕ) → IsSyntaxFault text a → IsSyntaxFault text b → a ≡ b
+-- documents are read in one way
+abbrev pub OneReadings : Type 0
+OneReadings = (documents : List Doc) (a b : List ParsedOf) → AreParsed documents a → AreParsed documents b → a ≡ b
 
-abbrev pub OneLimit : Type 0
-OneLimit = (text : List ℕ) (a b : ℕ) → IsLimitFault text a → IsLimitFault text b → a ≡ b
-
-abbrev pub NotBoth : Type 0
-NotBoth = (text : List ℕ) (a b : ℕ) → IsSyntaxFault text a → IsLimitFault text b → ⊥
-
-module _ (one_tree : OneTree) (one_syntax : OneSyntax) (one_limit : OneLimit) (not_both : NotBoth) where
-  same_reading : (text : List ℕ) (a b : Parsed) → IsParsed text a → IsParsed text b → said a ≡ said b
-  same_reading text (reading.Tree d) (reading.Tree e) p q = ap tree (one_tree text (document_view d) (document_view e) p q)
-  same_reading text (reading.Tree d) (reading.Syntax m) p q = absurd (q.0 (document_view d) p)
-  same_reading text (reading.Tree d) (reading.Limit m) p q = absurd (q.0 (document_view d) p)
-  same_reading text (reading.Syntax n) (reading.Tree e) p q = absurd (p.0 (document_view e) q)
-  same_reading text (reading.Syntax n) (reading.Syntax m) p q = ap syntax_at (one_syntax text n m p.1 q.1)
-  same_reading text (reading.Syntax n) (reading.Limit m) p q = absurd (not_both text n m p.1 q.1)
-  same_reading text (reading.Limit n) (reading.Tree e) p q = absurd (p.0 (document_view e) q)
-  same_reading text (reading.Limit n) (reading.Syntax m) p q = absurd (not_both text m n q.1 p.1)
-  same_reading text (reading.Limit n) (reading.Limit m) p q = ap limit_at (one_limit text n m p.1 q.1)
-
+module _ (one_reading : OneReadings) where
   pub one_report : (documents : List Doc) (a b : List Found) → IsReportOf documents a → IsReportOf documents b → a ≡ b
   one_report documents a b r s =
-      let same : map said r.readings ≡ map said s.readings = all_same documents r.readings s.readings (λ file text x y at. same_reading text x y) r.are_readings s.are_readings in
+      let same : r.readings ≡ s.readings = one_reading documents r.readings s.readings r.are_readings s.are_readings in
       let faults : r.faults ≡ s.faults = one_list item_cmp_total r.faults s.faults r.sorted s.sorted (λ z. (
-        (λ k. (s.exact z).1 (demanded_back s.readings r.readings (sym same) z ((r.exact z).0 k))),
-        (λ k. (r.exact z).1 (demanded_back r.readings s.readings same z ((s.exact z).0 k))),
+        (λ k. (s.exact z).1 (subst (λ rs. IsFaultOf rs z) same ((r.exact z).0 k))),
+        (λ k. (r.exact z).1 (subst (λ rs. IsFaultOf rs z) (sym same) ((s.exact z).0 k))),
       )) in
       r.are_told ∙ ap (told documents) faults ∙ sym s.are_told
+
+  pub not_both : (documents : List Doc) → IsValid documents → IsInvalid documents → ⊥
+  not_both documents v i = v.none i.some.0 (subst (λ rs. IsFaultOf rs i.some.0) (one_reading documents i.readings v.readings i.are_readings v.are_readings) i.some.1)

@@ -3,12 +3,12 @@ use Rattle.std.proofs.Common.{◌≡◌, ◌↔◌, List, [], ◌∷◌, Contain
 use Rattle.gq_names.proofs.RepeatLemmas.{contains_none, contains_first}
 use Rattle.gq_project.specs.declared.document.Doc.{Doc}
 use Rattle.gq_fault.specs.declared.fault.Fault.{Fault}
-use Rattle.gq_tree.specs.declared.parsed.Parsed.{Parsed}
+use Rattle.gq_tree.specs.Readings.{ParsedOf}
 use Rattle.gq_parse.specs.Parsed.{AreParsed}
 use Rattle.gq_rules.specs.Faults.{IsFaultOf}
 use Rattle.gq_rules.specs.Validity.{IsValid, IsInvalid}
 
-module _ (documents : List Doc) (readings : List Parsed) (are : AreParsed documents readings) where
+module _ (documents : List Doc) (readings : List ParsedOf) (are : AreParsed documents readings) where
   pub valid : (faults : List Fault) → ((fault : Fault) → Contains faults fault ↔ IsFaultOf readings fault) → faults ≡ [] → IsValid documents
   valid faults exact e = record { readings = readings; are_readings = are; none = λ fault d. contains_none fault (subst (λ xs. Contains xs fault) e ((exact fault).1 d)) }
 

@@ -6,8 +6,7 @@ use Rattle.gq_text.specs.declared.place.Span.{Span}
 use Rattle.gq_tree.specs.Plain.{Def, operation, fragment, type_system, TypeSystemOf}
 use Rattle.gq_fault.specs.declared.code.Code.TheVariants.{MixedFile}
 use Rattle.gq_fault.specs.declared.fault.Fault.{Fault}
-use Rattle.gq_tree.specs.declared.parsed.Parsed.{Parsed}
-use Rattle.gq_tree.specs.Readings.{definitions_read}
+use Rattle.gq_tree.specs.Readings.{ParsedOf, definitions_read}
 use Rattle.gq_fault.specs.FaultPlaces.{fault_over}
 use Rattle.gq_type_system.specs.DefinedTwice.{definition_place}
 
@@ -25,9 +24,9 @@ first_of_type_system (fragment name on directives set braces place ∷ ds) = fir
 first_of_type_system (type_system definition ∷ ds) = Some definition
 
 -- the document has both; it is told at the first one of the type system
-pub record IsMixed (readings : List Parsed) (fault : Fault) : Type 0 where
+pub record IsMixed (readings : List ParsedOf) (fault : Fault) : Type 0 where
   pub file : ℕ
-  pub reading : Parsed
+  pub reading : ParsedOf
   pub at : slice_get readings file ≡ Some reading
   pub executable : list_any is_executable (definitions_read reading) ≡ true
   pub definition : TypeSystemOf Span

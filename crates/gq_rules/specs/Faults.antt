@@ -2,7 +2,7 @@
 -- system, that alone is told.
 use Rattle.std.specs.Prelude.{List}
 use Rattle.gq_fault.specs.declared.fault.Fault.{Fault}
-use Rattle.gq_tree.specs.declared.parsed.Parsed.{Parsed}
+use Rattle.gq_tree.specs.Readings.{ParsedOf}
 use Rattle.gq_type_system.specs.SchemaFaults.{IsSchemaFault}
 use Rattle.gq_rules.specs.Project.{type_system_of, executable_of}
 use Rattle.gq_rules.specs.Unread.{IsUnread}
@@ -10,11 +10,11 @@ use Rattle.gq_rules.specs.ExecutableDefinitions.{IsMixed}
 use Rattle.gq_rules.specs.RuleFaults.{IsRuleFault}
 
 -- what is told whatever else is wrong
-pub data IsToldFirst (readings : List Parsed) (fault : Fault) : Type 0 where
+pub data IsToldFirst (readings : List ParsedOf) (fault : Fault) : Type 0 where
   unread : IsUnread readings fault → IsToldFirst readings fault
   mixed : IsMixed readings fault → IsToldFirst readings fault
   type_system : IsSchemaFault (type_system_of readings) fault → IsToldFirst readings fault
 
-pub data IsFaultOf (readings : List Parsed) (fault : Fault) : Type 0 where
+pub data IsFaultOf (readings : List ParsedOf) (fault : Fault) : Type 0 where
   first : IsToldFirst readings fault → IsFaultOf readings fault
   rule : ((other : Fault) → IsToldFirst readings other → ⊥) → IsRuleFault (executable_of readings) fault → IsFaultOf readings fault

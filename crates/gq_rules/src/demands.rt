@@ -1,6 +1,7 @@
 //! What is told of documents: first of their texts and of the type system, and where that is nothing, of the rules.
 ghost use Rattle.std.specs.Prelude.{◌≡◌, ◌↔◌, ◌++◌, Contains, IfOk};
 ghost use Rattle.std.specs.List.Sorted.{IsStrictlySortedBy};
+ghost use Rattle.gq_tree.specs.Readings.{readings_view};
 ghost use Rattle.gq_fault.specs.declared.fault.Fault.{Fault};
 ghost use Rattle.gq_fault.specs.Order.{fault_cmp};
 ghost use Rattle.gq_rules.specs.Helping.AllFaults.{AreFaultsOf};
@@ -8,10 +9,11 @@ ghost use Rattle.gq_rules.specs.Faults.{IsFaultOf};
 ghost use Rattle.gq_rules.specs.Helping.Places.{unread_at, mixed_at, each_from};
 
 use crate::executable_definitions::add_mixed;
+use crate::giving_back::give_back;
 use crate::unread::add_unread;
 use crate::wrong::add_wrong;
 use crate::wrong_by_threads::add_wrong_by_threads;
-use gq_document::Definitions;
+use gq_document::take_entries;
 use gq_fault::{Fault, put_in_order};
 use gq_parse::{read, read_by_threads};
 use gq_project::Doc;
@@ -44,11 +46,11 @@ pub(crate) fn demanded_by_threads<R: Threads + Sync>(
 
 /// The faults of what is told of documents that are read so, in no order.
 fn all_faults(alloc: Global, readings: Vec<Parsed>) -> Result<Vec<Fault>, NoMemory>
-    ensures { IfOk result (λ faults. (fault : Fault) → Contains faults.items fault ↔ IsFaultOf readings.items fault) }
+    ensures { IfOk result (λ faults. (fault : Fault) → Contains faults.items fault ↔ IsFaultOf (readings_view readings.items) fault) }
 {
     let mut faults = faults_of_texts(alloc, &readings)?;
-    let definitions = Definitions::of(alloc, readings)?;
-    add_wrong(alloc, definitions, &mut faults)?;
+    let (entries, readings) = take_entries(alloc, readings)?;
+    add_wrong(alloc, entries, &readings, &mut faults)?;
     Ok(faults)
 }
 
@@ -58,17 +60,18 @@ fn all_faults_by_threads<R: Threads + Sync>(
     alloc: Global,
     readings: Vec<Parsed>,
 ) -> Result<Vec<Fault>, NoMemory>
-    ensures { IfOk result (λ faults. (fault : Fault) → Contains faults.items fault ↔ IsFaultOf readings.items fault) }
+    ensures { IfOk result (λ faults. (fault : Fault) → Contains faults.items fault ↔ IsFaultOf (readings_view readings.items) fault) }
 {
     let mut faults = faults_of_texts(alloc, &readings)?;
-    let definitions = Definitions::of(alloc, readings)?;
-    add_wrong_by_threads(rt, alloc, definitions, &mut faults)?;
+    let (entries, readings) = take_entries(alloc, readings)?;
+    add_wrong_by_threads(rt, alloc, entries, &readings, &mut faults)?;
+    give_back(rt, readings);
     Ok(faults)
 }
 
 /// The faults of documents without a tree, and of those with definitions of both sorts.
 fn faults_of_texts(alloc: Global, readings: &[Parsed]) -> Result<Vec<Fault>, NoMemory>
-    ensures { IfOk result (λ faults. faults.items ≡ each_from unread_at 0 readings.now ++ each_from mixed_at 0 readings.now) }
+    ensures { IfOk result (λ faults. faults.items ≡ each_from unread_at 0 (readings_view readings.now) ++ each_from mixed_at 0 (readings_view readings.now)) }
 {
     let mut faults = Vec::new(alloc);
     add_unread(readings, &mut faults)?;

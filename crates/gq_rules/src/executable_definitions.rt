@@ -2,6 +2,7 @@
 ghost use Rattle.std.specs.Prelude.{◌≡◌, ◌++◌, OnOk, map};
 ghost use Rattle.std.specs.Option.{option_map};
 ghost use Rattle.std.specs.List.{list_any};
+ghost use Rattle.gq_tree.specs.Readings.{parsed_view, readings_view};
 ghost use Rattle.gq_tree.specs.Views.{def_view, type_system_view};
 ghost use Rattle.gq_type_system.specs.DefinedTwice.{definition_place};
 ghost use Rattle.gq_rules.specs.ExecutableDefinitions.{is_executable, first_of_type_system};
@@ -67,7 +68,7 @@ fn add_mixed_in(
 }
 
 fn add_mixed_at(file: usize, reading: &Parsed, faults: &mut Vec<Fault>) -> Result<(), NoMemory>
-    ensures { OnOk result (faults.new.items ≡ faults.old.items ++ mixed_at file reading.now) }
+    ensures { OnOk result (faults.new.items ≡ faults.old.items ++ mixed_at file (parsed_view reading.now)) }
 {
     match reading {
         Parsed::Tree(document) => add_mixed_in(file, &document.definitions, faults),
@@ -78,7 +79,7 @@ fn add_mixed_at(file: usize, reading: &Parsed, faults: &mut Vec<Fault>) -> Resul
 
 /// The faults of the documents with definitions of both sorts (section 5.1.1).
 pub fn add_mixed(readings: &[Parsed], faults: &mut Vec<Fault>) -> Result<(), NoMemory>
-    ensures { OnOk result (faults.new.items ≡ faults.old.items ++ each_from mixed_at 0 readings.now) }
+    ensures { OnOk result (faults.new.items ≡ faults.old.items ++ each_from mixed_at 0 (readings_view readings.now)) }
 {
     for file in 0..readings.len() {
         add_mixed_at(file, &readings[file], faults)?;

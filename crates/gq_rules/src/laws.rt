@@ -7,21 +7,20 @@ ghost use Rattle.gq_rules.specs.Trees.{HasTree};
 ghost use Rattle.gq_rules.specs.Validity.{IsReportOf, IsValid, IsInvalid};
 
 use crate::valid::Valid;
-use gq_parse::laws::{one_fault, one_tree};
+use gq_parse::laws::documents_have_one_reading;
 
 /// No project is both valid and invalid: a text has one tree at most, so each reading of the documents demands the same.
 pub fn no_project_is_valid_and_invalid()
     ensures { (documents : List Doc) → IsValid documents → IsInvalid documents → ⊥ }
 {
-    one_tree();
+    documents_have_one_reading();
 }
 
 /// A project has one report: what is told of its documents is determined, since a text has one tree, or one fault at one place.
 pub fn a_project_has_one_report()
     ensures { (documents : List Doc) (a b : List Found) → IsReportOf documents a → IsReportOf documents b → a ≡ b }
 {
-    one_tree();
-    one_fault();
+    documents_have_one_reading();
 }
 
 /// Each document of a valid project has a tree.

@@ -1,5 +1,6 @@
 //! Documents without a tree.
 ghost use Rattle.std.specs.Prelude.{◌≡◌, ◌++◌, OnOk};
+ghost use Rattle.gq_tree.specs.Readings.{parsed_view, readings_view};
 ghost use Rattle.gq_rules.specs.Helping.Places.{unread_at, each_from};
 
 use gq_fault::{Code, Fault};
@@ -8,7 +9,7 @@ use gq_tree::Parsed;
 
 /// The fault of a document whose text has no tree: the place of the fault, which marks no text.
 fn add_unread_at(file: usize, reading: &Parsed, faults: &mut Vec<Fault>) -> Result<(), NoMemory>
-    ensures { OnOk result (faults.new.items ≡ faults.old.items ++ unread_at file reading.now) }
+    ensures { OnOk result (faults.new.items ≡ faults.old.items ++ unread_at file (parsed_view reading.now)) }
 {
     let (code, place) = match reading {
         Parsed::Tree(_) => return Ok(()),
@@ -26,7 +27,7 @@ fn add_unread_at(file: usize, reading: &Parsed, faults: &mut Vec<Fault>) -> Resu
 
 /// The faults of the documents that have no tree (section 2.2).
 pub fn add_unread(readings: &[Parsed], faults: &mut Vec<Fault>) -> Result<(), NoMemory>
-    ensures { OnOk result (faults.new.items ≡ faults.old.items ++ each_from unread_at 0 readings.now) }
+    ensures { OnOk result (faults.new.items ≡ faults.old.items ++ each_from unread_at 0 (readings_view readings.now)) }
 {
     for file in 0..readings.len() {
         add_unread_at(file, &readings[file], faults)?;

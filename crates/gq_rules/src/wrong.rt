@@ -1,5 +1,6 @@
 //! What is wrong with a type system and, where nothing is, with the operations and fragments over it.
 ghost use Rattle.std.specs.Prelude.{[], IfOk, OnOk};
+ghost use Rattle.gq_tree.specs.Readings.{readings_view};
 ghost use Rattle.gq_document.specs.Executable.{executable_view};
 ghost use Rattle.gq_rules.specs.Project.{defined_in};
 ghost use Rattle.gq_rules.specs.Helping.Wrongs.{PutsWrong};
@@ -8,20 +9,23 @@ use crate::rule_faults::rule_faults;
 use gq_document::{Definitions, Executable};
 use gq_fault::Fault;
 use gq_text::NoMemory;
+use gq_tree::Parsed;
 use gq_type_system::schema_faults;
-use gq_types::Types;
+use gq_types::{Entry, Types};
 use std::alloc::Global;
 
 /// Puts what is wrong with the type system that is defined and, where nothing is told by then, what the rules tell of the
-/// operations and fragments.
+/// operations and fragments that documents are read as.
 pub fn add_wrong(
     alloc: Global,
-    definitions: Definitions,
+    entries: Vec<Entry>,
+    readings: &[Parsed],
     faults: &mut Vec<Fault>,
 ) -> Result<(), NoMemory>
-    ensures { OnOk result (PutsWrong (defined_in definitions.entries.items definitions.operations.items definitions.fragments.items) faults.old.items faults.new.items) }
+    ensures { OnOk result (PutsWrong (defined_in entries.items (readings_view readings.now)) faults.old.items faults.new.items) }
 {
-    let types = Types::of(alloc, definitions.entries)?;
+    let types = Types::of(alloc, entries)?;
+    let definitions = Definitions::of(alloc, readings)?;
     let executable = Executable {
         types: &types,
         operations: &definitions.operations,

@@ -1,6 +1,7 @@
 //! What is wrong with a type system and, where nothing is, with the operations and fragments over it, looked for by four threads.
 ghost use Rattle.std.specs.Prelude.{[], IfOk, OnOk};
 ghost use Rattle.std.specs.Thread.{IsSync};
+ghost use Rattle.gq_tree.specs.Readings.{readings_view};
 ghost use Rattle.gq_document.specs.Executable.{executable_view};
 ghost use Rattle.gq_fields.specs.FieldFaults.{IsFieldFault};
 ghost use Rattle.gq_fault.specs.Adds.{AddsExactly};
@@ -9,15 +10,15 @@ ghost use Rattle.gq_rules.specs.Project.{defined_in};
 ghost use Rattle.gq_rules.specs.Helping.RuleGroups.{IsDefinitionOrMergingFault, IsDefinitionFault, IsReachFault, IsOtherFault};
 ghost use Rattle.gq_rules.specs.Helping.Wrongs.{IsWrong, PutsWrong};
 
-use crate::giving_back::give_back;
 use crate::rule_faults::{definition_faults, field_faults, reach_faults};
 use crate::wrong::add_wrong_in;
 use gq_document::{Definitions, Executable};
 use gq_fault::Fault;
 use gq_merging::add_merging_faults_by_threads;
 use gq_text::NoMemory;
+use gq_tree::Parsed;
 use gq_type_system::schema_faults;
-use gq_types::Types;
+use gq_types::{Entry, Types};
 use std::alloc::Global;
 use std::thread::{Threads, join};
 
@@ -29,23 +30,24 @@ enum Wrong {
 }
 
 /// Puts what is wrong with the type system that is defined and, where nothing is told by then, what the rules tell of the
-/// operations and fragments.
+/// operations and fragments that documents are read as.
 pub fn add_wrong_by_threads<R: Threads + Sync>(
     rt: &R,
     alloc: Global,
-    definitions: Definitions,
+    entries: Vec<Entry>,
+    readings: &[Parsed],
     faults: &mut Vec<Fault>,
 ) -> Result<(), NoMemory>
-    ensures { OnOk result (PutsWrong (defined_in definitions.entries.items definitions.operations.items definitions.fragments.items) faults.old.items faults.new.items) }
+    ensures { OnOk result (PutsWrong (defined_in entries.items (readings_view readings.now)) faults.old.items faults.new.items) }
 {
-    let types = Types::of(alloc, definitions.entries)?;
+    let types = Types::of(alloc, entries)?;
+    let definitions = Definitions::of(alloc, readings)?;
     let executable = Executable {
         types: &types,
         operations: &definitions.operations,
         fragments: &definitions.fragments,
     };
     add_wrong_in_by_threads(rt, alloc, &executable, faults)?;
-    give_back(rt, definitions.operations, definitions.fragments);
     Ok(())
 }
 

@@ -7,7 +7,7 @@ use Rattle.gq_fault.specs.declared.fault.Fault.{Fault}
 use Rattle.gq_fault.specs.Order.{fault_cmp}
 use Rattle.gq_fault.specs.Tells.{told}
 use Rattle.gq_names.proofs.RepeatLemmas.{contains_none, contains_first}
-use Rattle.gq_tree.specs.declared.parsed.Parsed.{Parsed}
+use Rattle.gq_tree.specs.Readings.{ParsedOf}
 use Rattle.gq_parse.specs.Parsed.{AreParsed}
 use Rattle.gq_types.specs.Entries.{EntryOf}
 use Rattle.gq_types.specs.BuiltIn.{built_in}
@@ -22,7 +22,7 @@ some_found : (es : List EntryOf) (items : List Fault) → ((item : Fault) → Co
 some_found es [] exact n = absurd (n refl)
 some_found es (item ∷ items) exact n = (item, (exact item).0 (contains_first item items item refl))
 
-pub faults_found : (documents : List Doc) (readings : List Parsed) (es : List EntryOf) (items : List Fault) (found : List Found) →
+pub faults_found : (documents : List Doc) (readings : List ParsedOf) (es : List EntryOf) (items : List Fault) (found : List Found) →
     AreParsed documents readings → es ≡ built_in ++ entries_of readings → IsStrictlySortedBy fault_cmp items →
     ((item : Fault) → Contains items item ↔ IsSchemaFault es item) → found ≡ told documents items → (items ≡ [] → ⊥) → IsFaulty documents found
 faults_found documents readings es items found are is sorted exact e n = record {

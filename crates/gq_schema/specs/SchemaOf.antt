@@ -6,7 +6,7 @@ use Rattle.gq_fault.specs.declared.found.Found.{Found}
 use Rattle.gq_fault.specs.declared.fault.Fault.{Fault}
 use Rattle.gq_fault.specs.Order.{fault_cmp}
 use Rattle.gq_fault.specs.Tells.{told}
-use Rattle.gq_tree.specs.declared.parsed.Parsed.{Parsed}
+use Rattle.gq_tree.specs.Readings.{ParsedOf}
 use Rattle.gq_parse.specs.Parsed.{AreParsed}
 use Rattle.gq_types.specs.Entries.{EntryOf}
 use Rattle.gq_types.specs.BuiltIn.{built_in}
@@ -16,7 +16,7 @@ use Rattle.gq_type_system.specs.SchemaFaults.{IsSchemaFault}
 -- The type system of documents: what is built in, and then the definitions and extensions of those that have a tree, in
 -- the order of documents and places.
 pub record IsTypeSystemOf (documents : List Doc) (es : List EntryOf) : Type 0 where
-  pub readings : List Parsed
+  pub readings : List ParsedOf
   pub are_readings : AreParsed documents readings
   pub is : es ≡ built_in ++ entries_of readings
 

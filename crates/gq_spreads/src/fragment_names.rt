@@ -22,7 +22,7 @@ pub struct FragmentNames {
 
 impl FragmentNames {
     /// The names of these fragments.
-    pub fn of(alloc: Global, fragments: &[FragmentEntry]) -> Result<FragmentNames, NoMemory>
+    pub fn of(alloc: Global, fragments: &[FragmentEntry<'_>]) -> Result<FragmentNames, NoMemory>
         ensures { IfOk result (λ names. names.names.items ≡ map (λ f. f.name.text) (fragments_view fragments.now)) }
     {
         let mut names = Vec::new(alloc);

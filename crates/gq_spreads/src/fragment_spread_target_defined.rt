@@ -32,7 +32,7 @@ pub fn add_unknown_fragments(
 
 fn add_unknown_in_operations(
     alloc: Global,
-    operations: &[OperationEntry],
+    operations: &[OperationEntry<'_>],
     names: &FragmentNames,
     faults: &mut Vec<Fault>,
 ) -> Result<(), NoMemory>
@@ -47,7 +47,7 @@ fn add_unknown_in_operations(
 
 fn add_unknown_in_fragments(
     alloc: Global,
-    fragments: &[FragmentEntry],
+    fragments: &[FragmentEntry<'_>],
     names: &FragmentNames,
     faults: &mut Vec<Fault>,
 ) -> Result<(), NoMemory>

@@ -38,7 +38,7 @@ pub fn add_fragment_cycles(
 
 fn add_cycles(
     alloc: Global,
-    fragments: &[FragmentEntry],
+    fragments: &[FragmentEntry<'_>],
     names: &FragmentNames,
     components: &[usize],
     faults: &mut Vec<Fault>,

@@ -56,7 +56,7 @@ fn mark_rows(marks: &mut Vec<bool>, rows: &[Vec<usize>])
 /// Adds a fault for each fragment whose number is not marked.
 fn add_unmarked(
     marks: &[bool],
-    fragments: &[FragmentEntry],
+    fragments: &[FragmentEntry<'_>],
     faults: &mut Vec<Fault>,
 ) -> Result<(), NoMemory>
     requires count { length marks.now ≡ length fragments.now }
@@ -71,7 +71,7 @@ fn add_unmarked(
 /// Adds the fragment's fault, unless it is marked.
 fn add_unless(
     marked: bool,
-    fragment: &FragmentEntry,
+    fragment: &FragmentEntry<'_>,
     faults: &mut Vec<Fault>,
 ) -> Result<(), NoMemory>
     ensures { OnOk result (faults.new.items ≡ faults.old.items ++ unused_if marked (fragment_view fragment.now)) }

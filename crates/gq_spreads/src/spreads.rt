@@ -42,7 +42,7 @@ impl Spreads {
 fn operation_rows(
     alloc: Global,
     names: &FragmentNames,
-    operations: &[OperationEntry],
+    operations: &[OperationEntry<'_>],
 ) -> Result<Vec<Vec<usize>>, NoMemory>
     ensures { IfOk result (λ rows. row_items rows.items ≡ map (operation_numbers names.now.names.items) (operations_view operations.now)) }
 {
@@ -57,7 +57,7 @@ fn operation_rows(
 fn fragment_rows(
     alloc: Global,
     names: &FragmentNames,
-    fragments: &[FragmentEntry],
+    fragments: &[FragmentEntry<'_>],
 ) -> Result<Vec<Vec<usize>>, NoMemory>
     ensures { IfOk result (λ rows. row_items rows.items ≡ map (fragment_numbers names.now.names.items) (fragments_view fragments.now)) }
 {

@@ -3,19 +3,34 @@ use Rattle.std.specs.Prelude.{ℕ, List, [], map, flat_map}
 use Rattle.std.specs.List.{enumerate_from}
 use Rattle.gq_text.specs.declared.place.Span.{Span}
 use Rattle.gq_tree.specs.Plain.{Def}
-use Rattle.gq_tree.specs.Views.{def_view}
+use Rattle.gq_tree.specs.Views.{document_view}
 use Rattle.gq_tree.specs.declared.parsed.Parsed.{Parsed}
-use Rattle.gq_tree.specs.declared.parsed.Parsed.TheVariants as reading
+use Rattle.gq_tree.specs.declared.parsed.Parsed.TheVariants as parsed
+
+-- the definitions of a text, or the place at which it shows that it has none: the text is no document, or it passes a limit
+pub data ParsedOf : Type 0 where
+  tree : List (Def Span) → ParsedOf
+  syntax : ℕ → ParsedOf
+  limit : ℕ → ParsedOf
 
 -- the definitions of a document as it is read; none where it has no tree
-abbrev pub definitions_read : Parsed → List (Def Span)
-definitions_read (reading.Tree document) = map def_view document.definitions.items
-definitions_read (reading.Syntax place) = []
-definitions_read (reading.Limit place) = []
+abbrev pub definitions_read : ParsedOf → List (Def Span)
+definitions_read (tree definitions) = definitions
+definitions_read (syntax place) = []
+definitions_read (limit place) = []
 
 -- what the definitions of the documents are, the first document having the number 0
-abbrev pub in_document : {A : Type 0} → (ℕ → Def Span → List A) → ℕ → Parsed → List A
+abbrev pub in_document : {A : Type 0} → (ℕ → Def Span → List A) → ℕ → ParsedOf → List A
 in_document what file reading = flat_map (what file) (definitions_read reading)
 
-abbrev pub in_documents : {A : Type 0} → (ℕ → Def Span → List A) → List Parsed → List A
+abbrev pub in_documents : {A : Type 0} → (ℕ → Def Span → List A) → List ParsedOf → List A
 in_documents what readings = flat_map (λ r. in_document what r.0 r.1) (enumerate_from 0 readings)
+
+-- what the code's readings stand for
+abbrev pub parsed_view : Parsed → ParsedOf
+parsed_view (parsed.Tree document) = tree (document_view document)
+parsed_view (parsed.Syntax place) = syntax place
+parsed_view (parsed.Limit place) = limit place
+
+abbrev pub readings_view : List Parsed → List ParsedOf
+readings_view readings = map parsed_view readings

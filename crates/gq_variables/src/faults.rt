@@ -66,12 +66,13 @@ fn add_use_faults(
 fn add_faults_of_operation(
     alloc: Global,
     types: &Types,
-    operation: &OperationEntry,
+    operation: &OperationEntry<'_>,
     rows: &[Vec<Use<'_>>],
     numbers: &[usize],
     faults: &mut Vec<Fault>,
 ) -> Result<(), NoMemory>
-    ensures { OnOk result (faults.new.items ≡ faults.old.items ++ operation_faults (types_view types.now) (operation_view operation.now) (operation_uses (types_view types.now) (operation_view operation.now) ++ flat_map (row_at (rows_view rows.now)) numbers.now)) }
+    ensures { OnOk result (faults.new.items ≡ faults.old.items ++ operation_faults (types_view types.now) (operation_view operation.now)
+        (operation_uses (types_view types.now) (operation_view operation.now) ++ flat_map (row_at (rows_view rows.now)) numbers.now)) }
 {
     let (file, all) = (operation.file, &operation.definition.variables);
     let mut repeated = Vec::new(alloc);

@@ -17,7 +17,7 @@ use std::alloc::Global;
 pub(crate) fn uses_of_fragments<'a>(
     alloc: Global,
     types: &'a Types,
-    fragments: &'a [FragmentEntry],
+    fragments: &'a [FragmentEntry<'a>],
 ) -> Result<Vec<Vec<Use<'a>>>, NoMemory>
     ensures { IfOk result (λ rows. rows_view rows.items ≡ map (fragment_uses (types_view types.now)) (fragments_view fragments.now)) }
 {
@@ -72,7 +72,7 @@ fn put_rows<'a>(
 pub(crate) fn reached_uses<'a>(
     alloc: Global,
     types: &'a Types,
-    operation: &'a OperationEntry,
+    operation: &'a OperationEntry<'a>,
     rows: &[Vec<Use<'a>>],
     numbers: &[usize],
 ) -> Result<Vec<Use<'a>>, NoMemory>

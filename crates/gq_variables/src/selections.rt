@@ -40,7 +40,8 @@ fn put_uses_of_field_arguments<'a>(
     arguments: &'a [Argument],
     uses: &mut Vec<Use<'a>>,
 ) -> Result<(), NoMemory>
-    ensures { OnOk result (uses_view uses.new.items ≡ uses_view uses.old.items ++ argument_uses (types_view types.now) file (field_arguments (types_view types.now) (text_of parent.entry) name.now) (map argument_view arguments.now)) }
+    ensures { OnOk result (uses_view uses.new.items ≡ uses_view uses.old.items ++ argument_uses (types_view types.now) file
+        (field_arguments (types_view types.now) (text_of parent.entry) name.now) (map argument_view arguments.now)) }
 {
     if arguments.is_empty() {
         return Ok(());
@@ -107,7 +108,7 @@ fn put_uses_of_variables<'a>(
 pub(crate) fn put_uses_of_operation<'a>(
     alloc: Global,
     types: &'a Types,
-    operation: &'a OperationEntry,
+    operation: &'a OperationEntry<'a>,
     uses: &mut Vec<Use<'a>>,
 ) -> Result<(), NoMemory>
     ensures { OnOk result (uses_view uses.new.items ≡ uses_view uses.old.items ++ operation_uses (types_view types.now) (operation_view operation.now)) }
@@ -124,7 +125,7 @@ pub(crate) fn put_uses_of_operation<'a>(
 pub(crate) fn fragment_uses<'a>(
     alloc: Global,
     types: &'a Types,
-    fragment: &'a FragmentEntry,
+    fragment: &'a FragmentEntry<'a>,
 ) -> Result<Vec<Use<'a>>, NoMemory>
     ensures { IfOk result (λ uses. uses_view uses.items ≡ fragment_uses (types_view types.now) (fragment_view fragment.now)) }
 {

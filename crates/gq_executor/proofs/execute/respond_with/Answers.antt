@@ -15,4 +15,4 @@ respond_in-requires c = subst (λ fs. Rankable (map definition_of (fragments_vie
 pub returns : goal.returns
 returns c =
     answered_same (types_view c.args.coercion.types.now) (types_view c.args.x.types.now) (rows_view c.args.table.now) (entries_view c.args.variables.now) (map definition_of (fragments_view c.in_ok-fragments.fragments.all.now)) (map definition_of (fragments_view c.args.x.fragments.now))
-    c.args.operation.now.definition.kind (set_of (operation_view c.args.operation.now).set) (response_view c.in_ok-response.response) c.requires.types (ap (λ fs. map definition_of (fragments_view fs)) c.in_ok-fragments.ensures) c.in_ok-response.ensures
+    c.args.operation.now.definition.now.kind (set_of (operation_view c.args.operation.now).set) (response_view c.in_ok-response.response) c.requires.types (ap (λ fs. map definition_of (fragments_view fs)) c.in_ok-fragments.ensures) c.in_ok-response.ensures

@@ -1,5 +1,6 @@
-use Rattle.std.proofs.Common.{◌≡◌, ◌∙◌, ◌++◌, subst, sym, ap, drop, IfOk}
-use Rattle.std.proofs.lemmas.List.{take-append-drop}
+use Rattle.std.proofs.Common.{◌≡◌, ◌∙◌, ◌++◌, List, subst, sym, ap, drop, IfOk}
+use Rattle.std.proofs.lemmas.List.{map-append, take-append-drop}
+use Rattle.gq_tree.specs.Readings.{ParsedOf, parsed_view, readings_view}
 use Rattle.gq_parse.specs.Parsed.{AreParsed}
 use Rattle.gq_parse.proofs.ReadingLemmas.{both_read}
 use denote.Param.Send.{sendable}
@@ -16,7 +17,9 @@ returns g t c =
     let back = c.split_at.result.1.now in
     let cut : c.args.documents.now ≡ front ++ back = sym (take-append-drop c.middle_of.result c.args.documents.now)
     ∙ ap (λ xs. xs ++ drop c.middle_of.result c.args.documents.now) (sym c.split_at.ensures.front) ∙ ap (λ xs. front ++ xs) (sym c.split_at.ensures.back) in
-    subst (λ xs. AreParsed c.args.documents.now xs) (sym c.in_ok-append.ensures.items)
-    (both_read c.args.documents.now front back c.in_ok-readings.readings.items c.in_ok-back.field-0.items cut
-    (subst (λ r. IfOk r (λ readings. AreParsed front readings.items)) c.in_ok-readings.was c.join-front.ensures.first)
-    (subst (λ r. IfOk r (λ readings. AreParsed back readings.items)) c.in_ok-back.was c.join-front.ensures.second))
+    let first = c.in_ok-readings.readings.items in
+    let second = c.in_ok-back.field-0.items in
+    subst (λ (xs : List ParsedOf). AreParsed c.args.documents.now xs) (sym (ap readings_view c.in_ok-append.ensures.items ∙ map-append parsed_view first second))
+    (both_read c.args.documents.now front back (readings_view first) (readings_view second) cut
+    (subst (λ r. IfOk r (λ readings. AreParsed front (readings_view readings.items))) c.in_ok-readings.was c.join-front.ensures.first)
+    (subst (λ r. IfOk r (λ readings. AreParsed back (readings_view readings.items))) c.in_ok-back.was c.join-front.ensures.second))
