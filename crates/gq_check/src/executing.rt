@@ -53,7 +53,8 @@ fn tell_answer<O: Sink, E: Sink>(
 ) -> u8
     requires out_works { O.failed out.old ≡ false }
     requires err_works { E.failed err.old ≡ false }
-    ensures { (name : Option (List ℕ)) (table variables : Option (List ℕ)) (files : List File) → IfOk answered (IsExecVerdict name table variables files) → IfErr answered (IsExecFaultOr (exec_fault table variables files))
+    ensures { (name : Option (List ℕ)) (table variables : Option (List ℕ)) (files : List File) →
+        IfOk answered (IsExecVerdict name table variables files) → IfErr answered (IsExecFaultOr (exec_fault table variables files))
         → Executes name table variables files (O.held out.old) (record { held = O.held out.new; failed = O.failed out.new })
         (E.held err.old) (record { held = E.held err.new; failed = E.failed err.new }) result }
 {

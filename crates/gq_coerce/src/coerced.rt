@@ -97,7 +97,8 @@ pub(crate) fn add_item(
     coerced: Coerced,
     has_null: bool,
 ) -> Result<bool, NoMemory>
-    ensures { IfOk result (λ fits. (if fits then Some (map value_view items.new.items) else None) ≡ item_after (map value_view items.old.items) (if has_null then null_value else fault) (coerced_view coerced)) }
+    ensures { IfOk result (λ fits. (if fits then Some (map value_view items.new.items) else None) ≡ item_after (map value_view items.old.items)
+        (if has_null then null_value else fault) (coerced_view coerced)) }
 {
     match coerced {
         Coerced::Absent => {

@@ -56,7 +56,8 @@ impl<'a> Coercion<'a> {
         definitions: &[InputValueDefinition],
         arguments: &[Argument],
     ) -> Result<Option<Vec<Entry>>, NoMemory>
-        ensures { IfOk result (λ o. option_map (λ es. entries_view es.items) o ≡ coerced_arguments (types_view self.entry.types.now) (entries_view variables.now) (map input_view definitions.now) (erase_values (map argument_view arguments.now))) }
+        ensures { IfOk result (λ o. option_map (λ es. entries_view es.items) o ≡ coerced_arguments (types_view self.entry.types.now)
+            (entries_view variables.now) (map input_view definitions.now) (erase_values (map argument_view arguments.now))) }
     {
         let setting = Setting {
             types: self.types,
@@ -98,7 +99,8 @@ fn variable_entries(
     definitions: &[VariableDefinition],
     raw: &[Entry],
 ) -> Result<Option<Vec<Entry>>, NoMemory>
-    ensures { IfOk result (λ o. option_map (λ es. map entry_view es.items) o ≡ entries_of (map (variable_part (setting_view setting.entry) (entries_view raw.now)) (map variable_view definitions.now))) }
+    ensures { IfOk result (λ o. option_map (λ es. map entry_view es.items) o ≡ entries_of
+        (map (variable_part (setting_view setting.entry) (entries_view raw.now)) (map variable_view definitions.now))) }
 {
     let names = entry_names(alloc, raw)?;
     let mut entries = Vec::new(alloc);

@@ -63,7 +63,8 @@ fn at_name(
     name: &str,
     literal: &Literal,
 ) -> Result<Coerced, NoMemory>
-    ensures { IfOk result (λ c. coerced_view c ≡ at_name (setting_view setting.entry) name.now (kind_named (types_view setting.entry.types.now) name.now) (bare literal.now).label.says (read_all (setting_view setting.entry) (bare literal.now).below)) }
+    ensures { IfOk result (λ c. coerced_view c ≡ at_name (setting_view setting.entry) name.now
+        (kind_named (types_view setting.entry.types.now) name.now) (bare literal.now).label.says (read_all (setting_view setting.entry) (bare literal.now).below)) }
 {
     match setting.types.kind(name) {
         Some(TypeKind::Scalar) => {
@@ -97,7 +98,8 @@ fn list_items(
     type_ref: &TypeRef,
     items: &[Literal],
 ) -> Result<Option<Vec<Value>>, NoMemory>
-    ensures { IfOk result (λ o. option_map (λ vs. map given_value vs.items) o ≡ items_of (missing_item (type_view type_ref.now)) (read_all (setting_view setting.entry) (row (map bare items.now)) (at_type (type_view type_ref.now)))) }
+    ensures { IfOk result (λ o. option_map (λ vs. map given_value vs.items) o ≡ items_of (missing_item (type_view type_ref.now))
+        (read_all (setting_view setting.entry) (row (map bare items.now)) (at_type (type_view type_ref.now)))) }
 {
     let has_null = !type_ref.is_non_null();
     let mut values = Vec::new(alloc);
@@ -118,7 +120,9 @@ pub(crate) fn input_entries(
     definitions: &[&InputValueDefinition],
     parts: &[Part],
 ) -> Result<Option<Vec<Entry>>, NoMemory>
-    ensures { IfOk result (λ o. option_map (λ es. map given_entry es.items) o ≡ entries_of (inputs_from (setting_view setting.entry) (inputs_view definitions.now) (λ t. read_all (setting_view setting.entry) (row (map part_view parts.now)) (at_type t)))) }
+    ensures { IfOk result (λ o. option_map (λ es. map given_entry es.items) o ≡ entries_of
+        (inputs_from (setting_view setting.entry) (inputs_view definitions.now)
+        (λ t. read_all (setting_view setting.entry) (row (map part_view parts.now)) (at_type t)))) }
 {
     let names = names_of(alloc, parts)?;
     let mut entries = Vec::new(alloc);
@@ -144,7 +148,8 @@ fn input_value(
     definition: &InputValueDefinition,
     literal: Option<&Literal>,
 ) -> Result<Coerced, NoMemory>
-    ensures { IfOk result (λ c. coerced_view c ≡ or_default (setting_view setting.entry) (type_view definition.now.type_ref) (option_map value_view definition.now.default) (given_literal (setting_view setting.entry) (type_view definition.now.type_ref) (value_seen literal.entry))) }
+    ensures { IfOk result (λ c. coerced_view c ≡ or_default (setting_view setting.entry) (type_view definition.now.type_ref)
+        (option_map value_view definition.now.default) (given_literal (setting_view setting.entry) (type_view definition.now.type_ref) (value_seen literal.entry))) }
 {
     let given = match literal {
         Some(literal) => literal_value(alloc, setting, &definition.type_ref, literal)?,

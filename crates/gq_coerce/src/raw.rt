@@ -61,7 +61,10 @@ fn single(
     type_ref: &TypeRef,
     value: &Value,
 ) -> Result<Coerced, NoMemory>
-    ensures { IfOk result (λ c. coerced_view c ≡ wrapped_to (type_view type_ref.now) (at_name (setting_view setting.entry) (base_name (type_view type_ref.now)) (kind_named (types_view setting.entry.types.now) (base_name (type_view type_ref.now))) (value_view value.now).label.says (value_view value.now).below (read_all (setting_view setting.entry) (value_view value.now).below))) }
+    ensures { IfOk result
+        (λ c. coerced_view c ≡ wrapped_to (type_view type_ref.now) (at_name (setting_view setting.entry) (base_name (type_view type_ref.now))
+        (kind_named (types_view setting.entry.types.now) (base_name (type_view type_ref.now))) (value_view value.now).label.says
+        (value_view value.now).below (read_all (setting_view setting.entry) (value_view value.now).below))) }
 {
     let inner = at_name(alloc, setting, base_name(type_ref), value)?;
     wrapped_to(alloc, type_ref, inner)
@@ -106,7 +109,9 @@ fn is_unknown(types: &Types, name: &str, entry: &Entry) -> bool
 /// A value that is not null, at the type of that name.
 #[cycle(raw)]
 fn at_name(alloc: Global, setting: Setting, name: &str, value: &Value) -> Result<Coerced, NoMemory>
-    ensures { IfOk result (λ c. coerced_view c ≡ at_name (setting_view setting.entry) name.now (kind_named (types_view setting.entry.types.now) name.now) (value_view value.now).label.says (value_view value.now).below (read_all (setting_view setting.entry) (value_view value.now).below)) }
+    ensures { IfOk result (λ c. coerced_view c ≡ at_name (setting_view setting.entry) name.now
+        (kind_named (types_view setting.entry.types.now) name.now) (value_view value.now).label.says (value_view value.now).below
+        (read_all (setting_view setting.entry) (value_view value.now).below)) }
 {
     match setting.types.kind(name) {
         Some(TypeKind::Scalar) => {
@@ -162,7 +167,8 @@ fn raw_entries(
     definitions: &[&InputValueDefinition],
     given: &[Entry],
 ) -> Result<Option<Vec<Entry>>, NoMemory>
-    ensures { IfOk result (λ o. option_map (λ es. map entry_view es.items) o ≡ entries_of (inputs_from (setting_view setting.entry) (inputs_view definitions.now) (read_all (setting_view setting.entry) (entries_view given.now)))) }
+    ensures { IfOk result (λ o. option_map (λ es. map entry_view es.items) o ≡ entries_of
+        (inputs_from (setting_view setting.entry) (inputs_view definitions.now) (read_all (setting_view setting.entry) (entries_view given.now)))) }
 {
     let names = entry_names(alloc, given)?;
     let mut entries = Vec::new(alloc);
@@ -190,7 +196,8 @@ pub(crate) fn raw_input(
     default: &Option<Literal>,
     value: Option<&Value>,
 ) -> Result<Coerced, NoMemory>
-    ensures { IfOk result (λ c. coerced_view c ≡ or_default (setting_view setting.entry) (type_view type_ref.now) (option_map literal_view default.now) (given_raw (setting_view setting.entry) (type_view type_ref.now) (raw_seen value.entry))) }
+    ensures { IfOk result (λ c. coerced_view c ≡ or_default (setting_view setting.entry) (type_view type_ref.now)
+        (option_map literal_view default.now) (given_raw (setting_view setting.entry) (type_view type_ref.now) (raw_seen value.entry))) }
 {
     let given = match value {
         Some(value) => raw_value(alloc, setting, type_ref, value)?,

@@ -20,7 +20,8 @@ use std::alloc::Global;
 pub fn components(alloc: Global, rows: &[Vec<usize>]) -> Result<Vec<usize>, NoMemory>
     requires rows { InRange rows.now }
     ensures count { IfOk result (λ components. length components.items ≡ length rows.now) }
-    ensures exact { IfOk result (λ components. (m n : ℕ) → m < length rows.now → n < length rows.now → (slice_index components.items m ≡ slice_index components.items n) ↔ LeadToEachOther (row rows.now) m n) }
+    ensures exact { IfOk result (λ components. (m n : ℕ) → m < length rows.now → n < length rows.now →
+        (slice_index components.items m ≡ slice_index components.items n) ↔ LeadToEachOther (row rows.now) m n) }
 {
     let back = transposed(alloc, rows)?;
     let mut order = finished(alloc, rows)?;

@@ -4,7 +4,7 @@ use denote.Param.Send.{IsSync, sendable}
 use Rattle.std.proofs.Crossing.{crosses}
 use Rattle.gq_text.proofs.place.Span.TheSendSync as Span
 use Rattle.gq_tree.proofs.tree.Name.TheSendSync as Name
-use Rattle.gq_tree.proofs.Crossing.{TypeRef-sync, Argument-sync, Selection-sync}
+use Rattle.gq_tree.proofs.Crossing.{Argument-sync, Selection-sync}
 use Rattle.gq_document.proofs.Crossing.{Types-sync}
 use Rattle.gq_merging.specs.contracts.sets.StandingField as StandingField
 use Rattle.gq_merging.specs.contracts.sets.StandingSet as StandingSet
@@ -31,7 +31,7 @@ Row-sync : (ℓ : NamedLft) → IsSync (Row.the_row ℓ)
 Row-sync ℓ = search (sendable, crosses, Row-field_sync) depth 12
 
 Tables-field_sync : (ℓ : NamedLft) → IsSync (Tables.the_field ℓ).row
-Tables-field_sync ℓ = search (sendable, crosses, Types-sync, TypeRef-sync, Row-sync) depth 12
+Tables-field_sync ℓ = search (sendable, crosses, Types-sync, Row-sync) depth 12
 
 pub Tables-sync : (ℓ : NamedLft) → IsSync (Tables.the_row ℓ)
 Tables-sync ℓ = search (sendable, crosses, Tables-field_sync) depth 12

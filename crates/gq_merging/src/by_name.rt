@@ -54,7 +54,9 @@ impl<'a> FieldsByName<'a> {
         member: &Member<'a>,
     ) -> Result<(), NoMemory>
         requires { length self.old.lists.items ≡ length self.old.names }
-        ensures { OnOk result ((said : MemberOf → Text) (ms : List MemberOf) → said (member_view member.now) ≡ name.now → AreListed said (by_name_view self.old) ms → AreListed said (by_name_view self.new) (ms ++ member_view member.now ∷ [])) }
+        ensures { OnOk result ((said : MemberOf → Text) (ms : List MemberOf) →
+            said (member_view member.now) ≡ name.now → AreListed said (by_name_view self.old) ms →
+            AreListed said (by_name_view self.new) (ms ++ member_view member.now ∷ [])) }
     {
         match self.names.place(name) {
             Some(place) => self.lists[place].push(*member)?,

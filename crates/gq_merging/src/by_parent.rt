@@ -43,7 +43,9 @@ impl<'a> FieldsByParent<'a> {
     /// Puts a field to those of the type of its parent, if that is known.
     fn put(&mut self, alloc: Global, types: &Types, member: &Member<'a>) -> Result<(), NoMemory>
         requires { length self.old.of_objects.lists.items ≡ length self.old.of_objects.names }
-        ensures { OnOk result ((ms : List MemberOf) → AreByParent (types_view types.now) (by_name_view self.old.of_objects) (members_view self.old.of_others.items) ms → AreByParent (types_view types.now) (by_name_view self.new.of_objects) (members_view self.new.of_others.items) (ms ++ member_view member.now ∷ [])) }
+        ensures { OnOk result ((ms : List MemberOf) →
+            AreByParent (types_view types.now) (by_name_view self.old.of_objects) (members_view self.old.of_others.items) ms →
+            AreByParent (types_view types.now) (by_name_view self.new.of_objects) (members_view self.new.of_others.items) (ms ++ member_view member.now ∷ [])) }
     {
         let Some(parent) = member.it.parent else {
             return Ok(());

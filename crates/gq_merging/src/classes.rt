@@ -1,9 +1,7 @@
 //! Fields of selection sets that stand together, put into classes by their response keys.
 ghost use Rattle.std.specs.Prelude.{◌≡◌, ◌↔◌, ◌<◌, ◌++◌, ◌∷◌, [], ℕ, Some, None, All, Contains, IsTrue, IfSome, IfOk, OnOk, length, option_map, position, false};
 ghost use Rattle.std.specs.Str.{bytes_eq};
-ghost use Rattle.gq_tree.specs.Views.{type_view};
 ghost use Rattle.gq_types.specs.Look.{types_view, text_of};
-ghost use Rattle.gq_document.specs.Selections.{typename_field};
 ghost use Rattle.gq_merging.specs.Helping.SetTables.{MemberOf, IsMember};
 ghost use Rattle.gq_document.specs.FieldSets.{key};
 ghost use Rattle.gq_merging.specs.Helping.GroupTables.{known_shape, SayTheSame, IsUnder, IsThrough, IsThroughMarked, AreBelow, AreClasses, Takes, AreSettled};
@@ -15,7 +13,7 @@ use crate::rows::{Member, Row};
 use crate::sets::StandingField;
 use gq_names::NameList;
 use gq_text::NoMemory;
-use gq_tree::{TypeRef, are_same_arguments};
+use gq_tree::are_same_arguments;
 use gq_types::Types;
 use std::alloc::Global;
 
@@ -24,22 +22,20 @@ use std::alloc::Global;
 pub(crate) struct Tables<'a> {
     pub(crate) alloc: Global,
     pub(crate) types: &'a Types,
-    pub(crate) typename_type: &'a TypeRef,
     pub(crate) rows: &'a [Row<'a>],
     pub(crate) spreads: &'a [Vec<usize>],
 }
 
 /// Whether both fields have one shape, or the type of neither is known.
 fn have_one_shape(tables: Tables<'_>, left: &StandingField<'_>, right: &StandingField<'_>) -> bool
-    requires { type_view tables.typename_type.now ≡ typename_field.type_ref }
     ensures { IsTrue result ↔ (known_shape (types_view tables.entry.types.now) (field_at left.now) ≡ known_shape (types_view tables.entry.types.now) (field_at right.now)) }
 {
-    match known_type(tables.types, tables.typename_type, left) {
-        Some(left) => match known_type(tables.types, tables.typename_type, right) {
+    match known_type(tables.types, left) {
+        Some(left) => match known_type(tables.types, right) {
             Some(right) => have_same_shape(tables.types, left, right),
             None => false,
         },
-        None => known_type(tables.types, tables.typename_type, right).is_none(),
+        None => known_type(tables.types, right).is_none(),
     }
 }
 
@@ -58,7 +54,6 @@ pub(crate) fn have_one_parent(left: &StandingField<'_>, right: &StandingField<'_
 /// Whether the two say the same: one name, the same arguments in one order, and one shape. Of parents of one type no shapes
 /// are looked up, since the fields are one.
 fn say_the_same(tables: Tables<'_>, left: &StandingField<'_>, right: &StandingField<'_>) -> bool
-    requires { type_view tables.typename_type.now ≡ typename_field.type_ref }
     ensures { IsTrue result ↔ SayTheSame (types_view tables.entry.types.now) (field_at left.now) (field_at right.now) }
 {
     if left.name.text.as_str() != right.name.text.as_str() {
@@ -200,13 +195,13 @@ fn put_other<'a>(
     place: usize,
     classes: &mut Classes<'a>,
 ) -> Result<bool, NoMemory>
-    requires typename { type_view tables.typename_type.now ≡ typename_field.type_ref }
     requires place { position (bytes_eq (key (field_at member.now.it))) (classes_view classes.old).keys ≡ Some place }
     requires keyed { AreKeyed classes.old }
     requires classes { AreClasses (rows_view tables.rows.now) (classes_view classes.old) }
     ensures keyed { OnOk result (AreKeyed classes.new) }
     ensures classes { OnOk result (AreClasses (rows_view tables.entry.rows.now) (classes_view classes.new)) }
-    ensures takes { IfOk result (λ put. IsTrue put → Takes (types_view tables.entry.types.now) (rows_view tables.entry.rows.now) (member_view member.now) (classes_view classes.old) (classes_view classes.new)) }
+    ensures takes { IfOk result (λ put. IsTrue put →
+        Takes (types_view tables.entry.types.now) (rows_view tables.entry.rows.now) (member_view member.now) (classes_view classes.old) (classes_view classes.new)) }
 {
     let first = classes.firsts[place];
     if !say_the_same(tables, &first.it, &member.it) {
@@ -222,12 +217,12 @@ fn put_member<'a>(
     member: &Member<'a>,
     classes: &mut Classes<'a>,
 ) -> Result<bool, NoMemory>
-    requires typename { type_view tables.typename_type.now ≡ typename_field.type_ref }
     requires keyed { AreKeyed classes.old }
     requires classes { AreClasses (rows_view tables.rows.now) (classes_view classes.old) }
     ensures keyed { OnOk result (AreKeyed classes.new) }
     ensures classes { OnOk result (AreClasses (rows_view tables.entry.rows.now) (classes_view classes.new)) }
-    ensures takes { IfOk result (λ put. IsTrue put → Takes (types_view tables.entry.types.now) (rows_view tables.entry.rows.now) (member_view member.now) (classes_view classes.old) (classes_view classes.new)) }
+    ensures takes { IfOk result (λ put. IsTrue put →
+        Takes (types_view tables.entry.types.now) (rows_view tables.entry.rows.now) (member_view member.now) (classes_view classes.old) (classes_view classes.new)) }
 {
     match find_class(classes, key(&member.it)) {
         Some(place) => put_other(tables, member, place, classes),
@@ -243,9 +238,9 @@ pub(crate) fn groups_below(
     tables: Tables<'_>,
     members: &[Member<'_>],
 ) -> Result<Option<Vec<Vec<usize>>>, NoMemory>
-    requires typename { type_view tables.typename_type.now ≡ typename_field.type_ref }
     ensures range { IfOk result (λ found. IfSome found (λ groups. AreBelow (rows_view tables.entry.rows.now) (groups_view groups.items))) }
-    ensures settled { IfOk result (λ found. IfSome found (λ groups. AreSettled (types_view tables.entry.types.now) (rows_view tables.entry.rows.now) (groups_view groups.items) (members_view members.now))) }
+    ensures settled { IfOk result (λ found. IfSome found (λ groups.
+        AreSettled (types_view tables.entry.types.now) (rows_view tables.entry.rows.now) (groups_view groups.items) (members_view members.now))) }
 {
     let table = if members.len() > FEW {
         Some(NameList::new(tables.alloc))

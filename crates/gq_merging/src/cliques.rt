@@ -8,9 +8,7 @@ ghost use Rattle.std.specs.Prelude.{◌≡◌, ◌↔◌, ◌<◌, ◌++◌, ◌
 ghost use Rattle.std.specs.declared.vec.Vec.{Vec};
 ghost use Rattle.std.specs.declared.alloc.Global.{Global};
 ghost use Rattle.gq_fault.specs.Adds.{AddsExactly};
-ghost use Rattle.gq_tree.specs.Views.{type_view};
 ghost use Rattle.gq_types.specs.Look.{types_view};
-ghost use Rattle.gq_document.specs.Selections.{typename_field};
 ghost use Rattle.gq_merging.specs.FieldsMerge.{can_coincide};
 ghost use Rattle.gq_merging.specs.declared.purpose.Purpose.TheVariants.{Names};
 ghost use Rattle.gq_merging.specs.Helping.PairTables.{AreMet, IsGiven, IsFaultOf};
@@ -54,7 +52,6 @@ fn add_faults_with(
     members: &[Member<'_>],
     faults: &mut Vec<Fault>,
 ) -> Result<(), NoMemory>
-    requires { type_view look.typename_type.now ≡ typename_field.type_ref }
     ensures { OnOk result (AddsExactly (IsGiven (IsWith (member_view one.now) (members_view members.now)) (IsFaultOf (look_view look.entry))) faults.old.items faults.new.items) }
 {
     for member in members {
@@ -73,7 +70,6 @@ fn add_faults_among(
     members: &[Member<'_>],
     faults: &mut Vec<Fault>,
 ) -> Result<(), NoMemory>
-    requires typename { type_view look.typename_type.now ≡ typename_field.type_ref }
     requires clique { IsClique (look_view look) (members_view members.now) }
     ensures { OnOk result (AddsExactly (IsGiven (AreMet (members_view members.now) (members_view members.now)) (IsFaultOf (look_view look.entry))) faults.old.items faults.new.items) }
 {
@@ -92,7 +88,9 @@ fn add_faults_among(
 
 /// Puts the number of the set in the field's braces into a group, if something stands there.
 fn put_below(rows: &[Row<'_>], member: &Member<'_>, group: &mut Vec<usize>) -> Result<(), NoMemory>
-    ensures { OnOk result ((ms : List MemberOf) → ((m : MemberOf) → IsOfGroup (rows_view rows.now) group.old.items m ↔ IsBelowOne (rows_view rows.now) ms m) → (m : MemberOf) → IsOfGroup (rows_view rows.now) group.new.items m ↔ IsBelowOne (rows_view rows.now) (ms ++ member_view member.now ∷ []) m) }
+    ensures { OnOk result ((ms : List MemberOf) →
+        ((m : MemberOf) → IsOfGroup (rows_view rows.now) group.old.items m ↔ IsBelowOne (rows_view rows.now) ms m) →
+        (m : MemberOf) → IsOfGroup (rows_view rows.now) group.new.items m ↔ IsBelowOne (rows_view rows.now) (ms ++ member_view member.now ∷ []) m) }
 {
     if has_selections(rows, member.below) {
         group.push(member.below)?;
@@ -139,9 +137,10 @@ fn look_at_clique(
     groups: &mut Vec<Vec<usize>>,
     steps: &mut usize,
 ) -> Result<bool, NoMemory>
-    requires typename { type_view look.typename_type.now ≡ typename_field.type_ref }
     requires clique { IsClique (look_view look) (members_view members.now) }
-    ensures { IfOk result (λ done. IsTrue done → Searched (look_view look.entry) (AreMet (members_view members.now) (members_view members.now)) faults.old.items faults.new.items (groups_view groups.old.items) (groups_view groups.new.items)) }
+    ensures { IfOk result (λ done. IsTrue done →
+        Searched (look_view look.entry) (AreMet (members_view members.now) (members_view members.now))
+        faults.old.items faults.new.items (groups_view groups.old.items) (groups_view groups.new.items)) }
 {
     if !take_steps(steps, members.len()) {
         return Ok(false);
@@ -153,7 +152,8 @@ fn look_at_clique(
 
 /// Whether the parents of all these fields are of one type, and that is known.
 fn have_one_known_parent(types: &Types, members: &[Member<'_>]) -> bool
-    ensures { IsTrue result → (a b : MemberOf) → Contains (members_view members.now) a → Contains (members_view members.now) b → can_coincide (types_view types.now) a.field_at.parent b.field_at.parent ≡ true }
+    ensures { IsTrue result → (a b : MemberOf) → Contains (members_view members.now) a → Contains (members_view members.now) b →
+        can_coincide (types_view types.now) a.field_at.parent b.field_at.parent ≡ true }
 {
     let Some(first) = members.first() else {
         return false;
@@ -178,9 +178,10 @@ fn look_at_list<'a>(
     groups: &mut Vec<Vec<usize>>,
     steps: &mut usize,
 ) -> Result<bool, NoMemory>
-    requires typename { type_view look.typename_type.now ≡ typename_field.type_ref }
     requires clique { IsClique (look_view look) (members_view list.now ++ members_view others.now) }
-    ensures { IfOk result (λ done. IsTrue done → Searched (look_view look.entry) (AreMet (members_view list.now ++ members_view others.now) (members_view list.now ++ members_view others.now)) faults.old.items faults.new.items (groups_view groups.old.items) (groups_view groups.new.items)) }
+    ensures { IfOk result (λ done. IsTrue done →
+        Searched (look_view look.entry) (AreMet (members_view list.now ++ members_view others.now) (members_view list.now ++ members_view others.now))
+        faults.old.items faults.new.items (groups_view groups.old.items) (groups_view groups.new.items)) }
 {
     let mut members = Vec::from_slice(look.alloc, list)?;
     members.extend_from_slice(others)?;
@@ -197,9 +198,10 @@ fn look_at_lists<'a>(
     groups: &mut Vec<Vec<usize>>,
     steps: &mut usize,
 ) -> Result<bool, NoMemory>
-    requires typename { type_view look.typename_type.now ≡ typename_field.type_ref }
     requires cliques { AreCliquesWith (look_view look) lists.now others.now }
-    ensures { IfOk result (λ done. IsTrue done → Searched (look_view look.entry) (AreMetInOne (map (list_with others.now) lists.now)) faults.old.items faults.new.items (groups_view groups.old.items) (groups_view groups.new.items)) }
+    ensures { IfOk result (λ done. IsTrue done →
+        Searched (look_view look.entry) (AreMetInOne (map (list_with others.now) lists.now))
+        faults.old.items faults.new.items (groups_view groups.old.items) (groups_view groups.new.items)) }
 {
     for list in lists {
         if !look_at_list(look, list, others, faults, groups, steps)? {
@@ -218,10 +220,11 @@ fn look_at_others<'a>(
     groups: &mut Vec<Vec<usize>>,
     steps: &mut usize,
 ) -> Result<bool, NoMemory>
-    requires typename { type_view look.typename_type.now ≡ typename_field.type_ref }
     requires clique { IsClique (look_view look) (members_view others.now) }
     requires cliques { AreCliquesWith (look_view look) lists.now others.now }
-    ensures { IfOk result (λ done. IsTrue done → Searched (look_view look.entry) (AreMetWith lists.now others.now) faults.old.items faults.new.items (groups_view groups.old.items) (groups_view groups.new.items)) }
+    ensures { IfOk result (λ done. IsTrue done →
+        Searched (look_view look.entry) (AreMetWith lists.now others.now)
+        faults.old.items faults.new.items (groups_view groups.old.items) (groups_view groups.new.items)) }
 {
     if !look_at_clique(look, others, faults, groups, steps)? {
         return Ok(false);
@@ -238,10 +241,11 @@ fn look_by_parents(
     groups: &mut Vec<Vec<usize>>,
     steps: &mut usize,
 ) -> Result<bool, NoMemory>
-    requires typename { type_view look.typename_type.now ≡ typename_field.type_ref }
     requires purpose { look.purpose ≡ Names }
     requires one_key { AreOfOneKey (members_view members.now) }
-    ensures { IfOk result (λ done. IsTrue done → Searched (look_view look.entry) (AreMet (members_view members.now) (members_view members.now)) faults.old.items faults.new.items (groups_view groups.old.items) (groups_view groups.new.items)) }
+    ensures { IfOk result (λ done. IsTrue done →
+        Searched (look_view look.entry) (AreMet (members_view members.now) (members_view members.now))
+        faults.old.items faults.new.items (groups_view groups.old.items) (groups_view groups.new.items)) }
 {
     let by_parent = FieldsByParent::of(look.alloc, look.types, members)?;
     let done = look_at_others(
@@ -263,9 +267,10 @@ pub(crate) fn look_at_class(
     groups: &mut Vec<Vec<usize>>,
     steps: &mut usize,
 ) -> Result<bool, NoMemory>
-    requires typename { type_view look.typename_type.now ≡ typename_field.type_ref }
     requires one_key { AreOfOneKey (members_view members.now) }
-    ensures { IfOk result (λ done. IsTrue done → Searched (look_view look.entry) (AreMet (members_view members.now) (members_view members.now)) faults.old.items faults.new.items (groups_view groups.old.items) (groups_view groups.new.items)) }
+    ensures { IfOk result (λ done. IsTrue done →
+        Searched (look_view look.entry) (AreMet (members_view members.now) (members_view members.now))
+        faults.old.items faults.new.items (groups_view groups.old.items) (groups_view groups.new.items)) }
 {
     match look.purpose {
         Purpose::Shapes => look_at_clique(look, members, faults, groups, steps),
@@ -286,9 +291,10 @@ pub(crate) fn look_at_classes(
     groups: &mut Vec<Vec<usize>>,
     steps: &mut usize,
 ) -> Result<bool, NoMemory>
-    requires typename { type_view look.typename_type.now ≡ typename_field.type_ref }
     requires one_key { (list : Vec Member Global) → Contains lists.now list → AreOfOneKey (members_view list.items) }
-    ensures { IfOk result (λ done. IsTrue done → Searched (look_view look.entry) (AreMetInOne (map (λ list. members_view list.items) lists.now)) faults.old.items faults.new.items (groups_view groups.old.items) (groups_view groups.new.items)) }
+    ensures { IfOk result (λ done. IsTrue done →
+        Searched (look_view look.entry) (AreMetInOne (map (λ list. members_view list.items) lists.now))
+        faults.old.items faults.new.items (groups_view groups.old.items) (groups_view groups.new.items)) }
 {
     for list in lists {
         if !look_at_class(look, list, faults, groups, steps)? {

@@ -1,11 +1,9 @@
 //! What is compared of two fields under one response key (section 5.3.2).
-ghost use Rattle.std.specs.Prelude.{◌≡◌, ◌↔◌, IsTrue, IfOk, codes, option_map};
-ghost use Rattle.gq_tree.specs.Plain.{named};
+ghost use Rattle.std.specs.Prelude.{◌≡◌, ◌↔◌, IsTrue, IfOk, option_map};
 ghost use Rattle.gq_tree.specs.Views.{type_view};
 ghost use Rattle.gq_types.specs.Look.{types_view, text_of};
 ghost use Rattle.gq_types.specs.LookUps.{has_kind};
 ghost use Rattle.gq_types.specs.declared.entry.TypeKind.TheVariants as kind;
-ghost use Rattle.gq_document.specs.Selections.{typename_field, no_span};
 ghost use Rattle.gq_document.specs.FieldSets.{key};
 ghost use Rattle.gq_merging.specs.FieldsMerge.{can_coincide, leads_on, Differ};
 ghost use Rattle.gq_merging.specs.Helping.Comparisons.{known_type, same_ends, same_shapes, shapes_differ, is_no_later};
@@ -15,9 +13,9 @@ ghost use Rattle.gq_merging.specs.declared.purpose.Purpose.TheVariants.{Names};
 use crate::purpose::Purpose;
 use crate::same_arguments::have_same_arguments;
 use crate::sets::StandingField;
-use gq_document::{SelectedField, is_composite_named, selected_field};
-use gq_text::{NoMemory, SmallText, Span};
-use gq_tree::{Name, TypeRef, base_name};
+use gq_document::{is_composite_named, selected_field};
+use gq_text::NoMemory;
+use gq_tree::{TypeRef, base_name};
 use gq_types::{TypeKind, Types};
 use std::alloc::Global;
 
@@ -79,35 +77,12 @@ pub(crate) fn leads_on(
     }
 }
 
-/// The type of `__typename`.
-pub(crate) fn typename_type(alloc: Global) -> Result<TypeRef, NoMemory>
-    ensures { IfOk result (λ t. type_view t ≡ typename_field.type_ref) }
-{
-    let inner = string_type(alloc)?;
-    Ok(TypeRef::NonNull(Box::new(alloc, inner)?))
-}
-
-fn string_type(alloc: Global) -> Result<TypeRef, NoMemory>
-    ensures { IfOk result (λ t. type_view t ≡ named (record { text = codes "String"; place = no_span })) }
-{
-    let text = SmallText::from_str(alloc, "String")?;
-    let span = Span { start: 0, end: 0 };
-    Ok(TypeRef::Named(Name { text, span }))
-}
-
 /// The type of a field, where the field and the type at the end are known.
-pub(crate) fn known_type<'a>(
-    types: &'a Types,
-    typename_type: &'a TypeRef,
-    field: &StandingField<'_>,
-) -> Option<&'a TypeRef>
-    requires { type_view typename_type.now ≡ typename_field.type_ref }
+pub(crate) fn known_type<'a>(types: &'a Types, field: &StandingField<'_>) -> Option<&'a TypeRef>
     ensures { option_map (λ t. type_view t.now) result ≡ known_type (types_view types.now) (field_at field.now) }
 {
-    let type_ref = match selected_field(types, field.parent, field.name.text.as_str())? {
-        SelectedField::Typename => typename_type,
-        SelectedField::Defined(field) => &field.definition.type_ref,
-    };
+    let found = selected_field(types, field.parent, field.name.text.as_str())?;
+    let type_ref = found.type_ref(types);
     if types.kind(base_name(type_ref)).is_some() {
         Some(type_ref)
     } else {
@@ -153,17 +128,11 @@ pub(crate) fn have_same_shape(types: &Types, left: &TypeRef, right: &TypeRef) ->
 }
 
 /// Whether the types of both fields are known and have different shapes.
-fn shapes_differ(
-    types: &Types,
-    typename_type: &TypeRef,
-    left: &StandingField<'_>,
-    right: &StandingField<'_>,
-) -> bool
-    requires { type_view typename_type.now ≡ typename_field.type_ref }
+fn shapes_differ(types: &Types, left: &StandingField<'_>, right: &StandingField<'_>) -> bool
     ensures { result ≡ shapes_differ (types_view types.now) (field_at left.now) (field_at right.now) }
 {
-    match known_type(types, typename_type, left) {
-        Some(left) => match known_type(types, typename_type, right) {
+    match known_type(types, left) {
+        Some(left) => match known_type(types, right) {
             Some(right) => !have_same_shape(types, left, right),
             None => false,
         },
@@ -194,16 +163,14 @@ fn calls_differ(
 pub(crate) fn differ(
     alloc: Global,
     types: &Types,
-    typename_type: &TypeRef,
     purpose: Purpose,
     left: &StandingField<'_>,
     right: &StandingField<'_>,
 ) -> Result<bool, NoMemory>
-    requires { type_view typename_type.now ≡ typename_field.type_ref }
     ensures { IfOk result (λ differ. IsTrue differ ↔ Differ (types_view types.now) purpose (field_at left.now) (field_at right.now)) }
 {
     match purpose {
-        Purpose::Shapes => Ok(shapes_differ(types, typename_type, left, right)),
+        Purpose::Shapes => Ok(shapes_differ(types, left, right)),
         Purpose::Names => calls_differ(alloc, types, left, right),
     }
 }

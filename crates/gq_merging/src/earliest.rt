@@ -1,8 +1,6 @@
 //! The earliest of some fields, by the document, then by the place.
 ghost use Rattle.std.specs.Prelude.{◌≡◌, IfOk, option_map, true};
-ghost use Rattle.gq_tree.specs.Views.{type_view};
 ghost use Rattle.gq_types.specs.Look.{types_view};
-ghost use Rattle.gq_document.specs.Selections.{typename_field};
 ghost use Rattle.gq_merging.specs.Helping.Comparisons.{may_differ};
 ghost use Rattle.gq_merging.specs.FieldsMerge.{Differ};
 ghost use Rattle.gq_merging.specs.Helping.SearchTables.{IsEarliest, earlier_of};
@@ -17,11 +15,10 @@ use gq_text::NoMemory;
 
 /// Whether the field can differ from another one: for shapes, its type has to be known.
 fn may_differ(look: Look<'_>, field: &StandingField<'_>) -> bool
-    requires { type_view look.typename_type.now ≡ typename_field.type_ref }
     ensures { result ≡ may_differ (types_view look.entry.types.now) look.entry.purpose (field_at field.now) }
 {
     match look.purpose {
-        Purpose::Shapes => known_type(look.types, look.typename_type, field).is_some(),
+        Purpose::Shapes => known_type(look.types, field).is_some(),
         Purpose::Names => true,
     }
 }
@@ -44,7 +41,6 @@ fn earlier<'a>(counts: bool, so_far: Option<Member<'a>>, member: &Member<'a>) ->
 
 /// The earliest of the fields that can differ from another one.
 pub(crate) fn earliest_of<'a>(look: Look<'_>, members: &[Member<'a>]) -> Option<Member<'a>>
-    requires { type_view look.typename_type.now ≡ typename_field.type_ref }
     ensures { IsEarliest (λ m. may_differ (types_view look.entry.types.now) look.entry.purpose m.field_at ≡ true) (members_view members.now) (option_map member_view result) }
 {
     let mut earliest = None;
@@ -61,19 +57,13 @@ pub(crate) fn earliest_other<'a>(
     one: &Member<'a>,
     members: &[Member<'a>],
 ) -> Result<Option<Member<'a>>, NoMemory>
-    requires { type_view look.typename_type.now ≡ typename_field.type_ref }
-    ensures { IfOk result (λ earliest. IsEarliest (λ m. Differ (types_view look.entry.types.now) look.entry.purpose (field_at one.now.it) m.field_at) (members_view members.now) (option_map member_view earliest)) }
+    ensures { IfOk result (λ earliest.
+        IsEarliest (λ m. Differ (types_view look.entry.types.now) look.entry.purpose (field_at one.now.it) m.field_at)
+        (members_view members.now) (option_map member_view earliest)) }
 {
     let mut earliest = None;
     for member in members {
-        let counts = differ(
-            look.alloc,
-            look.types,
-            look.typename_type,
-            look.purpose,
-            &one.it,
-            &member.it,
-        )?;
+        let counts = differ(look.alloc, look.types, look.purpose, &one.it, &member.it)?;
         earliest = earlier(counts, earliest, member);
     }
     Ok(earliest)

@@ -2,9 +2,7 @@
 ghost use Rattle.std.specs.Prelude.{◌≡◌, ◌*◌, ◌<◌, ◌++◌, ◌∷◌, [], OnOk, length, map};
 ghost use Rattle.gq_fault.specs.declared.code.Code.TheVariants.{FieldsDoNotMerge};
 ghost use Rattle.gq_fault.specs.Adds.{AddsExactly};
-ghost use Rattle.gq_tree.specs.Views.{type_view};
 ghost use Rattle.gq_graph.specs.Reach.{InRange};
-ghost use Rattle.gq_document.specs.Selections.{typename_field};
 ghost use Rattle.gq_document.specs.Executable.{executable_view};
 ghost use Rattle.gq_merging.specs.FieldsMerge.{IsMergingFault};
 ghost use Rattle.gq_merging.specs.Helping.Groups.{AreMerged};
@@ -15,7 +13,7 @@ ghost use Rattle.gq_merging.specs.Helping.SetTables.{AreRows, members_at};
 ghost use Rattle.gq_merging.specs.Helping.Views.{member_view, members_view, rows_view, met_view, look_view};
 
 use crate::by_name::FieldsByName;
-use crate::comparing::{differ, is_no_later, key, typename_type};
+use crate::comparing::{differ, is_no_later, key};
 use crate::groups::{merged_rows, merged_rows_by_threads};
 use crate::members::{all_spreads, own_members, own_spreads};
 use crate::pairs::{Look, Met, put_below, put_lefts, put_rights, starts};
@@ -26,7 +24,6 @@ use crate::search::search_groups;
 use gq_document::Executable;
 use gq_fault::{Code, Fault};
 use gq_text::{NoMemory, Span};
-use gq_tree::TypeRef;
 use indexmap::IndexSet;
 use std::alloc::Global;
 use std::thread::Threads;
@@ -40,7 +37,6 @@ pub(crate) fn add_fault_of(
     one: &Met<'_>,
     faults: &mut Vec<Fault>,
 ) -> Result<(), NoMemory>
-    requires { type_view look.typename_type.now ≡ typename_field.type_ref }
     ensures { OnOk result (AddsExactly (IsFaultOf (look_view look.entry) (met_view one.now)) faults.old.items faults.new.items) }
 {
     let left = one.left.it;
@@ -48,14 +44,7 @@ pub(crate) fn add_fault_of(
     if !is_no_later(&left, &right) {
         return Ok(());
     }
-    let breaks = differ(
-        look.alloc,
-        look.types,
-        look.typename_type,
-        look.purpose,
-        &left,
-        &right,
-    )?;
+    let breaks = differ(look.alloc, look.types, look.purpose, &left, &right)?;
     if breaks {
         add_fault_over(right.file, right.name.span, faults)?;
     }
@@ -83,7 +72,6 @@ fn look_at(
     faults: &mut Vec<Fault>,
     found: &mut IndexSet<u128>,
 ) -> Result<(), NoMemory>
-    requires { type_view look.typename_type.now ≡ typename_field.type_ref }
     ensures { OnOk result (Looked (look_view look.entry) (AreMet (member_view left.now ∷ []) (member_view right.now ∷ [])) faults.old.items faults.new.items found.old.keys found.new.keys) }
 {
     if key(&left.it) == key(&right.it) {
@@ -104,7 +92,6 @@ fn look_with(
     faults: &mut Vec<Fault>,
     found: &mut IndexSet<u128>,
 ) -> Result<(), NoMemory>
-    requires { type_view look.typename_type.now ≡ typename_field.type_ref }
     ensures { OnOk result (Looked (look_view look.entry) (AreMet (member_view left.now ∷ []) (members_view right.now)) faults.old.items faults.new.items found.old.keys found.new.keys) }
 {
     for member in right {
@@ -121,7 +108,6 @@ fn look_among(
     faults: &mut Vec<Fault>,
     found: &mut IndexSet<u128>,
 ) -> Result<(), NoMemory>
-    requires { type_view look.typename_type.now ≡ typename_field.type_ref }
     ensures { OnOk result (Looked (look_view look.entry) (AreMet (members_view left.now) (members_view right.now)) faults.old.items faults.new.items found.old.keys found.new.keys) }
 {
     for member in left {
@@ -138,7 +124,6 @@ fn look_by_key(
     faults: &mut Vec<Fault>,
     found: &mut IndexSet<u128>,
 ) -> Result<(), NoMemory>
-    requires { type_view look.typename_type.now ≡ typename_field.type_ref }
     ensures { OnOk result (Looked (look_view look.entry) (AreMetByKey (member_view left.now ∷ []) (by_name_view right.now)) faults.old.items faults.new.items found.old.keys found.new.keys) }
 {
     if let Some(those) = right.with_name(key(&left.it)) {
@@ -155,7 +140,6 @@ fn look_among_keyed(
     faults: &mut Vec<Fault>,
     found: &mut IndexSet<u128>,
 ) -> Result<(), NoMemory>
-    requires { type_view look.typename_type.now ≡ typename_field.type_ref }
     ensures { OnOk result (Looked (look_view look.entry) (AreMetByKey (members_view left.now) (by_name_view right.now)) faults.old.items faults.new.items found.old.keys found.new.keys) }
 {
     for member in left {
@@ -172,10 +156,11 @@ fn look_at_sets(
     faults: &mut Vec<Fault>,
     found: &mut IndexSet<u128>,
 ) -> Result<(), NoMemory>
-    requires typename { type_view look.typename_type.now ≡ typename_field.type_ref }
     requires left { left < length look.rows.now }
     requires right { right < length look.rows.now }
-    ensures { OnOk result (Looked (look_view look.entry) (AreMet (members_at (rows_view look.entry.rows.now) left) (members_at (rows_view look.entry.rows.now) right)) faults.old.items faults.new.items found.old.keys found.new.keys) }
+    ensures { OnOk result (Looked (look_view look.entry)
+        (AreMet (members_at (rows_view look.entry.rows.now) left) (members_at (rows_view look.entry.rows.now) right))
+        faults.old.items faults.new.items found.old.keys found.new.keys) }
 {
     let left = own_members(look.rows, left);
     let right = own_members(look.rows, right);
@@ -194,7 +179,6 @@ fn look_at_pair(
     faults: &mut Vec<Fault>,
     found: &mut IndexSet<u128>,
 ) -> Result<(), NoMemory>
-    requires typename { type_view look.typename_type.now ≡ typename_field.type_ref }
     requires number { number < length look.rows.now * length look.rows.now }
     ensures puts { OnOk result (AddsExactly (IsGiven (IsMetIn (look_view look.entry) number) (IsFaultOf (look_view look.entry))) faults.old.items faults.new.items) }
     ensures gains { OnOk result (Gains (IsAfter (look_view look.entry) number) found.old.keys found.new.keys) }
@@ -214,7 +198,6 @@ fn add_faults_by_pairs(
     passed: &[bool],
     faults: &mut Vec<Fault>,
 ) -> Result<(), NoMemory>
-    requires typename { type_view look.typename_type.now ≡ typename_field.type_ref }
     requires range { InRange look.spreads.now }
     requires spreads { map (λ v. v.items) look.spreads.now ≡ map (λ r. r.spreads.items) look.rows.now }
     requires size { look.size ≡ length look.rows.now * length look.rows.now }
@@ -233,7 +216,6 @@ fn add_faults_by_pairs(
 
 /// The same by groups, or where they would be too many, pair by pair.
 fn add_faults_for(look: Look<'_>, passed: &[bool], faults: &mut Vec<Fault>) -> Result<(), NoMemory>
-    requires typename { type_view look.typename_type.now ≡ typename_field.type_ref }
     requires range { InRange look.spreads.now }
     requires spreads { map (λ v. v.items) look.spreads.now ≡ map (λ r. r.spreads.items) look.rows.now }
     requires sets { HaveSets (rows_view look.rows.now) }
@@ -254,13 +236,11 @@ fn add_faults_for(look: Look<'_>, passed: &[bool], faults: &mut Vec<Fault>) -> R
 fn add_unmarked_faults(
     alloc: Global,
     executable: &Executable<'_>,
-    typename_type: &TypeRef,
     rows: &[Row<'_>],
     spreads: &[Vec<usize>],
     marks: &[bool],
     faults: &mut Vec<Fault>,
 ) -> Result<(), NoMemory>
-    requires typename { type_view typename_type.now ≡ typename_field.type_ref }
     requires rows { AreRows (executable_view executable.now) (rows_view rows.now) }
     requires range { InRange spreads.now }
     requires spreads { map (λ v. v.items) spreads.now ≡ map (λ r. r.spreads.items) rows.now }
@@ -272,7 +252,6 @@ fn add_unmarked_faults(
     let shapes = Look {
         alloc,
         types: executable.types,
-        typename_type,
         purpose: Purpose::Shapes,
         rows,
         spreads,
@@ -302,17 +281,8 @@ pub fn add_merging_faults(
 {
     let rows = all_rows(alloc, executable)?;
     let spreads = all_spreads(alloc, &rows)?;
-    let string_type = typename_type(alloc)?;
-    let marks = merged_rows(alloc, executable, &string_type, &rows, &spreads)?;
-    add_unmarked_faults(
-        alloc,
-        executable,
-        &string_type,
-        &rows,
-        &spreads,
-        &marks,
-        faults,
-    )?;
+    let marks = merged_rows(alloc, executable, &rows, &spreads)?;
+    add_unmarked_faults(alloc, executable, &rows, &spreads, &marks, faults)?;
     Ok(())
 }
 
@@ -327,16 +297,7 @@ pub fn add_merging_faults_by_threads<R: Threads + Sync>(
 {
     let rows = all_rows(alloc, executable)?;
     let spreads = all_spreads(alloc, &rows)?;
-    let string_type = typename_type(alloc)?;
-    let marks = merged_rows_by_threads(rt, alloc, executable, &string_type, &rows, &spreads)?;
-    add_unmarked_faults(
-        alloc,
-        executable,
-        &string_type,
-        &rows,
-        &spreads,
-        &marks,
-        faults,
-    )?;
+    let marks = merged_rows_by_threads(rt, alloc, executable, &rows, &spreads)?;
+    add_unmarked_faults(alloc, executable, &rows, &spreads, &marks, faults)?;
     Ok(())
 }

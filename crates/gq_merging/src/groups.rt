@@ -15,10 +15,8 @@
 ghost use Rattle.std.specs.Prelude.{◌≡◌, ◌<◌, ◌+◌, ◌⊎◌, ℕ, List, All, Some, IsTrue, IfOk, OnOk, true, false, length, map, slice_get, slice_index_or};
 ghost use Rattle.std.specs.List.{flat_map};
 ghost use Rattle.gq_graph.specs.Reach.{InRange, row};
-ghost use Rattle.gq_tree.specs.Views.{type_view};
 ghost use Rattle.gq_types.specs.Entries.{EntryOf};
 ghost use Rattle.gq_types.specs.Look.{types_view};
-ghost use Rattle.gq_document.specs.Selections.{typename_field};
 ghost use Rattle.gq_document.specs.Executable.{executable_view};
 ghost use Rattle.gq_merging.specs.Helping.SetTables.{RowOf, AreRows, members_at};
 ghost use Rattle.gq_merging.specs.Helping.Groups.{AreMerged};
@@ -34,7 +32,6 @@ use crate::rows::{Member, Row};
 use gq_document::Executable;
 use gq_graph::mark_all;
 use gq_text::NoMemory;
-use gq_tree::TypeRef;
 use std::alloc::Global;
 use std::thread::{Threads, join};
 
@@ -133,37 +130,43 @@ fn size_of(groups: &[Vec<usize>]) -> usize {
     size
 }
 
-/// Looks at the fields of one group of a test, which reaches these sets.
+/// What one group of a test has: its place, the sets that it reaches, and the fields that stand in them.
+#[derive(Clone, Copy)]
+struct Reached<'a> {
+    place: usize,
+    sets: &'a [usize],
+    members: &'a [Member<'a>],
+}
+
+/// Looks at the fields of one group of a test.
 fn look_at_members(
     tables: Tables<'_>,
-    place: usize,
-    found: &[usize],
-    members: &[Member<'_>],
+    group: Reached<'_>,
     groups: &mut Vec<Vec<usize>>,
     reached: &mut Vec<usize>,
     left: &mut Budget,
 ) -> Result<bool, NoMemory>
-    requires typename { type_view tables.typename_type.now ≡ typename_field.type_ref }
     requires spreads { map (λ v. v.items) tables.spreads.now ≡ map (λ r. r.spreads.items) tables.rows.now }
-    requires place { place < length groups.old.items }
-    requires reached { (group : List ℕ) → slice_get (groups_view groups.old.items) place ≡ Some group → AreReached (row tables.spreads.now) group found.now }
-    requires within { All (λ n. n < length tables.spreads.now) found.now }
-    requires members { members_view members.now ≡ flat_map (members_at (rows_view tables.rows.now)) found.now }
-    requires test { IsTest (types_view tables.types.now) (rows_view tables.rows.now) (groups_view groups.old.items) place reached.old.items }
-    ensures test { IfOk result (λ passed. IsTrue passed → IsTest (types_view tables.entry.types.now) (rows_view tables.entry.rows.now) (groups_view groups.new.items) (place + 1) reached.new.items) }
+    requires place { group.place < length groups.old.items }
+    requires reached { (starts : List ℕ) → slice_get (groups_view groups.old.items) group.place ≡ Some starts → AreReached (row tables.spreads.now) starts group.sets.now }
+    requires within { All (λ n. n < length tables.spreads.now) group.sets.now }
+    requires members { members_view group.members.now ≡ flat_map (members_at (rows_view tables.rows.now)) group.sets.now }
+    requires test { IsTest (types_view tables.types.now) (rows_view tables.rows.now) (groups_view groups.old.items) group.place reached.old.items }
+    ensures test { IfOk result (λ passed. IsTrue passed →
+        IsTest (types_view tables.entry.types.now) (rows_view tables.entry.rows.now) (groups_view groups.new.items) (group.entry.place + 1) reached.new.items) }
     ensures left { IfOk result (λ passed. IsTrue passed → left.new.steps < left.old.steps) }
 {
-    if !spend(&mut left.steps, found.len(), members.len()) {
+    if !spend(&mut left.steps, group.sets.len(), group.members.len()) {
         return Ok(false);
     }
-    let Some(mut below) = groups_below(tables, members)? else {
+    let Some(mut below) = groups_below(tables, group.members)? else {
         return Ok(false);
     };
     if !spend(&mut left.room, below.len(), size_of(&below)) {
         return Ok(false);
     }
     groups.append(&mut below)?;
-    reached.extend_from_slice(found)?;
+    reached.extend_from_slice(group.sets)?;
     Ok(true)
 }
 
@@ -176,7 +179,6 @@ fn look_at(
     reached: &mut Vec<usize>,
     left: &mut Budget,
 ) -> Result<bool, NoMemory>
-    requires typename { type_view tables.typename_type.now ≡ typename_field.type_ref }
     requires range { InRange tables.spreads.now }
     requires spreads { map (λ v. v.items) tables.spreads.now ≡ map (λ r. r.spreads.items) tables.rows.now }
     requires place { place < length groups.old.items }
@@ -188,11 +190,21 @@ fn look_at(
     match found.as_slice() {
         [one] => {
             let members = own_members(tables.rows, *one);
-            look_at_members(tables, place, &found, members, groups, reached, left)
+            let group = Reached {
+                place,
+                sets: &found,
+                members,
+            };
+            look_at_members(tables, group, groups, reached, left)
         }
         _ => {
             let members = gathered(tables.alloc, tables.rows, &found)?;
-            look_at_members(tables, place, &found, &members, groups, reached, left)
+            let group = Reached {
+                place,
+                sets: &found,
+                members: &members,
+            };
+            look_at_members(tables, group, groups, reached, left)
         }
     }
 }
@@ -206,7 +218,6 @@ fn pass(
     reached: &mut Vec<usize>,
     notes: &mut Notes,
 ) -> Result<bool, NoMemory>
-    requires typename { type_view tables.typename_type.now ≡ typename_field.type_ref }
     requires range { InRange tables.spreads.now }
     requires spreads { map (λ v. v.items) tables.spreads.now ≡ map (λ r. r.spreads.items) tables.rows.now }
     requires tested { AreTested (types_view tables.types.now) (rows_view tables.rows.now) marks.now }
@@ -230,7 +241,6 @@ fn tested_from(
     groups: &mut Vec<Vec<usize>>,
     notes: &mut Notes,
 ) -> Result<Vec<usize>, NoMemory>
-    requires typename { type_view tables.typename_type.now ≡ typename_field.type_ref }
     requires range { InRange tables.spreads.now }
     requires spreads { map (λ v. v.items) tables.spreads.now ≡ map (λ r. r.spreads.items) tables.rows.now }
     requires tested { AreTested (types_view tables.types.now) (rows_view tables.rows.now) marks.now }
@@ -289,7 +299,6 @@ fn mark_from(
     groups: &mut Vec<Vec<usize>>,
     notes: &mut Notes,
 ) -> Result<(), NoMemory>
-    requires typename { type_view tables.typename_type.now ≡ typename_field.type_ref }
     requires range { InRange tables.spreads.now }
     requires spreads { map (λ v. v.items) tables.spreads.now ≡ map (λ r. r.spreads.items) tables.rows.now }
     requires number { number < length tables.rows.now }
@@ -324,7 +333,6 @@ fn mark_with_spreads(
     groups: &mut Vec<Vec<usize>>,
     notes: &mut Notes,
 ) -> Result<(), NoMemory>
-    requires typename { type_view tables.typename_type.now ≡ typename_field.type_ref }
     requires range { InRange tables.spreads.now }
     requires spreads { map (λ v. v.items) tables.spreads.now ≡ map (λ r. r.spreads.items) tables.rows.now }
     requires number { number < length tables.rows.now }
@@ -353,7 +361,6 @@ fn mark_each(
     groups: &mut Vec<Vec<usize>>,
     notes: &mut Notes,
 ) -> Result<(), NoMemory>
-    requires typename { type_view tables.typename_type.now ≡ typename_field.type_ref }
     requires range { InRange tables.spreads.now }
     requires spreads { map (λ v. v.items) tables.spreads.now ≡ map (λ r. r.spreads.items) tables.rows.now }
     requires starts { All (λ n. n < length tables.rows.now) starts.now }
@@ -430,7 +437,6 @@ fn mark_in_steps(
     marks: &mut Vec<bool>,
     steps: usize,
 ) -> Result<bool, NoMemory>
-    requires typename { type_view tables.typename_type.now ≡ typename_field.type_ref }
     requires range { InRange tables.spreads.now }
     requires spreads { map (λ v. v.items) tables.spreads.now ≡ map (λ r. r.spreads.items) tables.rows.now }
     requires starts { All (λ n. n < length tables.rows.now) starts.now }
@@ -450,7 +456,6 @@ fn mark_together(
     marks: &mut Vec<bool>,
     steps: usize,
 ) -> Result<(), NoMemory>
-    requires typename { type_view tables.typename_type.now ≡ typename_field.type_ref }
     requires range { InRange tables.spreads.now }
     requires spreads { map (λ v. v.items) tables.spreads.now ≡ map (λ r. r.spreads.items) tables.rows.now }
     requires starts { All (λ n. n < length tables.rows.now) starts.now }
@@ -466,7 +471,6 @@ fn mark_together(
 
 /// The marks that tests leave which begin with these sets: one by one in few steps, together, and one by one in more.
 fn marks_from(tables: Tables<'_>, starts: &[usize]) -> Result<Vec<bool>, NoMemory>
-    requires typename { type_view tables.typename_type.now ≡ typename_field.type_ref }
     requires range { InRange tables.spreads.now }
     requires spreads { map (λ v. v.items) tables.spreads.now ≡ map (λ r. r.spreads.items) tables.rows.now }
     requires starts { All (λ n. n < length tables.rows.now) starts.now }
@@ -502,7 +506,6 @@ fn marks_by_threads<R: Threads + Sync>(
     tables: Tables<'_>,
     starts: &[usize],
 ) -> Result<Vec<bool>, NoMemory>
-    requires typename { type_view tables.typename_type.now ≡ typename_field.type_ref }
     requires range { InRange tables.spreads.now }
     requires spreads { map (λ v. v.items) tables.spreads.now ≡ map (λ r. r.spreads.items) tables.rows.now }
     requires starts { All (λ n. n < length tables.rows.now) starts.now }
@@ -510,14 +513,12 @@ fn marks_by_threads<R: Threads + Sync>(
 {
     let (front, back) = starts.split_at(starts.len() / 2);
     let of_front = || -> Result<Vec<bool>, NoMemory>
-        requires typename { type_view tables.typename_type.now ≡ typename_field.type_ref }
         requires range { InRange tables.spreads.now }
         requires spreads { map (λ v. v.items) tables.spreads.now ≡ map (λ r. r.spreads.items) tables.rows.now }
         requires starts { All (λ n. n < length tables.rows.now) front.now }
         ensures { IfOk result (λ marks. AreTested (types_view tables.entry.types.now) (rows_view tables.entry.rows.now) marks.items) }
     { marks_from(tables, front) };
     let of_back = || -> Result<Vec<bool>, NoMemory>
-        requires typename { type_view tables.typename_type.now ≡ typename_field.type_ref }
         requires range { InRange tables.spreads.now }
         requires spreads { map (λ v. v.items) tables.spreads.now ≡ map (λ r. r.spreads.items) tables.rows.now }
         requires starts { All (λ n. n < length tables.rows.now) back.now }
@@ -534,11 +535,9 @@ fn marks_by_threads<R: Threads + Sync>(
 pub(crate) fn merged_rows(
     alloc: Global,
     executable: &Executable<'_>,
-    typename_type: &TypeRef,
     rows: &[Row<'_>],
     spreads: &[Vec<usize>],
 ) -> Result<Vec<bool>, NoMemory>
-    requires typename { type_view typename_type.now ≡ typename_field.type_ref }
     requires rows { AreRows (executable_view executable.now) (rows_view rows.now) }
     requires range { InRange spreads.now }
     requires spreads { map (λ v. v.items) spreads.now ≡ map (λ r. r.spreads.items) rows.now }
@@ -547,7 +546,6 @@ pub(crate) fn merged_rows(
     let tables = Tables {
         alloc,
         types: executable.types,
-        typename_type,
         rows,
         spreads,
     };
@@ -561,11 +559,9 @@ pub(crate) fn merged_rows_by_threads<R: Threads + Sync>(
     rt: &R,
     alloc: Global,
     executable: &Executable<'_>,
-    typename_type: &TypeRef,
     rows: &[Row<'_>],
     spreads: &[Vec<usize>],
 ) -> Result<Vec<bool>, NoMemory>
-    requires typename { type_view typename_type.now ≡ typename_field.type_ref }
     requires rows { AreRows (executable_view executable.now) (rows_view rows.now) }
     requires range { InRange spreads.now }
     requires spreads { map (λ v. v.items) spreads.now ≡ map (λ r. r.spreads.items) rows.now }
@@ -574,7 +570,6 @@ pub(crate) fn merged_rows_by_threads<R: Threads + Sync>(
     let tables = Tables {
         alloc,
         types: executable.types,
-        typename_type,
         rows,
         spreads,
     };

@@ -8,8 +8,6 @@ ghost use Rattle.std.specs.Prelude.{◌≡◌, ◌<◌, [], All, Contains, IsTru
 ghost use Rattle.std.specs.declared.vec.Vec.{Vec};
 ghost use Rattle.std.specs.declared.alloc.Global.{Global};
 ghost use Rattle.gq_graph.specs.Reach.{InRange};
-ghost use Rattle.gq_tree.specs.Views.{type_view};
-ghost use Rattle.gq_document.specs.Selections.{typename_field};
 ghost use Rattle.gq_merging.specs.Helping.NameTables.{by_name_view};
 ghost use Rattle.gq_merging.specs.Helping.SearchTables.{AreInGroup, AreOfOneKey, Searched};
 ghost use Rattle.gq_merging.specs.Helping.KeptTables.{KeptOf, AreByTheirKeys, AreKept, AreMetBeside, AreMetBesideOne, ArePut, IsTableAt, IsTableOf, table_view, tables_view};
@@ -124,12 +122,13 @@ fn look_at_reached<'a>(
     groups: &mut Vec<Vec<usize>>,
     steps: &mut usize,
 ) -> Result<Option<FieldsByName<'a>>, NoMemory>
-    requires typename { type_view look.typename_type.now ≡ typename_field.type_ref }
     requires reach { InRange look.spreads.now }
     requires spreads { map (λ v. v.items) look.spreads.now ≡ map (λ r. r.spreads.items) look.rows.now }
     requires fragments { All (λ n. n < length look.spreads.now) fragments.now }
     ensures table { IfOk result (λ found. IfSome found (λ table. IsTableOf (rows_view look.entry.rows.now) fragments.now (by_name_view table))) }
-    ensures searched { IfOk result (λ found. IfSome found (λ table. Searched (look_view look.entry) (AreInGroup (rows_view look.entry.rows.now) fragments.now) faults.old.items faults.new.items (groups_view groups.old.items) (groups_view groups.new.items))) }
+    ensures searched { IfOk result (λ found. IfSome found (λ table.
+        Searched (look_view look.entry) (AreInGroup (rows_view look.entry.rows.now) fragments.now)
+        faults.old.items faults.new.items (groups_view groups.old.items) (groups_view groups.new.items))) }
 {
     let found = reached_sets(look.alloc, look.spreads, fragments)?;
     let members = gathered(look.alloc, look.rows, &found)?;
@@ -153,14 +152,15 @@ pub(crate) fn table_of<'a>(
     kept: &mut Kept<'a>,
     steps: &mut usize,
 ) -> Result<Option<usize>, NoMemory>
-    requires typename { type_view look.typename_type.now ≡ typename_field.type_ref }
     requires reach { InRange look.spreads.now }
     requires spreads { map (λ v. v.items) look.spreads.now ≡ map (λ r. r.spreads.items) look.rows.now }
     requires fragments { All (λ n. n < length look.spreads.now) fragments.items }
     requires kept { AreKept (look_view look) faults.old.items (groups_view groups.old.items) (tables_view kept.old.tables.items) }
     ensures kept { IfOk result (λ found. IfSome found (λ place. AreKept (look_view look.entry) faults.new.items (groups_view groups.new.items) (tables_view kept.new.tables.items))) }
     ensures table { IfOk result (λ found. IfSome found (λ place. IsTableAt (tables_view kept.new.tables.items) place fragments.items)) }
-    ensures searched { IfOk result (λ found. IfSome found (λ place. Searched (look_view look.entry) (AreInGroup (rows_view look.entry.rows.now) fragments.items) faults.old.items faults.new.items (groups_view groups.old.items) (groups_view groups.new.items))) }
+    ensures searched { IfOk result (λ found. IfSome found (λ place.
+        Searched (look_view look.entry) (AreInGroup (rows_view look.entry.rows.now) fragments.items)
+        faults.old.items faults.new.items (groups_view groups.old.items) (groups_view groups.new.items))) }
 {
     if let Some(place) = place_of(kept, &fragments) {
         return Ok(Some(place));
@@ -191,10 +191,11 @@ fn look_at_beside<'a>(
     groups: &mut Vec<Vec<usize>>,
     steps: &mut usize,
 ) -> Result<bool, NoMemory>
-    requires typename { type_view look.typename_type.now ≡ typename_field.type_ref }
     requires one_key { AreOfOneKey (members_view list.now) }
     requires table { AreByTheirKeys (by_name_view table.now) }
-    ensures { IfOk result (λ done. IsTrue done → Searched (look_view look.entry) (AreMetBeside (members_view list.now) (by_name_view table.now)) faults.old.items faults.new.items (groups_view groups.old.items) (groups_view groups.new.items)) }
+    ensures { IfOk result (λ done. IsTrue done →
+        Searched (look_view look.entry) (AreMetBeside (members_view list.now) (by_name_view table.now))
+        faults.old.items faults.new.items (groups_view groups.old.items) (groups_view groups.new.items)) }
 {
     let Some(first) = list.first() else {
         return Ok(true);
@@ -217,10 +218,11 @@ pub(crate) fn look_at_besides<'a>(
     groups: &mut Vec<Vec<usize>>,
     steps: &mut usize,
 ) -> Result<bool, NoMemory>
-    requires typename { type_view look.typename_type.now ≡ typename_field.type_ref }
     requires one_key { (list : Vec Member Global) → Contains lists.now list → AreOfOneKey (members_view list.items) }
     requires table { AreByTheirKeys (by_name_view table.now) }
-    ensures { IfOk result (λ done. IsTrue done → Searched (look_view look.entry) (AreMetBesideOne (map (λ list. members_view list.items) lists.now) (by_name_view table.now)) faults.old.items faults.new.items (groups_view groups.old.items) (groups_view groups.new.items)) }
+    ensures { IfOk result (λ done. IsTrue done →
+        Searched (look_view look.entry) (AreMetBesideOne (map (λ list. members_view list.items) lists.now) (by_name_view table.now))
+        faults.old.items faults.new.items (groups_view groups.old.items) (groups_view groups.new.items)) }
 {
     for list in lists {
         if !look_at_beside(look, list, table, faults, groups, steps)? {

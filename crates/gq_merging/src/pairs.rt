@@ -8,7 +8,6 @@ use crate::comparing::leads_on;
 use crate::purpose::Purpose;
 use crate::rows::{Member, Row};
 use gq_text::NoMemory;
-use gq_tree::TypeRef;
 use gq_types::Types;
 use indexmap::IndexSet;
 use std::alloc::Global;
@@ -18,7 +17,6 @@ use std::alloc::Global;
 pub(crate) struct Look<'a> {
     pub(crate) alloc: Global,
     pub(crate) types: &'a Types,
-    pub(crate) typename_type: &'a TypeRef,
     pub(crate) purpose: Purpose,
     pub(crate) rows: &'a [Row<'a>],
     pub(crate) spreads: &'a [Vec<usize>],

@@ -91,12 +91,18 @@ fn numbered<'a>(
     Ok(members)
 }
 
+/// What the rows of a project are made by: its types, and the names of its fragments.
+#[derive(Clone, Copy)]
+struct Project<'n, 'a> {
+    alloc: Global,
+    types: &'a Types,
+    names: &'n FragmentNames,
+}
+
 /// The row of a selection set. The sets of its fields are put behind the others. The fields are gathered in a list whose room
 /// is used again.
 fn row_of<'a>(
-    alloc: Global,
-    types: &'a Types,
-    names: &FragmentNames,
+    project: Project<'_, 'a>,
     set: StandingSet<'a>,
     fields: &mut Vec<StandingField<'a>>,
     empty: &mut Option<usize>,
@@ -105,14 +111,16 @@ fn row_of<'a>(
     requires empty { IsEmptyAt (sets_at sets.old.items) empty.old }
     ensures empty { OnOk result (IsEmptyAt (sets_at sets.new.items) empty.new) }
     ensures set { IfOk result (λ row. row.set ≡ set.entry) }
-    ensures members { IfOk result (λ row. AreNumbered (types_view types.now) (own_fields set.entry.file (text_of set.entry.parent) (sels_view set.entry.selections.now)) (sets_at sets.old.items) (sets_at sets.new.items) (members_view row.members.items)) }
-    ensures spreads { IfOk result (λ row. row.spreads.items ≡ own_spreads names.now.names.items (sels_view set.entry.selections.now)) }
+    ensures members { IfOk result (λ row.
+        AreNumbered (types_view project.entry.types.now) (own_fields set.entry.file (text_of set.entry.parent) (sels_view set.entry.selections.now))
+        (sets_at sets.old.items) (sets_at sets.new.items) (members_view row.members.items)) }
+    ensures spreads { IfOk result (λ row. row.spreads.items ≡ own_spreads project.entry.names.now.names.items (sels_view set.entry.selections.now)) }
 {
-    let mut spreads = Vec::new(alloc);
-    put_spreads(names, set.selections, &mut spreads)?;
+    let mut spreads = Vec::new(project.alloc);
+    put_spreads(project.names, set.selections, &mut spreads)?;
     fields.clear();
     put_fields(set.file, set.parent, set.selections, fields)?;
-    let members = numbered(alloc, types, fields, empty, sets)?;
+    let members = numbered(project.alloc, project.types, fields, empty, sets)?;
     Ok(Row {
         set,
         members,
@@ -128,21 +136,18 @@ pub(crate) fn all_rows<'a>(
     ensures { IfOk result (λ rows. AreRows (executable_view executable.now) (rows_view rows.items)) }
 {
     let names = FragmentNames::of(alloc, executable.fragments)?;
+    let project = Project {
+        alloc,
+        types: executable.types,
+        names: &names,
+    };
     let mut sets = first_sets(alloc, executable)?;
     let mut rows = Vec::new(alloc);
     let mut fields = Vec::new(alloc);
     let mut empty = None;
     while rows.len() < sets.len() {
         let set = sets[rows.len()];
-        let row = row_of(
-            alloc,
-            executable.types,
-            &names,
-            set,
-            &mut fields,
-            &mut empty,
-            &mut sets,
-        )?;
+        let row = row_of(project, set, &mut fields, &mut empty, &mut sets)?;
         rows.push(row)?;
     }
     Ok(rows)

@@ -8,8 +8,6 @@
 ghost use Rattle.std.specs.Prelude.{◌≡◌, ◌↔◌, ◌<◌, ◌+◌, ◌*◌, ℕ, Bool, List, [], All, Some, Contains, IsTrue, IfSome, IfOk, OnOk, length, map, slice_get};
 ghost use Rattle.gq_fault.specs.declared.fault.Fault.{Fault};
 ghost use Rattle.gq_graph.specs.Reach.{InRange};
-ghost use Rattle.gq_tree.specs.Views.{type_view};
-ghost use Rattle.gq_document.specs.Selections.{typename_field};
 ghost use Rattle.gq_merging.specs.Helping.PairTables.{IsGiven, IsMetReached, IsFaultOf};
 ghost use Rattle.gq_merging.specs.Helping.SearchTables.{AreFirst, AreInGroup, HaveSets, Search, Searched, WasThere};
 ghost use Rattle.gq_merging.specs.Helping.KeptTables.{AreKept, tables_view};
@@ -121,13 +119,14 @@ fn look_at_group<'a>(
     kept: &mut Kept<'a>,
     steps: &mut usize,
 ) -> Result<bool, NoMemory>
-    requires typename { type_view look.typename_type.now ≡ typename_field.type_ref }
     requires reach { InRange look.spreads.now }
     requires spreads { map (λ v. v.items) look.spreads.now ≡ map (λ r. r.spreads.items) look.rows.now }
     requires place { place < length groups.old.items }
     requires kept { AreKept (look_view look) faults.old.items (groups_view groups.old.items) (tables_view kept.old.tables.items) }
     ensures kept { IfOk result (λ done. IsTrue done → AreKept (look_view look.entry) faults.new.items (groups_view groups.new.items) (tables_view kept.new.tables.items)) }
-    ensures searched { (group : List ℕ) → slice_get (groups_view groups.old.items) place ≡ Some group → IfOk result (λ done. IsTrue done → Searched (look_view look.entry) (AreInGroup (rows_view look.entry.rows.now) group) faults.old.items faults.new.items (groups_view groups.old.items) (groups_view groups.new.items)) }
+    ensures searched { (group : List ℕ) → slice_get (groups_view groups.old.items) place ≡ Some group →
+        IfOk result (λ done. IsTrue done → Searched (look_view look.entry) (AreInGroup (rows_view look.entry.rows.now) group)
+        faults.old.items faults.new.items (groups_view groups.old.items) (groups_view groups.new.items)) }
 {
     let own = gathered(look.alloc, look.rows, &groups[place])?;
     let fragments = spreads_of(look.alloc, look.rows, &groups[place])?;
@@ -161,7 +160,6 @@ fn search_on<'a>(
     groups: &mut Vec<Vec<usize>>,
     notes: &mut Notes<'a>,
 ) -> Result<bool, NoMemory>
-    requires typename { type_view look.typename_type.now ≡ typename_field.type_ref }
     requires reach { InRange look.spreads.now }
     requires spreads { map (λ v. v.items) look.spreads.now ≡ map (λ r. r.spreads.items) look.rows.now }
     requires sets { HaveSets (rows_view look.rows.now) }
@@ -169,7 +167,9 @@ fn search_on<'a>(
     requires place { place < length groups.old.items }
     requires kept { AreKept (look_view look) faults.old.items (groups_view groups.old.items) (tables_view notes.old.kept.tables.items) }
     ensures kept { IfOk result (λ done. IsTrue done → AreKept (look_view look.entry) faults.new.items (groups_view groups.new.items) (tables_view notes.new.kept.tables.items)) }
-    ensures search { IfOk result (λ done. IsTrue done → (passed : List Bool) (first : List (List ℕ)) → Search (look_view look.entry) passed first faults.old.items (groups_view groups.old.items) place → Search (look_view look.entry) passed first faults.new.items (groups_view groups.new.items) (place + 1)) }
+    ensures search { IfOk result (λ done. IsTrue done → (passed : List Bool) (first : List (List ℕ)) →
+        Search (look_view look.entry) passed first faults.old.items (groups_view groups.old.items) place →
+        Search (look_view look.entry) passed first faults.new.items (groups_view groups.new.items) (place + 1)) }
 {
     if was_there(groups, place, &mut notes.places) {
         return Ok(true);
@@ -189,13 +189,13 @@ fn search_on<'a>(
 /// The faults of all fields that meet in a set that is not passed over, or under it, and differ from one that stands no later; none
 /// where the search takes too many steps.
 pub(crate) fn search_groups(look: Look<'_>, passed: &[bool]) -> Result<Option<Vec<Fault>>, NoMemory>
-    requires typename { type_view look.typename_type.now ≡ typename_field.type_ref }
     requires reach { InRange look.spreads.now }
     requires spreads { map (λ v. v.items) look.spreads.now ≡ map (λ r. r.spreads.items) look.rows.now }
     requires sets { HaveSets (rows_view look.rows.now) }
     requires size { look.size ≡ length look.rows.now * length look.rows.now }
     requires passed { length passed.now ≡ length look.rows.now }
-    ensures { IfOk result (λ found. IfSome found (λ faults. (fault : Fault) → Contains faults.items fault ↔ IsGiven (IsMetReached (look_view look.entry) passed.now) (IsFaultOf (look_view look.entry)) fault)) }
+    ensures { IfOk result (λ found. IfSome found (λ faults.
+        (fault : Fault) → Contains faults.items fault ↔ IsGiven (IsMetReached (look_view look.entry) passed.now) (IsFaultOf (look_view look.entry)) fault)) }
 {
     let mut groups = first_groups(look.alloc, look.rows, passed)?;
     let mut notes = no_notes(look)?;

@@ -34,7 +34,10 @@ pub(crate) struct StandingSet<'a> {
 }
 
 /// The selection set of an operation.
-pub(crate) fn operation_set<'a>(types: &'a Types, operation: &'a OperationEntry) -> StandingSet<'a>
+pub(crate) fn operation_set<'a>(
+    types: &'a Types,
+    operation: &'a OperationEntry<'a>,
+) -> StandingSet<'a>
     ensures { set_at result ≡ operation_set (types_view types.now) (operation_view operation.now) }
 {
     StandingSet {
@@ -45,7 +48,7 @@ pub(crate) fn operation_set<'a>(types: &'a Types, operation: &'a OperationEntry)
 }
 
 /// The selection set of a fragment.
-pub(crate) fn fragment_set<'a>(fragment: &'a FragmentEntry) -> StandingSet<'a>
+pub(crate) fn fragment_set<'a>(fragment: &'a FragmentEntry<'a>) -> StandingSet<'a>
     ensures { set_at result ≡ fragment_set (fragment_view fragment.now) }
 {
     StandingSet {

@@ -195,7 +195,9 @@ fn put_changed<'a>(
     selection: &'a Selection,
     marks: &mut Vec<Mark<'a>>,
 ) -> Result<(), NoMemory>
-    ensures { OnOk result (marks_view marks.new.items ≡ marks_view marks.old.items ++ marks_or (marks_instead change.now (sel_view selection.now).label (sel_view selection.now).below) (sel_view selection.now).label (changed_marks change.now (sel_view selection.now).below)) }
+    ensures { OnOk result (marks_view marks.new.items ≡ marks_view marks.old.items ++ marks_or
+        (marks_instead change.now (sel_view selection.now).label (sel_view selection.now).below) (sel_view selection.now).label
+        (changed_marks change.now (sel_view selection.now).below)) }
 {
     if let Some(instead) = instead_of(change, selection) {
         return put_instead(instead, marks);

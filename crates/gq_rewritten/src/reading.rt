@@ -74,7 +74,8 @@ fn put_kept<'a>(
     expected: &mut Vec<Expected<'a>>,
 ) -> Result<(), NoMemory>
     requires { IsExecutable (def_view definition.now) }
-    ensures { OnOk result (expected_view expected.new.items ≡ expected_view expected.old.items ++ map (with_set (changed change.entry)) (filter (is_kept (option_map dropped_of dropped) file) (def_view definition.now ∷ []))) }
+    ensures { OnOk result (expected_view expected.new.items ≡ expected_view expected.old.items ++ map (with_set (changed change.entry))
+        (filter (is_kept (option_map dropped_of dropped) file) (def_view definition.now ∷ []))) }
 {
     if !stays(dropped, file, definition) {
         return Ok(());
@@ -95,7 +96,8 @@ fn put_all_kept<'a>(
     expected: &mut Vec<Expected<'a>>,
 ) -> Result<(), NoMemory>
     requires { All IsExecutable (map def_view before.now) }
-    ensures { OnOk result (expected_view expected.new.items ≡ expected_view expected.old.items ++ map (with_set (changed change.entry)) (filter (is_kept (option_map dropped_of dropped) file) (map def_view before.now))) }
+    ensures { OnOk result (expected_view expected.new.items ≡ expected_view expected.old.items ++ map (with_set (changed change.entry))
+        (filter (is_kept (option_map dropped_of dropped) file) (map def_view before.now))) }
 {
     for definition in before {
         put_kept(change, dropped, file, definition, expected)?;
@@ -256,7 +258,8 @@ pub fn reads_as_rewritten(
     after: &Document,
 ) -> Result<bool, NoMemory>
     requires { All IsExecutable (map def_view before.now.definitions.items) }
-    ensures { IfOk result (λ yes. IsTrue yes ↔ (erase_document (map def_view after.now.definitions.items) ≡ rewritten_document (rewrite_of rewrite.now) file (map def_view before.now.definitions.items))) }
+    ensures { IfOk result (λ yes. IsTrue yes ↔
+        (erase_document (map def_view after.now.definitions.items) ≡ rewritten_document (rewrite_of rewrite.now) file (map def_view before.now.definitions.items))) }
 {
     let expected = expected_definitions(alloc, rewrite, file, before)?;
     let same = are_expected(alloc, &after.definitions, &expected)?;

@@ -108,7 +108,8 @@ fn put_absent(
     given: &[ObjectField],
     row: &mut Vec<usize>,
 ) -> Result<(), NoMemory>
-    ensures { OnOk result (row.new.items ≡ row.old.items ++ absent_numbers (types_view types.now) (fields_view all.now.fields.items) (row_items all.now.numbers.items) type_name.now (keys_in (entries_view given.now))) }
+    ensures { OnOk result (row.new.items ≡ row.old.items ++ absent_numbers (types_view types.now) (fields_view all.now.fields.items)
+        (row_items all.now.numbers.items) type_name.now (keys_in (entries_view given.now))) }
 {
     let names = names_in(alloc, given)?;
     let numbers = numbers_of(types, all, type_name);
@@ -156,7 +157,8 @@ fn put_items(
     expected: &TypeRef,
     row: &mut Vec<usize>,
 ) -> Result<(), NoMemory>
-    ensures { OnOk result (row.new.items ≡ row.old.items ++ gathered (types_view types.now) (absent_in (types_view types.now) all.now) (below_of (types_view types.now) (type_view expected.now)) (values_view items.now)) }
+    ensures { OnOk result (row.new.items ≡ row.old.items ++ gathered (types_view types.now) (absent_in (types_view types.now) all.now)
+        (below_of (types_view types.now) (type_view expected.now)) (values_view items.now)) }
 {
     let item = expected.item_type();
     for value in items {
@@ -176,7 +178,8 @@ fn put_fields(
     expected: &TypeRef,
     row: &mut Vec<usize>,
 ) -> Result<(), NoMemory>
-    ensures { OnOk result (row.new.items ≡ row.old.items ++ gathered (types_view types.now) (absent_in (types_view types.now) all.now) (below_of (types_view types.now) (type_view expected.now)) (entries_view given.now)) }
+    ensures { OnOk result (row.new.items ≡ row.old.items ++ gathered (types_view types.now) (absent_in (types_view types.now) all.now)
+        (below_of (types_view types.now) (type_view expected.now)) (entries_view given.now)) }
 {
     let type_name = input_object_at(types, expected);
     for field in given {
@@ -211,7 +214,9 @@ fn field_rows(
     types: &Types,
     all: &InputFields<'_>,
 ) -> Result<Vec<Vec<usize>>, NoMemory>
-    ensures { IfOk result (λ rows. row_items rows.items ≡ map (field_leads (types_view types.now) (fields_view all.now.fields.items) (row_items all.now.numbers.items)) (fields_view all.now.fields.items)) }
+    ensures { IfOk result
+        (λ rows. row_items rows.items ≡ map (field_leads (types_view types.now) (fields_view all.now.fields.items) (row_items all.now.numbers.items))
+        (fields_view all.now.fields.items)) }
 {
     let mut rows = Vec::new(alloc);
     for field in &all.fields {

@@ -97,7 +97,10 @@ fn add_inner_faults_of(
     entry: &Entry,
     faults: &mut Vec<Fault>,
 ) -> Result<(), NoMemory>
-    ensures { OnOk result (faults.new.items ≡ faults.old.items ++ (site_faults (types_view types.now) entry.now.file (sites_in (type_system_view entry.now.definition)) ++ default_faults (types_view types.now) entry.now.file (all_inputs (type_system_view entry.now.definition)))) }
+    ensures { OnOk result
+        (faults.new.items ≡ faults.old.items ++
+        (site_faults (types_view types.now) entry.now.file (sites_in (type_system_view entry.now.definition)) ++ default_faults
+        (types_view types.now) entry.now.file (all_inputs (type_system_view entry.now.definition)))) }
 {
     let mut sites = Vec::new(alloc);
     put_sites(&entry.definition, &mut sites)?;

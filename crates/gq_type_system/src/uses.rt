@@ -173,7 +173,8 @@ fn put_uses_of_fields<'a>(
     parts: &'a FieldsAndInterfaces,
     uses: &mut Vec<Use<'a>>,
 ) -> Result<(), NoMemory>
-    ensures { OnOk result (uses_view uses.new.items ≡ uses_view uses.old.items ++ named_uses InterfaceType (map name_of parts.now.interfaces.items) ++ flat_map field_uses (map field_definition_view parts.now.fields.items)) }
+    ensures { OnOk result (uses_view uses.new.items ≡ uses_view uses.old.items ++ named_uses InterfaceType
+        (map name_of parts.now.interfaces.items) ++ flat_map field_uses (map field_definition_view parts.now.fields.items)) }
 {
     put_named_uses(&parts.interfaces, Wants::InterfaceType, uses)?;
     put_field_uses(&parts.fields, uses)

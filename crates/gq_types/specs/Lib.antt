@@ -1,6 +1,7 @@
 pub mod Entries
 pub mod Kinds
 pub mod BuiltIn
+pub mod Typename
 pub mod Joined
 pub mod Names
 pub mod Possible

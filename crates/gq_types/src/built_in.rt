@@ -6,6 +6,7 @@ ghost use Rattle.gq_tree.specs.Plain.{NameOf, TypeOf, named, non_null};
 ghost use Rattle.gq_tree.specs.Views.{name_of, type_view, value_view, input_view};
 ghost use Rattle.gq_tree.specs.declared.type_system.DirectiveLocation.TheVariants as location;
 ghost use Rattle.gq_types.specs.Entries.{entry_view, entries_view};
+ghost use Rattle.gq_types.specs.Typename.{typename_type};
 ghost use Rattle.gq_types.specs.BuiltIn.{nowhere, name, scalar, argument, directive, no_longer_supported, built_in, is_built_in_scalar};
 
 use crate::entry::Entry;
@@ -21,6 +22,13 @@ pub fn is_built_in_scalar(name: &str) -> bool
     ensures { result ≡ is_built_in_scalar name.now }
 {
     name == "Int" || name == "Float" || name == "String" || name == "Boolean" || name == "ID"
+}
+
+/// The type of `__typename` (section 4.4), which is built in too.
+pub(crate) fn typename_type(alloc: Global) -> Result<TypeRef, NoMemory>
+    ensures { IfOk result (λ t. type_view t ≡ typename_type) }
+{
+    non_null_type(alloc, "String")
 }
 
 /// The scalars and directives that are built in.
@@ -138,7 +146,9 @@ fn directive(
 
 /// `@skip` or `@include` (sections 3.13.1 and 3.13.2).
 fn selection_directive(alloc: Global, text: &str) -> Result<Entry, NoMemory>
-    ensures { IfOk result (λ e. entry_view e ≡ directive text.now (argument (codes "if") (non_null (named (name (codes "Boolean")))) None) (location.Field ∷ location.FragmentSpread ∷ location.InlineFragment ∷ [])) }
+    ensures { IfOk result (λ e. entry_view e ≡
+        directive text.now (argument (codes "if") (non_null (named (name (codes "Boolean")))) None)
+        (location.Field ∷ location.FragmentSpread ∷ location.InlineFragment ∷ [])) }
 {
     let type_ref = non_null_type(alloc, "Boolean")?;
     let condition = argument(alloc, "if", type_ref, None)?;
@@ -152,7 +162,9 @@ fn selection_directive(alloc: Global, text: &str) -> Result<Entry, NoMemory>
 
 /// `@deprecated` (section 3.13.3).
 fn deprecated(alloc: Global) -> Result<Entry, NoMemory>
-    ensures { IfOk result (λ e. entry_view e ≡ directive (codes "deprecated") (argument (codes "reason") (named (name (codes "String"))) (Some no_longer_supported)) (location.FieldDefinition ∷ location.EnumValue ∷ location.ArgumentDefinition ∷ location.InputFieldDefinition ∷ [])) }
+    ensures { IfOk result (λ e. entry_view e ≡
+        directive (codes "deprecated") (argument (codes "reason") (named (name (codes "String"))) (Some no_longer_supported))
+        (location.FieldDefinition ∷ location.EnumValue ∷ location.ArgumentDefinition ∷ location.InputFieldDefinition ∷ [])) }
 {
     let type_ref = named_type(alloc, "String")?;
     let default = no_longer_supported(alloc)?;

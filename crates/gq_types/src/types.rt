@@ -1,7 +1,7 @@
 //! The type system of a project.
 ghost use Rattle.std.specs.Prelude.{◌≡◌, ◌++◌, ◌<◌, [], Some, IfOk, IfSome, length, map, option_and_then, slice_get};
 ghost use Rattle.std.specs.Option.{option_map};
-ghost use Rattle.gq_tree.specs.Views.{input_view, field_definition_view};
+ghost use Rattle.gq_tree.specs.Views.{type_view, input_view, field_definition_view};
 ghost use Rattle.gq_types.specs.Arguments.{directive_arguments};
 ghost use Rattle.gq_types.specs.Entries.{entries_view};
 ghost use Rattle.gq_types.specs.BuiltIn.{built_in};
@@ -9,6 +9,7 @@ ghost use Rattle.gq_types.specs.Joined.{type_number, kind_named, directive_numbe
 ghost use Rattle.gq_types.specs.Look.{types_view, owner_at, text_of, field_of, input_of, joined_numbers, directive_of};
 ghost use Rattle.gq_types.specs.LookUps.{field_in, declares_in};
 ghost use Rattle.gq_types.specs.Names.{field_named, input_named, has_value, has_member, declares, directive_named};
+ghost use Rattle.gq_types.specs.Typename.{typename_type};
 ghost use Rattle.gq_types.specs.Required.{is_field_missing};
 ghost use Rattle.gq_types.specs.Helping.RequiredNames.{required_after};
 ghost use Rattle.gq_types.specs.Helping.Index.{arguments_at};
@@ -18,7 +19,7 @@ ghost use Rattle.gq_types.specs.Directives.{stands_at_location};
 ghost use Rattle.gq_types.specs.Helping.Tables.{lists_in, parts_at, stands_at};
 
 use crate::arguments::Arguments;
-use crate::built_in::built_in;
+use crate::built_in::{built_in, typename_type};
 use crate::declarers::declarers_of;
 use crate::definitions::Definitions;
 use crate::entry::{Entry, TypeKind};
@@ -33,6 +34,7 @@ use gq_names::{ByName, NameList};
 use gq_text::NoMemory;
 use gq_tree::{
     DirectiveDefinition, DirectiveLocation, FieldDefinition, InputValueDefinition, OperationKind,
+    TypeRef,
 };
 use std::alloc::Global;
 use std::marker::Model;
@@ -56,6 +58,7 @@ pub struct Types {
     parts: Vec<Parts>,
     declarers: ByName<usize>,
     uses: Uses,
+    typename_type: TypeRef,
 }
 
 impl Model for Types {
@@ -72,7 +75,7 @@ impl Model for Types {
 
     ghost view = { λ t. t.definitions };
 
-    ghost invariant = { λ t. IsIndex (entries_view t.definitions) t.joined.items t.parts.items t.declarers t.uses };
+    ghost invariant = { λ t. IsIndex (entries_view t.definitions) t.joined.items t.parts.items t.declarers t.uses t.typename_type };
 }
 
 impl Types {
@@ -88,12 +91,14 @@ impl Types {
         let declarers = declarers_of(alloc, &parts)?;
         let schema = definitions.schema_number();
         let uses = Uses::of(alloc, definitions.entries(), &joined, schema)?;
+        let typename_type = typename_type(alloc)?;
         Ok(Types {
             definitions,
             joined,
             parts,
             declarers,
             uses,
+            typename_type,
         })
     }
 
@@ -171,6 +176,13 @@ impl Types {
         })
     }
 
+    /// The type of `__typename` (section 4.4), a field of every composite type that no type defines.
+    pub fn typename_type(&self) -> &TypeRef
+        ensures { type_view result.now ≡ typename_type }
+    {
+        &self.typename_type
+    }
+
     /// The input field of that name of an input object (section 3.10).
     pub fn input_field(&self, type_name: &str, name: &str) -> Option<&InputValueDefinition>
         ensures { input_of result ≡ input_named (types_view self.now) type_name.now name.now }
@@ -192,7 +204,9 @@ impl Types {
 
     /// The names of the required input fields of the input object of that name.
     fn required_fields(&self, type_name: &str) -> Option<&NameList>
-        ensures { option_map (λ n. n.now) result ≡ option_map (λ number. required_after [] (map (λ i. i.it) (inputs_of (types_view self.now) number))) (type_number (types_view self.now) type_name.now) }
+        ensures { option_map (λ n. n.now) result ≡
+            option_map (λ number. required_after [] (map (λ i. i.it) (inputs_of (types_view self.now) number)))
+            (type_number (types_view self.now) type_name.now) }
     {
         let number = self.type_number(type_name)?;
         self.uses.required.get(number)
@@ -346,7 +360,9 @@ impl Types {
 
     /// The parts of the type of that name.
     fn parts_named(&self, type_name: &str) -> Option<&Parts>
-        ensures { option_map (λ p. lists_in p.now) result ≡ option_map (λ number. parts_at (types_view self.now) (joined_numbers (types_view self.now) number)) (type_number (types_view self.now) type_name.now) }
+        ensures { option_map (λ p. lists_in p.now) result ≡
+            option_map (λ number. parts_at (types_view self.now) (joined_numbers (types_view self.now) number))
+            (type_number (types_view self.now) type_name.now) }
     {
         let number = self.type_number(type_name)?;
         self.parts.get(number)
@@ -354,7 +370,9 @@ impl Types {
 
     /// The parts of the type with that number.
     fn parts_numbered(&self, number: usize) -> Option<&Parts>
-        ensures { option_map (λ p. lists_in p.now) result ≡ option_map (λ e. parts_at (types_view self.now) (joined_numbers (types_view self.now) number)) (slice_get (types_view self.now) number) }
+        ensures { option_map (λ p. lists_in p.now) result ≡
+            option_map (λ e. parts_at (types_view self.now) (joined_numbers (types_view self.now) number))
+            (slice_get (types_view self.now) number) }
     {
         self.parts.get(number)
     }

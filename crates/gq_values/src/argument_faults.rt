@@ -174,7 +174,8 @@ pub fn add_argument_faults(
     arguments: &[Argument],
     faults: &mut Vec<Fault>,
 ) -> Result<(), NoMemory>
-    ensures { OnOk result (faults.new.items ≡ faults.old.items ++ argument_faults (types_view types.now) file (definitions_view definitions.entry) (name_of name.now) (map argument_view arguments.now)) }
+    ensures { OnOk result (faults.new.items ≡ faults.old.items ++ argument_faults (types_view types.now) file (definitions_view definitions.entry)
+        (name_of name.now) (map argument_view arguments.now)) }
 {
     let mut given = NameList::new(alloc);
     add_repeated_arguments(file, arguments, &mut given, faults)?;

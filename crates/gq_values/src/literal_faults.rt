@@ -186,7 +186,8 @@ fn add_type_faults(
     faults: &mut Vec<Fault>,
 ) -> Result<(), NoMemory>
     requires { names.now ≡ texts (names_in (value_view value.now).label.says (value_view value.now).below) }
-    ensures { OnOk result (faults.new.items ≡ faults.old.items ++ type_faults (types_view types.now) file (expected_view reading.entry) (value_view value.now).label.says (value_view value.now).below) }
+    ensures { OnOk result (faults.new.items ≡ faults.old.items ++ type_faults (types_view types.now) file (expected_view reading.entry)
+        (value_view value.now).label.says (value_view value.now).below) }
 {
     match reading {
         ExpectedType::AtType(type_ref) => {

@@ -7,6 +7,8 @@ use Rattle.gq_tree.specs.declared.tree.OperationKind.TheVariants as kind
 use Rattle.gq_tree.specs.declared.type_system.DirectiveLocation.{DirectiveLocation}
 use Rattle.gq_tree.specs.Plain.{InputOf, TypeSystemOf, schema, type_definition, directive_definition}
 use Rattle.gq_tree.specs.Same.{same_locations}
+use Rattle.gq_tree.specs.declared.types.TypeRef.{TypeRef}
+use Rattle.gq_tree.specs.Views.{type_view}
 use Rattle.gq_types.specs.declared.argument_names.ArgumentNames.{ArgumentNames}
 use Rattle.gq_types.specs.declared.parts.Parts.{Parts}
 use Rattle.gq_types.specs.declared.parts.Place.{Place}
@@ -14,6 +16,7 @@ use Rattle.gq_types.specs.declared.roots.RootNames.{RootNames}
 use Rattle.gq_types.specs.declared.uses.Uses.{Uses}
 use Rattle.gq_types.specs.Directives.{locations_in}
 use Rattle.gq_types.specs.Entries.{Text, EntryOf}
+use Rattle.gq_types.specs.Typename.{typename_type}
 use Rattle.gq_names.specs.UnderNames.{UnderNames, items_under}
 use Rattle.gq_types.specs.Declarers.{declaring_from}
 use Rattle.gq_types.specs.Joined.{fields_in_body, schema_number}
@@ -62,8 +65,9 @@ pub record AreUses (es : List EntryOf) (uses : Uses) : Type 0 where
   pub locations_are : AreLocations es (lists_of uses.locations.items)
   pub roots_are : AreRoots es (joined_numbers es (schema_number es)) uses.roots
 
-pub record IsIndex {Z : Type 0} (es : List EntryOf) (joined : List (Vec ℕ Z)) (parts : List Parts) (declarers : UnderNames ℕ) (uses : Uses) : Type 0 where
+pub record IsIndex {Z : Type 0} (es : List EntryOf) (joined : List (Vec ℕ Z)) (parts : List Parts) (declarers : UnderNames ℕ) (uses : Uses) (of_typename : TypeRef) : Type 0 where
   pub joined_are : AreJoined es (lists_of joined)
   pub parts_are : AreParts es parts
   pub declarers_are : (text : Text) → items_under declarers text ≡ declaring_from 0 (map (λ p. p.interfaces) parts) text
   pub uses_are : AreUses es uses
+  pub typename_type_is : type_view of_typename ≡ typename_type

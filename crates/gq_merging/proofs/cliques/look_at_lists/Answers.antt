@@ -11,11 +11,11 @@ use Rattle.gq_merging.proofs.cliques.look_at_lists.Goals as goal
 pub loop-list-init : goal.loop-list-init
 loop-list-init c = no_lists (look_view c.args.look) (list_with c.args.others.now) c.args.faults.now.items (groups_view c.args.groups.now.items)
 
-pub look_at_list-requires-clause-clique : goal.look_at_list-requires-clause-clique
-look_at_list-requires-clause-clique c =
+pub look_at_list-requires : goal.look_at_list-requires
+look_at_list-requires c =
     let l : c.loop-list.list-index < length c.args.lists.now = search rules in
     let there : Contains c.args.lists.now c.list-item.result = subst (Contains c.args.lists.now) (sym c.list-item.is) (Contains-get_or c.args.lists.now c.loop-list.list-index c.list-item.result l) in
-    subst (λ xs. IsClique (look_view c.args.look) (members_view xs ++ members_view c.args.others.now)) (sym c.deref.ensures.value) (c.requires.cliques c.list-item.result there)
+    record { clique = subst (λ xs. IsClique (look_view c.args.look) (members_view xs ++ members_view c.args.others.now)) (sym c.deref.ensures.value) (c.requires.cliques c.list-item.result there) }
 
 pub loop-list-preserved : goal.loop-list-preserved
 loop-list-preserved c =

@@ -11,12 +11,14 @@ loop-done-init c =
     search_starts (look_view c.args.look) c.args.passed.now c.in_ok-found.found.keys c.args.faults.now.items
     (subst (λ n. Gains (IsStart c.args.passed.now n c.args.look.size (length c.args.passed.now)) [] c.in_ok-found.found.keys) c.requires.passed c.in_ok-found.ensures)
 
-pub look_at_pair-requires-clause-number : goal.look_at_pair-requires-clause-number
-look_at_pair-requires-clause-number c =
+pub look_at_pair-requires : goal.look_at_pair-requires
+look_at_pair-requires c =
     let l : c.loop-done.done < length c.loop-done.found.keys = search rules in
-    subst (λ n. get_or c.as_slice.result.now c.loop-done.done 0 < n) c.requires.size
-    (number_within (look_view c.args.look) c.args.passed.now c.in_ok-found.found.keys c.args.faults.now.items c.loop-done.faults.items c.loop-done.found.keys c.loop-done.done
-    (get_or c.as_slice.result.now c.loop-done.done 0) c.loop-done.invariant l (ap (λ ns. get_or ns c.loop-done.done 0) c.as_slice.ensures.keys))
+    record {
+      number = subst (λ n. get_or c.as_slice.result.now c.loop-done.done 0 < n) c.requires.size
+          (number_within (look_view c.args.look) c.args.passed.now c.in_ok-found.found.keys c.args.faults.now.items c.loop-done.faults.items c.loop-done.found.keys c.loop-done.done
+          (get_or c.as_slice.result.now c.loop-done.done 0) c.loop-done.invariant l (ap (λ ns. get_or ns c.loop-done.done 0) c.as_slice.ensures.keys));
+    }
 
 pub loop-done-smaller : goal.loop-done-smaller
 loop-done-smaller c =

@@ -25,16 +25,18 @@ returns-in_default-with_name c =
     (first_there c.args.list.now c.in-Some.first.now some) none (look_view c.args.look) c.args.faults.now.items c.look_at_class.new.faults.items
     (groups_view c.args.groups.now.items) (groups_view c.look_at_class.new.groups.items) (h t)) c.look_at_class.ensures
 
-pub look_at_class-requires-2-clause-one_key : goal.look_at_class-requires-2-clause-one_key
-look_at_class-requires-2-clause-one_key c =
+pub look_at_class-requires-2 : goal.look_at_class-requires-2
+look_at_class-requires-2 c =
     let some : slice_get c.args.list.now 0 ≡ Some c.in-Some.first.now = search rules in
     let others : members_view c.in-Some-with_name.others.now ≡ fields_with (by_name_view c.args.table.now) (key (field_at c.in-Some.first.now.it)) = search rules in
     let all : members_view c.deref.result.now ≡ members_view c.args.list.now ++ members_view c.in-Some-with_name.others.now =
     ap members_view (c.deref.ensures.value ∙ c.in_ok-extend_from_slice.ensures.items ∙ ap (λ ms. ms ++ c.in-Some-with_name.others.now) c.in_ok-members.ensures.items)
     ∙ map-append member_view c.args.list.now c.in-Some-with_name.others.now in
-    subst AreOfOneKey (sym all)
-    (beside_of_one_key (members_view c.args.list.now) c.requires.one_key (by_name_view c.args.table.now) c.requires.table (member_view c.in-Some.first.now)
-    (first_there c.args.list.now c.in-Some.first.now some) (members_view c.in-Some-with_name.others.now) others)
+    record {
+      one_key = subst AreOfOneKey (sym all)
+          (beside_of_one_key (members_view c.args.list.now) c.requires.one_key (by_name_view c.args.table.now) c.requires.table (member_view c.in-Some.first.now)
+          (first_there c.args.list.now c.in-Some.first.now some) (members_view c.in-Some-with_name.others.now) others);
+    }
 
 pub returns : goal.returns
 returns c = λ t.

@@ -8,9 +8,11 @@ use Rattle.gq_merging.proofs.ClassSearch.{seen, seen_of_one_key}
 use Rattle.gq_merging.proofs.KeptLemmas.{group_table, group_searched}
 use Rattle.gq_merging.proofs.kept.look_at_reached.Goals as goal
 
-pub look_at_classes-requires-clause-one_key : goal.look_at_classes-requires-clause-one_key
-look_at_classes-requires-clause-one_key c list there =
-    seen_of_one_key c.deref-3.result.now (by_name_view c.in_ok-table.table) (ap (map seen) (sym c.deref-3.ensures.value)) (members_view c.deref-2.result.now) c.in_ok-table.ensures list there
+pub look_at_classes-requires : goal.look_at_classes-requires
+look_at_classes-requires c = record {
+  one_key = λ list there.
+      seen_of_one_key c.deref-3.result.now (by_name_view c.in_ok-table.table) (ap (map seen) (sym c.deref-3.ensures.value)) (members_view c.deref-2.result.now) c.in_ok-table.ensures list there;
+}
 
 pub returns-clause-table : goal.returns-clause-table
 returns-clause-table c =

@@ -5,11 +5,11 @@ use Rattle.gq_merging.specs.Helping.Views.{sets_at, rows_view}
 use Rattle.gq_merging.proofs.Worklist.{Listing}
 use Rattle.gq_merging.proofs.rows.all_rows.Given as goal
 
-abbrev pub invariant-loop-alloc : goal.invariant-loop-alloc
-invariant-loop-alloc l = record {
+abbrev pub invariant-loop-project : goal.invariant-loop-project
+invariant-loop-project l = record {
   listing : Listing (executable_view l.executable) (rows_view l.rows.items) (sets_at l.sets.items);
   empty : IsEmptyAt (sets_at l.sets.items) l.empty;
 }
 
-abbrev pub decreases-loop-alloc : goal.decreases-loop-alloc
-decreases-loop-alloc l = weights (drop (length l.rows.items) (sets_at l.sets.items))
+abbrev pub decreases-loop-project : goal.decreases-loop-project
+decreases-loop-project l = weights (drop (length l.rows.items) (sets_at l.sets.items))

@@ -6,4 +6,5 @@ invariant_of-result c = record {
   parts_are = rw c.entries.ensures at c.in_ok-parts.ensures;
   declarers_are = rw c.deref-2.ensures.value at c.in_ok-declarers.ensures;
   uses_are = rw c.entries-2.ensures at c.in_ok-uses.ensures;
+  typename_type_is = c.in_ok-typename_type.ensures;
 }
