@@ -10,6 +10,7 @@ pub mod Directives
 pub mod Views
 pub mod Rewritten
 pub mod Renamed
+pub mod KeyOrder
 pub mod Laws
 pub mod Helping
 pub mod Answered

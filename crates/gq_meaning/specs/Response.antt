@@ -90,7 +90,7 @@ item_at (more r below rest) (suc i) = item_at rest i
 abbrev pub of_key : Text → List Asked → List Asked
 of_key k fields = filter (λ x. bytes_eq k x.key) fields
 
--- the keys in order of first occurrence, those in seen left out
+-- the keys in order of first occurrence, those in seen left out; KeyOrder says it of all keys at once
 abbrev pub keys_after : List Text → List Asked → List Text
 keys_after seen [] = []
 keys_after seen (x ∷ xs) = if list_any (bytes_eq x.key) seen then keys_after seen xs else x.key ∷ keys_after (seen ++ x.key ∷ []) xs

@@ -1,0 +1,3 @@
+pub mod RestsOnFile
+pub mod Files
+pub mod Laws
