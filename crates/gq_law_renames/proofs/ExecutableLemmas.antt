@@ -5,9 +5,8 @@ use Rattle.std.proofs.lemmas.List.{append-nil}
 use Rattle.std.proofs.lemmas.Grind.{flat_map-append}
 use Rattle.gq_text.specs.declared.place.Span.{Span}
 use Rattle.gq_tree.specs.Plain.{Def, TypeSystemOf, operation, fragment, type_system}
-use Rattle.gq_tree.specs.declared.parsed.Parsed.{Parsed}
 use Rattle.gq_types.proofs.Gathered.{first, to_flat}
-use Rattle.gq_tree.specs.Readings.{definitions_read, in_document}
+use Rattle.gq_tree.specs.Readings.{ParsedOf, definitions_read, in_document}
 use Rattle.gq_document.specs.Definitions.{OperationOf, FragmentOf, operation_in, fragment_in, operations_of, fragments_of}
 use Rattle.gq_spreads.proofs.RowLemmas.{stands}
 use Rattle.gq_index.specs.Occurrences.{DefinitionOf, executable_in, executables}
@@ -31,20 +30,20 @@ module _ {A : Type 0} (what : ℕ → Def Span → List A) (nothing : (file : �
       ∙ ap (λ (xs : List A). what file d ++ xs) (in_tree file ds)
 
   -- what the executable definitions are is what the definitions of the documents are
-  in_readings : (file : ℕ) (rs : List Parsed) → flat_map of_definition (executables_from file rs) ≡ flat_map (λ r. in_document what r.0 r.1) (enumerate_from file rs)
+  in_readings : (file : ℕ) (rs : List ParsedOf) → flat_map of_definition (executables_from file rs) ≡ flat_map (λ r. in_document what r.0 r.1) (enumerate_from file rs)
   in_readings file [] = refl
   in_readings file (r ∷ rs) =
       flat_map-append of_definition (in_document executable_in file r) (executables_from (file + 1) rs)
       ∙ ap (λ (xs : List A). xs ++ flat_map of_definition (executables_from (file + 1) rs)) (in_tree file (definitions_read r))
       ∙ ap (λ (xs : List A). in_document what file r ++ xs) (in_readings (file + 1) rs)
 
-pub fragments_same : (readings : List Parsed) → fragments_among (executables readings) ≡ fragments_of readings
+pub fragments_same : (readings : List ParsedOf) → fragments_among (executables readings) ≡ fragments_of readings
 fragments_same readings = in_readings fragment_in (λ file definition. refl) 0 readings
 
-pub operations_same : (readings : List Parsed) → flat_map (λ (d : DefinitionOf). operation_in d.file d.definition) (executables readings) ≡ operations_of readings
+pub operations_same : (readings : List ParsedOf) → flat_map (λ (d : DefinitionOf). operation_in d.file d.definition) (executables readings) ≡ operations_of readings
 operations_same readings = in_readings operation_in (λ file definition. refl) 0 readings
 
-module _ (readings : List Parsed) (d : DefinitionOf) (there : Contains (executables readings) d) where
+module _ (readings : List ParsedOf) (d : DefinitionOf) (there : Contains (executables readings) d) where
   pub operation_there : (o : OperationOf) → Contains (operation_in d.file d.definition) o → Contains (operations_of readings) o
   operation_there o is = subst (λ l. Contains l o) (operations_same readings) (to_flat (λ (e : DefinitionOf). operation_in e.file e.definition) (executables readings) d o there is)
 
@@ -52,10 +51,10 @@ module _ (readings : List Parsed) (d : DefinitionOf) (there : Contains (executab
   fragment_there f is = subst (λ l. Contains l f) (fragments_same readings) (to_flat (λ (e : DefinitionOf). fragment_in e.file e.definition) (executables readings) d f there is)
 
 -- what a number is, is one of all
-pub operation_stands : (readings : List Parsed) (n : ℕ) (o : OperationOf) → IsOperationAt (executables readings) n o → Contains (operations_of readings) o
+pub operation_stands : (readings : List ParsedOf) (n : ℕ) (o : OperationOf) → IsOperationAt (executables readings) n o → Contains (operations_of readings) o
 operation_stands readings n o at =
     operation_there readings at.definition (stands (executables readings) n at.definition at.at) o (subst (λ l. Contains l o) (sym at.is) (first o o [] refl))
 
-pub fragment_stands : (readings : List Parsed) (n : ℕ) (f : FragmentOf) → IsFragmentAt (executables readings) n f → Contains (fragments_of readings) f
+pub fragment_stands : (readings : List ParsedOf) (n : ℕ) (f : FragmentOf) → IsFragmentAt (executables readings) n f → Contains (fragments_of readings) f
 fragment_stands readings n f at =
     fragment_there readings at.definition (stands (executables readings) n at.definition at.at) f (subst (λ l. Contains l f) (sym at.is) (first f f [] refl))

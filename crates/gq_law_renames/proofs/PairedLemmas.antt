@@ -4,9 +4,8 @@ use Rattle.std.specs.List.{enumerate_from}
 use Rattle.std.proofs.lemmas.Grind.{flat_map-append}
 use Rattle.gq_text.specs.declared.place.Span.{Span}
 use Rattle.gq_tree.specs.Plain.{TypeSystemOf, Def, operation, fragment, type_system, erase_document}
-use Rattle.gq_tree.specs.declared.parsed.Parsed.{Parsed}
 use Rattle.gq_types.specs.Entries.{EntryOf}
-use Rattle.gq_tree.specs.Readings.{definitions_read, in_document}
+use Rattle.gq_tree.specs.Readings.{ParsedOf, definitions_read, in_document}
 use Rattle.gq_document.specs.Definitions.{OperationOf, operation_in, fragment_in, operations_of, fragments_of}
 use Rattle.gq_document.specs.Executable.{ExecutableOf}
 use Rattle.gq_index.specs.Occurrences.{DefinitionOf, executable_in, executables}
@@ -19,7 +18,7 @@ use Rattle.gq_law_renames.specs.Helping.Paired.{ArePaired, none, more}
 use Rattle.gq_law_renames.proofs.SameTypes.{first_tree, other_trees}
 
 -- the executable definitions of documents, the first of which has that number
-abbrev executables_from : ℕ → List Parsed → List DefinitionOf
+abbrev executables_from : ℕ → List ParsedOf → List DefinitionOf
 executables_from file rs = flat_map (λ r. in_document executable_in r.0 r.1) (enumerate_from file rs)
 
 after_one : (rule : ℕ → Renaming) (new : Text) (k : ℕ) (ds ds_after : List DefinitionOf) → ArePaired rule new (k + 1) ds ds_after → ArePaired rule new (suc k) ds ds_after
@@ -46,7 +45,7 @@ module _ (rule : ℕ → Renaming) (new : Text) where
       paired_document k file file_after ds ds_after rest rest_after (same_others _ _ _ _ e) h
   paired_document k file file_after (d ∷ ds) (d_after ∷ ds_after) rest rest_after e h = absurd (let f = same_first _ _ _ _ e in cc)
 
-  paired_from : (k file file_after : ℕ) (xs ys : List Parsed) → map erase_document (map definitions_read ys) ≡ rename_trees rule k new (map erase_document (map definitions_read xs)) → ArePaired rule new k (executables_from file xs) (executables_from file_after ys)
+  paired_from : (k file file_after : ℕ) (xs ys : List ParsedOf) → map erase_document (map definitions_read ys) ≡ rename_trees rule k new (map erase_document (map definitions_read xs)) → ArePaired rule new k (executables_from file xs) (executables_from file_after ys)
   paired_from k file file_after [] [] e = none
   paired_from k file file_after [] (y ∷ ys) e = absurd (cc)
   paired_from k file file_after (x ∷ xs) [] e = absurd (cc)
@@ -58,7 +57,7 @@ module _ (rule : ℕ → Renaming) (new : Text) where
       paired_document k file file_after a b (executables_from (file + 1) xs) (executables_from (file_after + 1) ys) (first_tree rule new k a b others others_after e)
       (paired_from (number_behind a k) (file + 1) (file_after + 1) xs ys (other_trees rule new k a b others others_after e))
 
-  pub are_paired : (before after : List Parsed) → map erase_document (map definitions_read after) ≡ rename_trees rule 0 new (map erase_document (map definitions_read before)) → ArePaired rule new 0 (executables before) (executables after)
+  pub are_paired : (before after : List ParsedOf) → map erase_document (map definitions_read after) ≡ rename_trees rule 0 new (map erase_document (map definitions_read before)) → ArePaired rule new 0 (executables before) (executables after)
   are_paired before after e = paired_from 0 0 0 before after e
 
 -- what the definitions of documents are, by their executable definitions
@@ -78,7 +77,7 @@ module _ {A : Type 0} (what : ℕ → Def Span → List A) (skips : (file : ℕ)
       ∙ ap (λ (l : List A). l ++ flat_map Of (flat_map (executable_in file) ds)) (of_definition file d)
       ∙ ap (λ (l : List A). what file d ++ l) (of_document file ds)
 
-  of_readings : (file : ℕ) (rs : List Parsed) → flat_map Of (executables_from file rs) ≡ flat_map (λ r. in_document what r.0 r.1) (enumerate_from file rs)
+  of_readings : (file : ℕ) (rs : List ParsedOf) → flat_map Of (executables_from file rs) ≡ flat_map (λ r. in_document what r.0 r.1) (enumerate_from file rs)
   of_readings file [] = refl
   of_readings file (r ∷ rs) =
       flat_map-append Of (in_document executable_in file r) (executables_from (file + 1) rs)
@@ -89,10 +88,10 @@ module _ {A : Type 0} (what : ℕ → Def Span → List A) (skips : (file : ℕ)
 abbrev pub operations_among : List DefinitionOf → List OperationOf
 operations_among ds = flat_map (λ d. operation_in d.file d.definition) ds
 
-pub operations_are : (rs : List Parsed) → operations_of rs ≡ operations_among (executables rs)
+pub operations_are : (rs : List ParsedOf) → operations_of rs ≡ operations_among (executables rs)
 operations_are rs = sym (of_readings operation_in (λ file one. refl) 0 rs)
 
-pub fragments_are : (rs : List Parsed) → fragments_of rs ≡ fragments_among (executables rs)
+pub fragments_are : (rs : List ParsedOf) → fragments_of rs ≡ fragments_among (executables rs)
 fragments_are rs = sym (of_readings fragment_in (λ file one. refl) 0 rs)
 
 -- what executes the definitions over a type system

@@ -10,7 +10,7 @@ use Rattle.gq_project.specs.declared.document.Doc.{Doc}
 use Rattle.gq_names.specs.Repeats.{IsRepeated}
 use Rattle.gq_fault.specs.declared.code.Code.TheVariants.{UnknownFragment, VariableNotDefined, VariableNotUnique}
 use Rattle.gq_fault.specs.declared.fault.Fault.{Fault}
-use Rattle.gq_tree.specs.declared.parsed.Parsed.{Parsed}
+use Rattle.gq_tree.specs.Readings.{ParsedOf}
 use Rattle.gq_parse.specs.Parsed.{AreParsed}
 use Rattle.gq_types.specs.Entries.{Text, EntryOf}
 use Rattle.gq_types.proofs.Gathered.{nothing_in, first, later, cases_cons}
@@ -48,10 +48,10 @@ search_text {A} text (x ∷ xs) t = by_test (bytes_eq (text x) t) refl (search_t
     ])
 
 -- the executable definitions over a type system
-abbrev pub project_over : List EntryOf → List Parsed → ExecutableOf
+abbrev pub project_over : List EntryOf → List ParsedOf → ExecutableOf
 project_over es readings = record { entries = es; operations = operations_of readings; fragments = fragments_of readings }
 
-module _ (es : List EntryOf) (readings : List Parsed) (no_rule : (item : Fault) → IsRuleFault (project_over es readings) item → ⊥) where
+module _ (es : List EntryOf) (readings : List ParsedOf) (no_rule : (item : Fault) → IsRuleFault (project_over es readings) item → ⊥) where
   -- an operation defines the variables of the uses that it reaches
   defines_used : (o : OperationOf) → Contains (operations_of readings) o → (u : UseOf) → ReachesUse (project_over es readings) o u → DefinesVariable o u.name.text
   defines_used o there u reached = elim (search_text (λ (v : VariableOf Span). v.name.text) o.variables u.name.text) [

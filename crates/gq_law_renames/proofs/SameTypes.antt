@@ -4,17 +4,15 @@ use Rattle.std.specs.Prelude.{flat_map}
 use Rattle.std.specs.List.{AllByRecursion, enumerate_from}
 use Rattle.gq_text.specs.declared.place.Span.{Span}
 use Rattle.gq_tree.specs.Plain.{Def, operation, fragment, type_system, no_place, place_def, erase_document}
-use Rattle.gq_tree.specs.Views.{document_view}
 use Rattle.gq_project.specs.declared.document.Doc.{Doc}
 use Rattle.gq_project.specs.Documents.{IsInOrder}
 use Rattle.gq_parse.specs.Derives.{Derives}
 use Rattle.gq_edit.specs.declared.edit.DocumentEdit.{DocumentEdit}
 use Rattle.gq_edit.specs.Edits.{after_edit}
-use Rattle.gq_tree.specs.declared.parsed.Parsed.{Parsed}
-use Rattle.gq_tree.specs.declared.parsed.Parsed.TheVariants as reading
+use Rattle.gq_tree.specs.Readings as reading
 use Rattle.gq_parse.specs.Parsed.{IsParsed, AreParsed, none, more}
 use Rattle.gq_types.specs.Entries.{EntryOf}
-use Rattle.gq_tree.specs.Readings.{definitions_read, in_document}
+use Rattle.gq_tree.specs.Readings.{ParsedOf, definitions_read, in_document}
 use Rattle.gq_document.specs.Definitions.{entry_in, entries_of}
 use Rattle.gq_parse.proofs.OneReading.{OneTree}
 use Rattle.gq_renamed.specs.Renamings.{Renaming}
@@ -73,10 +71,10 @@ nothing_changed rule k (fragment name on directives set braces place ∷ ds) h =
 nothing_changed rule k (type_system one ∷ ds) h = nothing_changed rule k ds h.1
 
 -- what is read of a text with a tree
-tree_read : OneTree → (text : List ℕ) (r : Parsed) (tree : List (Def Span)) → IsParsed text r → Derives text tree → definitions_read r ≡ tree
-tree_read one_tree text (reading.Tree d) tree p q = one_tree text (document_view d) tree p q
-tree_read one_tree text (reading.Syntax place) tree p q = absurd (p.0 tree q)
-tree_read one_tree text (reading.Limit place) tree p q = absurd (p.0 tree q)
+tree_read : OneTree → (text : List ℕ) (r : ParsedOf) (tree : List (Def Span)) → IsParsed text r → Derives text tree → definitions_read r ≡ tree
+tree_read one_tree text (reading.tree d) tree p q = one_tree text d tree p q
+tree_read one_tree text (reading.syntax place) tree p q = absurd (p.0 tree q)
+tree_read one_tree text (reading.limit place) tree p q = absurd (p.0 tree q)
 
 -- the documents behind are numbered alike, places forgotten
 pub behind_kept : (ds : List (Def Span)) (k : ℕ) → number_behind (erase_document ds) k ≡ number_behind ds k
@@ -94,22 +92,22 @@ other_trees rule new k x y xs ys e =
 
 module _ (one_tree : OneTree) (rule : ℕ → Renaming) (new : Text) where
   -- each document, with what the rename replaces in it
-  parts_of : ℕ → List Doc → List Parsed → List Part
+  parts_of : ℕ → List Doc → List ParsedOf → List Part
   parts_of k [] rs = []
   parts_of k (document ∷ documents) [] = []
   parts_of k (document ∷ documents) (r ∷ rs) = record { document = document; replacements = rename_replacements rule k new (definitions_read r) } ∷ parts_of (number_behind (definitions_read r) k) documents rs
 
-  are_documents : (k : ℕ) {documents : List Doc} {rs : List Parsed} → AreParsed documents rs → documents_of (parts_of k documents rs) ≡ documents
+  are_documents : (k : ℕ) {documents : List Doc} {rs : List ParsedOf} → AreParsed documents rs → documents_of (parts_of k documents rs) ≡ documents
   unfolding parts_of
   are_documents k none = refl
   are_documents k (more {document = document} {one = r} p ps) = ap (λ (ds : List Doc). document ∷ ds) (are_documents (number_behind (definitions_read r) k) ps)
 
-  are_edits : (k : ℕ) {documents : List Doc} {rs : List Parsed} → AreParsed documents rs → edits_of (parts_of k documents rs) ≡ rename_edits rule k new documents (map definitions_read rs)
+  are_edits : (k : ℕ) {documents : List Doc} {rs : List ParsedOf} → AreParsed documents rs → edits_of (parts_of k documents rs) ≡ rename_edits rule k new documents (map definitions_read rs)
   unfolding parts_of
   are_edits k none = refl
   are_edits k (more {document = document} {one = r} p ps) = ap (λ (es : List DocumentEdit). edit_if_any document (rename_replacements rule k new (definitions_read r)) ++ es) (are_edits (number_behind (definitions_read r) k) ps)
 
-  edited_parts : {documents : List Doc} {rs : List Parsed} → IsInOrder documents → AreParsed documents rs → after_edit (rename_edits rule 0 new documents (map definitions_read rs)) documents ≡ map made_in (parts_of 0 documents rs)
+  edited_parts : {documents : List Doc} {rs : List ParsedOf} → IsInOrder documents → AreParsed documents rs → after_edit (rename_edits rule 0 new documents (map definitions_read rs)) documents ≡ map made_in (parts_of 0 documents rs)
   edited_parts {documents} {rs} in_order are =
       let parts = parts_of 0 documents rs in
       let e = are_documents 0 are in
@@ -118,14 +116,14 @@ module _ (one_tree : OneTree) (rule : ℕ → Renaming) (new : Text) where
       ∙ after_parts parts (subst IsInOrder (sym e) in_order)
 
   -- the text of a document of the type system stays
-  text_stays : (k : ℕ) (document : Doc) (x y : Parsed) → Derives document.text (definitions_read x) → AllByRecursion IsOfTypes (definitions_read x) →
+  text_stays : (k : ℕ) (document : Doc) (x y : ParsedOf) → Derives document.text (definitions_read x) → AllByRecursion IsOfTypes (definitions_read x) →
       IsParsed (made_in (record { document = document; replacements = rename_replacements rule k new (definitions_read x) })).text y → definitions_read y ≡ definitions_read x
   text_stays k document x y derives types read =
       let nothing : rename_replacements rule k new (definitions_read x) ≡ [] = ap (replacements_of new) (nothing_changed rule k (definitions_read x) types) in
       let again : IsParsed document.text y = subst (λ rs. IsParsed (made_in (record { document = document; replacements = rs })).text y) nothing read in
       tree_read one_tree document.text y (definitions_read x) again derives
 
-  document_stays : (k file : ℕ) (document : Doc) (x y : Parsed) → Derives document.text (definitions_read x) → IsParsed (made_in (record { document = document; replacements = rename_replacements rule k new (definitions_read x) })).text y →
+  document_stays : (k file : ℕ) (document : Doc) (x y : ParsedOf) → Derives document.text (definitions_read x) → IsParsed (made_in (record { document = document; replacements = rename_replacements rule k new (definitions_read x) })).text y →
       erase_document (definitions_read y) ≡ rename_document rule k new (erase_document (definitions_read x)) → AreOfOneKind (definitions_read x) → in_document entry_in file y ≡ in_document entry_in file x
   document_stays k file document x y derives read e kinds =
       ⊎_elim
@@ -133,7 +131,7 @@ module _ (one_tree : OneTree) (rule : ℕ → Renaming) (new : Text) where
       (λ h. ap (λ (ds : List (Def Span)). flat_map (entry_in file) ds) (text_stays k document x y derives h read))
       kinds
 
-  same_from : (k file : ℕ) (documents : List Doc) (xs ys : List Parsed) → AreParsed documents xs → AreTrees documents (map definitions_read xs) → AreParsed (map made_in (parts_of k documents xs)) ys →
+  same_from : (k file : ℕ) (documents : List Doc) (xs ys : List ParsedOf) → AreParsed documents xs → AreTrees documents (map definitions_read xs) → AreParsed (map made_in (parts_of k documents xs)) ys →
       map erase_document (map definitions_read ys) ≡ rename_trees rule k new (map erase_document (map definitions_read xs)) → AllByRecursion (λ r. AreOfOneKind (definitions_read r)) xs →
       flat_map (λ r. in_document entry_in r.0 r.1) (enumerate_from file ys) ≡ flat_map (λ r. in_document entry_in r.0 r.1) (enumerate_from file xs)
   unfolding parts_of
@@ -148,7 +146,7 @@ module _ (one_tree : OneTree) (rule : ℕ → Renaming) (new : Text) where
       ∙ ap (λ (es : List EntryOf). in_document entry_in file x ++ es)
       (same_from (number_behind (definitions_read x) k) (file + 1) documents xs ys ps ts qs (other_trees rule new k (definitions_read x) (definitions_read y) (map definitions_read xs) (map definitions_read ys) e) h.1)
 
-  pub same_entries : (documents : List Doc) (before after : List Parsed) → IsInOrder documents → AreParsed documents before → AreTrees documents (map definitions_read before) →
+  pub same_entries : (documents : List Doc) (before after : List ParsedOf) → IsInOrder documents → AreParsed documents before → AreTrees documents (map definitions_read before) →
       AreParsed (after_edit (rename_edits rule 0 new documents (map definitions_read before)) documents) after → map erase_document (map definitions_read after) ≡ rename_trees rule 0 new (map erase_document (map definitions_read before)) →
       AllByRecursion (λ r. AreOfOneKind (definitions_read r)) before → entries_of after ≡ entries_of before
   same_entries documents before after in_order are trees are_after e kinds =

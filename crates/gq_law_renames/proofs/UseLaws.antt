@@ -6,15 +6,14 @@ use Rattle.gq_text.specs.declared.place.Span.{Span}
 use Rattle.gq_tree.specs.Forest.{none, more, labels, labels_in}
 use Rattle.gq_tree.specs.Plain.{NameOf, Says, Part, Val, Vals, DirectiveOf, VariableOf, InputOf, Head, Sels, Def, variable, int, float, string, boolean, null, enum, list, object, field, spread, inline, operation, fragment, type_system}
 use Rattle.gq_project.specs.declared.document.Doc.{Doc}
-use Rattle.gq_tree.specs.declared.parsed.Parsed.{Parsed}
-use Rattle.gq_tree.specs.declared.parsed.Parsed.TheVariants as reading
+use Rattle.gq_tree.specs.Readings as reading
 use Rattle.gq_parse.specs.Parsed.{IsParsed, AreParsed}
 use Rattle.gq_parse.specs.Parsed as readings
 use Rattle.gq_types.specs.Entries.{Text, EntryOf}
 use Rattle.gq_types.specs.Arguments.{directive_arguments}
 use Rattle.gq_types.specs.Roots.{root_of}
 use Rattle.gq_types.proofs.Gathered.{nothing_in, first, later, only, cases_cons, from_flat, to_flat}
-use Rattle.gq_tree.specs.Readings.{definitions_read, in_document}
+use Rattle.gq_tree.specs.Readings.{ParsedOf, definitions_read, in_document}
 use Rattle.gq_document.specs.Definitions.{OperationOf, FragmentOf, operation_in, fragment_in}
 use Rattle.gq_document.specs.Selections.{SelectedOf, parent_below, IsSelectionWithin, IsOfOperation, IsOfFragment}
 use Rattle.gq_document.specs.Selections as selections
@@ -257,12 +256,12 @@ tree_keyed : (file : ℕ) (tree : List (Def Span)) → AllByRecursion KeyedDef t
 tree_keyed file [] h = tt
 tree_keyed file (d ∷ ds) h = all_append (λ e. KeyedDef e.definition) (executable_in file d) (flat_map (executable_in file) ds) (keyed_one file d h.0) (tree_keyed file ds h.1)
 
-reading_keyed : (text : List ℕ) (r : Parsed) → IsParsed text r → AllByRecursion KeyedDef (definitions_read r)
-reading_keyed text (reading.Tree d) p = document_keyed p.derived
-reading_keyed text (reading.Syntax place) p = tt
-reading_keyed text (reading.Limit place) p = tt
+reading_keyed : (text : List ℕ) (r : ParsedOf) → IsParsed text r → AllByRecursion KeyedDef (definitions_read r)
+reading_keyed text (reading.tree d) p = document_keyed p.derived
+reading_keyed text (reading.syntax place) p = tt
+reading_keyed text (reading.limit place) p = tt
 
-project_keyed : (file : ℕ) (documents : List Doc) (rs : List Parsed) → AreParsed documents rs → AllByRecursion (λ e. KeyedDef e.definition) (flat_map (λ r. in_document executable_in r.0 r.1) (enumerate_from file rs))
+project_keyed : (file : ℕ) (documents : List Doc) (rs : List ParsedOf) → AreParsed documents rs → AllByRecursion (λ e. KeyedDef e.definition) (flat_map (λ r. in_document executable_in r.0 r.1) (enumerate_from file rs))
 project_keyed file documents [] p = tt
 project_keyed file [] (r ∷ rs) p = elim p [ ]
 project_keyed file (document ∷ documents) (r ∷ rs) (readings.more p ps) =

@@ -9,11 +9,10 @@ use Rattle.gq_tree.specs.Plain.{VariableOf, TypeSystemOf}
 use Rattle.gq_project.specs.declared.document.Doc.{Doc}
 use Rattle.gq_fault.specs.declared.code.Code.TheVariants.{MixedFile}
 use Rattle.gq_fault.specs.declared.fault.Fault.{Fault}
-use Rattle.gq_tree.specs.declared.parsed.Parsed.{Parsed}
 use Rattle.gq_parse.specs.Parsed.{AreParsed}
 use Rattle.gq_fault.specs.FaultPlaces.{fault_over}
 use Rattle.gq_type_system.specs.DefinedTwice.{definition_place}
-use Rattle.gq_tree.specs.Readings.{definitions_read}
+use Rattle.gq_tree.specs.Readings.{ParsedOf, definitions_read}
 use Rattle.gq_document.specs.Definitions.{OperationOf}
 use Rattle.gq_index.specs.Occurrences.{executables}
 use Rattle.gq_index.specs.VariableGroups.{IsOperationAt}
@@ -27,7 +26,7 @@ use Rattle.gq_law_renames.proofs.Promises.{NothingIsDemanded}
 use Rattle.gq_law_renames.specs.Helping.Paired.{VariablesAreDefined, SpreadsAreDefined}
 use Rattle.gq_law_renames.proofs.RuleLemmas.{defines_variables, defines_spreads, one_place}
 
-module _ (nothing : NothingIsDemanded) (documents : List Doc) (readings : List Parsed) (valid : ∥ IsValid documents ∥₁) (are : AreParsed documents readings) where
+module _ (nothing : NothingIsDemanded) (documents : List Doc) (readings : List ParsedOf) (valid : ∥ IsValid documents ∥₁) (are : AreParsed documents readings) where
   -- nothing is demanded, so no rule finds anything
   pub none_demanded : (item : Fault) → IsFaultOf readings item → ⊥
   none_demanded item demanded = not_there valid (λ v. nothing documents v readings are item demanded)
@@ -47,7 +46,7 @@ module _ (nothing : NothingIsDemanded) (documents : List Doc) (readings : List P
   variable_names_differ = one_place (type_system_of readings) readings no_rule
 
   -- no document has an operation or a fragment beside a definition of the type system
-  pub no_document_is_mixed : (n : ℕ) (reading : Parsed) → slice_get readings n ≡ Some reading → list_any is_executable (definitions_read reading) ≡ true → first_of_type_system (definitions_read reading) ≡ None
+  pub no_document_is_mixed : (n : ℕ) (reading : ParsedOf) → slice_get readings n ≡ Some reading → list_any is_executable (definitions_read reading) ≡ true → first_of_type_system (definitions_read reading) ≡ None
   no_document_is_mixed n reading at executable = by_first (first_of_type_system (definitions_read reading)) refl
     where
       by_first : (o : Option (TypeSystemOf Span)) → first_of_type_system (definitions_read reading) ≡ o → o ≡ None

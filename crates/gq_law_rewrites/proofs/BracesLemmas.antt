@@ -10,13 +10,12 @@ use Rattle.gq_parse.specs.Grammar as grammar
 use Rattle.gq_parse.specs.Grammar.{Tokens, IsSelection, a_field, a_spread, an_inline, IsOptionalSet, no_set, a_set, IsSelectionSet, IsSelections, set_closed, selection, IsOperationDefinition, bare, typed, IsFragmentDefinition, fragment_on}
 use Rattle.gq_parse.specs.Documents.{IsDefinition, an_operation, a_fragment, a_type_system_definition, IsDocument, at_end, definition}
 use Rattle.gq_project.specs.declared.document.Doc.{Doc}
-use Rattle.gq_tree.specs.declared.parsed.Parsed.{Parsed}
-use Rattle.gq_tree.specs.declared.parsed.Parsed.TheVariants as reading
+use Rattle.gq_tree.specs.Readings as reading
 use Rattle.gq_parse.specs.Parsed as readings
 use Rattle.gq_parse.specs.Parsed.{IsParsed, AreParsed}
 use Rattle.gq_types.proofs.Gathered.{nothing_in, only, from_flat, cases_cons}
 use Rattle.gq_types.specs.Entries.{Text, EntryOf}
-use Rattle.gq_tree.specs.Readings.{definitions_read, in_document}
+use Rattle.gq_tree.specs.Readings.{ParsedOf, definitions_read, in_document}
 use Rattle.gq_document.specs.Definitions.{OperationOf, FragmentOf, operation_in, fragment_in, operations_of, fragments_of}
 use Rattle.gq_document.specs.Selections.{SelectedOf, IsSelectionWithin, here, within, after, IsSelected, of_operation, of_fragment}
 use Rattle.gq_law_rewrites.specs.Braces.{holds_any, IsBraced}
@@ -64,12 +63,12 @@ document_braced : {ds : List (Def Span)} {tokens : Tokens} → IsDocument ds tok
 document_braced at_end = tt
 document_braced (definition a one others) = (definition_braced one, document_braced others)
 
-reading_braced : (text : List ℕ) (r : Parsed) → IsParsed text r → AllByRecursion IsBracedIn (definitions_read r)
-reading_braced text (reading.Tree document) derives = document_braced derives.derived
-reading_braced text (reading.Syntax place) fault = tt
-reading_braced text (reading.Limit place) fault = tt
+reading_braced : (text : List ℕ) (r : ParsedOf) → IsParsed text r → AllByRecursion IsBracedIn (definitions_read r)
+reading_braced text (reading.tree document) derives = document_braced derives.derived
+reading_braced text (reading.syntax place) fault = tt
+reading_braced text (reading.limit place) fault = tt
 
-readings_braced : {documents : List Doc} {rs : List Parsed} → AreParsed documents rs → AllByRecursion (λ r. AllByRecursion IsBracedIn (definitions_read r)) rs
+readings_braced : {documents : List Doc} {rs : List ParsedOf} → AreParsed documents rs → AllByRecursion (λ r. AllByRecursion IsBracedIn (definitions_read r)) rs
 readings_braced readings.none = tt
 readings_braced (readings.more {document = document} {one = one} is are) = (reading_braced document.text one is, readings_braced are)
 
@@ -82,8 +81,8 @@ each_one P (y ∷ ys) x h c = elim (cases_cons y x ys c) [
 ]
 
 -- a definition of a kind stands in one of the documents
-stands_in : {A : Type 0} (what : ℕ → Def Span → List A) (P : Parsed → Type 0) (k : ℕ) (rs : List Parsed) (x : A) → AllByRecursion P rs → Contains (flat_map (λ r. in_document what r.0 r.1) (enumerate_from k rs)) x →
-    (file : ℕ) × (r : Parsed) × P r × Contains (in_document what file r) x
+stands_in : {A : Type 0} (what : ℕ → Def Span → List A) (P : ParsedOf → Type 0) (k : ℕ) (rs : List ParsedOf) (x : A) → AllByRecursion P rs → Contains (flat_map (λ r. in_document what r.0 r.1) (enumerate_from k rs)) x →
+    (file : ℕ) × (r : ParsedOf) × P r × Contains (in_document what file r) x
 stands_in what P k [] x h c = nothing_in x c
 stands_in what P k (r ∷ rs) x h c = elim (Contains-append_cases (in_document what k r) (flat_map (λ r. in_document what r.0 r.1) (enumerate_from (k + 1) rs)) x c) [
   | inl a ↦ (k, r, h.0, a)
@@ -104,13 +103,13 @@ fragment_of_definition file (fragment name on directives set braces place) f h c
     subst (λ (p : FragmentOf). AreBraced p.set) (sym same) h
 fragment_of_definition file (type_system one) f h c = nothing_in f c
 
-pub operations_braced : {documents : List Doc} {rs : List Parsed} → AreParsed documents rs → (o : OperationOf) → Contains (operations_of rs) o → AreBraced o.set
+pub operations_braced : {documents : List Doc} {rs : List ParsedOf} → AreParsed documents rs → (o : OperationOf) → Contains (operations_of rs) o → AreBraced o.set
 operations_braced {rs = rs} are o c =
     let r = stands_in operation_in (λ r. AllByRecursion IsBracedIn (definitions_read r)) 0 rs o (readings_braced are) c in
     let d = from_flat (operation_in r.0) (definitions_read r.1) o r.3 in
     operation_of_definition r.0 d.0 o (each_one IsBracedIn (definitions_read r.1) d.0 r.2 d.1) d.2
 
-pub fragments_braced : {documents : List Doc} {rs : List Parsed} → AreParsed documents rs → (f : FragmentOf) → Contains (fragments_of rs) f → AreBraced f.set
+pub fragments_braced : {documents : List Doc} {rs : List ParsedOf} → AreParsed documents rs → (f : FragmentOf) → Contains (fragments_of rs) f → AreBraced f.set
 fragments_braced {rs = rs} are f c =
     let r = stands_in fragment_in (λ r. AllByRecursion IsBracedIn (definitions_read r)) 0 rs f (readings_braced are) c in
     let d = from_flat (fragment_in r.0) (definitions_read r.1) f r.3 in
@@ -122,6 +121,6 @@ braced_within here braced = braced.0
 braced_within (within s) braced = braced_within s braced.1
 braced_within (after s) braced = braced_within s braced.2
 
-pub selected_braced : {documents : List Doc} {rs : List Parsed} → AreParsed documents rs → (es : List EntryOf) (s : SelectedOf) → IsSelected es (operations_of rs) (fragments_of rs) s → IsBraced s.selection.label s.selection.below
+pub selected_braced : {documents : List Doc} {rs : List ParsedOf} → AreParsed documents rs → (es : List EntryOf) (s : SelectedOf) → IsSelected es (operations_of rs) (fragments_of rs) s → IsBraced s.selection.label s.selection.below
 selected_braced are es s (of_operation {o = o} there is) = braced_within is.1 (operations_braced are o there)
 selected_braced are es s (of_fragment {f = f} there is) = braced_within is.1 (fragments_braced are f there)

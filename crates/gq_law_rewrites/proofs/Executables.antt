@@ -8,8 +8,7 @@ use Rattle.gq_tree.specs.Plain.{Sels, Def, operation, fragment, type_system}
 use Rattle.gq_types.specs.Entries.{Text, EntryOf}
 use Rattle.gq_types.specs.Roots.{root_of}
 use Rattle.gq_types.proofs.Gathered.{first, later, cases_cons, from_flat, to_flat}
-use Rattle.gq_tree.specs.declared.parsed.Parsed.{Parsed}
-use Rattle.gq_tree.specs.Readings.{definitions_read, in_document}
+use Rattle.gq_tree.specs.Readings.{ParsedOf, definitions_read, in_document}
 use Rattle.gq_document.specs.Definitions.{OperationOf, FragmentOf, operation_in, fragment_in, operations_of, fragments_of}
 use Rattle.gq_document.specs.Selections.{SelectedOf, IsSelectionWithin, IsSelected, of_operation, of_fragment}
 use Rattle.gq_meaning.specs.Selected.{set_of}
@@ -22,7 +21,7 @@ use Rattle.gq_law_rewrites.proofs.Located.{in_all}
 use Rattle.gq_law_rewrites.proofs.Parents.{each_standing, typed_parents}
 use Rattle.gq_law_rewrites.specs.Statics.{static_of, roots_in, seen_fragment, seen_operation}
 
-abbrev pub trees_read : List Parsed → List (List (Def Span))
+abbrev pub trees_read : List ParsedOf → List (List (Def Span))
 trees_read readings = map definitions_read readings
 
 -- the fragments and the operations
@@ -32,14 +31,14 @@ fragments_here file (operation kind name variables directives set braces place �
 fragments_here file (fragment name on directives set braces place ∷ ds) = ap (λ z. record { name = name.text; on = on.text; set = set_of set } ∷ z) (fragments_here file ds)
 fragments_here file (type_system definition ∷ ds) = fragments_here file ds
 
-fragments_from : (file : ℕ) (rs : List Parsed) → documents.definitions_of (trees_read rs) ≡ map seen_fragment (flat_map (λ r. in_document fragment_in r.0 r.1) (enumerate_from file rs))
+fragments_from : (file : ℕ) (rs : List ParsedOf) → documents.definitions_of (trees_read rs) ≡ map seen_fragment (flat_map (λ r. in_document fragment_in r.0 r.1) (enumerate_from file rs))
 fragments_from file [] = refl
 fragments_from file (r ∷ rs) =
     ap (λ z. z ++ documents.definitions_of (trees_read rs)) (fragments_here file (definitions_read r))
     ∙ ap (λ z. map seen_fragment (in_document fragment_in file r) ++ z) (fragments_from (file + 1) rs)
     ∙ sym (map-append seen_fragment (in_document fragment_in file r) (flat_map (λ x. in_document fragment_in x.0 x.1) (enumerate_from (file + 1) rs)))
 
-pub fragments_seen : (readings : List Parsed) → documents.definitions_of (trees_read readings) ≡ map seen_fragment (fragments_of readings)
+pub fragments_seen : (readings : List ParsedOf) → documents.definitions_of (trees_read readings) ≡ map seen_fragment (fragments_of readings)
 fragments_seen readings = fragments_from 0 readings
 
 operations_here : (file : ℕ) (ds : List (Def Span)) → documents.operations_in ds ≡ map seen_operation (flat_map (operation_in file) ds)
@@ -49,14 +48,14 @@ operations_here file (operation kind name variables directives set braces place 
 operations_here file (fragment name on directives set braces place ∷ ds) = operations_here file ds
 operations_here file (type_system definition ∷ ds) = operations_here file ds
 
-operations_from : (file : ℕ) (rs : List Parsed) → documents.operations_of (trees_read rs) ≡ map seen_operation (flat_map (λ r. in_document operation_in r.0 r.1) (enumerate_from file rs))
+operations_from : (file : ℕ) (rs : List ParsedOf) → documents.operations_of (trees_read rs) ≡ map seen_operation (flat_map (λ r. in_document operation_in r.0 r.1) (enumerate_from file rs))
 operations_from file [] = refl
 operations_from file (r ∷ rs) =
     ap (λ z. z ++ documents.operations_of (trees_read rs)) (operations_here file (definitions_read r))
     ∙ ap (λ z. map seen_operation (in_document operation_in file r) ++ z) (operations_from (file + 1) rs)
     ∙ sym (map-append seen_operation (in_document operation_in file r) (flat_map (λ x. in_document operation_in x.0 x.1) (enumerate_from (file + 1) rs)))
 
-pub operations_seen : (readings : List Parsed) → documents.operations_of (trees_read readings) ≡ map seen_operation (operations_of readings)
+pub operations_seen : (readings : List ParsedOf) → documents.operations_of (trees_read readings) ≡ map seen_operation (operations_of readings)
 operations_seen readings = operations_from 0 readings
 
 -- a reading by its number
@@ -73,17 +72,17 @@ contains x [] m = absurd m
 contains x (y ∷ ys) (inl e) = first y x ys (sym e)
 contains x (y ∷ ys) (inr m) = later y x ys (contains x ys m)
 
-record Numbered (n : ℕ) (rs : List Parsed) (p : ℕ × Parsed) : Type 0 where
+record Numbered (n : ℕ) (rs : List ParsedOf) (p : ℕ × ParsedOf) : Type 0 where
   index : ℕ
   number : p.0 ≡ n + index
   there : slice_get rs index ≡ Some p.1
 
-numbered : (n : ℕ) (rs : List Parsed) (p : ℕ × Parsed) → IsIn p (enumerate_from n rs) → Numbered n rs p
+numbered : (n : ℕ) (rs : List ParsedOf) (p : ℕ × ParsedOf) → IsIn p (enumerate_from n rs) → Numbered n rs p
 numbered n [] p m = absurd m
 numbered n (r ∷ rs) p (inl e) = record { index = 0; number = let q : p.0 ≡ n = ap (λ z. z.0) e in omega (arith, q); there = ap (λ z. Some z.1) (sym e) }
 numbered n (r ∷ rs) p (inr m) = let i = numbered (n + 1) rs p m in record { index = suc i.index; number = omega (arith, i.number); there = i.there }
 
-pub in_numbers : (n : ℕ) (rs : List Parsed) (k : ℕ) (r : Parsed) → slice_get rs k ≡ Some r → Contains (enumerate_from n rs) (n + k, r)
+pub in_numbers : (n : ℕ) (rs : List ParsedOf) (k : ℕ) (r : ParsedOf) → slice_get rs k ≡ Some r → Contains (enumerate_from n rs) (n + k, r)
 in_numbers n [] k r e = cc
 in_numbers n (x ∷ rs) zero r e =
     let same : x ≡ r = cc in
@@ -93,17 +92,17 @@ in_numbers n (x ∷ rs) (suc k) r e =
     let number : n + 1 + k ≡ n + suc k = omega arith in
     later (n, x) (n + suc k, r) (enumerate_from (n + 1) rs) (subst (λ z. Contains (enumerate_from (n + 1) rs) (z, r)) number (in_numbers (n + 1) rs k r e))
 
-map_at : (rs : List Parsed) (k : ℕ) (r : Parsed) → slice_get rs k ≡ Some r → slice_get (trees_read rs) k ≡ Some (definitions_read r)
+map_at : (rs : List ParsedOf) (k : ℕ) (r : ParsedOf) → slice_get rs k ≡ Some r → slice_get (trees_read rs) k ≡ Some (definitions_read r)
 map_at [] k r e = cc
 map_at (x ∷ rs) zero r e = let same : x ≡ r = cc in ap (λ z. Some (definitions_read z)) same
 map_at (x ∷ rs) (suc k) r e = map_at rs k r e
 
-pub record ReadAs (rs : List Parsed) (k : ℕ) (tree : List (Def Span)) : Type 0 where
-  pub reading : Parsed
+pub record ReadAs (rs : List ParsedOf) (k : ℕ) (tree : List (Def Span)) : Type 0 where
+  pub reading : ParsedOf
   pub there : slice_get rs k ≡ Some reading
   pub is : definitions_read reading ≡ tree
 
-pub read_as : (rs : List Parsed) (k : ℕ) (tree : List (Def Span)) → slice_get (trees_read rs) k ≡ Some tree → ReadAs rs k tree
+pub read_as : (rs : List ParsedOf) (k : ℕ) (tree : List (Def Span)) → slice_get (trees_read rs) k ≡ Some tree → ReadAs rs k tree
 read_as [] k tree e = cc
 read_as (x ∷ rs) zero tree e = record { reading = x; there = refl; is = cc }
 read_as (x ∷ rs) (suc k) tree e = let i = read_as rs k tree e in record { reading = i.reading; there = i.there; is = i.is }
@@ -133,9 +132,9 @@ operation_from file (operation kind name variables directives set braces place) 
 operation_from file (fragment name on directives set braces place) o m = absurd m
 operation_from file (type_system definition) o m = absurd m
 
-module _ (readings : List Parsed) where
+module _ (readings : List ParsedOf) where
   -- what the documents define stands in their trees
-  fragment_in_document : (f : FragmentOf) (p : ℕ × Parsed) (d : Def Span) → Contains (enumerate_from 0 readings) p → Contains (definitions_read p.1) d → Contains (fragment_in p.0 d) f → StandsIn (trees_read readings) f.file (fragment_def f)
+  fragment_in_document : (f : FragmentOf) (p : ℕ × ParsedOf) (d : Def Span) → Contains (enumerate_from 0 readings) p → Contains (definitions_read p.1) d → Contains (fragment_in p.0 d) f → StandsIn (trees_read readings) f.file (fragment_def f)
   fragment_in_document f p d a b c =
       let i = numbered 0 readings p (is_in p (enumerate_from 0 readings) a) in
       let q = fragment_from p.0 d f (is_in f (fragment_in p.0 d) c) in
@@ -148,11 +147,11 @@ module _ (readings : List Parsed) where
 
   pub fragment_stands : (f : FragmentOf) → Contains (fragments_of readings) f → StandsIn (trees_read readings) f.file (fragment_def f)
   fragment_stands f c =
-      let a = from_flat (λ (r : ℕ × Parsed). in_document fragment_in r.0 r.1) (enumerate_from 0 readings) f c in
+      let a = from_flat (λ (r : ℕ × ParsedOf). in_document fragment_in r.0 r.1) (enumerate_from 0 readings) f c in
       let b = from_flat (fragment_in a.0.0) (definitions_read a.0.1) f a.2 in
       fragment_in_document f a.0 b.0 a.1 b.1 b.2
 
-  operation_in_document : (o : OperationOf) (p : ℕ × Parsed) (d : Def Span) → Contains (enumerate_from 0 readings) p → Contains (definitions_read p.1) d → Contains (operation_in p.0 d) o → StandsIn (trees_read readings) o.file (operation_def o)
+  operation_in_document : (o : OperationOf) (p : ℕ × ParsedOf) (d : Def Span) → Contains (enumerate_from 0 readings) p → Contains (definitions_read p.1) d → Contains (operation_in p.0 d) o → StandsIn (trees_read readings) o.file (operation_def o)
   operation_in_document o p d a b c =
       let i = numbered 0 readings p (is_in p (enumerate_from 0 readings) a) in
       let q = operation_from p.0 d o (is_in o (operation_in p.0 d) c) in
@@ -165,7 +164,7 @@ module _ (readings : List Parsed) where
 
   pub operation_stands : (o : OperationOf) → Contains (operations_of readings) o → StandsIn (trees_read readings) o.file (operation_def o)
   operation_stands o c =
-      let a = from_flat (λ (r : ℕ × Parsed). in_document operation_in r.0 r.1) (enumerate_from 0 readings) o c in
+      let a = from_flat (λ (r : ℕ × ParsedOf). in_document operation_in r.0 r.1) (enumerate_from 0 readings) o c in
       let b = from_flat (operation_in a.0.0) (definitions_read a.0.1) o a.2 in
       operation_in_document o a.0 b.0 a.1 b.1 b.2
 
@@ -185,14 +184,14 @@ module _ (readings : List Parsed) where
       let r = read_as readings k tree e in
       by k r.reading d (in_numbers 0 readings k r.reading r.there) (contains d (definitions_read r.reading) (subst (IsIn d) (sym r.is) m)))
     where
-      by : (k : ℕ) (r : Parsed) (d : Def Span) → Contains (enumerate_from 0 readings) (0 + k, r) → Contains (definitions_read r) d → OfSet roots (IsSo (0 + k)) d
+      by : (k : ℕ) (r : ParsedOf) (d : Def Span) → Contains (enumerate_from 0 readings) (0 + k, r) → Contains (definitions_read r) d → OfSet roots (IsSo (0 + k)) d
       by k r (operation kind name variables directives set braces place) a b =
           let o : OperationOf = record { file = 0 + k; kind = kind; name = name; variables = variables; directives = directives; set = set; braces = braces; place = place } in
-          operations o (to_flat (λ (x : ℕ × Parsed). in_document operation_in x.0 x.1) (enumerate_from 0 readings) (0 + k, r) o a
+          operations o (to_flat (λ (x : ℕ × ParsedOf). in_document operation_in x.0 x.1) (enumerate_from 0 readings) (0 + k, r) o a
           (to_flat (operation_in (0 + k)) (definitions_read r) (operation kind name variables directives set braces place) o b (first o o [] refl)))
       by k r (fragment name on directives set braces place) a b =
           let f : FragmentOf = record { file = 0 + k; name = name; on = on; directives = directives; set = set; braces = braces; place = place } in
-          fragments f (to_flat (λ (x : ℕ × Parsed). in_document fragment_in x.0 x.1) (enumerate_from 0 readings) (0 + k, r) f a
+          fragments f (to_flat (λ (x : ℕ × ParsedOf). in_document fragment_in x.0 x.1) (enumerate_from 0 readings) (0 + k, r) f a
           (to_flat (fragment_in (0 + k)) (definitions_read r) (fragment name on directives set braces place) f b (first f f [] refl)))
       by k r (type_system definition) a b = tt
 

@@ -10,8 +10,7 @@ use Rattle.gq_tree.specs.Plain as tree
 use Rattle.gq_tree.specs.Plain.{Sels, Def, operation, fragment, type_system}
 use Rattle.gq_types.proofs.Gathered.{first, to_flat}
 use Rattle.gq_types.specs.Entries.{Text}
-use Rattle.gq_tree.specs.declared.parsed.Parsed.{Parsed}
-use Rattle.gq_tree.specs.Readings.{definitions_read, in_document}
+use Rattle.gq_tree.specs.Readings.{ParsedOf, definitions_read, in_document}
 use Rattle.gq_document.specs.Definitions.{FragmentOf, fragment_in, fragments_of}
 use Rattle.gq_meaning.specs.Selected.{set_of}
 use Rattle.gq_meaning.specs.Acyclic.{SpreadsBelow}
@@ -67,7 +66,7 @@ goes_there false c e = cc
 same_number : (m n : ℕ) → nat_eq m n ≡ true → m ≡ n
 same_number m n e = grind (arith, nat_tests)
 
-module _ (readings : List Parsed) (roots : OperationKind → Text) (f : FragmentOf) (stands : Contains (fragments_of readings) f) (document : HasDocument (trees_read readings) f.file)
+module _ (readings : List ParsedOf) (roots : OperationKind → Text) (f : FragmentOf) (stands : Contains (fragments_of readings) f) (document : HasDocument (trees_read readings) f.file)
     (unique : (g : FragmentOf) → Contains (fragments_of readings) g → g.name.text ≡ f.name.text → g ≡ f) where
   abbrev dropped : Option DefinitionPlace
   dropped = Some (record { file = f.file; place = f.place })
@@ -107,7 +106,7 @@ module _ (readings : List Parsed) (roots : OperationKind → Text) (f : Fragment
   comes_back k tree (fragment name on directives set braces place) e m h =
       let r = read_as readings k tree e in
       let g : FragmentOf = record { file = 0 + k; name = name; on = on; directives = directives; set = set; braces = braces; place = place } in
-      let c = to_flat (λ (x : ℕ × Parsed). in_document fragment_in x.0 x.1) (enumerate_from 0 readings) (0 + k, r.reading) g (in_numbers 0 readings k r.reading r.there)
+      let c = to_flat (λ (x : ℕ × ParsedOf). in_document fragment_in x.0 x.1) (enumerate_from 0 readings) (0 + k, r.reading) g (in_numbers 0 readings k r.reading r.there)
       (to_flat (fragment_in (0 + k)) (definitions_read r.reading) (fragment name on directives set braces place) g
       (contains (fragment name on directives set braces place) (definitions_read r.reading) (subst (IsIn (fragment name on directives set braces place)) (sym r.is) m)) (first g g [] refl)) in
       let named : name.text ≡ f.name.text = cc in

@@ -4,7 +4,7 @@ use Rattle.std.specs.Prelude.{if◌then◌else◌}
 use Rattle.std.specs.Str.{bytes_eq}
 use Rattle.gq_types.specs.Entries.{Text, EntryOf}
 use Rattle.gq_types.proofs.Gathered.{first, later, cases_cons}
-use Rattle.gq_tree.specs.declared.parsed.Parsed.{Parsed}
+use Rattle.gq_tree.specs.Readings.{ParsedOf}
 use Rattle.gq_document.specs.Definitions.{FragmentOf, fragments_of}
 use Rattle.gq_document.specs.Selections.{SelectedOf, parent_below}
 use Rattle.gq_meaning.specs.Expand.{find_definition}
@@ -37,7 +37,7 @@ is_called f (g ∷ fs) c unique = by (bytes_eq f.name.text g.name.text) refl (ca
     by false e (inl q) next = let t : bytes_eq f.name.text g.name.text ≡ true = text_same f.name.text g.name.text (ap (λ z. z.name.text) (sym q)) in cc
     by false e (inr d) next = ap (λ z. if z then Some (seen_fragment g) else find_definition (map seen_fragment fs) f.name.text) e ∙ next d
 
-module _ (readings : List Parsed) where
+module _ (readings : List ParsedOf) where
   -- no fragment of a project has the name
   pub name_free : (name : Text) → ((f : FragmentOf) → Contains (fragments_of readings) f → f.name.text ≡ name → ⊥) → find_definition (definitions_of (trees_read readings)) name ≡ None
   name_free name free = subst (λ ds. find_definition ds name ≡ None) (sym (fragments_seen readings)) (none_called name (fragments_of readings) free)

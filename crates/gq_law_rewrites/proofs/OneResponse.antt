@@ -1,7 +1,7 @@
 -- A project has one response to each request: its texts have one tree each, and an operation over them has one response.
 use Rattle.std.proofs.Common.{◌≡◌, List, ◌++◌, Option, Some, None, refl, sym, ◌∙◌, ap, subst}
 use Rattle.gq_project.specs.declared.document.Doc.{Doc}
-use Rattle.gq_tree.specs.declared.parsed.Parsed.{Parsed}
+use Rattle.gq_tree.specs.Readings.{ParsedOf}
 use Rattle.gq_parse.specs.Parsed.{AreParsed}
 use Rattle.gq_types.specs.Entries.{EntryOf}
 use Rattle.gq_types.specs.BuiltIn.{built_in}
@@ -30,7 +30,7 @@ none_some a None p q = cc
 none_some a (Some b) p q = cc
 
 -- the definitions of documents are the same by all readings
-same_executable : OneTree → (documents : List Doc) (xs ys : List Parsed) → AreParsed documents xs → AreParsed documents ys → executable_of xs ≡ executable_of ys
+same_executable : OneTree → (documents : List Doc) (xs ys : List ParsedOf) → AreParsed documents xs → AreParsed documents ys → executable_of xs ≡ executable_of ys
 same_executable one_tree documents xs ys p q =
     let make : List EntryOf → List OperationOf → List FragmentOf → ExecutableOf = λ es os fs. record { entries = es; operations = os; fragments = fs } in
     ap (λ es. make (built_in ++ es) (operations_of xs) (fragments_of xs)) (same_in_documents one_tree entry_in documents xs ys p q)

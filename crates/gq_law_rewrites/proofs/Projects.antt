@@ -9,11 +9,10 @@ use Rattle.gq_tree.specs.Plain as tree
 use Rattle.gq_tree.specs.Plain.{NameOf, DirectiveOf, Head, Sel, Sels, Def, operation, fragment, type_system}
 use Rattle.gq_project.specs.declared.document.Doc.{Doc}
 use Rattle.gq_types.specs.Entries.{Text, EntryOf}
-use Rattle.gq_tree.specs.declared.parsed.Parsed.{Parsed}
-use Rattle.gq_tree.specs.declared.parsed.Parsed.TheVariants as reading
+use Rattle.gq_tree.specs.Readings as reading
 use Rattle.gq_parse.specs.Parsed as readings
 use Rattle.gq_parse.specs.Parsed.{IsParsed, AreParsed}
-use Rattle.gq_tree.specs.Readings.{definitions_read}
+use Rattle.gq_tree.specs.Readings.{ParsedOf, definitions_read}
 use Rattle.gq_document.specs.Definitions.{OperationOf, FragmentOf, operations_of, fragments_of}
 use Rattle.gq_document.specs.Selections.{SelectedOf, of_operation, of_fragment}
 use Rattle.gq_meaning.specs.Expand.{find_definition}
@@ -37,17 +36,17 @@ use Rattle.gq_law_rewrites.proofs.Named.{name_is}
 use Rattle.gq_law_rewrites.proofs.Goes.{goes, ranked_other}
 
 -- each tree of a project is in place
-tree_in_place : (document : Doc) (one : Parsed) → IsParsed document.text one → AreInPlace 0 (definitions_read one)
-tree_in_place document (reading.Tree d) h = trees_are_in_place document.text (definitions_read (reading.Tree d)) h
-tree_in_place document (reading.Syntax place) h = tt
-tree_in_place document (reading.Limit place) h = tt
+tree_in_place : (document : Doc) (one : ParsedOf) → IsParsed document.text one → AreInPlace 0 (definitions_read one)
+tree_in_place document (reading.tree d) h = trees_are_in_place document.text (definitions_read (reading.tree d)) h
+tree_in_place document (reading.syntax place) h = tt
+tree_in_place document (reading.limit place) h = tt
 
-pub project_in_place : {ds : List Doc} {rs : List Parsed} → AreParsed ds rs → (file : ℕ) (tree : List (Def Span)) → slice_get (trees_read rs) file ≡ Some tree → AreInPlace 0 tree
+pub project_in_place : {ds : List Doc} {rs : List ParsedOf} → AreParsed ds rs → (file : ℕ) (tree : List (Def Span)) → slice_get (trees_read rs) file ≡ Some tree → AreInPlace 0 tree
 project_in_place readings.none file tree e = cc
 project_in_place (readings.more {document} {one} h rest) zero tree e = let same : definitions_read one ≡ tree = cc in subst (AreInPlace 0) same (tree_in_place document one h)
 project_in_place (readings.more h rest) (suc file) tree e = project_in_place rest file tree e
 
-module _ (docs : List Doc) (rs : List Parsed) (are : AreParsed docs rs) (es : List EntryOf) (rooted : Rooted rs es) (known : (s : SelectedOf) → Selected rs es s → (p : Text) × (s.parent ≡ Some p))
+module _ (docs : List Doc) (rs : List ParsedOf) (are : AreParsed docs rs) (es : List EntryOf) (rooted : Rooted rs es) (known : (s : SelectedOf) → Selected rs es s → (p : Text) × (s.parent ≡ Some p))
     (defined : (s : SelectedOf) → Selected rs es s → IsSpreadDefined (definitions_of (trees_read rs)) s.selection.label) where
   abbrev static : Static
   static = static_of es

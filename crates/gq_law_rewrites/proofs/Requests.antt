@@ -8,7 +8,7 @@ use Rattle.gq_text.specs.declared.place.Span.{Span}
 use Rattle.gq_tree.specs.declared.tree.OperationKind.{OperationKind}
 use Rattle.gq_tree.specs.Plain.{NameOf, no_place, place_name, erase_document}
 use Rattle.gq_types.specs.Entries.{EntryOf}
-use Rattle.gq_tree.specs.declared.parsed.Parsed.{Parsed}
+use Rattle.gq_tree.specs.Readings.{ParsedOf}
 use Rattle.gq_document.specs.Definitions.{OperationOf, operations_of, fragments_of}
 use Rattle.gq_document.specs.Executable.{ExecutableOf}
 use Rattle.gq_table.specs.Rows.{RowOf}
@@ -56,20 +56,20 @@ same_name name (Some n) (Some m) e =
     ap (bytes_eq name) (sym same)
 
 -- the executable definitions over a type system
-abbrev pub project_over : List EntryOf → List Parsed → ExecutableOf
+abbrev pub project_over : List EntryOf → List ParsedOf → ExecutableOf
 project_over es readings = record { entries = es; operations = operations_of readings; fragments = fragments_of readings }
 
 -- what is known of a project of these types
-abbrev pub AreRanked : List Parsed → Type 0
+abbrev pub AreRanked : List ParsedOf → Type 0
 AreRanked rs = (o : OperationOf) → Contains (operations_of rs) o → Rankable (map definition_of (fragments_of rs)) (set_of o.set)
 
 abbrev pub HaveSubtypes : List EntryOf → Type 0
 HaveSubtypes es = (rows : List RowOf) (values : Values) → HasSubtypes (static_of es) (given_in es rows values)
 
-abbrev pub HaveOneName : List EntryOf → List Parsed → Type 0
+abbrev pub HaveOneName : List EntryOf → List ParsedOf → Type 0
 HaveOneName es rs = (o : OperationOf) → Contains (operations_of rs) o → (rows : List RowOf) (values : Values) → NamesAgree (given_in es rows values) (map definition_of (fragments_of rs)) (root (roots_in es o.kind) (set_of o.set))
 
-module _ (es : List EntryOf) (bs rs : List Parsed) (restates : Restates (static_of es) (roots_in es) (trees_read bs) (map erase_document (trees_read rs))) where
+module _ (es : List EntryOf) (bs rs : List ParsedOf) (restates : Restates (static_of es) (roots_in es) (trees_read bs) (map erase_document (trees_read rs))) where
   abbrev Becomes : OperationOf → OperationOf → Type 0
   Becomes o p = OperationBecomes (static_of es) (definitions_of (trees_read bs)) (definitions_of (trees_read rs)) (roots_in es) (seen_operation o) (erase_operation (seen_operation p))
 

@@ -5,7 +5,7 @@ use Rattle.gq_tree.specs.Plain.{erase_document}
 use Rattle.gq_types.specs.BuiltIn.{built_in}
 use Rattle.gq_types.specs.Entries.{EntryOf}
 use Rattle.gq_project.specs.declared.document.Doc.{Doc}
-use Rattle.gq_tree.specs.declared.parsed.Parsed.{Parsed}
+use Rattle.gq_tree.specs.Readings.{ParsedOf}
 use Rattle.gq_parse.specs.Parsed.{AreParsed}
 use Rattle.gq_document.specs.Definitions.{OperationOf, entries_of, operations_of, fragments_of}
 use Rattle.gq_document.specs.Executable.{ExecutableOf}
@@ -35,22 +35,22 @@ Ranked x = (o : OperationOf) → Contains x.operations o → Rankable (map defin
 abbrev Agree : ExecutableOf → Type 0
 Agree x = (o : OperationOf) → Contains x.operations o → (rows : List RowOf) (values : Values) → OperationAgrees x o rows values
 
-over_types : (es : List EntryOf) (bs rs : List Parsed) → Restates (static_of es) (roots_in es) (trees_read bs) (map erase_document (trees_read rs)) → Ranked (project_over es bs) → Ranked (project_over es rs) → HaveSubtypes es → Agree (project_over es bs) →
+over_types : (es : List EntryOf) (bs rs : List ParsedOf) → Restates (static_of es) (roots_in es) (trees_read bs) (map erase_document (trees_read rs)) → Ranked (project_over es bs) → Ranked (project_over es rs) → HaveSubtypes es → Agree (project_over es bs) →
     (rows : List RowOf) (name : Option Text) (raw : Values) (response : ResponseOf) → IsResponse (project_over es bs) rows name raw response → IsResponse (project_over es rs) rows name raw response
 over_types es bs rs restates ranked ranked' subtypes agree rows name raw response h =
     responses_stay es bs rs restates ranked ranked' subtypes (λ o c rows values. agree o c rows values (subtypes rows values)) rows name raw h
 
 -- the same of what is equal to these
-over_equal : (x y : ExecutableOf) (es : List EntryOf) (bs rs : List Parsed) → x ≡ project_over es bs → y ≡ project_over es rs → Restates (static_of es) (roots_in es) (trees_read bs) (map erase_document (trees_read rs)) → Ranked x → Ranked y → HaveSubtypes es → Agree x →
+over_equal : (x y : ExecutableOf) (es : List EntryOf) (bs rs : List ParsedOf) → x ≡ project_over es bs → y ≡ project_over es rs → Restates (static_of es) (roots_in es) (trees_read bs) (map erase_document (trees_read rs)) → Ranked x → Ranked y → HaveSubtypes es → Agree x →
     (rows : List RowOf) (name : Option Text) (raw : Values) (response : ResponseOf) → IsResponse x rows name raw response → IsResponse y rows name raw response
 over_equal x y es bs rs e f restates ranked ranked' subtypes agree rows name raw response h =
     subst (λ (z : ExecutableOf). IsResponse z rows name raw response) (sym f)
     (over_types es bs rs restates (subst Ranked e ranked) (subst Ranked f ranked') subtypes (subst Agree e agree) rows name raw response (subst (λ (z : ExecutableOf). IsResponse z rows name raw response) e h))
 
-project_is : (rs : List Parsed) (es : List EntryOf) → type_system_of rs ≡ es → executable_of rs ≡ project_over es rs
+project_is : (rs : List ParsedOf) (es : List EntryOf) → type_system_of rs ≡ es → executable_of rs ≡ project_over es rs
 project_is rs es e = ap (λ (x : List EntryOf). let y : ExecutableOf = record { entries = x; operations = operations_of rs; fragments = fragments_of rs } in y) e
 
-one_way : FragmentsAreRanked → ObjectsHaveSubtypes → NamesAgreeInValid → (documents edited : List Doc) → ∥ IsValid documents ∥₁ → ∥ IsValid edited ∥₁ → (bs rs : List Parsed) → AreParsed documents bs → AreParsed edited rs → entries_of bs ≡ entries_of rs →
+one_way : FragmentsAreRanked → ObjectsHaveSubtypes → NamesAgreeInValid → (documents edited : List Doc) → ∥ IsValid documents ∥₁ → ∥ IsValid edited ∥₁ → (bs rs : List ParsedOf) → AreParsed documents bs → AreParsed edited rs → entries_of bs ≡ entries_of rs →
     Restates (static_of (type_system_of bs)) (roots_in (type_system_of bs)) (trees_read bs) (map erase_document (trees_read rs)) →
     (rows : List RowOf) (name : Option Text) (raw : Values) (response : ResponseOf) → IsResponse (executable_of bs) rows name raw response → IsResponse (executable_of rs) rows name raw response
 one_way ranked subtypes agree documents edited valid valid' bs rs are are' same restates rows name raw response h =
@@ -59,7 +59,7 @@ one_way ranked subtypes agree documents edited valid valid' bs rs are are' same 
     over_equal (executable_of bs) (executable_of rs) es bs rs (project_is bs es refl) (project_is rs es types) restates (ranked documents valid bs are) (ranked edited valid' rs are') (subtypes documents valid bs are) (agree documents valid bs are) rows name raw response h
 
 -- A response after is the one that the response before became, since there is no other.
-other_way : RequestsHaveAResponse → RequestsHaveOneResponse → (documents edited : List Doc) → ∥ IsValid documents ∥₁ → (bs rs : List Parsed) → AreParsed documents bs → AreParsed edited rs → (rows : List RowOf) (name : Option Text) (raw : Values) →
+other_way : RequestsHaveAResponse → RequestsHaveOneResponse → (documents edited : List Doc) → ∥ IsValid documents ∥₁ → (bs rs : List ParsedOf) → AreParsed documents bs → AreParsed edited rs → (rows : List RowOf) (name : Option Text) (raw : Values) →
     ((response : ResponseOf) → IsResponse (executable_of bs) rows name raw response → IsResponse (executable_of rs) rows name raw response) →
     (response : ResponseOf) → IsResponse (executable_of rs) rows name raw response → IsResponse (executable_of bs) rows name raw response
 other_way have one documents edited valid bs rs are are' rows name raw there response h =

@@ -6,7 +6,7 @@ use Rattle.gq_tree.specs.Forest.{more, row}
 use Rattle.gq_tree.specs.Plain.{Head, Sel, Sels, Def}
 use Rattle.gq_types.specs.Entries.{Text, EntryOf}
 use Rattle.gq_types.specs.Roots.{root_of}
-use Rattle.gq_tree.specs.declared.parsed.Parsed.{Parsed}
+use Rattle.gq_tree.specs.Readings.{ParsedOf}
 use Rattle.gq_document.specs.Definitions.{OperationOf, FragmentOf, operations_of, fragments_of}
 use Rattle.gq_document.specs.Selections.{SelectedOf, IsSelectionWithin, of_operation, of_fragment}
 use Rattle.gq_meaning.specs.Selected.{set_of}
@@ -38,7 +38,7 @@ pub record BeginsIn (static : Static) (roots : OperationKind → Text) (tree : L
   pub rest : Sels Span
   pub ends : EndsSetIn static roots tree parent (more s.selection.label s.selection.below rest)
 
-module _ (readings : List Parsed) (es : List EntryOf) where
+module _ (readings : List ParsedOf) (es : List EntryOf) where
   abbrev static : Static
   static = static_of es
 

@@ -2,7 +2,7 @@
 -- under one response key have one name.
 use Rattle.std.specs.Prelude.{List, Contains}
 use Rattle.gq_project.specs.declared.document.Doc.{Doc}
-use Rattle.gq_tree.specs.declared.parsed.Parsed.{Parsed}
+use Rattle.gq_tree.specs.Readings.{ParsedOf}
 use Rattle.gq_parse.specs.Parsed.{AreParsed}
 use Rattle.gq_document.specs.Definitions.{OperationOf}
 use Rattle.gq_document.specs.Executable.{ExecutableOf}
@@ -25,5 +25,5 @@ OperationAgrees x o rows values =
 
 -- So it is for each operation of a valid project.
 abbrev pub NamesAgreeInValid : Type 0
-NamesAgreeInValid = (documents : List Doc) → ∥ IsValid documents ∥₁ → (readings : List Parsed) → AreParsed documents readings →
+NamesAgreeInValid = (documents : List Doc) → ∥ IsValid documents ∥₁ → (readings : List ParsedOf) → AreParsed documents readings →
     (o : OperationOf) → Contains (executable_of readings).operations o → (rows : List RowOf) (values : Values) → OperationAgrees (executable_of readings) o rows values

@@ -4,7 +4,7 @@ use Rattle.gq_text.specs.declared.place.Span.{Span}
 use Rattle.gq_tree.specs.Forest.{none, more}
 use Rattle.gq_tree.specs.Plain.{Head, field, spread, inline, Sels}
 use Rattle.gq_project.specs.declared.document.Doc.{Doc}
-use Rattle.gq_tree.specs.declared.parsed.Parsed.{Parsed}
+use Rattle.gq_tree.specs.Readings.{ParsedOf}
 use Rattle.gq_parse.specs.Parsed.{AreParsed}
 use Rattle.gq_document.specs.Selections.{SelectedOf}
 use Rattle.gq_document.specs.Executable.{Selects}
@@ -23,4 +23,4 @@ IsBraced (inline on directives braces place) below = holds_any below ≡ true
 
 -- of each project, valid or not
 abbrev pub SelectionsStandInBraces : Type 0
-SelectionsStandInBraces = (documents : List Doc) (readings : List Parsed) → AreParsed documents readings → (s : SelectedOf) → Selects (executable_of readings) s → IsBraced s.selection.label s.selection.below
+SelectionsStandInBraces = (documents : List Doc) (readings : List ParsedOf) → AreParsed documents readings → (s : SelectedOf) → Selects (executable_of readings) s → IsBraced s.selection.label s.selection.below

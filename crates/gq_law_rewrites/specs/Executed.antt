@@ -1,7 +1,7 @@
 -- The response to an operation of a project, by its documents (section 6.1).
 use Rattle.std.specs.Prelude.{◌≡◌, List, Option}
 use Rattle.gq_project.specs.declared.document.Doc.{Doc}
-use Rattle.gq_tree.specs.declared.parsed.Parsed.{Parsed}
+use Rattle.gq_tree.specs.Readings.{ParsedOf}
 use Rattle.gq_parse.specs.Parsed.{AreParsed}
 use Rattle.gq_rules.specs.Project.{executable_of}
 use Rattle.gq_table.specs.Rows.{RowOf}
@@ -12,7 +12,7 @@ use Rattle.gq_executor.specs.Operations.{IsResponse}
 -- the response to the operation of that name, or to the only one, over a table of these rows, where raw are the values
 -- that are given for its variables
 pub record IsExecuted (documents : List Doc) (rows : List RowOf) (name : Option Text) (raw : Values) (response : ResponseOf) : Type 0 where
-  pub readings : List Parsed
+  pub readings : List ParsedOf
   pub are_readings : AreParsed documents readings
   pub is_response : IsResponse (executable_of readings) rows name raw response
 

@@ -5,7 +5,7 @@ use Rattle.std.proofs.lemmas.Grind.{not_there}
 use Rattle.gq_project.specs.declared.document.Doc.{Doc}
 use Rattle.gq_edit.specs.declared.edit.DocumentEdit.{DocumentEdit}
 use Rattle.gq_edit.specs.Edits.{FitDocuments, after_edit, is_too_large}
-use Rattle.gq_tree.specs.declared.parsed.Parsed.{Parsed}
+use Rattle.gq_tree.specs.Readings.{ParsedOf}
 use Rattle.gq_parse.specs.Parsed.{AreParsed}
 use Rattle.gq_index.specs.Occurrences.{DefinitionOf, executables}
 use Rattle.gq_renamed.specs.Names.{IsNameText}
@@ -38,7 +38,7 @@ may_name_each {old = old} new (variables {group = group} is) may = may_name grou
 abbrev pub ask_of : List ℕ → ℕ → List ℕ → RenameAsk
 ask_of key offset new = record { key = key; offset = offset; new = new }
 
-module _ (documents : List Doc) (rs : List Parsed) (key : List ℕ) (offset : ℕ) (new : List ℕ) (are : AreParsed documents rs) (valid : ∥ IsValid documents ∥₁) where
+module _ (documents : List Doc) (rs : List ParsedOf) (key : List ℕ) (offset : ℕ) (new : List ℕ) (are : AreParsed documents rs) (valid : ∥ IsValid documents ∥₁) where
   abbrev Refused : Refusal → Type 0
   Refused = Refuses documents rs (ask_of key offset new)
 

@@ -8,8 +8,7 @@ use Rattle.gq_tree.specs.Forest.{labels, labels_in}
 use Rattle.gq_tree.specs.Plain.{NameOf, Says, Part, Val, DirectiveOf, VariableOf, Head, Sels, Def, variable, int, float, string, boolean, null, enum, list, object, field, spread, inline, operation, fragment, type_system}
 use Rattle.gq_project.specs.declared.document.Doc.{Doc}
 use Rattle.gq_project.specs.Documents.{has_key}
-use Rattle.gq_tree.specs.declared.parsed.Parsed.{Parsed}
-use Rattle.gq_tree.specs.Readings.{definitions_read}
+use Rattle.gq_tree.specs.Readings.{ParsedOf, definitions_read}
 use Rattle.gq_index.specs.Occurrences.{DefinitionOf, executable_in, executables}
 use Rattle.gq_renamed.specs.Renamed.{next_number}
 use Rattle.gq_renamed.specs.Projects.{number_behind}
@@ -125,7 +124,7 @@ count_in j k (operation kind name variables directives set braces place ∷ ds) 
 count_in j k (fragment name on directives set braces place ∷ ds) rest = let h = count_in j (k + 1) ds rest in omega (arith, h)
 count_in j k (type_system one ∷ ds) rest = count_in j k ds rest
 
-project_below : (key : List ℕ) (j k : ℕ) (documents : List Doc) (rs : List Parsed) → AllByRecursion (Below (length (executables_from j rs) + k)) (renameables_of key k documents (trees_of rs))
+project_below : (key : List ℕ) (j k : ℕ) (documents : List Doc) (rs : List ParsedOf) → AllByRecursion (Below (length (executables_from j rs) + k)) (renameables_of key k documents (trees_of rs))
 project_below key j k [] rs = tt
 project_below key j k (document ∷ documents) [] = tt
 project_below key j k (document ∷ documents) (r ∷ rs) = by (has_key key document) (project_below key (j + 1) (number_behind (definitions_read r) k) documents rs)
@@ -172,7 +171,7 @@ target_in most offset ms t h e = by (meant offset ms) refl e
     by (Some m) f g = subst (λ (n : ℕ). n < most) (in_definition m t g) (meant_in (Below most) offset ms m h f)
 
 -- the definition of a target is one of the project
-pub target_below : (documents : List Doc) (rs : List Parsed) (key : List ℕ) (offset : ℕ) (t : Target) → target_of documents rs key offset ≡ Some t → t.definition < length (executables rs)
+pub target_below : (documents : List Doc) (rs : List ParsedOf) (key : List ℕ) (offset : ℕ) (t : Target) → target_of documents rs key offset ≡ Some t → t.definition < length (executables rs)
 target_below documents rs key offset t e =
     let h = target_in (length (executables_from 0 rs) + 0) offset (renameables_of key 0 documents (trees_of rs)) t (project_below key 0 0 documents rs) e in
     omega (arith, h)

@@ -10,3 +10,12 @@ mod Answering
 mod Offering
 mod Soundness
 mod Responding
+pub mod Solid
+pub mod Whole
+pub mod WholeTokens
+pub mod EditsOfParts
+mod LeadingBack
+pub mod OneOffer
+mod OneRename
+mod SomeGroup
+pub mod SomeOffer

@@ -8,10 +8,9 @@ use Rattle.gq_text.specs.declared.place.Span.{Span}
 use Rattle.gq_tree.specs.Plain.{Def, operation, fragment, type_system}
 use Rattle.gq_project.specs.declared.document.Doc.{Doc}
 use Rattle.gq_project.specs.Documents.{has_key}
-use Rattle.gq_tree.specs.declared.parsed.Parsed.{Parsed}
 use Rattle.gq_parse.specs.Parsed.{IsParsed, AreParsed}
 use Rattle.gq_parse.specs.Parsed as readings
-use Rattle.gq_tree.specs.Readings.{definitions_read}
+use Rattle.gq_tree.specs.Readings.{ParsedOf, definitions_read}
 use Rattle.gq_index.specs.Occurrences.{DefinitionOf, executable_in, definition_places}
 use Rattle.gq_renamed.specs.Projects.{number_behind}
 use Rattle.gq_cut.proofs.FragmentCut.{executables_from}
@@ -34,7 +33,7 @@ none_in file j less (fragment name on directives set braces place ∷ ds) rest e
     ap (λ (b : Bool). cond b (1 + before file (flat_map (executable_in j) ds ++ rest)) 0) t
 none_in file j less (type_system one ∷ ds) rest e = none_in file j less ds rest e
 
-none_before : (file j : ℕ) → file ≤ j → (rs : List Parsed) → before file (executables_from j rs) ≡ 0
+none_before : (file j : ℕ) → file ≤ j → (rs : List ParsedOf) → before file (executables_from j rs) ≡ 0
 none_before file j less [] = refl
 none_before file j less (r ∷ rs) = none_in file j less (definitions_read r) (executables_from (j + 1) rs) (none_before file (j + 1) (omega arith) rs)
 
@@ -52,21 +51,21 @@ all_in file j k less (fragment name on directives set braces place ∷ ds) rest 
 all_in file j k less (type_system one ∷ ds) rest = all_in file j k less ds rest
 
 -- how many stand in the documents before the one at `i`, of documents of which the first has the number `j`
-before_here : (j k : ℕ) (rs : List Parsed) → before (0 + j) (executables_from j rs) + k ≡ k
+before_here : (j k : ℕ) (rs : List ParsedOf) → before (0 + j) (executables_from j rs) + k ≡ k
 before_here j k rs = let e = none_before (0 + j) j (omega arith) rs in omega (arith, e)
 
-before_next : (i j k : ℕ) (r : Parsed) (rs : List Parsed) → before (suc i + j) (executables_from j (r ∷ rs)) + k ≡ before (i + (j + 1)) (executables_from (j + 1) rs) + number_behind (definitions_read r) k
+before_next : (i j k : ℕ) (r : ParsedOf) (rs : List ParsedOf) → before (suc i + j) (executables_from j (r ∷ rs)) + k ≡ before (i + (j + 1)) (executables_from (j + 1) rs) + number_behind (definitions_read r) k
 before_next i j k r rs =
     let e : suc i + j ≡ i + (j + 1) = omega arith in
     all_in (suc i + j) j k (omega arith) (definitions_read r) (executables_from (j + 1) rs) ∙ ap (λ (file : ℕ). before file (executables_from (j + 1) rs) + number_behind (definitions_read r) k) e
 
 -- what is read of the document at a place, and that what can be renamed under its key is what can be renamed in it
-pub record ReadAt (key : List ℕ) (i j k : ℕ) (documents : List Doc) (rs : List Parsed) (document : Doc) : Type 0 where
-  pub one : Parsed
+pub record ReadAt (key : List ℕ) (i j k : ℕ) (documents : List Doc) (rs : List ParsedOf) (document : Doc) : Type 0 where
+  pub one : ParsedOf
   pub is_reading : IsParsed document.text one
   pub same : renameables_of key k documents (trees_of rs) ≡ renameables (before (i + j) (executables_from j rs) + k) (definitions_read one)
 
-pub read_at : (key : List ℕ) (i j k : ℕ) (documents : List Doc) (rs : List Parsed) (document : Doc) → AreParsed documents rs → position_or_len (has_key key) documents ≡ i → slice_get documents i ≡ Some document → ReadAt key i j k documents rs document
+pub read_at : (key : List ℕ) (i j k : ℕ) (documents : List Doc) (rs : List ParsedOf) (document : Doc) → AreParsed documents rs → position_or_len (has_key key) documents ≡ i → slice_get documents i ≡ Some document → ReadAt key i j k documents rs document
 read_at key i j k [] rs document p e at = absurd (cc)
 read_at key i j k (first ∷ documents) [] document p e at = elim p [ ]
 read_at key i j k (first ∷ documents) (r ∷ rs) document (readings.more p ps) e at = by (has_key key first) refl e (λ n there. read_at key n (j + 1) (number_behind (definitions_read r) k) documents rs document ps there)
@@ -96,7 +95,7 @@ read_at key i j k (first ∷ documents) (r ∷ rs) document (readings.more p ps)
         }
 
 -- under a key that no document has nothing can be renamed
-pub read_nowhere : (key : List ℕ) (k : ℕ) (documents : List Doc) (rs : List Parsed) → AreParsed documents rs → length documents ≤ position_or_len (has_key key) documents → renameables_of key k documents (trees_of rs) ≡ []
+pub read_nowhere : (key : List ℕ) (k : ℕ) (documents : List Doc) (rs : List ParsedOf) → AreParsed documents rs → length documents ≤ position_or_len (has_key key) documents → renameables_of key k documents (trees_of rs) ≡ []
 read_nowhere key k [] rs p past = refl
 read_nowhere key k (first ∷ documents) [] p past = elim p [ ]
 read_nowhere key k (first ∷ documents) (r ∷ rs) (readings.more p ps) past = by (has_key key first) refl past (read_nowhere key (number_behind (definitions_read r) k) documents rs ps)

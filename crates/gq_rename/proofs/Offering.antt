@@ -8,7 +8,7 @@ use Rattle.gq_project.specs.declared.document.Doc.{Doc}
 use Rattle.gq_project.specs.Documents.{IsInOrder}
 use Rattle.gq_edit.specs.declared.edit.DocumentEdit.{DocumentEdit}
 use Rattle.gq_edit.specs.Edits.{FitDocuments, is_moved}
-use Rattle.gq_tree.specs.declared.parsed.Parsed.{Parsed}
+use Rattle.gq_tree.specs.Readings.{ParsedOf}
 use Rattle.gq_parse.specs.Parsed.{AreParsed}
 use Rattle.gq_index.specs.declared.index.Index.{Index}
 use Rattle.gq_index.specs.Indexed.{IsIndexOf, IsIndexOfProject}
@@ -51,21 +51,21 @@ no_memory documents key offset new result e = inl e
 
 -- nothing is at the offset
 pub nothing_there : (listed documents : List Doc) (index : Index) (key : List ℕ) (offset : ℕ) (new : List ℕ) → listed ≡ documents → IsIndexOfProject listed index → ∥ IsValid documents ∥₁ →
-    ((rs : List Parsed) → AreParsed listed rs → None ≡ target_of listed rs key offset) → Answer documents key offset new (Err NothingHere)
+    ((rs : List ParsedOf) → AreParsed listed rs → None ≡ target_of listed rs key offset) → Answer documents key offset new (Err NothingHere)
 nothing_there listed documents index key offset new same i valid none =
     let V : List Doc → Type 0 = λ ds. ∥ IsValid ds ∥₁ in
     let A : List Doc → Type 0 = λ ds. Answer ds key offset new (Err NothingHere) in
     subst A same (inr (nothing_here listed i.of_documents.readings key offset new i.of_documents.are_readings (subst V (sym same) valid) (sym (none i.of_documents.readings i.of_documents.are_readings))))
 
 -- something is: then what answers its rename answers the ask
-pub something_there : (listed documents : List Doc) (index : Index) (key : List ℕ) (offset : ℕ) (t : Target) → listed ≡ documents → IsIndexOfProject listed index → ((rs : List Parsed) → AreParsed listed rs → Some t ≡ target_of listed rs key offset) → IsTarget documents key offset t
+pub something_there : (listed documents : List Doc) (index : Index) (key : List ℕ) (offset : ℕ) (t : Target) → listed ≡ documents → IsIndexOfProject listed index → ((rs : List ParsedOf) → AreParsed listed rs → Some t ≡ target_of listed rs key offset) → IsTarget documents key offset t
 something_there listed documents index key offset t same i some =
     let T : List Doc → Type 0 = λ ds. IsTarget ds key offset t in
     subst T same (record { readings = i.of_documents.readings; are_readings = i.of_documents.are_readings; here = sym (some i.of_documents.readings i.of_documents.are_readings) })
 
 module _ (one_list : OneList) (listed documents : List Doc) (same : listed ≡ documents) (index : Index) (i : IsIndexOfProject documents index) (valid : ∥ IsValid documents ∥₁) where
   -- the index, of any reading of the documents
-  index_of : (rs : List Parsed) → AreParsed documents rs → IsIndexOf (executables rs) index
+  index_of : (rs : List ParsedOf) → AreParsed documents rs → IsIndexOf (executables rs) index
   index_of rs are =
       let x : AreExecutables documents (executables rs) = record { readings = rs; are_readings = are; is = refl } in
       subst (λ (ds : List DefinitionOf). IsIndexOf ds index) (one_list documents i.definitions (executables rs) i.of_documents x) i.is_index
@@ -76,7 +76,7 @@ module _ (one_list : OneList) (listed documents : List Doc) (same : listed ≡ d
   pub listed_trees : ValidDocumentsAreTrees → HaveTrees listed
   listed_trees trees =
       let H : List Doc → Type 0 = λ ds. HaveTrees ds in
-      let rs : List Parsed = i.of_documents.readings in
+      let rs : List ParsedOf = i.of_documents.readings in
       subst H (sym same) (record { trees = trees_of rs; are_trees = trees documents rs i.of_documents.are_readings valid })
 
   module _ (t : Target) (new : List ℕ) where
@@ -91,18 +91,18 @@ module _ (one_list : OneList) (listed documents : List Doc) (same : listed ≡ d
 
     module _ (trees : ValidDocumentsAreTrees) (sound : RenamesAreSound) (in_order : IsInOrder listed) (utf8 : AreUtf8 listed) (rule : ℕ → Renaming) (is_name : IsNameText new) (may : (n : ℕ) → MayName (rule n) new)
         (edit : List DocumentEdit) (is : (ts : List (List (Def Span))) → AreTrees listed ts → edit ≡ rename_edits rule 0 new listed ts) where
-      sound_of : (rs : List Parsed) → AreParsed documents rs → IsSound documents rs rule new
+      sound_of : (rs : List ParsedOf) → AreParsed documents rs → IsSound documents rs rule new
       sound_of rs are =
           let O : List Doc → Type 0 = λ ds. IsInOrder ds in
           let U : List Doc → Type 0 = λ ds. AreUtf8 ds in
           sound documents rs rule new (subst O same in_order) (subst U same utf8) are valid is_name may
 
-      edit_of : (rs : List Parsed) → AreParsed documents rs → edit ≡ edits_by rule new documents rs
+      edit_of : (rs : List ParsedOf) → AreParsed documents rs → edit ≡ edits_by rule new documents rs
       edit_of rs are =
           let E : List Doc → Type 0 = λ ds. (ts : List (List (Def Span))) → AreTrees ds ts → edit ≡ rename_edits rule 0 new ds ts in
           subst E same is (trees_of rs) (trees documents rs are valid)
 
-      Rs : List Parsed
+      Rs : List ParsedOf
       Rs = i.of_documents.readings
 
       fit_all : FitDocuments documents edit

@@ -3,13 +3,12 @@ use Rattle.std.proofs.Common.{◌≡◌, ◌↔◌, ℕ, List, [], ◌∷◌, Op
 use Rattle.std.specs.Prelude.{map, IfOk}
 use Rattle.gq_text.specs.declared.place.Span.{Span}
 use Rattle.gq_tree.specs.Plain.{Def, erase_document}
-use Rattle.gq_tree.specs.Views.{document_view}
 use Rattle.gq_project.specs.declared.document.Doc.{Doc}
 use Rattle.gq_project.specs.Documents.{IsInOrder}
 use Rattle.gq_edit.specs.declared.edit.DocumentEdit.{DocumentEdit}
 use Rattle.gq_edit.specs.Edits.{after_edit}
-use Rattle.gq_tree.specs.declared.parsed.Parsed.{Parsed}
-use Rattle.gq_tree.specs.declared.parsed.Parsed.TheVariants as reading
+use Rattle.gq_tree.specs.Readings.{ParsedOf}
+use Rattle.gq_tree.specs.Readings as reading
 use Rattle.gq_parse.specs.Parsed.{AreParsed}
 use Rattle.gq_parse.specs.Parsed as readings
 use Rattle.gq_parse.proofs.OneReading.{same_in_documents}
@@ -38,15 +37,15 @@ use Rattle.gq_rename.proofs.Trees.{same_target}
 
 module _ (one_tree : OneTree) where
   -- what is read of texts that have trees are these
-  read_trees : {documents : List Doc} {rs : List Parsed} {trees : List (List (Def Span))} → AreParsed documents rs → AreTrees documents trees → trees_of rs ≡ trees
+  read_trees : {documents : List Doc} {rs : List ParsedOf} {trees : List (List (Def Span))} → AreParsed documents rs → AreTrees documents trees → trees_of rs ≡ trees
   read_trees readings.none none = refl
-  read_trees (readings.more {document = document} {one = reading.Tree d} {readings = rs} p ps) (more {tree = tree} {trees = trees} q qs) =
-      ap (λ (t : List (Def Span)). t ∷ trees_of rs) (one_tree document.text (document_view d) tree p q) ∙ ap (λ (ts : List (List (Def Span))). tree ∷ ts) (read_trees ps qs)
-  read_trees (readings.more {one = reading.Syntax place} p ps) (more {tree = tree} q qs) = absurd (p.0 tree q)
-  read_trees (readings.more {one = reading.Limit place} p ps) (more {tree = tree} q qs) = absurd (p.0 tree q)
+  read_trees (readings.more {document = document} {one = reading.tree d} {readings = rs} p ps) (more {tree = tree} {trees = trees} q qs) =
+      ap (λ (t : List (Def Span)). t ∷ trees_of rs) (one_tree document.text d tree p q) ∙ ap (λ (ts : List (List (Def Span))). tree ∷ ts) (read_trees ps qs)
+  read_trees (readings.more {one = reading.syntax place} p ps) (more {tree = tree} q qs) = absurd (p.0 tree q)
+  read_trees (readings.more {one = reading.limit place} p ps) (more {tree = tree} q qs) = absurd (p.0 tree q)
 
   module _ (fragments_keep : FragmentRenamesKeep) (variables_keep : VariableRenamesKeep) (are_trees : ValidDocumentsAreTrees) where
-    module _ (documents : List Doc) (before after : List Parsed) (new : List ℕ) (valid : ∥ IsValid documents ∥₁) (t : Target) (rows : List RowOf) (name : Option (List ℕ)) (raw raw_after : Values) (response : ResponseOf) where
+    module _ (documents : List Doc) (before after : List ParsedOf) (new : List ℕ) (valid : ∥ IsValid documents ∥₁) (t : Target) (rows : List RowOf) (name : Option (List ℕ)) (raw raw_after : Values) (response : ResponseOf) where
       -- by the kind of the target
       by_kind : (of : TargetKind) {rule : ℕ → Renaming} → Changes (executables before) t.name.text t.definition of rule → AreRenamed rule new documents before after →
           (IsTaken (executables before) of t.name.text t.definition new → ⊥) → (t.name.text ≡ new → ⊥) → IsGivenAlike of before t new name raw raw_after →

@@ -6,9 +6,8 @@ use Rattle.std.proofs.lemmas.Bool.Decides.{nat_tests}
 use Rattle.std.proofs.lemmas.Option.{slice_get-get_or}
 use Rattle.gq_project.specs.declared.document.Doc.{Doc}
 use Rattle.gq_project.specs.Documents.{has_key}
-use Rattle.gq_tree.specs.declared.parsed.Parsed.{Parsed}
 use Rattle.gq_parse.specs.Parsed.{IsParsed, AreParsed}
-use Rattle.gq_tree.specs.Readings.{definitions_read}
+use Rattle.gq_tree.specs.Readings.{ParsedOf, definitions_read}
 use Rattle.gq_index.specs.declared.occurrence.Occurrence.{Occurrence}
 use Rattle.gq_index.specs.Occurrences.{DefinitionOf, executables, definition_places}
 use Rattle.gq_mentions.specs.declared.target.Target.{Target}
@@ -20,9 +19,9 @@ use Rattle.gq_rename.proofs.Numbering.{read_at, read_nowhere, some_place, no_pla
 
 -- what is found of all readings is what is told of one
 abbrev pub FoundOf : List Doc → List ℕ → ℕ → Option Target → Type 0
-FoundOf documents key offset found = (readings : List Parsed) → AreParsed documents readings → found ≡ target_of documents readings key offset
+FoundOf documents key offset found = (readings : List ParsedOf) → AreParsed documents readings → found ≡ target_of documents readings key offset
 
-pub is_target : (listed documents : List Doc) (key : List ℕ) (offset : ℕ) (found : Option Target) (rs : List Parsed) → listed ≡ documents → AreParsed listed rs → FoundOf listed key offset found → (t : Target) → (found ≡ Some t) ↔ IsTarget documents key offset t
+pub is_target : (listed documents : List Doc) (key : List ℕ) (offset : ℕ) (found : Option Target) (rs : List ParsedOf) → listed ≡ documents → AreParsed listed rs → FoundOf listed key offset found → (t : Target) → (found ≡ Some t) ↔ IsTarget documents key offset t
 is_target listed documents key offset found rs same are of t = (
   (λ e. let T : List Doc → Type 0 = λ ds. IsTarget ds key offset t in subst T same (record { readings = rs; are_readings = are; here = sym (of rs are) ∙ e })),
   (λ w. let A : List Doc → Type 0 = λ ds. AreParsed ds w.readings in
@@ -31,15 +30,15 @@ is_target listed documents key offset found rs same are of t = (
 )
 
 -- under a key that no document has
-pub found_nowhere : (documents : List Doc) (key : List ℕ) (offset : ℕ) (rs : List Parsed) → AreParsed documents rs → None ≡ position (has_key key) documents → None ≡ target_of documents rs key offset
+pub found_nowhere : (documents : List Doc) (key : List ℕ) (offset : ℕ) (rs : List ParsedOf) → AreParsed documents rs → None ≡ position (has_key key) documents → None ≡ target_of documents rs key offset
 found_nowhere documents key offset rs are none =
     let past = no_place (has_key key) documents (sym none) in
     sym (ap (target offset) (read_nowhere key 0 documents rs are past))
 
 -- in the document of the key
-pub found_there : (documents : List Doc) (key : List ℕ) (offset : ℕ) (rs : List Parsed) (ds : List DefinitionOf) (places : List Occurrence) (file first : ℕ) (document : Doc) (found : Option Target) →
+pub found_there : (documents : List Doc) (key : List ℕ) (offset : ℕ) (rs : List ParsedOf) (ds : List DefinitionOf) (places : List Occurrence) (file first : ℕ) (document : Doc) (found : Option Target) →
     AreParsed documents rs → ds ≡ executables rs → Some file ≡ position (has_key key) documents → slice_get documents file ≡ Some document → places ≡ definition_places ds → first ≡ prefix_len (stands_before file) places →
-    ((r : Parsed) → IsParsed document.text r → found ≡ target offset (renameables first (definitions_read r))) → found ≡ target_of documents rs key offset
+    ((r : ParsedOf) → IsParsed document.text r → found ≡ target offset (renameables first (definitions_read r))) → found ≡ target_of documents rs key offset
 found_there documents key offset rs ds places file first document found are is at here places_are first_is of =
     let place = some_place (has_key key) documents file (sym at) in
     let w = read_at key file 0 0 documents rs document are place here in

@@ -5,9 +5,8 @@ use Rattle.gq_text.specs.declared.place.Span.{Span}
 use Rattle.gq_tree.specs.Plain.{Def, VariableOf}
 use Rattle.gq_project.specs.declared.document.Doc.{Doc}
 use Rattle.gq_project.specs.Documents.{has_key}
-use Rattle.gq_tree.specs.declared.parsed.Parsed.{Parsed}
 use Rattle.gq_parse.specs.Parsed.{AreParsed}
-use Rattle.gq_tree.specs.Readings.{definitions_read}
+use Rattle.gq_tree.specs.Readings.{ParsedOf, definitions_read}
 use Rattle.gq_document.specs.Definitions.{OperationOf, FragmentOf}
 use Rattle.gq_index.specs.Occurrences.{DefinitionOf}
 use Rattle.gq_index.specs.VariableGroups.{VariableGroup, IsOperationAt, fragments_among}
@@ -29,7 +28,7 @@ pub record RenameAsk : Type 0 where
   pub new : List ℕ
 
 -- the trees of documents that are read so; a text without a tree has no definition
-abbrev pub trees_of : List Parsed → List (List (Def Span))
+abbrev pub trees_of : List ParsedOf → List (List (Def Span))
 trees_of readings = map definitions_read readings
 
 -- What can be renamed in the document of that key. The executable definitions are numbered through all documents, the
@@ -40,12 +39,12 @@ renameables_of key number (document ∷ documents) [] = []
 renameables_of key number (document ∷ documents) (tree ∷ trees) = if has_key key document then renameables number tree else renameables_of key (number_behind tree number) documents trees
 
 -- the target of an offset in the document of that key
-abbrev pub target_of : List Doc → List Parsed → List ℕ → ℕ → Option Target
+abbrev pub target_of : List Doc → List ParsedOf → List ℕ → ℕ → Option Target
 target_of documents readings key offset = target offset (renameables_of key 0 documents (trees_of readings))
 
 -- the same of documents, however they are read
 pub record IsTarget (documents : List Doc) (key : List ℕ) (offset : ℕ) (t : Target) : Type 0 where
-  pub readings : List Parsed
+  pub readings : List ParsedOf
   pub are_readings : AreParsed documents readings
   pub here : target_of documents readings key offset ≡ Some t
 

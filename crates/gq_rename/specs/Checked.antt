@@ -7,6 +7,22 @@ use Rattle.gq_rules.specs.Validity.{IsValid}
 use Rattle.gq_rename.specs.declared.refusal.Refusal.{Refusal}
 use Rattle.gq_rename.specs.declared.refusal.Refusal.TheVariants.{ProjectInvalid, NothingHere, BadName, SameName, NameTaken, DirectiveInWay, NoPossibleType, NotSiblings, NotRedundant, TooLarge, SelfCheck, NoMemory}
 
+-- the project after the edit, or an edited text of more than 4 MiB
+abbrev pub IsEdited : List Doc → List DocumentEdit → Result (List Doc) Refusal → Type 0
+IsEdited documents edits (Ok after) = (after ≡ after_edit edits documents) × (find (is_too_large documents) edits ≡ None)
+IsEdited documents edits (Err ProjectInvalid) = ⊥
+IsEdited documents edits (Err NothingHere) = ⊥
+IsEdited documents edits (Err BadName) = ⊥
+IsEdited documents edits (Err SameName) = ⊥
+IsEdited documents edits (Err NameTaken) = ⊥
+IsEdited documents edits (Err DirectiveInWay) = ⊥
+IsEdited documents edits (Err NoPossibleType) = ⊥
+IsEdited documents edits (Err NotSiblings) = ⊥
+IsEdited documents edits (Err NotRedundant) = ⊥
+IsEdited documents edits (Err TooLarge) = (edit : DocumentEdit) × (find (is_too_large documents) edits ≡ Some edit)
+IsEdited documents edits (Err SelfCheck) = ⊥
+IsEdited documents edits (Err NoMemory) = Unit {0}
+
 -- whether the edited project is valid
 abbrev pub IsValidated : List Doc → List DocumentEdit → Result (List DocumentEdit) Refusal → Type 0
 IsValidated after edits (Ok made) = (made ≡ edits) × ∥ IsValid after ∥₁

@@ -6,4 +6,6 @@ pub mod Checked
 pub mod Sound
 pub mod Prepare
 pub mod Responses
+pub mod LeadBack
+pub mod Determined
 pub mod Helping

@@ -4,7 +4,7 @@ use Rattle.gq_project.specs.declared.document.Doc.{Doc}
 use Rattle.gq_project.specs.Documents.{IsInOrder}
 use Rattle.gq_edit.specs.declared.edit.DocumentEdit.{DocumentEdit}
 use Rattle.gq_edit.specs.Edits.{after_edit}
-use Rattle.gq_tree.specs.declared.parsed.Parsed.{Parsed}
+use Rattle.gq_tree.specs.Readings.{ParsedOf}
 use Rattle.gq_parse.specs.Parsed.{AreParsed}
 use Rattle.gq_rules.specs.Project.{executable_of}
 use Rattle.gq_rules.specs.Validity.{IsValid}
@@ -23,7 +23,7 @@ use Rattle.gq_rename.specs.Rename.{IsRenameAnswer, KeepsTrees}
 
 -- The values that an operation takes after the rename say what those before it say: the same ones, or those of a variable
 -- in whose group it stands under its new name.
-abbrev pub IsGivenAlike : TargetKind → List Parsed → Target → List ℕ → Option Text → Values → Values → Type 0
+abbrev pub IsGivenAlike : TargetKind → List ParsedOf → Target → List ℕ → Option Text → Values → Values → Type 0
 IsGivenAlike kind.Fragment readings t new name before after = before ≡ after
 IsGivenAlike kind.Variable readings t new name before after = AreGivenAlike readings t.name.text t.definition new name before after
 
@@ -31,7 +31,7 @@ IsGivenAlike kind.Variable readings t new name before after = AreGivenAlike read
 -- operation has the same responses before and after, with their data, the order of keys and the paths of errors.
 abbrev pub KeepsResponses : List Doc → List ℕ → ℕ → List ℕ → List DocumentEdit → Type 0
 KeepsResponses documents key offset new edits =
-    (before after : List Parsed) → AreParsed documents before → AreParsed (after_edit edits documents) after →
+    (before after : List ParsedOf) → AreParsed documents before → AreParsed (after_edit edits documents) after →
     (t : Target) → target_of documents before key offset ≡ Some t →
     (rows : List RowOf) (name : Option Text) (raw raw_after : Values) → IsGivenAlike t.kind before t new name raw raw_after →
     (response : ResponseOf) → IsResponse (executable_of before) rows name raw response ↔ IsResponse (executable_of after) rows name raw_after response

@@ -2,7 +2,7 @@
 ghost use Rattle.std.specs.Prelude.{◌≡◌, None, find};
 ghost use Rattle.gq_edit.specs.Edits.{FitDocuments, is_moved};
 ghost use Rattle.gq_project.specs.Documents.{IsInOrder};
-ghost use Rattle.gq_rename.specs.Checked.{IsChecked, IsValidated};
+ghost use Rattle.gq_rename.specs.Checked.{IsChecked, IsEdited, IsValidated};
 ghost use Rattle.gq_rename.specs.Sound.{AreUtf8};
 
 use crate::refusal::Refusal;
@@ -18,12 +18,23 @@ pub(crate) fn checked(alloc: Global, project: &Project, edit: Edit) -> Result<Ed
     requires there { find (is_moved project.now) edit ≡ None }
     ensures { IsChecked project.now edit result }
 {
-    match apply(alloc, project, &edit) {
+    match edited(alloc, project, &edit) {
         Ok(after) => validated(alloc, after, edit),
+        Err(why) => Err(why),
+    }
+}
+
+/// The project after the edit, if each edited text has at most 4 MiB, else `TooLarge`.
+pub fn edited(alloc: Global, project: &Project, edit: &Edit) -> Result<Project, Refusal>
+    requires fit { FitDocuments project.now edit.now }
+    requires there { find (is_moved project.now) edit.now ≡ None }
+    ensures { IsEdited project.now edit.now result }
+{
+    match apply(alloc, project, edit) {
+        Ok(after) => Ok(after),
         Err(EditFault::TooLarge { .. }) => Err(Refusal::TooLarge),
         Err(EditFault::NoMemory) => Err(Refusal::NoMemory),
-        // not met: each edited document is there at its version
-        Err(EditFault::Moved { .. }) => Err(Refusal::SelfCheck),
+        Err(EditFault::Moved { .. }) => unreachable!(),
     }
 }
 
@@ -42,7 +53,7 @@ pub fn validated(alloc: Global, after: Project, edit: Edit) -> Result<Edit, Refu
 }
 
 /// The documents of a project stand in order, and their texts are UTF-8.
-pub(crate) fn documents_are_texts(project: &Project)
+pub fn documents_are_texts(project: &Project)
     ensures in_order { IsInOrder project.now }
     ensures utf8 { AreUtf8 project.now }
 {

@@ -3,6 +3,7 @@ ghost use Rattle.std.specs.Prelude.{ℕ, List, Err};
 ghost use Rattle.gq_project.specs.declared.document.Doc.{Doc};
 ghost use Rattle.gq_rules.specs.Validity.{IsInvalid};
 ghost use Rattle.gq_rename.specs.declared.refusal.Refusal.TheVariants.{ProjectInvalid};
+ghost use Rattle.gq_rename.specs.Determined.{RenamesAreDetermined, RenamesAreThere, PreparedNamesAreDetermined, RenamesNameVersions, RenamesLeadBack};
 ghost use Rattle.gq_rename.specs.Rename.{IsRenameAnswer};
 ghost use Rattle.gq_rename.specs.Responses.{RenamesKeepResponses};
 ghost use Rattle.gq_rename.specs.Sound.{RenamesAreSound, ValidDocumentsAreTrees, OffsetsMeanOneTarget};
@@ -11,6 +12,7 @@ use gq_law_renames::laws::{fragment_renames_keep_responses, variable_renames_kee
 use gq_parse::laws::{no_tree_past_limits, one_tree};
 use gq_renamed::laws::{renamed_projects_read, renamed_texts_read};
 use gq_rules::laws::{no_project_is_valid_and_invalid, valid_documents_have_trees};
+use gq_text::laws::positions_lead_back;
 
 /// In a project that is not valid every rename is refused as that.
 pub fn renames_of_invalid_projects_are_refused()
@@ -52,4 +54,36 @@ pub fn renames_keep_responses()
     valid_documents_are_trees();
     fragment_renames_keep_responses();
     variable_renames_keep_responses();
+}
+
+/// A rename has one answer: two that meet its definition are equal, however the documents are read.
+pub fn renames_are_determined()
+    ensures { RenamesAreDetermined }
+{
+    one_tree();
+}
+
+/// So what a rename would be of is one.
+pub fn prepared_names_are_determined()
+    ensures { PreparedNamesAreDetermined }
+{
+    one_tree();
+}
+
+/// A rename has an answer: documents that are read cannot be without one.
+pub fn renames_are_there()
+    ensures { RenamesAreThere }
+{}
+
+/// Each document that a rename edits is there at the version that the edit names.
+pub fn renames_name_versions()
+    ensures { RenamesNameVersions }
+{}
+
+/// The positions that are written for the edit of a rename lead back to its offsets, in each encoding: it replaces tokens, and no
+/// token begins with LF or ends with CR.
+pub fn renames_lead_back()
+    ensures { RenamesLeadBack }
+{
+    positions_lead_back();
 }

@@ -32,7 +32,8 @@ pub(crate) fn variable_refusal(
     old_name: &str,
     new_name: &str,
 ) -> Option<Refusal>
-    ensures refusal { (ds : List DefinitionOf) (definition : ℕ) → IsIndexOf ds index.now → IsGroup ds old_name.now definition group.now → IsNameRefusal ds kind.Variable old_name.now definition new_name.now result }
+    ensures refusal { (ds : List DefinitionOf) (definition : ℕ) → IsIndexOf ds index.now → IsGroup ds old_name.now definition group.now →
+        IsNameRefusal ds kind.Variable old_name.now definition new_name.now result }
     ensures named { result ≡ None → IsNameText new_name.now }
 {
     first_refusal(

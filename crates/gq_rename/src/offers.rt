@@ -83,7 +83,8 @@ fn offer_group(
     requires index { IsIndexOfProject valid.now index.now }
     requires of { target.now.kind ≡ kind.Variable }
     requires ascending { IsStrictlyIncreasing group.now }
-    requires members { (ds : List DefinitionOf) → IsIndexOf ds index.now → target.now.definition < length ds → (n : ℕ) → Contains group.now n ↔ VariableGroup ds target.now.name.text target.now.definition n }
+    requires members { (ds : List DefinitionOf) → IsIndexOf ds index.now → target.now.definition < length ds →
+        (n : ℕ) → Contains group.now n ↔ VariableGroup ds target.now.name.text target.now.definition n }
     ensures answer { (key : List ℕ) (offset : ℕ) → IsTarget valid.now key offset target.now → (result ≡ Err refusal.NoMemory) ⊎ IsRenameAnswer valid.now key offset new_name.now result }
     ensures fits { IfOk result (FitDocuments valid.now) }
     ensures kept { (key : List ℕ) (offset : ℕ) → IsTarget valid.now key offset target.now → IfOk result (KeepsTrees valid.now key offset new_name.now) }

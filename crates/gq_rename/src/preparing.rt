@@ -1,7 +1,7 @@
 //! What would be renamed at an offset (LSP 3.17, "Prepare Rename Request").
 ghost use Rattle.std.specs.Prelude.{◌≡◌, List, IfOk};
 ghost use Rattle.std.specs.Option.{option_map};
-ghost use Rattle.gq_tree.specs.declared.parsed.Parsed.{Parsed};
+ghost use Rattle.gq_tree.specs.Readings.{ParsedOf};
 ghost use Rattle.gq_parse.specs.Parsed.{AreParsed};
 ghost use Rattle.gq_index.specs.Indexed.{IsIndexOfProject};
 ghost use Rattle.gq_rename.specs.Asks.{target_of};
@@ -37,7 +37,7 @@ fn token_by(
     offset: usize,
 ) -> Result<Option<Span>, NoMemory>
     requires { IsIndexOfProject project.now index.now }
-    ensures { IfOk result (λ found. (readings : List Parsed) → AreParsed project.now readings → found ≡ option_map (λ t. t.name.span) (target_of project.now readings key.now offset)) }
+    ensures { IfOk result (λ found. (readings : List ParsedOf) → AreParsed project.now readings → found ≡ option_map (λ t. t.name.span) (target_of project.now readings key.now offset)) }
 {
     match target_by(alloc, project, index, key, offset)? {
         Some(target) => Ok(Some(target.name.span)),

@@ -1,7 +1,7 @@
 //! What an offset in a document of a project means to a rename.
 ghost use Rattle.std.specs.Prelude.{◌≡◌, ◌↔◌, ◌<◌, ◌≤◌, ◌^◌, ◌+◌, List, Some, IfOk, length};
 ghost use Rattle.std.specs.List.{prefix_len};
-ghost use Rattle.gq_tree.specs.declared.parsed.Parsed.{Parsed};
+ghost use Rattle.gq_tree.specs.Readings.{ParsedOf};
 ghost use Rattle.gq_parse.specs.Parsed.{IsParsed, AreParsed};
 ghost use Rattle.gq_tree.specs.Readings.{definitions_read};
 ghost use Rattle.gq_index.specs.Indexed.{IsIndexOfProject};
@@ -48,7 +48,7 @@ pub(crate) fn target_by(
     offset: usize,
 ) -> Result<Option<Target>, NoMemory>
     requires { IsIndexOfProject project.now index.now }
-    ensures { IfOk result (λ found. (readings : List Parsed) → AreParsed project.now readings → found ≡ target_of project.now readings key.now offset) }
+    ensures { IfOk result (λ found. (readings : List ParsedOf) → AreParsed project.now readings → found ≡ target_of project.now readings key.now offset) }
 {
     documents_have_one_list();
     let Some(file) = project.place(key) else {
@@ -81,7 +81,7 @@ fn target_at(
     offset: usize,
 ) -> Result<Option<Target>, NoMemory>
     requires { first < 2 ^ 63 }
-    ensures { IfOk result (λ found. (reading : Parsed) → IsParsed document.now.text reading → found ≡ target offset (renameables first (definitions_read reading))) }
+    ensures { IfOk result (λ found. (reading : ParsedOf) → IsParsed document.now.text reading → found ≡ target offset (renameables first (definitions_read reading))) }
 {
     one_tree();
     match parse(alloc, document.text.as_str()) {

@@ -8,7 +8,7 @@ use Rattle.gq_tree.specs.Plain.{Sels}
 use Rattle.gq_project.specs.declared.document.Doc.{Doc}
 use Rattle.gq_project.specs.Documents.{has_key}
 use Rattle.gq_edit.specs.declared.edit.DocumentEdit.{DocumentEdit}
-use Rattle.gq_tree.specs.declared.parsed.Parsed.{Parsed}
+use Rattle.gq_tree.specs.Readings.{ParsedOf}
 use Rattle.gq_types.specs.Entries.{Text, EntryOf}
 use Rattle.gq_index.specs.Occurrences.{DefinitionOf, executables}
 use Rattle.gq_rules.specs.Validity.{IsValid}
@@ -30,17 +30,17 @@ use Rattle.gq_reshape.specs.Helping.Steps.{ExtractOffer, IsNoRun}
 abbrev pub OneReading : Type 0
 OneReading = (text : List ℕ) (a b : List Lexeme) → Reads text a → Reads text b → a ≡ b
 
-same_span : (p q : Span) → p.start ≡ q.start → p.end ≡ q.end → p ≡ q
+pub same_span : (p q : Span) → p.start ≡ q.start → p.end ≡ q.end → p ≡ q
 same_span p q e f = ap (λ (s : ℕ). let x : Span = record { start = s; end = p.end } in x) e ∙ ap (λ (t : ℕ). let x : Span = record { start = q.start; end = t } in x) f
 
 -- the least free number is one
-least_once : (ds : List DefinitionOf) (m n : ℕ) → IsLeastFree ds m → IsLeastFree ds n → m ≡ n
+pub least_once : (ds : List DefinitionOf) (m n : ℕ) → IsLeastFree ds m → IsLeastFree ds n → m ≡ n
 least_once ds m n a b =
     let above : m < n → ⊥ = λ less. b.least m a.positive less a.free in
     let below : n < m → ⊥ = λ less. a.least n b.positive less b.free in
     omega (arith, above, below)
 
-module _ (documents : List Doc) (es : List EntryOf) (readings : List Parsed) (ask : RangeAsk) (valid : ∥ IsValid documents ∥₁) where
+module _ (documents : List Doc) (es : List EntryOf) (readings : List ParsedOf) (ask : RangeAsk) (valid : ∥ IsValid documents ∥₁) where
   -- what is refuted by what is known so far
   none_before : (n : ℕ) → (2 < n → NothingToExtract documents es readings ask → ⊥) → (7 < n → HasNoPossibleType documents es readings ask → ⊥) → (8 < n → AreNoSiblings documents es readings ask → ⊥) →
       (10 < n → (e : Extraction documents es readings ask) → PassesLimits documents (extract_cut e) → ⊥) → (11 < n → (e : Extraction documents es readings ask) → FailsCheck documents readings (extract_cut e) → ⊥) →

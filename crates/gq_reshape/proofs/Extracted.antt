@@ -5,17 +5,16 @@ use Rattle.gq_text.specs.declared.place.Span.{Span}
 use Rattle.gq_tree.specs.Plain.{Sels, Def, fragment, erase_all}
 use Rattle.gq_tree.specs.declared.tree.OperationKind.{OperationKind}
 use Rattle.gq_project.specs.declared.document.Doc.{Doc}
-use Rattle.gq_tree.specs.declared.parsed.Parsed.{Parsed}
 use Rattle.gq_parse.specs.Parsed.{AreParsed}
 use Rattle.gq_types.specs.Entries.{Text, EntryOf}
-use Rattle.gq_tree.specs.Readings.{definitions_read}
+use Rattle.gq_tree.specs.Readings.{ParsedOf, definitions_read}
 use Rattle.gq_rewritten.specs.Rewrites.{bare_name, with_extracted, rewritten_from}
 use Rattle.gq_law_rewrites.specs.Documents.{IsSetOf, of_operation, of_fragment, EndsSetIn, Restates}
 use Rattle.gq_law_rewrites.specs.Edits.{HasDocument, RunAt}
 use Rattle.gq_law_rewrites.specs.Statics.{static_of, roots_in}
 use Rattle.gq_law_rewrites.proofs.Named.{name_free}
 use Rattle.gq_law_rewrites.proofs.Projects.{project_in_place, sound, extracted_project}
-use Rattle.gq_law_renames.proofs.SameTypes.{IsExecutable}
+use Rattle.gq_rewritten.specs.Views.{IsExecutable}
 use Rattle.gq_select.specs.Meant.{document_sets}
 use Rattle.gq_select.specs.Runs.{RunOf}
 use Rattle.gq_reshape.specs.Asks.{RangeAsk, tree_at}
@@ -33,7 +32,7 @@ use Rattle.gq_reshape.proofs.SameEntries.{trees_read, from_first}
 use Rattle.gq_reshape.proofs.Standing.{document_at, set_there}
 
 -- the tree at a number
-tree_there : (rs : List Parsed) (k : ℕ) (r : Parsed) → slice_get rs k ≡ Some r → slice_get (trees_read rs) k ≡ Some (definitions_read r)
+tree_there : (rs : List ParsedOf) (k : ℕ) (r : ParsedOf) → slice_get rs k ≡ Some r → slice_get (trees_read rs) k ≡ Some (definitions_read r)
 tree_there [] k r e = cc
 tree_there (x ∷ rs) zero r e = let same : x ≡ r = cc in ap (λ z. Some (definitions_read z)) same
 tree_there (x ∷ rs) (suc k) r e = tree_there rs k r e
@@ -49,7 +48,7 @@ elsewhere file text place name on k e =
     let end : PlacedReplacement = record { file = file; replacement = record { span = record { start = length text; end = length text }; text = fragment_text name on (slice_range text place.start place.end) } } in
     other_document run (end ∷ []) k e ∙ other_document end [] k e
 
-module _ (documents : List Doc) (ask : RangeAsk) (rs : List Parsed) (are : AreParsed documents rs) (es : List EntryOf) (promise : Promised es rs) where
+module _ (documents : List Doc) (ask : RangeAsk) (rs : List ParsedOf) (are : AreParsed documents rs) (es : List EntryOf) (promise : Promised es rs) where
   -- the run, cut out of one set
   restated_by : (file : ℕ) (document : HasDocument (trees_read rs) file) (set : Sels Span) (parent name : Text) (start end : ℕ) (run : Sels Span) → EndsSetIn (static_of es) (roots_in es) document.tree parent set → Rattle.gq_select.specs.Runs.run_in start end set ≡ Some run →
       Rattle.gq_meaning.specs.Expand.find_definition (Rattle.gq_law_rewrites.specs.Documents.definitions_of (trees_read rs)) name ≡ None →

@@ -8,7 +8,7 @@ use Rattle.gq_tree.specs.Plain.{NameOf, DirectiveOf, spread}
 use Rattle.gq_project.specs.declared.document.Doc.{Doc}
 use Rattle.gq_project.specs.Documents.{has_key}
 use Rattle.gq_edit.specs.declared.edit.DocumentEdit.{DocumentEdit}
-use Rattle.gq_tree.specs.declared.parsed.Parsed.{Parsed}
+use Rattle.gq_tree.specs.Readings.{ParsedOf}
 use Rattle.gq_types.specs.Entries.{EntryOf}
 use Rattle.gq_document.specs.Definitions.{FragmentOf, fragments_of}
 use Rattle.gq_rules.specs.Validity.{IsValid}
@@ -23,7 +23,7 @@ use Rattle.gq_reshape.specs.Inline.{Inlining, inline_at, inline_cut, is_only_spr
 use Rattle.gq_reshape.specs.Reshape.{PassesLimits, FailsCheck, RefusesInline}
 use Rattle.gq_reshape.specs.Helping.Steps.{InlineOffer}
 
-module _ (documents : List Doc) (es : List EntryOf) (readings : List Parsed) (ask : RangeAsk) (valid : ∥ IsValid documents ∥₁) where
+module _ (documents : List Doc) (es : List EntryOf) (readings : List ParsedOf) (ask : RangeAsk) (valid : ∥ IsValid documents ∥₁) where
   -- what is refuted by what is known so far
   none_before : (n : ℕ) → (2 < n → NothingToInline documents es readings ask → ⊥) → (6 < n → IsDirectiveInWay documents es readings ask → ⊥) → (10 < n → (i : Inlining documents es readings ask) → PassesLimits documents (inline_cut i) → ⊥) →
       (11 < n → (i : Inlining documents es readings ask) → FailsCheck documents readings (inline_cut i) → ⊥) → (why : Refusal) → number_of why < n → RefusesInline documents es readings ask why → ⊥

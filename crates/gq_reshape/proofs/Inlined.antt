@@ -8,7 +8,7 @@ use Rattle.gq_text.specs.declared.place.Span.{Span}
 use Rattle.gq_tree.specs.Plain as tree
 use Rattle.gq_tree.specs.Plain.{NameOf, DirectiveOf, Head, Def}
 use Rattle.gq_project.specs.declared.document.Doc.{Doc}
-use Rattle.gq_tree.specs.declared.parsed.Parsed.{Parsed}
+use Rattle.gq_tree.specs.Readings.{ParsedOf}
 use Rattle.gq_parse.specs.Parsed.{AreParsed}
 use Rattle.gq_types.specs.Entries.{EntryOf}
 use Rattle.gq_types.proofs.Gathered.{or_cases, found}
@@ -25,11 +25,12 @@ use Rattle.gq_reshape.specs.declared.placed.PlacedReplacement.{PlacedReplacement
 use Rattle.gq_reshape.specs.Placed.{replacements_in}
 use Rattle.gq_reshape.specs.Asks.{RangeAsk, tree_at}
 use Rattle.gq_reshape.specs.Inline.{Inlining, is_only_spread, comes_first, in_order, inline_replacements, inline_cut}
+use Rattle.gq_reshape.specs.Helping.Making.{SomeExecutable}
 use Rattle.gq_reshape.proofs.Changed.{IsKeeping, it_holds, fragment_holds, selected_holds}
 use Rattle.gq_reshape.proofs.Promised.{Promised}
 use Rattle.gq_reshape.proofs.Removed.{other_document, neither}
 use Rattle.gq_reshape.proofs.RunStands.{same_number}
-use Rattle.gq_reshape.proofs.SameEntries.{trees_read, SomeExecutable, from_first}
+use Rattle.gq_reshape.proofs.SameEntries.{trees_read, from_first}
 use Rattle.gq_reshape.proofs.Spreads.{one_spread}
 use Rattle.gq_reshape.proofs.Standing.{meant_stands, selected_asked}
 
@@ -47,7 +48,7 @@ two_elsewhere a b k e f = by (comes_first b a)
     by true = other_document b (a ∷ []) k f ∙ other_document a [] k e
     by false = other_document a (b ∷ []) k e ∙ other_document b [] k f
 
-module _ (documents : List Doc) (ask : RangeAsk) (rs : List Parsed) (are : AreParsed documents rs) (es : List EntryOf) (promise : Promised es rs) where
+module _ (documents : List Doc) (ask : RangeAsk) (rs : List ParsedOf) (are : AreParsed documents rs) (es : List EntryOf) (promise : Promised es rs) where
   module _ (i : Inlining documents es rs ask) where
     abbrev asked : SelectedOf
     asked = record { file = i.file; parent = i.selected.parent; selection = i.selected.selection }

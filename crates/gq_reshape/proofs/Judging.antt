@@ -8,7 +8,7 @@ use Rattle.gq_project.specs.declared.document.Doc.{Doc}
 use Rattle.gq_project.specs.Documents.{IsInOrder}
 use Rattle.gq_parse.specs.Derives.{Derives}
 use Rattle.gq_parse.specs.Limits.{PassesLimitAt}
-use Rattle.gq_tree.specs.declared.parsed.Parsed.{Parsed}
+use Rattle.gq_tree.specs.Readings.{ParsedOf}
 use Rattle.gq_parse.specs.Parsed.{AreParsed}
 use Rattle.gq_edit.specs.declared.edit.DocumentEdit.{DocumentEdit}
 use Rattle.gq_edit.specs.Edits.{FitDocuments, after_edit, is_too_large}
@@ -18,11 +18,11 @@ use Rattle.gq_renamed.proofs.EditedParts as parts
 use Rattle.gq_rename.specs.declared.refusal.Refusal.{Refusal}
 use Rattle.gq_rename.specs.declared.refusal.Refusal.TheVariants.{ProjectInvalid, NothingHere, BadName, SameName, NameTaken, DirectiveInWay, NoPossibleType, NotSiblings, NotRedundant, TooLarge, SelfCheck, NoMemory}
 use Rattle.gq_rename.specs.Asks.{trees_of}
-use Rattle.gq_rename.specs.Checked.{IsValidated}
+use Rattle.gq_rename.specs.Checked.{IsEdited, IsValidated}
 use Rattle.gq_rename.specs.Rename.{IsTooLarge}
 use Rattle.gq_reshape.proofs.PlacedLemmas.{parts_from, documents_are, edits_are, made_after}
 use Rattle.gq_reshape.specs.Cuts.{Cut, edits_of, ReadsAsRewritten}
-use Rattle.gq_reshape.specs.Helping.Judged.{IsEdited, IsJudged, IsQuiet, IsVerdict}
+use Rattle.gq_reshape.specs.Helping.Judged.{IsJudged, IsQuiet, IsVerdict}
 use Rattle.gq_reshape.specs.Helping.Limits.{OnePasses, NonePasses}
 use Rattle.gq_reshape.specs.Helping.Rereading.{AreRewrittenFrom}
 use Rattle.gq_reshape.proofs.LimitLemmas.{as_many, too_large, not_too_large, first_too_large}
@@ -32,7 +32,7 @@ use Rattle.gq_reshape.proofs.Rereads.{forward, backward}
 abbrev pub NoTree : Type 0
 NoTree = (text : List ℕ) (place : ℕ) (tree : List (Def Span)) → PassesLimitAt text place → Derives text tree → ⊥
 
-module _ (one_tree : OneTree) (no_tree : NoTree) (documents : List Doc) (in_order : IsInOrder documents) (before after : List Parsed) (read : AreParsed documents before) (trees : AreTrees documents (trees_of before)) (cut : Cut) (quiet : IsQuiet cut) where
+module _ (one_tree : OneTree) (no_tree : NoTree) (documents : List Doc) (in_order : IsInOrder documents) (before after : List ParsedOf) (read : AreParsed documents before) (trees : AreTrees documents (trees_of before)) (cut : Cut) (quiet : IsQuiet cut) where
   abbrev Parts : List Part
   Parts = parts_from cut.replacements 0 documents
 
@@ -113,7 +113,7 @@ module _ (one_tree : OneTree) (no_tree : NoTree) (documents : List Doc) (in_orde
     judged (Err NoMemory) none h v = tt
 
 -- an edit that is not made
-pub not_made : (documents : List Doc) (before : List Parsed) (cut : Cut) (edits : List DocumentEdit) (why : Refusal) → edits ≡ edits_of cut documents → IsEdited documents edits (Err why) → IsJudged documents before cut (Err why)
+pub not_made : (documents : List Doc) (before : List ParsedOf) (cut : Cut) (edits : List DocumentEdit) (why : Refusal) → edits ≡ edits_of cut documents → IsEdited documents edits (Err why) → IsJudged documents before cut (Err why)
 not_made documents before cut edits ProjectInvalid e h = h
 not_made documents before cut edits NothingHere e h = h
 not_made documents before cut edits BadName e h = h
@@ -128,7 +128,7 @@ not_made documents before cut edits SelfCheck e h = absurd h
 not_made documents before cut edits NoMemory e h = tt
 
 -- as many readings before as after
-pub as_many_after : (documents edited : List Doc) (edits : List DocumentEdit) (before after : List Parsed) → AreParsed documents before → edited ≡ after_edit edits documents → AreParsed edited after → length before ≤ length after
+pub as_many_after : (documents edited : List Doc) (edits : List DocumentEdit) (before after : List ParsedOf) → AreParsed documents before → edited ≡ after_edit edits documents → AreParsed edited after → length before ≤ length after
 as_many_after documents edited edits before after read e read_after =
     let a = as_many read in
     let b = as_many read_after in

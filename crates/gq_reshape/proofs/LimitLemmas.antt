@@ -12,6 +12,7 @@ use Rattle.gq_project.specs.Documents.{IsInOrder}
 use Rattle.gq_parse.specs.Derives.{Derives}
 use Rattle.gq_parse.specs.Limits.{PassesLimitAt}
 use Rattle.gq_tree.specs.declared.parsed.Parsed.{Parsed}
+use Rattle.gq_tree.specs.Readings.{ParsedOf, parsed_view, readings_view}
 use Rattle.gq_parse.specs.Parsed.{IsParsed, AreParsed}
 use Rattle.gq_parse.specs.Parsed as readings
 use Rattle.gq_types.proofs.Gathered.{nothing_in, cases_cons, found, from_map, to_map}
@@ -25,14 +26,15 @@ use Rattle.gq_reshape.proofs.LowLemmas.{drop_read}
 use Rattle.gq_reshape.specs.Helping.Limits.{PassesSomeLimit, OnePasses, NonePasses}
 
 -- as many readings as documents, each of its own
-pub as_many : {documents : List Doc} {rs : List Parsed} → AreParsed documents rs → length documents ≡ length rs
+pub as_many : {documents : List Doc} {rs : List ParsedOf} → AreParsed documents rs → length documents ≡ length rs
 as_many readings.none = refl
 as_many (readings.more h hs) = ap suc (as_many hs)
 
-pub reading_at : {documents : List Doc} {rs : List Parsed} → AreParsed documents rs → (i : ℕ) (d : Doc) (r : Parsed) → i < length documents → IsParsed (get_or documents i d).text (get_or rs i r)
-reading_at readings.none i d r h = absurd (omega (arith, h))
-reading_at (readings.more h hs) zero d r inside = h
-reading_at (readings.more h hs) (suc i) d r inside = reading_at hs i d r (omega (arith, inside))
+pub reading_at : (documents : List Doc) (rs : List Parsed) → AreParsed documents (readings_view rs) → (i : ℕ) (d : Doc) (r : Parsed) → i < length documents → IsParsed (get_or documents i d).text (parsed_view (get_or rs i r))
+reading_at [] rs p i d r h = absurd (omega (arith, h))
+reading_at (x ∷ documents) [] p i d r h = elim p [ ]
+reading_at (x ∷ documents) (q ∷ rs) (readings.more h hs) zero d r inside = h
+reading_at (x ∷ documents) (q ∷ rs) (readings.more h hs) (suc i) d r inside = reading_at documents rs hs i d r (omega (arith, inside))
 
 pub passes_later : (documents : List Doc) (i : ℕ) (d : Doc) → i < length documents → d ≡ get_or documents i d → (PassesSomeLimit d.text → ⊥) → (NonePasses (drop i documents) → NonePasses documents) → NonePasses (drop (i + 1) documents) → NonePasses documents
 passes_later documents i d h is fine so rest =

@@ -3,6 +3,7 @@ use Rattle.std.proofs.Common.{◌≡◌, ◌↔◌, ℕ, zero, suc, ◌+◌, ◌
 use Rattle.std.specs.Prelude.{slice_range}
 use Rattle.std.specs.List.{enumerate_from}
 use Rattle.std.specs.Option.{option_map, option_or}
+use Rattle.std.specs.Str.{IsCharBoundary}
 use Rattle.std.proofs.lemmas.List.Folds.{find-append}
 use Rattle.gq_lex.specs.declared.token.BadKind.{BadKind}
 use Rattle.gq_lex.specs.declared.token.LexFault.{LexFault}
@@ -11,12 +12,13 @@ use Rattle.gq_lex.specs.Faults.{IsFault}
 use Rattle.gq_lex.specs.Tokens.{Lexeme, Reads, IsBadAt, IsLimitAt}
 use Rattle.gq_tree.specs.declared.value.Directive.{Directive}
 use Rattle.gq_tree.specs.Views.{directive_view}
-use Rattle.gq_tree.specs.declared.parsed.Parsed.{Parsed}
 use Rattle.gq_parse.specs.Limits.{IsNestedWithin}
 use Rattle.gq_parse.proofs.Nesting.{nested_front}
-use Rattle.gq_tree.specs.Readings.{in_document}
+use Rattle.gq_tree.specs.declared.parsed.Parsed.{Parsed}
+use Rattle.gq_tree.specs.Readings.{in_document, parsed_view, readings_view}
 use Rattle.gq_document.specs.Definitions.{FragmentOf, fragment_in}
 use Rattle.gq_rewritten.specs.Rewrites.{Rewrite}
+use Rattle.gq_law_rewrites.specs.Parts.{DirectivesFit}
 use Rattle.gq_reshape.specs.declared.fragments.FragmentIn.{FragmentIn}
 use Rattle.gq_reshape.specs.Helping.Fragments.{fragment_found}
 use Rattle.gq_reshape.specs.Helping.Limits.{PassesSomeLimit}
@@ -30,27 +32,27 @@ drop_read (y ∷ ys) (suc i) x h is = drop_read ys i x (omega (arith, h)) is
 
 -- the readings at one place, and those behind
 module _ (r : Rewrite) (file : ℕ) (before after : List Parsed) (b a : Parsed) (h : file < length before) (few : length before ≤ length after) (b_is : b ≡ get_or before file b) (a_is : a ≡ get_or after file a)
-    (invariant : AreRewrittenFrom r file (drop file before) (drop file after) ↔ AreRewrittenFrom r 0 before after) where
+    (invariant : AreRewrittenFrom r file (readings_view (drop file before)) (readings_view (drop file after)) ↔ AreRewrittenFrom r 0 (readings_view before) (readings_view after)) where
   Here : Type 0
-  Here = (is_edited r file ≡ true → IsRewrittenAt r file b a) × AreRewrittenFrom r (suc file) (drop (suc file) before) (drop (suc file) after)
+  Here = (is_edited r file ≡ true → IsRewrittenAt r file (parsed_view b) (parsed_view a)) × AreRewrittenFrom r (suc file) (readings_view (drop (suc file) before)) (readings_view (drop (suc file) after))
 
-  here : AreRewrittenFrom r file (drop file before) (drop file after) ≡ Here
+  here : AreRewrittenFrom r file (readings_view (drop file before)) (readings_view (drop file after)) ≡ Here
   unfolding Here
   here =
-      ap (λ (xs : List Parsed). AreRewrittenFrom r file xs (drop file after)) (drop_read before file b h b_is)
-      ∙ ap (λ (ys : List Parsed). AreRewrittenFrom r file (b ∷ drop (suc file) before) ys) (drop_read after file a (omega (arith, h, few)) a_is)
+      ap (λ (xs : List Parsed). AreRewrittenFrom r file (readings_view xs) (readings_view (drop file after))) (drop_read before file b h b_is)
+      ∙ ap (λ (ys : List Parsed). AreRewrittenFrom r file (readings_view (b ∷ drop (suc file) before)) (readings_view ys)) (drop_read after file a (omega (arith, h, few)) a_is)
 
   -- it is not as it should be
-  pub not_here : is_edited r file ≡ true → (IsRewrittenAt r file b a → ⊥) → AreRewrittenFrom r 0 before after → ⊥
+  pub not_here : is_edited r file ≡ true → (IsRewrittenAt r file (parsed_view b) (parsed_view a) → ⊥) → AreRewrittenFrom r 0 (readings_view before) (readings_view after) → ⊥
   unfolding Here
   not_here edited wrong all = wrong ((subst (λ (T : Type 0). T) here (invariant.1 all)).0 edited)
 
   -- it is, or need not be
-  pub behind : (is_edited r file ≡ true → IsRewrittenAt r file b a) → AreRewrittenFrom r (file + 1) (drop (file + 1) before) (drop (file + 1) after) ↔ AreRewrittenFrom r 0 before after
+  pub behind : (is_edited r file ≡ true → IsRewrittenAt r file (parsed_view b) (parsed_view a)) → AreRewrittenFrom r (file + 1) (readings_view (drop (file + 1) before)) (readings_view (drop (file + 1) after)) ↔ AreRewrittenFrom r 0 (readings_view before) (readings_view after)
   unfolding Here
   behind right =
       let more : file + 1 ≡ suc file = omega arith in
-      subst (λ (n : ℕ). AreRewrittenFrom r n (drop n before) (drop n after) ↔ AreRewrittenFrom r 0 before after) (sym more)
+      subst (λ (n : ℕ). AreRewrittenFrom r n (readings_view (drop n before)) (readings_view (drop n after)) ↔ AreRewrittenFrom r 0 (readings_view before) (readings_view after)) (sym more)
       (λ rest. invariant.0 (subst (λ (T : Type 0). T) (sym here) (right, rest)), λ all. (subst (λ (T : Type 0). T) here (invariant.1 all)).1)
 
 -- nothing is left
@@ -60,9 +62,9 @@ nothing_left [] (suc n) h = refl
 nothing_left (x ∷ xs) zero h = absurd (omega (arith, h))
 nothing_left (x ∷ xs) (suc n) h = nothing_left xs n (omega (arith, h))
 
-pub all_looked_at : (r : Rewrite) (file : ℕ) (before after : List Parsed) → length before ≤ file → AreRewrittenFrom r file (drop file before) (drop file after) ↔ AreRewrittenFrom r 0 before after → AreRewrittenFrom r 0 before after
+pub all_looked_at : (r : Rewrite) (file : ℕ) (before after : List Parsed) → length before ≤ file → AreRewrittenFrom r file (readings_view (drop file before)) (readings_view (drop file after)) ↔ AreRewrittenFrom r 0 (readings_view before) (readings_view after) → AreRewrittenFrom r 0 (readings_view before) (readings_view after)
 all_looked_at r file before after h invariant =
-    let P : List Parsed → Type 0 = λ xs. AreRewrittenFrom r file xs (drop file after) in
+    let P : List Parsed → Type 0 = λ xs. AreRewrittenFrom r file (readings_view xs) (readings_view (drop file after)) in
     invariant.0 (subst P (sym (nothing_left before file h)) tt)
 
 -- the end of the last directive
@@ -78,18 +80,34 @@ all_directives (d ∷ ds) head last text between some is =
     ∙ ap (λ (n : ℕ). 32 ∷ slice_range text d.span.start (get_or (d ∷ ds) n last).span.end) e
     ∙ ap (λ (n : ℕ). 32 ∷ slice_range text d.span.start n) (sym (last_end d ds last))
 
+-- the directives of a spread, from the first to the last
+last_fits : (text : List ℕ) (at : ℕ) (d : Directive) (ds : List Directive) (last : Directive) → DirectivesFit text at (map directive_view (d ∷ ds)) → (d.span.start ≤ (get_or (d ∷ ds) (length ds) last).span.end) × IsCharBoundary text (get_or (d ∷ ds) (length ds) last).span.end
+last_fits text at d [] last h = (h.1.0, h.1.2)
+last_fits text at d (e ∷ ds) last h =
+    let i = last_fits text d.span.end e ds last h.2 in
+    let own = h.1.0 in
+    let next = h.2.0 in
+    let far = i.0 in
+    (omega (arith, own, next, far), i.1)
+
+pub all_fit : (text : List ℕ) (ds : List Directive) (head last : Directive) → 0 < length ds → DirectivesFit text 0 (map directive_view ds) → ((get_or ds 0 head).span.start ≤ (get_or ds (length ds - 1) last).span.end) × IsCharBoundary text (get_or ds (length ds - 1) last).span.end
+all_fit text [] head last some h = absurd (omega (arith, some))
+all_fit text (d ∷ ds) head last some h =
+    let e : length ds ≡ length (d ∷ ds) - 1 = omega arith in
+    subst (λ (n : ℕ). (d.span.start ≤ (get_or (d ∷ ds) n last).span.end) × IsCharBoundary text (get_or (d ∷ ds) n last).span.end) e (last_fits text 0 d ds last h)
+
 -- fragments, document after document
 module _ (p : FragmentOf → Bool) (readings : List Parsed) (i : ℕ) (x : Parsed) (h : i < length readings) (is : x ≡ get_or readings i x) (whole : Option FragmentOf) where
   abbrev In : ℕ → List Parsed → List FragmentOf
-  In k rs = flat_map (λ r. in_document fragment_in r.0 r.1) (enumerate_from k rs)
+  In k rs = flat_map (λ r. in_document fragment_in r.0 r.1) (enumerate_from k (readings_view rs))
 
-  split : find p (In i (drop i readings)) ≡ option_or (find p (in_document fragment_in i x)) (find p (In (i + 1) (drop (suc i) readings)))
-  split = ap (λ (rs : List Parsed). find p (In i rs)) (drop_read readings i x h is) ∙ find-append p (in_document fragment_in i x) (In (i + 1) (drop (suc i) readings))
+  split : find p (In i (drop i readings)) ≡ option_or (find p (in_document fragment_in i (parsed_view x))) (find p (In (i + 1) (drop (suc i) readings)))
+  split = ap (λ (rs : List Parsed). find p (In i rs)) (drop_read readings i x h is) ∙ find-append p (in_document fragment_in i (parsed_view x)) (In (i + 1) (drop (suc i) readings))
 
-  pub found_read : (y : FragmentOf) → find p (In i (drop i readings)) ≡ whole → Some y ≡ find p (in_document fragment_in i x) → Some y ≡ whole
+  pub found_read : (y : FragmentOf) → find p (In i (drop i readings)) ≡ whole → Some y ≡ find p (in_document fragment_in i (parsed_view x)) → Some y ≡ whole
   found_read y invariant mine = ap (λ (o : Option FragmentOf). option_or o (find p (In (i + 1) (drop (suc i) readings)))) mine ∙ sym split ∙ invariant
 
-  pub later_read : (o : Option FragmentOf) → find p (In i (drop i readings)) ≡ whole → o ≡ find p (in_document fragment_in i x) → ((y : FragmentOf) → o ≡ Some y → ⊥) → find p (In (i + 1) (drop (i + 1) readings)) ≡ whole
+  pub later_read : (o : Option FragmentOf) → find p (In i (drop i readings)) ≡ whole → o ≡ find p (in_document fragment_in i (parsed_view x)) → ((y : FragmentOf) → o ≡ Some y → ⊥) → find p (In (i + 1) (drop (i + 1) readings)) ≡ whole
   later_read (Some y) invariant mine no_some = absurd (no_some y refl)
   later_read None invariant mine no_some =
       let e : i + 1 ≡ suc i = omega arith in

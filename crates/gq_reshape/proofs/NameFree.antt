@@ -3,7 +3,7 @@ use Rattle.std.proofs.Common.{◌≡◌, ℕ, List, [], ◌∷◌, Contains, ref
 use Rattle.std.specs.Str.{bytes_eq}
 use Rattle.gq_text.specs.declared.place.Span.{Span}
 use Rattle.gq_tree.specs.Plain.{NameOf, Def, operation, fragment, type_system}
-use Rattle.gq_tree.specs.declared.parsed.Parsed.{Parsed}
+use Rattle.gq_tree.specs.Readings.{ParsedOf}
 use Rattle.gq_types.specs.Entries.{Text}
 use Rattle.gq_types.proofs.Gathered.{nothing_in, first, only, from_flat, to_flat, to_map, to_filter}
 use Rattle.gq_document.specs.Definitions.{FragmentOf, fragment_in, fragments_of}
@@ -22,7 +22,7 @@ fragment_there file text (fragment name on directives set braces place) f h name
     (place_of name, to_map place_of (called text (name ∷ [])) name (to_filter (λ (m : NameOf Span). bytes_eq text m.text) (name ∷ []) name (first name name [] refl) (text_same text name.text is)))
 fragment_there file text (type_system one) f h named = nothing_in f h
 
-pub none_has : (rs : List Parsed) (text : Text) → fragment_definitions (executables rs) text ≡ [] → (f : FragmentOf) → Contains (fragments_of rs) f → f.name.text ≡ text → ⊥
+pub none_has : (rs : List ParsedOf) (text : Text) → fragment_definitions (executables rs) text ≡ [] → (f : FragmentOf) → Contains (fragments_of rs) f → f.name.text ≡ text → ⊥
 none_has rs text none f c named =
     let d = from_flat (λ (d : DefinitionOf). fragment_in d.file d.definition) (executables rs) f (subst (λ (fs : List FragmentOf). Contains fs f) (sym (fragments_same rs)) c) in
     let o = fragment_there d.0.file text d.0.definition f d.2 named in

@@ -15,11 +15,10 @@ use Rattle.gq_project.specs.declared.document.Doc.{Doc}
 use Rattle.gq_names.specs.Repeats.{IsRepeated}
 use Rattle.gq_fault.specs.declared.code.Code.TheVariants.{UnknownFragment, FragmentNameNotUnique}
 use Rattle.gq_fault.specs.declared.fault.Fault.{Fault}
-use Rattle.gq_tree.specs.declared.parsed.Parsed.{Parsed}
 use Rattle.gq_parse.specs.Parsed.{AreParsed}
 use Rattle.gq_types.specs.Entries.{Text, EntryOf}
 use Rattle.gq_types.proofs.Gathered.{nothing_in, first, later, cases_cons, only, to_flat}
-use Rattle.gq_tree.specs.Readings.{definitions_read}
+use Rattle.gq_tree.specs.Readings.{ParsedOf, definitions_read}
 use Rattle.gq_document.specs.Definitions.{OperationOf, FragmentOf, operations_of, fragments_of}
 use Rattle.gq_document.specs.Executable.{ExecutableOf}
 use Rattle.gq_document.specs.Selections.{SelectedOf, IsSelectionWithin, here, within, after, of_operation, of_fragment}
@@ -97,10 +96,10 @@ found_some (g ∷ fs) f name c e = by (bytes_eq name g.name.text) refl (cases_co
         absurd (let f : true ≡ false = sym bad ∙ t in cc)
     by false t (inr d) next = let i = next d in (i.0, ap (λ (b : Bool). if b then Some (seen_fragment g) else find_definition (map seen_fragment fs) name) t ∙ i.1)
 
-abbrev pub project_over : List EntryOf → List Parsed → ExecutableOf
+abbrev pub project_over : List EntryOf → List ParsedOf → ExecutableOf
 project_over es readings = record { entries = es; operations = operations_of readings; fragments = fragments_of readings }
 
-module _ (es : List EntryOf) (rs : List Parsed) (no_fault : (fault : Fault) → IsRuleFault (project_over es rs) fault → ⊥) where
+module _ (es : List EntryOf) (rs : List ParsedOf) (no_fault : (fault : Fault) → IsRuleFault (project_over es rs) fault → ⊥) where
   is_spread_name : (s : SelectedOf) → Selected rs es s → (name : NameOf Span) → Contains (spread_name s.selection.label) name → IsSpreadName (project_over es rs) s.file name
   is_spread_name s (of_operation c w) name d = target.of_operation c (name_in w.1 name d) w.0
   is_spread_name s (of_fragment c w) name d = target.of_fragment c (name_in w.1 name d) w.0
@@ -181,7 +180,7 @@ module _ (es : List EntryOf) (rs : List Parsed) (no_fault : (fault : Fault) → 
       (r.0, subst (IsRanked r.0) (sym seen) r.1)
 
 -- All that is promised.
-pub record Promised (es : List EntryOf) (rs : List Parsed) : Type 0 where
+pub record Promised (es : List EntryOf) (rs : List ParsedOf) : Type 0 where
   pub rooted : Rooted rs es
   pub known : (s : SelectedOf) → Selected rs es s → (p : Text) × (s.parent ≡ Some p)
   pub defined : (s : SelectedOf) → Selected rs es s → IsSpreadDefined (definitions_of (trees_read rs)) s.selection.label
@@ -189,7 +188,7 @@ pub record Promised (es : List EntryOf) (rs : List Parsed) : Type 0 where
   pub ranked : (rank : Text → ℕ) × IsRanked rank (definitions_of (trees_read rs))
   pub one_kind : AllByRecursion (λ r. AreOfOneKind (definitions_read r)) rs
 
-pub promised : NoneIsBoth → (documents : List Doc) → ∥ IsValid documents ∥₁ → (rs : List Parsed) → AreParsed documents rs → Promised (type_system_of rs) rs
+pub promised : NoneIsBoth → (documents : List Doc) → ∥ IsValid documents ∥₁ → (rs : List ParsedOf) → AreParsed documents rs → Promised (type_system_of rs) rs
 promised apart documents valid rs are =
     let nothing = nothing_demanded apart in
     let no_fault = no_rule nothing documents rs valid are in

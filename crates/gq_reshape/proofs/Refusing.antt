@@ -2,7 +2,7 @@
 use Rattle.std.proofs.Common.{◌<◌, ◌++◌, List, Err, arith, refl}
 use Rattle.gq_project.specs.declared.document.Doc.{Doc}
 use Rattle.gq_edit.specs.declared.edit.DocumentEdit.{DocumentEdit}
-use Rattle.gq_tree.specs.declared.parsed.Parsed.{Parsed}
+use Rattle.gq_tree.specs.Readings.{ParsedOf}
 use Rattle.gq_types.specs.Entries.{EntryOf}
 use Rattle.gq_types.specs.BuiltIn.{built_in}
 use Rattle.gq_document.specs.Definitions.{entries_of}
@@ -29,8 +29,8 @@ none_lesser SelfCheck less = omega (arith, less)
 none_lesser NoMemory less = omega (arith, less)
 
 -- an answer by any conditions under which its own holds
-pub refused : (Refuses : List Doc → List EntryOf → List Parsed → RangeAsk → Refusal → Type 0) (IsEdit : List Doc → List EntryOf → List Parsed → RangeAsk → List DocumentEdit → Type 0) (documents : List Doc) (ask : RangeAsk)
-    → IsInvalid documents → ((es : List EntryOf) (readings : List Parsed) → Refuses documents es readings ask ProjectInvalid) → IsAnswerBy Refuses IsEdit documents ask (Err ProjectInvalid)
+pub refused : (Refuses : List Doc → List EntryOf → List ParsedOf → RangeAsk → Refusal → Type 0) (IsEdit : List Doc → List EntryOf → List ParsedOf → RangeAsk → List DocumentEdit → Type 0) (documents : List Doc) (ask : RangeAsk)
+    → IsInvalid documents → ((es : List EntryOf) (readings : List ParsedOf) → Refuses documents es readings ask ProjectInvalid) → IsAnswerBy Refuses IsEdit documents ask (Err ProjectInvalid)
 refused Refuses IsEdit documents ask invalid holds = record {
   readings = invalid.readings;
   are_readings = invalid.are_readings;

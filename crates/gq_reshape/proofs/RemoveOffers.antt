@@ -6,7 +6,7 @@ use Rattle.gq_tree.specs.Plain.{NameOf, DirectiveOf, inline}
 use Rattle.gq_project.specs.declared.document.Doc.{Doc}
 use Rattle.gq_project.specs.Documents.{has_key}
 use Rattle.gq_edit.specs.declared.edit.DocumentEdit.{DocumentEdit}
-use Rattle.gq_tree.specs.declared.parsed.Parsed.{Parsed}
+use Rattle.gq_tree.specs.Readings.{ParsedOf}
 use Rattle.gq_types.specs.Entries.{EntryOf}
 use Rattle.gq_rules.specs.Validity.{IsValid}
 use Rattle.gq_select.specs.Meant.{StandingOf, is_inline, meant, document_sets}
@@ -20,7 +20,7 @@ use Rattle.gq_reshape.specs.Remove.{Removal, remove_at, remove_cut, NothingToRem
 use Rattle.gq_reshape.specs.Reshape.{PassesLimits, FailsCheck, RefusesRemove}
 use Rattle.gq_reshape.specs.Helping.Steps.{RemoveOffer}
 
-module _ (documents : List Doc) (es : List EntryOf) (readings : List Parsed) (ask : RangeAsk) (valid : ∥ IsValid documents ∥₁) where
+module _ (documents : List Doc) (es : List EntryOf) (readings : List ParsedOf) (ask : RangeAsk) (valid : ∥ IsValid documents ∥₁) where
   -- what is refuted by what is known so far
   none_before : (n : ℕ) → (2 < n → NothingToRemove documents es readings ask → ⊥) → (9 < n → IsNotRedundant documents es readings ask → ⊥) → (10 < n → (i : Removal documents es readings ask) → PassesLimits documents (remove_cut i) → ⊥) →
       (11 < n → (i : Removal documents es readings ask) → FailsCheck documents readings (remove_cut i) → ⊥) → (why : Refusal) → number_of why < n → RefusesRemove documents es readings ask why → ⊥

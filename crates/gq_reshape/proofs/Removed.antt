@@ -6,7 +6,7 @@ use Rattle.std.specs.Str.{bytes_eq}
 use Rattle.gq_text.specs.declared.place.Span.{Span}
 use Rattle.gq_tree.specs.Plain.{NameOf, DirectiveOf, inline}
 use Rattle.gq_project.specs.declared.document.Doc.{Doc}
-use Rattle.gq_tree.specs.declared.parsed.Parsed.{Parsed}
+use Rattle.gq_tree.specs.Readings.{ParsedOf}
 use Rattle.gq_parse.specs.Parsed.{AreParsed}
 use Rattle.gq_types.specs.Entries.{Text, EntryOf}
 use Rattle.gq_types.proofs.Gathered.{and_parts, or_cases}
@@ -61,7 +61,7 @@ nothing_said (Some on) directives braces place p e =
     let parts = and_parts (not (has_directive directives)) (is_parents_type (Some on) (Some p)) e in
     (no_directive directives parts.0, sym (same_text p on.text parts.1))
 
-module _ (documents : List Doc) (ask : RangeAsk) (rs : List Parsed) (are : AreParsed documents rs) (es : List EntryOf) (promise : Promised es rs) where
+module _ (documents : List Doc) (ask : RangeAsk) (rs : List ParsedOf) (are : AreParsed documents rs) (es : List EntryOf) (promise : Promised es rs) where
   pub removed_keeping : (r : Removal documents es rs ask) → (IsNotRedundant documents es rs ask → ⊥) → IsKeeping es rs (remove_cut r)
   removed_keeping r redundant =
       let s : SelectedOf = record { file = r.file; parent = r.selected.parent; selection = r.selected.selection } in

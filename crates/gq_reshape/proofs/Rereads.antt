@@ -1,4 +1,4 @@
--- Parsed again after an edit: the edited documents have the trees of the rewrite where those in which something may change read so.
+-- ParsedOf again after an edit: the edited documents have the trees of the rewrite where those in which something may change read so.
 use Rattle.std.proofs.Common.{◌≡◌, ℕ, suc, Bool, true, false, ◌&&◌, ◌||◌, not, nat_eq, List, [], ◌∷◌, ◌++◌, Option, Some, None, refl, sym, ap, subst, ◌∙◌, map, if◌then◌else◌}
 use Rattle.std.specs.List.{filter}
 use Rattle.std.specs.Option.{option_map_or}
@@ -6,14 +6,12 @@ use Rattle.gq_text.specs.declared.place.Span.{Span}
 use Rattle.gq_text.specs.declared.replacement.Replacement.{Replacement}
 use Rattle.gq_text.specs.Replaced.{replaced}
 use Rattle.gq_tree.specs.Plain.{Def, erase_document, place_def, no_place}
-use Rattle.gq_tree.specs.Views.{document_view}
 use Rattle.gq_project.specs.declared.document.Doc.{Doc}
 use Rattle.gq_parse.specs.Derives.{Derives}
-use Rattle.gq_tree.specs.declared.parsed.Parsed.{Parsed}
-use Rattle.gq_tree.specs.declared.parsed.Parsed.TheVariants as reading
+use Rattle.gq_tree.specs.Readings as reading
 use Rattle.gq_parse.specs.Parsed.{IsParsed, AreParsed}
 use Rattle.gq_parse.specs.Parsed as readings
-use Rattle.gq_tree.specs.Readings.{definitions_read}
+use Rattle.gq_tree.specs.Readings.{ParsedOf, definitions_read}
 use Rattle.gq_renamed.specs.Projects.{AreTrees, none, more}
 use Rattle.gq_renamed.proofs.EditedParts.{made_in}
 use Rattle.gq_rewritten.specs.Rewrites.{Rewrite, DefinitionPlace, is_kept, rewritten_document, rewritten_from}
@@ -23,19 +21,19 @@ use Rattle.gq_reshape.proofs.PlacedLemmas.{parts_from}
 use Rattle.gq_reshape.specs.Helping.Rereading.{is_edited, IsTree, IsRewrittenAt, AreRewrittenFrom}
 use Rattle.gq_parse.proofs.OneReading.{OneTree}
 
-abbrev pub trees_read : List Parsed → List (List (Def Span))
+abbrev pub trees_read : List ParsedOf → List (List (Def Span))
 trees_read rs = map definitions_read rs
 
 -- a text with a tree reads as that
-tree_read : OneTree → (text : List ℕ) (a : Parsed) (tree : List (Def Span)) → IsParsed text a → Derives text tree → (definitions_read a ≡ tree) × IsTree a
-tree_read one text (reading.Tree d) tree p q = (one text (document_view d) tree p q, tt)
-tree_read one text (reading.Syntax place) tree p q = absurd (p.0 tree q)
-tree_read one text (reading.Limit place) tree p q = absurd (p.0 tree q)
+tree_read : OneTree → (text : List ℕ) (a : ParsedOf) (tree : List (Def Span)) → IsParsed text a → Derives text tree → (definitions_read a ≡ tree) × IsTree a
+tree_read one text (reading.tree d) tree p q = (one text d tree p q, tt)
+tree_read one text (reading.syntax place) tree p q = absurd (p.0 tree q)
+tree_read one text (reading.limit place) tree p q = absurd (p.0 tree q)
 
-derived : (text : List ℕ) (a : Parsed) → IsParsed text a → IsTree a → Derives text (definitions_read a)
-derived text (reading.Tree d) p t = p
-derived text (reading.Syntax place) p t = absurd t
-derived text (reading.Limit place) p t = absurd t
+derived : (text : List ℕ) (a : ParsedOf) → IsParsed text a → IsTree a → Derives text (definitions_read a)
+derived text (reading.tree d) p t = p
+derived text (reading.syntax place) p t = absurd t
+derived text (reading.limit place) p t = absurd t
 
 -- nothing changes in a document in which nothing may
 none_goes : (dropped : Option DefinitionPlace) (k : ℕ) → option_map_or (λ d. nat_eq d.file k) dropped false ≡ false → (ds : List (Def Span)) → filter (is_kept dropped k) ds ≡ ds
@@ -57,7 +55,7 @@ kept_document r k ds e =
 
 module _ (one_tree : OneTree) (r : Rewrite) (replacements : List PlacedReplacement) where
   -- the trees are the rewritten ones: then all reads as it should
-  pub forward : (k : ℕ) (documents : List Doc) (bs rest : List Parsed) (trees : List (List (Def Span))) → AreParsed documents bs → AreParsed (map made_in (parts_from replacements k documents)) rest → AreTrees (map made_in (parts_from replacements k documents)) trees →
+  pub forward : (k : ℕ) (documents : List Doc) (bs rest : List ParsedOf) (trees : List (List (Def Span))) → AreParsed documents bs → AreParsed (map made_in (parts_from replacements k documents)) rest → AreTrees (map made_in (parts_from replacements k documents)) trees →
       map erase_document trees ≡ rewritten_from r k (trees_read bs) → AreRewrittenFrom r k bs rest
   forward k [] [] rest trees p q x e = tt
   forward k [] (b ∷ bs) rest trees p q x e = elim p [ ]
@@ -70,17 +68,17 @@ module _ (one_tree : OneTree) (r : Rewrite) (replacements : List PlacedReplaceme
       let own = tree_read one_tree (replaced (replacements_in replacements k) d.text) a t q x in
       (λ edited. (own.1, ap erase_document own.0 ∙ first), forward (suc k) ds bs rest ts ps qs xs others)
 
-  pub record Again (k : ℕ) (documents : List Doc) (bs : List Parsed) : Type 0 where
+  pub record Again (k : ℕ) (documents : List Doc) (bs : List ParsedOf) : Type 0 where
     pub trees : List (List (Def Span))
     pub are_trees : AreTrees (map made_in (parts_from replacements k documents)) trees
     pub rewritten : map erase_document trees ≡ rewritten_from r k (trees_read bs)
 
   module _ (quiet : (k : ℕ) → is_edited r k ≡ false → replacements_in replacements k ≡ []) where
-    record Own (k : ℕ) (d : Doc) (b a : Parsed) : Type 0 where
+    record Own (k : ℕ) (d : Doc) (b a : ParsedOf) : Type 0 where
       pub derives : Derives (replaced (replacements_in replacements k) d.text) (definitions_read a)
       pub is : erase_document (definitions_read a) ≡ rewritten_document r k (definitions_read b)
 
-    own : (k : ℕ) (d : Doc) (b a : Parsed) → IsParsed (replaced (replacements_in replacements k) d.text) a → Derives d.text (definitions_read b) → (is_edited r k ≡ true → IsRewrittenAt r k b a) → Own k d b a
+    own : (k : ℕ) (d : Doc) (b a : ParsedOf) → IsParsed (replaced (replacements_in replacements k) d.text) a → Derives d.text (definitions_read b) → (is_edited r k ≡ true → IsRewrittenAt r k b a) → Own k d b a
     own k d b a q x h = by (is_edited r k) refl
       where
         by : (e : Bool) → is_edited r k ≡ e → Own k d b a
@@ -95,7 +93,7 @@ module _ (one_tree : OneTree) (r : Rewrite) (replacements : List PlacedReplaceme
             }
 
     -- all reads as it should: then the trees are the rewritten ones
-    pub backward : (k : ℕ) (documents : List Doc) (bs rest : List Parsed) → AreParsed documents bs → AreParsed (map made_in (parts_from replacements k documents)) rest → AreTrees documents (trees_read bs) → AreRewrittenFrom r k bs rest → Again k documents bs
+    pub backward : (k : ℕ) (documents : List Doc) (bs rest : List ParsedOf) → AreParsed documents bs → AreParsed (map made_in (parts_from replacements k documents)) rest → AreTrees documents (trees_read bs) → AreRewrittenFrom r k bs rest → Again k documents bs
     backward k [] [] rest p q x h = record { trees = []; are_trees = none; rewritten = refl }
     backward k [] (b ∷ bs) rest p q x h = elim p [ ]
     backward k (d ∷ ds) [] rest p q x h = elim p [ ]

@@ -9,31 +9,26 @@ use Rattle.gq_tree.specs.Plain.{Sels, Def, operation, fragment, type_system, no_
 use Rattle.gq_project.specs.declared.document.Doc.{Doc}
 use Rattle.gq_project.specs.Documents.{IsInOrder}
 use Rattle.gq_edit.specs.Edits.{after_edit}
-use Rattle.gq_tree.specs.declared.parsed.Parsed.{Parsed}
-use Rattle.gq_tree.specs.declared.parsed.Parsed.TheVariants as reading
+use Rattle.gq_tree.specs.Readings as reading
 use Rattle.gq_parse.specs.Parsed.{IsParsed, AreParsed}
 use Rattle.gq_parse.specs.Parsed as readings
 use Rattle.gq_types.specs.Entries.{EntryOf}
 use Rattle.gq_parse.proofs.OneReading.{OneTree, same_definitions}
-use Rattle.gq_tree.specs.Readings.{definitions_read, in_document}
+use Rattle.gq_tree.specs.Readings.{ParsedOf, definitions_read, in_document}
 use Rattle.gq_document.specs.Definitions.{entry_in, entries_of}
 use Rattle.gq_meaning.specs.Thin.{IsIn}
 use Rattle.gq_renamed.proofs.EditedParts.{made_in}
+use Rattle.gq_rewritten.specs.Views as rewritten
 use Rattle.gq_rewritten.specs.Rewrites.{Bare, Rewrite, with_set, is_kept, rewritten_document, rewritten_from}
 use Rattle.gq_reshape.specs.declared.placed.PlacedReplacement.{PlacedReplacement}
 use Rattle.gq_reshape.specs.Placed.{edits_from, replacements_in}
 use Rattle.gq_reshape.proofs.PlacedLemmas.{parts_from, made_after}
 use Rattle.gq_law_renames.proofs.SameTypes.{IsExecutable, IsOfTypes, AreOfOneKind}
+use Rattle.gq_reshape.specs.Helping.Making.{SomeExecutable}
 use Rattle.gq_reshape.specs.Helping.Rereading.{is_edited}
 
-abbrev pub trees_read : List Parsed → List (List (Def Span))
+abbrev pub trees_read : List ParsedOf → List (List (Def Span))
 trees_read rs = map definitions_read rs
-
--- an operation or a fragment stands among definitions
-pub record SomeExecutable (ds : List (Def Span)) : Type 0 where
-  pub definition : Def Span
-  pub stands : IsIn definition ds
-  pub is : IsExecutable definition
 
 -- so it is in each document in which something may change, the first of which has that number
 abbrev pub AreOfOperations : Rewrite → ℕ → List (List (Def Span)) → Type 0
@@ -51,17 +46,17 @@ pub from_first : (r : Rewrite) (trees : List (List (Def Span))) → ((i : ℕ) (
 from_first r trees all = from_each r 0 trees (λ i tree there e. let number : 0 + i ≡ i = omega arith in all i tree there (subst (λ (n : ℕ). is_edited r n ≡ true) number e))
 
 -- all of one kind
-not_both : (d : Def Span) → IsExecutable d → IsOfTypes d → ⊥
+not_both : (d : Def Span) → rewritten.IsExecutable d → IsOfTypes d → ⊥
 not_both (operation kind name variables directives set braces place) e t = t
 not_both (fragment name on directives set braces place) e t = t
 not_both (type_system definition) e t = e
 
-not_types : (ds : List (Def Span)) (d : Def Span) → IsIn d ds → IsExecutable d → AllByRecursion IsOfTypes ds → ⊥
+not_types : (ds : List (Def Span)) (d : Def Span) → IsIn d ds → rewritten.IsExecutable d → AllByRecursion IsOfTypes ds → ⊥
 not_types [] d m e all = m
-not_types (x ∷ ds) d (inl q) e all = not_both x (subst (λ (z : Def Span). IsExecutable z) q e) all.0
+not_types (x ∷ ds) d (inl q) e all = not_both x (subst (λ (z : Def Span). rewritten.IsExecutable z) q e) all.0
 not_types (x ∷ ds) d (inr m) e all = not_types ds d m e all.1
 
-all_executable : (ds : List (Def Span)) → SomeExecutable ds → AreOfOneKind ds → AllByRecursion IsExecutable ds
+pub all_executable : (ds : List (Def Span)) → SomeExecutable ds → AreOfOneKind ds → AllByRecursion IsExecutable ds
 all_executable ds s (inl all) = all
 all_executable ds s (inr all) = absurd (not_types ds s.definition s.stands s.is all)
 
@@ -106,7 +101,7 @@ no_entry n (type_system one ∷ ds) h = absurd h.0
 
 module _ (one_tree : OneTree) where
   module _ (r : Rewrite) (replacements : List PlacedReplacement) (quiet : (k : ℕ) → is_edited r k ≡ false → replacements_in replacements k ≡ []) (added : AllByRecursion IsExecutable r.added) where
-    document_stays : (k n : ℕ) (d : Doc) (b a : Parsed) → IsParsed d.text b → IsParsed (replaced (replacements_in replacements k) d.text) a → erase_document (definitions_read a) ≡ rewritten_document r k (definitions_read b) →
+    document_stays : (k n : ℕ) (d : Doc) (b a : ParsedOf) → IsParsed d.text b → IsParsed (replaced (replacements_in replacements k) d.text) a → erase_document (definitions_read a) ≡ rewritten_document r k (definitions_read b) →
         AreOfOneKind (definitions_read b) → (is_edited r k ≡ true → SomeExecutable (definitions_read b)) → in_document entry_in n b ≡ in_document entry_in n a
     document_stays k n d b a p q e kind some = by (is_edited r k) refl
       where
@@ -120,7 +115,7 @@ module _ (one_tree : OneTree) where
             let again : IsParsed d.text a = subst R (quiet k t) q in
             ap (λ (ds : List (Def Span)). flat_map (entry_in n) ds) (same_definitions one_tree d.text b a p again)
 
-    entries_from : (k n : ℕ) (documents : List Doc) (bs rest : List Parsed) → AreParsed documents bs → AreParsed (map made_in (parts_from replacements k documents)) rest → map erase_document (trees_read rest) ≡ rewritten_from r k (trees_read bs) →
+    entries_from : (k n : ℕ) (documents : List Doc) (bs rest : List ParsedOf) → AreParsed documents bs → AreParsed (map made_in (parts_from replacements k documents)) rest → map erase_document (trees_read rest) ≡ rewritten_from r k (trees_read bs) →
         AllByRecursion (λ b. AreOfOneKind (definitions_read b)) bs → AreOfOperations r k (trees_read bs) → flat_map (λ x. in_document entry_in x.0 x.1) (enumerate_from n bs) ≡ flat_map (λ x. in_document entry_in x.0 x.1) (enumerate_from n rest)
     entries_from k n [] [] [] p q e kinds some = refl
     entries_from k n [] [] (a ∷ rest) p q e kinds some = elim q [ ]
@@ -133,7 +128,7 @@ module _ (one_tree : OneTree) where
         ap (λ (es : List EntryOf). es ++ flat_map (λ x. in_document entry_in x.0 x.1) (enumerate_from (n + 1) bs)) (document_stays k n d b a p q own kinds.0 some.0)
         ∙ ap (λ (es : List EntryOf). in_document entry_in n a ++ es) (entries_from (suc k) (n + 1) ds bs rest ps qs others kinds.1 some.1)
 
-    pub same_entries : (documents : List Doc) (before after : List Parsed) → IsInOrder documents → AreParsed documents before → AreParsed (after_edit (edits_from replacements 0 documents) documents) after →
+    pub same_entries : (documents : List Doc) (before after : List ParsedOf) → IsInOrder documents → AreParsed documents before → AreParsed (after_edit (edits_from replacements 0 documents) documents) after →
         map erase_document (trees_read after) ≡ rewritten_from r 0 (trees_read before) → AllByRecursion (λ b. AreOfOneKind (definitions_read b)) before → AreOfOperations r 0 (trees_read before) → entries_of before ≡ entries_of after
     same_entries documents before after in_order are are_after e kinds some =
         entries_from 0 0 documents before after are (subst (λ (ds : List Doc). AreParsed ds after) (made_after replacements documents in_order) are_after) e kinds some

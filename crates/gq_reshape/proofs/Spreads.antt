@@ -9,7 +9,7 @@ use Rattle.gq_tree.specs.Forest.{labels}
 use Rattle.gq_tree.specs.Names.{spread_name}
 use Rattle.gq_tree.specs.Plain as tree
 use Rattle.gq_tree.specs.Plain.{NameOf, DirectiveOf, Head, Def, operation, fragment, type_system}
-use Rattle.gq_tree.specs.declared.parsed.Parsed.{Parsed}
+use Rattle.gq_tree.specs.Readings.{ParsedOf}
 use Rattle.gq_types.specs.Entries.{Text, EntryOf}
 use Rattle.gq_types.proofs.Gathered.{nothing_in, only, from_flat, to_flat, to_map, to_filter}
 use Rattle.gq_document.specs.Definitions.{OperationOf, FragmentOf, operation_in, fragment_in, operations_of, fragments_of}
@@ -76,7 +76,7 @@ one_item [] e x y c d = nothing_in x c
 one_item (z ∷ []) e x y c d = only z x c ∙ sym (only z y d)
 one_item (z ∷ w ∷ xs) e x y c d = absurd (omega (arith, e))
 
-module _ (rs : List Parsed) (es : List EntryOf) (text : Text) where
+module _ (rs : List ParsedOf) (es : List EntryOf) (text : Text) where
   placed_in : (d : DefinitionOf) → Contains (executables rs) d → (h : Head Span) → Contains (heads_in d.definition) h → is_of_name text h ≡ true → Contains (flat_map (in_definition text) (executables rs)) (d.file, h)
   placed_in d there h c e =
       to_flat (in_definition text) (executables rs) d (d.file, h) there

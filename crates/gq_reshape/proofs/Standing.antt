@@ -8,9 +8,8 @@ use Rattle.gq_tree.specs.Forest.{none, more}
 use Rattle.gq_tree.specs.Plain.{Head, Sel, Sels, Def, operation, fragment, type_system}
 use Rattle.gq_types.specs.Entries.{Text, EntryOf}
 use Rattle.gq_types.specs.Roots.{root_of}
-use Rattle.gq_types.proofs.Gathered.{first, to_flat}
-use Rattle.gq_tree.specs.declared.parsed.Parsed.{Parsed}
-use Rattle.gq_tree.specs.Readings.{definitions_read, in_document}
+use Rattle.gq_types.proofs.Gathered.{and_parts, first, to_flat}
+use Rattle.gq_tree.specs.Readings.{ParsedOf, definitions_read, in_document}
 use Rattle.gq_document.specs.Definitions.{OperationOf, FragmentOf, operation_in, fragment_in, operations_of, fragments_of}
 use Rattle.gq_document.specs.Selections.{SelectedOf, IsSelectionWithin, here, within, after, parent_below, IsSelected, of_operation, of_fragment}
 use Rattle.gq_meaning.specs.Thin.{IsIn}
@@ -22,7 +21,7 @@ use Rattle.gq_law_rewrites.proofs.Executables.{trees_read, contains, in_numbers,
 use Rattle.gq_law_rewrites.proofs.Named.{selection_below}
 use Rattle.gq_law_rewrites.proofs.Selected.{operation_ends, fragment_ends}
 use Rattle.gq_document.specs.Sets.{SetOf, set_in, braces_in, sets_among, sets_of}
-use Rattle.gq_select.specs.Meant.{document_sets, StandingOf, standing_in, standing, later, begins_last, is_meant, meant}
+use Rattle.gq_select.specs.Meant.{document_sets, StandingOf, standing_in, standing, later, begins_last, holds, is_meant, meant}
 use Rattle.gq_reshape.specs.Asks.{tree_at}
 
 in_parts : {A : Type 0} (a b : List A) (x : A) → IsIn x (a ++ b) → IsIn x a ⊎ IsIn x b
@@ -33,7 +32,7 @@ in_parts (y ∷ a) b x (inr m) = elim (in_parts a b x m) [
   | inr h ↦ inr h
 ]
 
-in_flat : {A B : Type 0} (f : A → List B) (all : List A) (x : B) → IsIn x (flat_map f all) → (a : A) × IsIn a all × IsIn x (f a)
+pub in_flat : {A B : Type 0} (f : A → List B) (all : List A) (x : B) → IsIn x (flat_map f all) → (a : A) × IsIn a all × IsIn x (f a)
 in_flat f [] x m = absurd m
 in_flat f (a ∷ all) x m = elim (in_parts (f a) (flat_map f all) x m) [
   | inl h ↦ (a, inl refl, h)
@@ -74,6 +73,16 @@ meant_stands kind range sets s e = elim (best_passes (is_meant kind range) (stan
   | inl q ↦ let impossible : ◌≡◌ {A = Option StandingOf} None (Some s) = q in cc
   | inr q ↦ q.0
 ]
+
+pub meant_is : (kind : Head Span → Bool) (range : Span) (sets : List SetOf) (s : StandingOf) → meant kind range sets ≡ Some s → kind s.selection.label ≡ true
+meant_is kind range sets s e = elim (best_passes (is_meant kind range) (standing sets) None s e) [
+  | inl q ↦ let impossible : ◌≡◌ {A = Option StandingOf} None (Some s) = q in cc
+  | inr q ↦ (and_parts (kind s.selection.label) (holds range (head_place s.selection.label)) q.1).0
+]
+
+-- what is found among the sets is meant
+pub meant_there : (kind : Head Span → Bool) (range : Span) (sets read : List SetOf) (o : Option StandingOf) → read ≡ sets → o ≡ meant kind range read → meant kind range sets ≡ o
+meant_there kind range sets read o same e = ap (meant kind range) (sym same) ∙ sym e
 
 module _ (es : List EntryOf) where
   -- selections of a set stand in it
@@ -134,15 +143,15 @@ module _ (es : List EntryOf) where
       let Q : Sels Span → Type 0 = λ z. IsSelectionWithin es (parent_below es i.inner i.selection.label) z x.parent x.selection in
       stands_deeper i.stands (subst Q i.is (subst P i.is_parent (set_holds set.parent set.selections x m)))
 
-  module _ (rs : List Parsed) (file : ℕ) (r : Parsed) (there : slice_get rs file ≡ Some r) where
+  module _ (rs : List ParsedOf) (file : ℕ) (r : ParsedOf) (there : slice_get rs file ≡ Some r) where
     numbered : Contains (enumerate_from 0 rs) (file, r)
     numbered = let e : 0 + file ≡ file = omega arith in subst (λ (n : ℕ). Contains (enumerate_from 0 rs) (n, r)) e (in_numbers 0 rs file r there)
 
     operation_there : (d : Def Span) → IsIn d (definitions_read r) → (o : OperationOf) → Contains (operation_in file d) o → Contains (operations_of rs) o
-    operation_there d m o c = to_flat (λ (x : ℕ × Parsed). in_document operation_in x.0 x.1) (enumerate_from 0 rs) (file, r) o numbered (to_flat (operation_in file) (definitions_read r) d o (contains d (definitions_read r) m) c)
+    operation_there d m o c = to_flat (λ (x : ℕ × ParsedOf). in_document operation_in x.0 x.1) (enumerate_from 0 rs) (file, r) o numbered (to_flat (operation_in file) (definitions_read r) d o (contains d (definitions_read r) m) c)
 
     fragment_there : (d : Def Span) → IsIn d (definitions_read r) → (f : FragmentOf) → Contains (fragment_in file d) f → Contains (fragments_of rs) f
-    fragment_there d m f c = to_flat (λ (x : ℕ × Parsed). in_document fragment_in x.0 x.1) (enumerate_from 0 rs) (file, r) f numbered (to_flat (fragment_in file) (definitions_read r) d f (contains d (definitions_read r) m) c)
+    fragment_there d m f c = to_flat (λ (x : ℕ × ParsedOf). in_document fragment_in x.0 x.1) (enumerate_from 0 rs) (file, r) f numbered (to_flat (fragment_in file) (definitions_read r) d f (contains d (definitions_read r) m) c)
 
     -- what stands in the sets of a document is a selection of the project
     in_definition : (d : Def Span) → IsIn d (definitions_read r) → (set : SetOf) → IsIn set (sets_of es d) → (x : StandingOf) → IsIn x (standing_in set.parent set.selections) →
@@ -196,20 +205,20 @@ module _ (es : List EntryOf) where
       set_there set m on p = let d = in_flat (sets_of es) (definitions_read r) set m in set_ends d.0 d.1 set d.2 on p
 
 -- the document that is asked of, where it has a set
-pub record DocumentAt (rs : List Parsed) (file : ℕ) : Type 0 where
-  pub reading : Parsed
+pub record DocumentAt (rs : List ParsedOf) (file : ℕ) : Type 0 where
+  pub reading : ParsedOf
   pub there : slice_get rs file ≡ Some reading
   pub is : tree_at rs file ≡ definitions_read reading
 
-pub document_at : (es : List EntryOf) (rs : List Parsed) (file : ℕ) (set : SetOf) → IsIn set (document_sets es (tree_at rs file)) → DocumentAt rs file
+pub document_at : (es : List EntryOf) (rs : List ParsedOf) (file : ℕ) (set : SetOf) → IsIn set (document_sets es (tree_at rs file)) → DocumentAt rs file
 document_at es rs file set m = by (slice_get rs file) refl m
   where
-    by : (o : Option Parsed) → slice_get rs file ≡ o → IsIn set (document_sets es (option_map_or definitions_read o [])) → DocumentAt rs file
+    by : (o : Option ParsedOf) → slice_get rs file ≡ o → IsIn set (document_sets es (option_map_or definitions_read o [])) → DocumentAt rs file
     by None e c = absurd c
-    by (Some r) e c = record { reading = r; there = e; is = ap (λ (o : Option Parsed). option_map_or definitions_read o []) e }
+    by (Some r) e c = record { reading = r; there = e; is = ap (λ (o : Option ParsedOf). option_map_or definitions_read o []) e }
 
 -- what is meant there is a selection of the project
-pub selected_asked : (es : List EntryOf) (rs : List Parsed) (file : ℕ) (x : StandingOf) → IsIn x (standing (document_sets es (tree_at rs file))) → IsSelected es (operations_of rs) (fragments_of rs) (record { file = file; parent = x.parent; selection = x.selection })
+pub selected_asked : (es : List EntryOf) (rs : List ParsedOf) (file : ℕ) (x : StandingOf) → IsIn x (standing (document_sets es (tree_at rs file))) → IsSelected es (operations_of rs) (fragments_of rs) (record { file = file; parent = x.parent; selection = x.selection })
 selected_asked es rs file x m =
     let s = in_flat (λ (s : SetOf). standing_in s.parent s.selections) (document_sets es (tree_at rs file)) x m in
     let d = document_at es rs file s.0 s.1 in

@@ -5,8 +5,7 @@ use Rattle.gq_text.specs.declared.place.Span.{Span}
 use Rattle.gq_tree.specs.Plain.{Def}
 use Rattle.gq_project.specs.declared.document.Doc.{Doc}
 use Rattle.gq_project.specs.Documents.{has_key}
-use Rattle.gq_tree.specs.declared.parsed.Parsed.{Parsed}
-use Rattle.gq_tree.specs.Readings.{definitions_read}
+use Rattle.gq_tree.specs.Readings.{ParsedOf, definitions_read}
 
 -- the key of a document, and a range of its text, in bytes, its end left out
 pub record RangeAsk : Type 0 where
@@ -19,5 +18,5 @@ pub record IsAskedOf (documents : List Doc) (key : List ℕ) (file : ℕ) (docum
   pub stands : slice_get documents file ≡ Some document
 
 -- the definitions of the document of that number, as it is read
-abbrev pub tree_at : List Parsed → ℕ → List (Def Span)
+abbrev pub tree_at : List ParsedOf → ℕ → List (Def Span)
 tree_at readings file = option_map_or definitions_read (slice_get readings file) []

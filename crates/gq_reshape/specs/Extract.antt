@@ -4,7 +4,7 @@ use Rattle.std.specs.Option.{option_map, option_or}
 use Rattle.gq_text.specs.declared.place.Span.{Span}
 use Rattle.gq_tree.specs.Plain.{Sels, fragment, erase_all}
 use Rattle.gq_project.specs.declared.document.Doc.{Doc}
-use Rattle.gq_tree.specs.declared.parsed.Parsed.{Parsed}
+use Rattle.gq_tree.specs.Readings.{ParsedOf}
 use Rattle.gq_types.specs.Entries.{Text, EntryOf}
 use Rattle.gq_types.specs.Possible.{IsPossible}
 use Rattle.gq_index.specs.Occurrences.{executables}
@@ -37,11 +37,11 @@ innermost_at place sets = innermost place.start place.end sets
 abbrev pub parent_in_question : Span → List SetOf → Option (Option Text)
 parent_in_question place sets = option_or (option_map (λ r. r.parent) (run_at place sets)) (option_map (λ s. s.parent) (innermost_at place sets))
 
-abbrev pub sets_asked : {documents : List Doc} {ask : RangeAsk} → List EntryOf → List Parsed → Touched documents ask → List SetOf
+abbrev pub sets_asked : {documents : List Doc} {ask : RangeAsk} → List EntryOf → List ParsedOf → Touched documents ask → List SetOf
 sets_asked es readings t = document_sets es (tree_at readings t.file)
 
 -- what is extracted, with the number of the new fragment
-pub record Extraction (documents : List Doc) (es : List EntryOf) (readings : List Parsed) (ask : RangeAsk) : Type 0 where
+pub record Extraction (documents : List Doc) (es : List EntryOf) (readings : List ParsedOf) (ask : RangeAsk) : Type 0 where
   pub touched : Touched documents ask
   pub parent : Text
   pub run : Sels Span
@@ -67,12 +67,12 @@ extract_at file text place name on run = record {
   };
 }
 
-abbrev pub extract_cut : {documents : List Doc} {es : List EntryOf} {readings : List Parsed} {ask : RangeAsk} → Extraction documents es readings ask → Cut
+abbrev pub extract_cut : {documents : List Doc} {es : List EntryOf} {readings : List ParsedOf} {ask : RangeAsk} → Extraction documents es readings ask → Cut
 extract_cut e = extract_at e.touched.file e.touched.document.text e.touched.place (extracted_name e.number) e.parent e.run
 
 -- Nothing is there: whatever the range touches, no set is in question. So it is where the project has no document of that key,
 -- and where the range touches no token.
-abbrev pub NothingToExtract : List Doc → List EntryOf → List Parsed → RangeAsk → Type 0
+abbrev pub NothingToExtract : List Doc → List EntryOf → List ParsedOf → RangeAsk → Type 0
 NothingToExtract documents es readings ask = (t : Touched documents ask) → parent_in_question t.place (sets_asked es readings t) ≡ None
 
 -- no object type is possible for it
@@ -80,14 +80,14 @@ abbrev pub HasNoObject : List EntryOf → Option Text → Type 0
 HasNoObject es None = Unit {0}
 HasNoObject es (Some parent) = (object : Text) → IsPossible es parent object → ⊥
 
-pub record HasNoPossibleType (documents : List Doc) (es : List EntryOf) (readings : List Parsed) (ask : RangeAsk) : Type 0 where
+pub record HasNoPossibleType (documents : List Doc) (es : List EntryOf) (readings : List ParsedOf) (ask : RangeAsk) : Type 0 where
   pub touched : Touched documents ask
   pub parent : Option Text
   pub in_question : parent_in_question touched.place (sets_asked es readings touched) ≡ Some parent
   pub no_object : HasNoObject es parent
 
 -- the ends lie between the braces of a set, and no set has such a run
-pub record AreNoSiblings (documents : List Doc) (es : List EntryOf) (readings : List Parsed) (ask : RangeAsk) : Type 0 where
+pub record AreNoSiblings (documents : List Doc) (es : List EntryOf) (readings : List ParsedOf) (ask : RangeAsk) : Type 0 where
   pub touched : Touched documents ask
   pub no_run : run_at touched.place (sets_asked es readings touched) ≡ None
   pub set : SetOf

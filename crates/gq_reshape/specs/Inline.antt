@@ -5,7 +5,7 @@ use Rattle.std.specs.Str.{bytes_eq}
 use Rattle.gq_text.specs.declared.place.Span.{Span}
 use Rattle.gq_tree.specs.Plain.{NameOf, DirectiveOf, spread, erase_all}
 use Rattle.gq_project.specs.declared.document.Doc.{Doc}
-use Rattle.gq_tree.specs.declared.parsed.Parsed.{Parsed}
+use Rattle.gq_tree.specs.Readings.{ParsedOf}
 use Rattle.gq_types.specs.Entries.{Text, EntryOf}
 use Rattle.gq_document.specs.Definitions.{FragmentOf, fragments_of}
 use Rattle.gq_index.specs.Occurrences.{executables, fragment_spreads}
@@ -17,7 +17,7 @@ use Rattle.gq_reshape.specs.Texts.{inlined_text}
 use Rattle.gq_reshape.specs.declared.placed.PlacedReplacement.{PlacedReplacement}
 
 -- The spread that a range means, and the fragment that it spreads with the document that this stands in.
-pub record Inlining (documents : List Doc) (es : List EntryOf) (readings : List Parsed) (ask : RangeAsk) : Type 0 where
+pub record Inlining (documents : List Doc) (es : List EntryOf) (readings : List ParsedOf) (ask : RangeAsk) : Type 0 where
   pub file : ℕ
   pub document : Doc
   pub asked_of : IsAskedOf documents ask.key file document
@@ -32,8 +32,8 @@ pub record Inlining (documents : List Doc) (es : List EntryOf) (readings : List 
   pub home : Doc
   pub is_home : slice_get documents definition.file ≡ Some home
 
--- whether it is the project's only spread of that fragment
-abbrev pub is_only_spread : List Parsed → Text → Bool
+-- whether it is the project's only spread of that fragment; LastSpread says it of all spreads
+abbrev pub is_only_spread : List ParsedOf → Text → Bool
 is_only_spread readings name = nat_eq (length (fragment_spreads (executables readings) name)) 1
 
 -- two replacements in the order of documents and places
@@ -61,11 +61,11 @@ inline_at file text directives place f home goes = record {
   };
 }
 
-abbrev pub inline_cut : {documents : List Doc} {es : List EntryOf} {readings : List Parsed} {ask : RangeAsk} → Inlining documents es readings ask → Cut
+abbrev pub inline_cut : {documents : List Doc} {es : List EntryOf} {readings : List ParsedOf} {ask : RangeAsk} → Inlining documents es readings ask → Cut
 inline_cut {readings = readings} i = inline_at i.file i.document.text i.directives i.place i.definition i.home.text (is_only_spread readings i.name.text)
 
 -- nothing is there: no document of that key, no spread that holds the range, or no fragment of its name
-abbrev pub NothingToInline : List Doc → List EntryOf → List Parsed → RangeAsk → Type 0
+abbrev pub NothingToInline : List Doc → List EntryOf → List ParsedOf → RangeAsk → Type 0
 NothingToInline documents es readings ask = Inlining documents es readings ask → ⊥
 
 -- a directive other than `@skip` and `@include`
@@ -77,6 +77,6 @@ has_directive [] = false
 has_directive (d ∷ ds) = true
 
 -- the spread has such a directive, or the definition has any
-pub record IsDirectiveInWay (documents : List Doc) (es : List EntryOf) (readings : List Parsed) (ask : RangeAsk) : Type 0 where
+pub record IsDirectiveInWay (documents : List Doc) (es : List EntryOf) (readings : List ParsedOf) (ask : RangeAsk) : Type 0 where
   pub inlining : Inlining documents es readings ask
   pub in_way : (list_any is_in_way inlining.directives || has_directive inlining.definition.directives) ≡ true

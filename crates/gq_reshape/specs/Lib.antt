@@ -5,8 +5,11 @@ pub mod Placed
 pub mod Cuts
 pub mod Extract
 pub mod Inline
+pub mod LastSpread
+pub mod RunPlaces
 pub mod Remove
 pub mod Reshape
 pub mod Asked
+pub mod Determined
 pub mod Responses
 pub mod Helping

@@ -5,7 +5,7 @@ use Rattle.std.specs.Str.{bytes_eq}
 use Rattle.gq_text.specs.declared.place.Span.{Span}
 use Rattle.gq_tree.specs.Plain.{NameOf, DirectiveOf, inline}
 use Rattle.gq_project.specs.declared.document.Doc.{Doc}
-use Rattle.gq_tree.specs.declared.parsed.Parsed.{Parsed}
+use Rattle.gq_tree.specs.Readings.{ParsedOf}
 use Rattle.gq_types.specs.Entries.{Text, EntryOf}
 use Rattle.gq_rewritten.specs.Rewrites.{without_braces}
 use Rattle.gq_select.specs.Meant.{StandingOf, is_inline, meant, document_sets}
@@ -16,7 +16,7 @@ use Rattle.gq_reshape.specs.Inline.{has_directive}
 use Rattle.gq_reshape.specs.Texts.{opened_text}
 
 -- the inline fragment that a range means
-pub record Removal (documents : List Doc) (es : List EntryOf) (readings : List Parsed) (ask : RangeAsk) : Type 0 where
+pub record Removal (documents : List Doc) (es : List EntryOf) (readings : List ParsedOf) (ask : RangeAsk) : Type 0 where
   pub file : ℕ
   pub document : Doc
   pub asked_of : IsAskedOf documents ask.key file document
@@ -46,14 +46,14 @@ remove_at file text place braces = record {
   rewrite = record { file = file; change = without_braces place; added = []; dropped = None };
 }
 
-abbrev pub remove_cut : {documents : List Doc} {es : List EntryOf} {readings : List Parsed} {ask : RangeAsk} → Removal documents es readings ask → Cut
+abbrev pub remove_cut : {documents : List Doc} {es : List EntryOf} {readings : List ParsedOf} {ask : RangeAsk} → Removal documents es readings ask → Cut
 remove_cut r = remove_at r.file r.document.text r.place r.braces
 
 -- nothing is there: no document of that key, or no inline fragment that holds the range
-abbrev pub NothingToRemove : List Doc → List EntryOf → List Parsed → RangeAsk → Type 0
+abbrev pub NothingToRemove : List Doc → List EntryOf → List ParsedOf → RangeAsk → Type 0
 NothingToRemove documents es readings ask = Removal documents es readings ask → ⊥
 
 -- it says something
-pub record IsNotRedundant (documents : List Doc) (es : List EntryOf) (readings : List Parsed) (ask : RangeAsk) : Type 0 where
+pub record IsNotRedundant (documents : List Doc) (es : List EntryOf) (readings : List ParsedOf) (ask : RangeAsk) : Type 0 where
   pub removal : Removal documents es readings ask
   pub says : says_nothing removal.on removal.directives removal.selected.parent ≡ false

@@ -2,7 +2,7 @@
 use Rattle.std.specs.Prelude.{◌≡◌, List, Result}
 use Rattle.gq_project.specs.declared.document.Doc.{Doc}
 use Rattle.gq_edit.specs.declared.edit.DocumentEdit.{DocumentEdit}
-use Rattle.gq_tree.specs.declared.parsed.Parsed.{Parsed}
+use Rattle.gq_tree.specs.Readings.{ParsedOf}
 use Rattle.gq_parse.specs.Parsed.{AreParsed}
 use Rattle.gq_types.specs.Entries.{EntryOf}
 use Rattle.gq_schema.specs.SchemaOf.{IsTypeSystemOf}
@@ -22,11 +22,11 @@ use Rattle.gq_reshape.specs.Remove.{Removal, remove_cut, NothingToRemove, IsNotR
 abbrev pub PassesLimits : List Doc → Cut → Type 0
 PassesLimits documents cut = IsTooLarge documents (edits_of cut documents)
 
-abbrev pub FailsCheck : List Doc → List Parsed → Cut → Type 0
+abbrev pub FailsCheck : List Doc → List ParsedOf → Cut → Type 0
 FailsCheck documents readings cut = PassesCheck documents (trees_of readings) cut → ⊥
 
 -- the condition of each refusal
-abbrev pub RefusesExtract : List Doc → List EntryOf → List Parsed → RangeAsk → Refusal → Type 0
+abbrev pub RefusesExtract : List Doc → List EntryOf → List ParsedOf → RangeAsk → Refusal → Type 0
 RefusesExtract documents es readings ask ProjectInvalid = IsValid documents → ⊥
 RefusesExtract documents es readings ask NothingHere = NothingToExtract documents es readings ask
 RefusesExtract documents es readings ask BadName = ⊥
@@ -40,7 +40,7 @@ RefusesExtract documents es readings ask TooLarge = (e : Extraction documents es
 RefusesExtract documents es readings ask SelfCheck = (e : Extraction documents es readings ask) × FailsCheck documents readings (extract_cut e)
 RefusesExtract documents es readings ask NoMemory = ⊥
 
-abbrev pub RefusesInline : List Doc → List EntryOf → List Parsed → RangeAsk → Refusal → Type 0
+abbrev pub RefusesInline : List Doc → List EntryOf → List ParsedOf → RangeAsk → Refusal → Type 0
 RefusesInline documents es readings ask ProjectInvalid = IsValid documents → ⊥
 RefusesInline documents es readings ask NothingHere = NothingToInline documents es readings ask
 RefusesInline documents es readings ask BadName = ⊥
@@ -54,7 +54,7 @@ RefusesInline documents es readings ask TooLarge = (i : Inlining documents es re
 RefusesInline documents es readings ask SelfCheck = (i : Inlining documents es readings ask) × FailsCheck documents readings (inline_cut i)
 RefusesInline documents es readings ask NoMemory = ⊥
 
-abbrev pub RefusesRemove : List Doc → List EntryOf → List Parsed → RangeAsk → Refusal → Type 0
+abbrev pub RefusesRemove : List Doc → List EntryOf → List ParsedOf → RangeAsk → Refusal → Type 0
 RefusesRemove documents es readings ask ProjectInvalid = IsValid documents → ⊥
 RefusesRemove documents es readings ask NothingHere = NothingToRemove documents es readings ask
 RefusesRemove documents es readings ask BadName = ⊥
@@ -69,21 +69,21 @@ RefusesRemove documents es readings ask SelfCheck = (r : Removal documents es re
 RefusesRemove documents es readings ask NoMemory = ⊥
 
 -- the exact edit, which passes the check
-abbrev pub IsEdit : List Doc → List Parsed → Cut → List DocumentEdit → Type 0
+abbrev pub IsEdit : List Doc → List ParsedOf → Cut → List DocumentEdit → Type 0
 IsEdit documents readings cut edits = (edits ≡ edits_of cut documents) × PassesCheck documents (trees_of readings) cut
 
-abbrev pub IsExtractEdit : List Doc → List EntryOf → List Parsed → RangeAsk → List DocumentEdit → Type 0
+abbrev pub IsExtractEdit : List Doc → List EntryOf → List ParsedOf → RangeAsk → List DocumentEdit → Type 0
 IsExtractEdit documents es readings ask edits = (e : Extraction documents es readings ask) × IsEdit documents readings (extract_cut e) edits
 
-abbrev pub IsInlineEdit : List Doc → List EntryOf → List Parsed → RangeAsk → List DocumentEdit → Type 0
+abbrev pub IsInlineEdit : List Doc → List EntryOf → List ParsedOf → RangeAsk → List DocumentEdit → Type 0
 IsInlineEdit documents es readings ask edits = (i : Inlining documents es readings ask) × IsEdit documents readings (inline_cut i) edits
 
-abbrev pub IsRemoveEdit : List Doc → List EntryOf → List Parsed → RangeAsk → List DocumentEdit → Type 0
+abbrev pub IsRemoveEdit : List Doc → List EntryOf → List ParsedOf → RangeAsk → List DocumentEdit → Type 0
 IsRemoveEdit documents es readings ask edits = (r : Removal documents es readings ask) × IsEdit documents readings (remove_cut r) edits
 
 -- the answer to an ask about documents, by what refuses it and what its edit is
-pub record IsAnswerBy (Refuses : List Doc → List EntryOf → List Parsed → RangeAsk → Refusal → Type 0) (IsEdit : List Doc → List EntryOf → List Parsed → RangeAsk → List DocumentEdit → Type 0) (documents : List Doc) (ask : RangeAsk) (result : Result (List DocumentEdit) Refusal) : Type 0 where
-  pub readings : List Parsed
+pub record IsAnswerBy (Refuses : List Doc → List EntryOf → List ParsedOf → RangeAsk → Refusal → Type 0) (IsEdit : List Doc → List EntryOf → List ParsedOf → RangeAsk → List DocumentEdit → Type 0) (documents : List Doc) (ask : RangeAsk) (result : Result (List DocumentEdit) Refusal) : Type 0 where
+  pub readings : List ParsedOf
   pub are_readings : AreParsed documents readings
   pub types : List EntryOf
   pub is_type_system : IsTypeSystemOf documents types

@@ -1,37 +1,35 @@
 //! What a refactoring is asked of.
-ghost use Rattle.std.specs.Prelude.{◌≡◌, IfOk, position};
+ghost use Rattle.std.specs.Prelude.{◌≡◌, IfOk};
 ghost use Rattle.gq_types.specs.Look.{types_view};
-ghost use Rattle.gq_project.specs.Documents.{has_key};
-ghost use Rattle.gq_tree.specs.Readings.{definitions_read};
-ghost use Rattle.gq_rules.specs.Validity.{IsValid};
+ghost use Rattle.gq_tree.specs.Readings.{definitions_read, parsed_view};
 ghost use Rattle.gq_schema.specs.SchemaOf.{IsTypeSystemOf};
 ghost use Rattle.gq_document.specs.SetViews.{sets_view};
 ghost use Rattle.gq_select.specs.Meant.{document_sets};
 ghost use Rattle.gq_reshape.specs.Asks.{tree_at};
+ghost use Rattle.gq_reshape.specs.Helping.About.{sets_of_asked};
 
-use gq_document::{Definitions, SetIn, sets_in};
+use gq_document::{SetIn, sets_in, take_entries};
 use gq_parse::read;
 use gq_project::Doc;
 use gq_rules::Valid;
-use gq_text::NoMemory;
+use gq_text::{NoMemory, Span};
 use gq_tree::Parsed;
 use gq_types::Types;
 use std::alloc::Global;
 
-/// The number of the document of that key.
-pub(crate) fn place_of(documents: &[Doc], key: &str) -> Option<usize>
-    ensures { result ≡ position (has_key key.now) documents.now }
-{
-    documents
-        .iter()
-        .position(|document| document.key.as_str() == key)
-}
-
-/// What is kept of a project: that it is valid.
-pub(crate) fn projects_are_valid(valid: &Valid)
-    ensures { ∥ IsValid valid.now ∥₁ }
-{
-    let _project = valid.project();
+/// A range of a document of a valid project, in bytes, its end left out, with what is known of the project.
+#[derive(Clone, Copy)]
+pub(crate) struct Asked<'a> {
+    pub(crate) valid: &'a Valid,
+    /// What the documents read as.
+    pub(crate) readings: &'a [Parsed],
+    /// Their type system.
+    pub(crate) types: &'a Types,
+    /// The key of the document, its number from 0, and the document.
+    pub(crate) key: &'a str,
+    pub(crate) file: usize,
+    pub(crate) document: &'a Doc,
+    pub(crate) range: Span,
 }
 
 /// The type system of the documents.
@@ -39,8 +37,8 @@ pub(crate) fn types_of(alloc: Global, documents: &[Doc]) -> Result<Types, NoMemo
     ensures { IfOk result (λ types. IsTypeSystemOf documents.now (types_view types)) }
 {
     let readings = read(alloc, documents)?;
-    let definitions = Definitions::of(alloc, readings)?;
-    let types = Types::of(alloc, definitions.entries)?;
+    let (entries, _) = take_entries(alloc, readings)?;
+    let types = Types::of(alloc, entries)?;
     Ok(types)
 }
 
@@ -50,7 +48,7 @@ fn sets_read<'a>(
     types: &'a Types,
     reading: &'a Parsed,
 ) -> Result<Vec<SetIn<'a>>, NoMemory>
-    ensures { IfOk result (λ sets. sets_view sets.items ≡ document_sets (types_view types.now) (definitions_read reading.now)) }
+    ensures { IfOk result (λ sets. sets_view sets.items ≡ document_sets (types_view types.now) (definitions_read (parsed_view reading.now))) }
 {
     match reading {
         Parsed::Tree(document) => sets_in(alloc, types, document),
@@ -59,17 +57,12 @@ fn sets_read<'a>(
     }
 }
 
-/// The selection sets of the document of that number.
-pub(crate) fn sets_at<'a>(
-    alloc: Global,
-    types: &'a Types,
-    readings: &'a [Parsed],
-    file: usize,
-) -> Result<Vec<SetIn<'a>>, NoMemory>
-    ensures { IfOk result (λ sets. sets_view sets.items ≡ document_sets (types_view types.now) (tree_at readings.now file)) }
+/// The selection sets of the document that is asked of.
+pub(crate) fn sets_of(alloc: Global, asked: Asked<'_>) -> Result<Vec<SetIn<'_>>, NoMemory>
+    ensures { IfOk result (λ sets. sets_view sets.items ≡ sets_of_asked asked.entry) }
 {
-    match readings.get(file) {
-        Some(reading) => sets_read(alloc, types, reading),
+    match asked.readings.get(asked.file) {
+        Some(reading) => sets_read(alloc, asked.types, reading),
         None => Ok(Vec::new(alloc)),
     }
 }

@@ -1,5 +1,6 @@
 //! Whether a text passes a limit, whatever else is wrong with it.
 ghost use Rattle.std.specs.Prelude.{◌↔◌, ℕ, IfOk, IsTrue};
+ghost use Rattle.gq_tree.specs.Readings.{parsed_view};
 ghost use Rattle.gq_parse.specs.Parsed.{IsParsed};
 ghost use Rattle.gq_reshape.specs.Helping.Limits.{PassesSomeLimit};
 
@@ -32,7 +33,7 @@ fn tokens_pass_limit(alloc: Global, text: &str) -> Result<bool, NoMemory>
 
 /// Whether the text, which is read so, has too many tokens, or they nest too deep.
 pub(crate) fn passes_limit(alloc: Global, text: &str, reading: &Parsed) -> Result<bool, NoMemory>
-    requires { IsParsed text.now reading.now }
+    requires { IsParsed text.now (parsed_view reading.now) }
     ensures { IfOk result (λ passes. IsTrue passes ↔ PassesSomeLimit text.now) }
 {
     no_tree_past_limits();

@@ -3,7 +3,7 @@ ghost use Rattle.std.specs.Prelude.{◌≡◌, find, flat_map, map};
 ghost use Rattle.std.specs.Option.{option_map};
 ghost use Rattle.std.specs.Str.{bytes_eq};
 ghost use Rattle.gq_tree.specs.Views.{def_view};
-ghost use Rattle.gq_tree.specs.Readings.{in_document};
+ghost use Rattle.gq_tree.specs.Readings.{in_document, parsed_view, readings_view};
 ghost use Rattle.gq_document.specs.Definitions.{fragments_of, fragment_in};
 ghost use Rattle.gq_reshape.specs.Helping.Fragments.{fragment_found};
 
@@ -51,7 +51,7 @@ fn fragment_among<'a>(
 
 /// That of a document as it is read.
 fn fragment_read<'a>(file: usize, reading: &'a Parsed, name: &str) -> Option<FragmentIn<'a>>
-    ensures { option_map fragment_found result ≡ find (λ f. bytes_eq f.name.text name.now) (in_document fragment_in file reading.now) }
+    ensures { option_map fragment_found result ≡ find (λ f. bytes_eq f.name.text name.now) (in_document fragment_in file (parsed_view reading.now)) }
 {
     match reading {
         Parsed::Tree(document) => fragment_among(file, &document.definitions, name),
@@ -62,7 +62,7 @@ fn fragment_read<'a>(file: usize, reading: &'a Parsed, name: &str) -> Option<Fra
 
 /// The first fragment of that name in the documents.
 pub(crate) fn fragment_called<'a>(readings: &'a [Parsed], name: &str) -> Option<FragmentIn<'a>>
-    ensures { option_map fragment_found result ≡ find (λ f. bytes_eq f.name.text name.now) (fragments_of readings.now) }
+    ensures { option_map fragment_found result ≡ find (λ f. bytes_eq f.name.text name.now) (fragments_of (readings_view readings.now)) }
 {
     for (file, reading) in readings.iter().enumerate() {
         if let Some(found) = fragment_read(file, reading, name) {

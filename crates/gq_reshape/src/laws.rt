@@ -4,12 +4,18 @@ ghost use Rattle.gq_project.specs.declared.document.Doc.{Doc};
 ghost use Rattle.gq_rules.specs.Validity.{IsInvalid};
 ghost use Rattle.gq_rename.specs.declared.refusal.Refusal.TheVariants.{ProjectInvalid};
 ghost use Rattle.gq_reshape.specs.Asks.{RangeAsk};
+ghost use Rattle.gq_reshape.specs.Determined.{OffersAreDetermined, OffersAreThere, AnswersAreDetermined, EditsNameVersions, AnsweredEditsLeadBack};
+ghost use Rattle.gq_reshape.specs.LastSpread.{GoesExactlyAlone, GoesWithTheLast};
 ghost use Rattle.gq_reshape.specs.Reshape.{IsExtractAnswer, IsInlineAnswer, IsRemoveAnswer};
 ghost use Rattle.gq_reshape.specs.Responses.{EditsKeepResponses};
+ghost use Rattle.gq_reshape.specs.RunPlaces.{RunsTouchTheirPlace};
 
 use gq_law_rewrites::responses::restated_projects_keep_responses;
+use gq_lex::laws::one_reading;
 use gq_parse::laws::one_tree;
+use gq_rename::laws::{renames_are_determined, renames_are_there};
 use gq_rules::laws::no_project_is_valid_and_invalid;
+use gq_text::laws::positions_lead_back;
 
 /// In a project that is not valid every one of them is refused as that.
 pub fn refactorings_of_invalid_projects_are_refused()
@@ -30,3 +36,52 @@ pub fn refactorings_keep_responses()
     no_project_is_valid_and_invalid();
     restated_projects_keep_responses();
 }
+
+/// An ask has one answer: two that meet its definition are equal, however the documents are read.
+pub fn offers_are_determined()
+    ensures offers { OffersAreDetermined }
+    ensures extract { AnswersAreDetermined IsExtractAnswer }
+    ensures inline { AnswersAreDetermined IsInlineAnswer }
+    ensures remove { AnswersAreDetermined IsRemoveAnswer }
+{
+    one_tree();
+    one_reading();
+    renames_are_determined();
+}
+
+/// An ask has an answer: documents that are read cannot be without one.
+pub fn offers_are_there()
+    ensures { OffersAreThere }
+{
+    renames_are_there();
+}
+
+/// Each document that the edit of one of them edits is there at the version that the edit names.
+pub fn edits_name_documents_at_their_versions()
+    ensures extract { EditsNameVersions IsExtractAnswer }
+    ensures inline { EditsNameVersions IsInlineAnswer }
+    ensures remove { EditsNameVersions IsRemoveAnswer }
+{}
+
+/// The positions that are written for the edit of one of them lead back to its offsets, in each encoding: what it replaces begins and
+/// ends where tokens or the text do, and no token begins with LF or ends with CR.
+pub fn edits_lead_back()
+    ensures extract { AnsweredEditsLeadBack IsExtractAnswer }
+    ensures inline { AnsweredEditsLeadBack IsInlineAnswer }
+    ensures remove { AnsweredEditsLeadBack IsRemoveAnswer }
+{
+    positions_lead_back();
+}
+
+/// The definition of a fragment goes with a spread of it that is inlined exactly where of all spreads of its name in the
+/// project there is this one alone; no selection of the project that stands elsewhere is then a spread of it.
+pub fn fragments_go_with_their_last_spread()
+    ensures alone { GoesExactlyAlone }
+    ensures no_other { GoesWithTheLast }
+{}
+
+/// Of a set's selections that stand one after the other, as in the tree of a text, those of a run stand in its place, and those
+/// before and behind it stand beside that.
+pub fn runs_touch_their_place()
+    ensures { RunsTouchTheirPlace }
+{}

@@ -13,6 +13,7 @@ pub mod offering;
 pub mod placed;
 mod reading;
 pub mod removing;
+mod reshaping;
 mod texts;
 
 pub use extracting::extract;

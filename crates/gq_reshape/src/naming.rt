@@ -2,7 +2,7 @@
 ghost use Rattle.std.specs.Prelude.{◌≡◌, ◌↔◌, [], List, IfOk, IsTrue};
 ghost use Rattle.gq_index.specs.Indexed.{IsIndexOf};
 ghost use Rattle.gq_index.specs.Occurrences.{DefinitionOf, executables, fragment_definitions};
-ghost use Rattle.gq_tree.specs.declared.parsed.Parsed.{Parsed};
+ghost use Rattle.gq_tree.specs.Readings.{ParsedOf};
 ghost use Rattle.gq_parse.specs.Parsed.{AreParsed};
 ghost use Rattle.gq_reshape.specs.Inline.{is_only_spread};
 ghost use Rattle.gq_reshape.specs.Naming.{IsLeastFree, extracted_name};
@@ -31,23 +31,23 @@ fn is_free(alloc: Global, index: &Index, number: usize) -> Result<bool, NoMemory
 }
 
 /// The least number from 1 whose name no fragment has.
-pub(crate) fn free_number(alloc: Global, index: &Index) -> Result<usize, NoMemory>
+fn free_number(alloc: Global, index: &Index) -> Result<usize, NoMemory>
+    requires { (ds : List DefinitionOf) × IsIndexOf ds index.now }
     ensures { IfOk result (λ number. (ds : List DefinitionOf) → IsIndexOf ds index.now → IsLeastFree ds number) }
 {
-    // one number more than there are fragments at most
-    let numbers = index.places().len().saturating_add(1);
+    // of one number more than there are definitions not all are taken
+    let numbers = index.places().len() + 1;
     for before in 0..numbers {
         if is_free(alloc, index, before + 1)? {
             return Ok(before + 1);
         }
     }
-    // not met: not all of so many numbers are taken
-    Err(NoMemory)
+    unreachable!()
 }
 
 /// That number in a project.
 pub(crate) fn new_number(alloc: Global, project: &Project) -> Result<usize, NoMemory>
-    ensures { IfOk result (λ number. (readings : List Parsed) → AreParsed project.now readings → IsLeastFree (executables readings) number) }
+    ensures { IfOk result (λ number. (readings : List ParsedOf) → AreParsed project.now readings → IsLeastFree (executables readings) number) }
 {
     documents_have_one_list();
     let index = Index::of(alloc, project)?;
@@ -57,7 +57,7 @@ pub(crate) fn new_number(alloc: Global, project: &Project) -> Result<usize, NoMe
 
 /// Whether a project has just one spread of the fragment of that name.
 pub(crate) fn is_only_spread(alloc: Global, project: &Project, name: &str) -> Result<bool, NoMemory>
-    ensures { IfOk result (λ only. (readings : List Parsed) → AreParsed project.now readings → only ≡ is_only_spread readings name.now) }
+    ensures { IfOk result (λ only. (readings : List ParsedOf) → AreParsed project.now readings → only ≡ is_only_spread readings name.now) }
 {
     documents_have_one_list();
     let index = Index::of(alloc, project)?;

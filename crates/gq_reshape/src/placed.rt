@@ -1,7 +1,7 @@
 //! The edit that makes replacements in documents.
-ghost use Rattle.std.specs.Prelude.{◌≡◌, ◌++◌, None, find, IfOk, OnOk, IsTrue};
+ghost use Rattle.std.specs.Prelude.{◌≡◌, ◌++◌, None, find, IfOk, OnOk};
 ghost use Rattle.gq_edit.specs.Edits.{FitDocuments, is_moved};
-ghost use Rattle.gq_edit.specs.Replacements.{AreDisjoint, FitText};
+ghost use Rattle.gq_edit.specs.Replacements.{AreDisjoint};
 ghost use Rattle.gq_renamed.specs.Projects.{edit_if_any};
 ghost use Rattle.gq_reshape.specs.Placed.{edits_from, replacements_in};
 ghost use Rattle.gq_reshape.specs.Helping.Fitting.{AllFit};
@@ -38,24 +38,6 @@ fn replacements_in(
     Ok(all)
 }
 
-/// Whether the replacements stand in order in the text, and cut no character.
-fn fit(text: &str, replacements: &[Replacement]) -> bool
-    ensures { IsTrue result → AreDisjoint replacements.now × FitText text.now replacements.now }
-{
-    let mut from = 0;
-    for replacement in replacements {
-        let span = replacement.span;
-        if span.start < from || span.end < span.start {
-            return false;
-        }
-        if !text.is_char_boundary(span.start) || !text.is_char_boundary(span.end) {
-            return false;
-        }
-        from = span.end;
-    }
-    true
-}
-
 /// Puts the edit of a document behind the others, if there is something to replace in it.
 fn put_edit(
     alloc: Global,
@@ -63,13 +45,9 @@ fn put_edit(
     replacements: Vec<Replacement>,
     edits: &mut Vec<DocumentEdit>,
 ) -> Result<(), NoMemory>
-    ensures edits { OnOk result (edits.new.items ≡ edits.old.items ++ edit_if_any document.now replacements.items) }
-    ensures fits { OnOk result (AreDisjoint replacements.items × FitText document.now.text replacements.items) }
+    requires { AreDisjoint replacements.items }
+    ensures { OnOk result (edits.new.items ≡ edits.old.items ++ edit_if_any document.now replacements.items) }
 {
-    if !fit(document.text.as_str(), &replacements) {
-        // not met where their places are those of a tree
-        return Err(NoMemory);
-    }
     if replacements.is_empty() {
         return Ok(());
     }
@@ -87,8 +65,8 @@ fn edits(
     documents: &[Doc],
     placed: &[PlacedReplacement],
 ) -> Result<Vec<DocumentEdit>, NoMemory>
-    ensures edits { IfOk result (λ edits. edits.items ≡ edits_from placed.now 0 documents.now) }
-    ensures fit { IfOk result (λ edits. AllFit placed.now 0 documents.now) }
+    requires { AllFit placed.now 0 documents.now }
+    ensures { IfOk result (λ edits. edits.items ≡ edits_from placed.now 0 documents.now) }
 {
     let mut edits = Vec::new(alloc);
     for (file, document) in documents.iter().enumerate() {
@@ -104,6 +82,7 @@ pub(crate) fn edit_of(
     project: &Project,
     placed: &[PlacedReplacement],
 ) -> Result<Edit, NoMemory>
+    requires { AllFit placed.now 0 project.now }
     ensures edit { IfOk result (λ edit. edit ≡ edits_from placed.now 0 project.now) }
     ensures fits { IfOk result (FitDocuments project.now) }
     ensures there { IfOk result (λ edit. find (is_moved project.now) edit ≡ None) }

@@ -1,26 +1,13 @@
 //! Whether edited documents read as they should.
-ghost use Rattle.std.specs.Prelude.{◌≡◌, ◌↔◌, ◌≤◌, length, true, false, IfOk, IsTrue, map};
-ghost use Rattle.std.specs.List.{AllByRecursion};
-ghost use Rattle.gq_tree.specs.Views.{def_view};
-ghost use Rattle.gq_rewritten.specs.Views.{IsExecutable, rewrite_of};
-ghost use Rattle.gq_reshape.specs.Helping.Rereading.{is_edited, IsRewrittenAt, AreRewrittenFrom};
+ghost use Rattle.std.specs.Prelude.{◌≡◌, ◌↔◌, ◌≤◌, length, IfOk, IsTrue};
+ghost use Rattle.gq_tree.specs.Readings.{parsed_view, readings_view};
+ghost use Rattle.gq_rewritten.specs.Views.{rewrite_of};
+ghost use Rattle.gq_reshape.specs.Helping.Rereading.{is_edited, AreReady, AreRewrittenFrom, IsReady, IsRewrittenAt};
 
 use gq_rewritten::{Rewrite, reads_as_rewritten};
 use gq_text::NoMemory;
-use gq_tree::{Definition, Document, Parsed};
+use gq_tree::Parsed;
 use std::alloc::Global;
-
-/// Whether no definition of the document is one of the type system.
-fn is_executable(document: &Document) -> bool
-    ensures { IsTrue result → AllByRecursion IsExecutable (map def_view document.now.definitions.items) }
-{
-    for definition in &document.definitions {
-        if let Definition::TypeSystem(_) = definition {
-            return false;
-        }
-    }
-    true
-}
 
 /// Whether something may change in the document of that number.
 fn is_edited(rewrite: &Rewrite<'_>, file: usize) -> bool
@@ -43,19 +30,15 @@ fn is_rewritten(
     before: &Parsed,
     after: &Parsed,
 ) -> Result<bool, NoMemory>
-    ensures { IfOk result (λ yes. IsTrue yes ↔ IsRewrittenAt (rewrite_of rewrite.now) file before.now after.now) }
+    requires { IsReady (parsed_view before.now) }
+    ensures { IfOk result (λ yes. IsTrue yes ↔ IsRewrittenAt (rewrite_of rewrite.now) file (parsed_view before.now) (parsed_view after.now)) }
 {
+    let Parsed::Tree(before) = before else {
+        unreachable!()
+    };
     let Parsed::Tree(after) = after else {
         return Ok(false);
     };
-    let Parsed::Tree(before) = before else {
-        // not met: each document of a valid project has a tree
-        return Err(NoMemory);
-    };
-    if !is_executable(before) {
-        // not met: in a valid project no document has definitions of both kinds
-        return Err(NoMemory);
-    }
     reads_as_rewritten(alloc, rewrite, file, before, after)
 }
 
@@ -66,8 +49,9 @@ pub(crate) fn are_rewritten(
     before: &[Parsed],
     after: &[Parsed],
 ) -> Result<bool, NoMemory>
-    requires { length before.now ≤ length after.now }
-    ensures { IfOk result (λ yes. IsTrue yes ↔ AreRewrittenFrom (rewrite_of rewrite.now) 0 before.now after.now) }
+    requires few { length before.now ≤ length after.now }
+    requires ready { AreReady (rewrite_of rewrite.now) (readings_view before.now) }
+    ensures { IfOk result (λ yes. IsTrue yes ↔ AreRewrittenFrom (rewrite_of rewrite.now) 0 (readings_view before.now) (readings_view after.now)) }
 {
     for (file, reading) in before.iter().enumerate() {
         if is_edited(rewrite, file) && !is_rewritten(alloc, rewrite, file, reading, &after[file])? {

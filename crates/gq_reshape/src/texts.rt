@@ -1,22 +1,12 @@
 //! The texts that refactorings put.
-ghost use Rattle.std.specs.Prelude.{◌≡◌, ◌∷◌, IfOk, map, slice_range};
+ghost use Rattle.std.specs.Prelude.{◌≡◌, ◌∷◌, IfOk, map};
 ghost use Rattle.gq_tree.specs.Views.{directive_view};
+ghost use Rattle.gq_law_rewrites.specs.Parts.{DirectivesFit, IsPartOf, between};
 ghost use Rattle.gq_reshape.specs.Texts.{begins_with_name, directives_text, fragment_text, inlined_text, opened_text, spread_text};
 
 use gq_text::{NoMemory, OwnedText, Span};
 use gq_tree::Directive;
 use std::alloc::Global;
-
-/// The bytes of the text from start to end, where characters start or the text ends.
-pub(crate) fn slice(text: &str, start: usize, end: usize) -> Result<&str, NoMemory>
-    ensures { IfOk result (λ part. part.now ≡ slice_range text.now start end) }
-{
-    match text.get(start..end) {
-        Some(part) => Ok(part),
-        // not met: the places of tokens and trees stand in order, between characters
-        None => Err(NoMemory),
-    }
-}
 
 /// Whether the text begins with a letter, a digit or an underscore.
 fn begins_with_name(text: &str) -> bool
@@ -77,6 +67,7 @@ fn directives_text(
     text: &str,
     directives: &[Directive],
 ) -> Result<OwnedText, NoMemory>
+    requires { DirectivesFit text.now 0 (map directive_view directives.now) }
     ensures { IfOk result (λ made. made ≡ directives_text text.now (map directive_view directives.now)) }
 {
     if directives.is_empty() {
@@ -84,9 +75,8 @@ fn directives_text(
     }
     let start = directives[0].span.start;
     let end = directives[directives.len() - 1].span.end;
-    let between = slice(text, start, end)?;
-    let made = behind_space(alloc, between)?;
-    Ok(made)
+    let between = &text[start..end];
+    behind_space(alloc, between)
 }
 
 /// What takes the place of a spread with these directives in the text.
@@ -98,9 +88,11 @@ pub(crate) fn inlined_text(
     on: &str,
     braces: Span,
 ) -> Result<OwnedText, NoMemory>
+    requires directives { DirectivesFit text.now 0 (map directive_view directives.now) }
+    requires braces { IsPartOf home.now braces }
     ensures { IfOk result (λ made. made ≡ inlined_text text.now home.now on.now (map directive_view directives.now) braces) }
 {
-    let set = slice(home, braces.start, braces.end)?;
+    let set = &home[braces.start..braces.end];
     let conditions = directives_text(alloc, text, directives)?;
     let mut made = String::new(alloc);
     made.push_str("...on ")?;
@@ -113,16 +105,13 @@ pub(crate) fn inlined_text(
 
 /// A space, what stands between the braces, a space.
 pub(crate) fn opened_text(alloc: Global, text: &str, braces: Span) -> Result<OwnedText, NoMemory>
+    requires { IsPartOf text.now (between braces) }
     ensures { IfOk result (λ made. made ≡ opened_text text.now braces) }
 {
-    if braces.end == 0 || braces.start >= braces.end {
-        // not met: braces have an end behind their start
-        return Err(NoMemory);
-    }
-    let between = slice(text, braces.start + 1, braces.end - 1)?;
+    let inside = &text[braces.start + 1..braces.end - 1];
     let mut made = String::new(alloc);
     made.push_str(" ")?;
-    made.push_str(between)?;
+    made.push_str(inside)?;
     made.push_str(" ")?;
     Ok(OwnedText::from_string(made))
 }

@@ -1,3 +1,4 @@
+pub mod Choice
 pub mod Meant
 pub mod Runs
 pub mod Touched

@@ -39,7 +39,7 @@ is_inline (inline on directives braces place) = true
 abbrev pub holds : (range place : Span) → Bool
 holds range place = nat_le place.start range.start && nat_le range.end place.end
 
--- of those that pass, and the best one so far, the one that begins last
+-- of those that pass, and the best one so far, the one that begins last; Choice says it of all at once
 abbrev pub later : Option StandingOf → StandingOf → Option StandingOf
 later None s = Some s
 later (Some best) s = if nat_lt (head_place best.selection.label).start (head_place s.selection.label).start then Some s else Some best

@@ -9,7 +9,7 @@ use Rattle.gq_document.specs.Last.{find_last}
 use Rattle.gq_document.specs.Sets.{SetOf}
 use Rattle.gq_rewritten.specs.Rewrites.{head_place}
 
--- selections of a set one after the other, of which the first starts at start and the last ends at end
+-- selections of a set one after the other, of which the first starts at start and the last ends at end; Choice says it of all at once
 abbrev pub run_to : (end : ℕ) → Sels Span → Option (Sels Span)
 run_to end none = None
 run_to end (more head below rest) = if nat_eq (head_place head).end end then Some (more head below none) else option_map (λ run. more head below run) (run_to end rest)

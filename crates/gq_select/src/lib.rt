@@ -1,6 +1,7 @@
 //! What a range of a document means to a refactoring: a selection, or selections one after the other.
 #![tactic(auto)]
 
+pub mod laws;
 pub mod runs;
 pub mod selecting;
 pub mod touching;

@@ -87,7 +87,8 @@ fn meant_in<'a>(
     set: SetIn<'a>,
     best: Option<Standing<'a>>,
 ) -> Option<Standing<'a>>
-    ensures { option_map standing_view result ≡ begins_last (is_meant (is_of_kind kind) range) (option_map standing_view best.entry) (standing_in (text_of set.entry.parent) (sels_view set.entry.selections.now)) }
+    ensures { option_map standing_view result ≡ begins_last (is_meant (is_of_kind kind) range) (option_map standing_view best.entry)
+        (standing_in (text_of set.entry.parent) (sels_view set.entry.selections.now)) }
 {
     let mut best = best;
     for selection in set.selections {

@@ -1,9 +1,8 @@
 -- What comes of the checks of an edit.
-use Rattle.std.specs.Prelude.{◌≡◌, ℕ, false, List, [], Option, Some, None, Result, Ok, Err, find}
+use Rattle.std.specs.Prelude.{◌≡◌, ℕ, false, List, [], Option, Some, None, Result, Ok, Err}
 use Rattle.gq_project.specs.declared.document.Doc.{Doc}
 use Rattle.gq_edit.specs.declared.edit.DocumentEdit.{DocumentEdit}
-use Rattle.gq_edit.specs.Edits.{after_edit, is_too_large}
-use Rattle.gq_tree.specs.declared.parsed.Parsed.{Parsed}
+use Rattle.gq_tree.specs.Readings.{ParsedOf}
 use Rattle.gq_rename.specs.declared.refusal.Refusal.{Refusal}
 use Rattle.gq_rename.specs.declared.refusal.Refusal.TheVariants.{ProjectInvalid, NothingHere, BadName, SameName, NameTaken, DirectiveInWay, NoPossibleType, NotSiblings, NotRedundant, TooLarge, SelfCheck, NoMemory}
 use Rattle.gq_rename.specs.Asks.{trees_of}
@@ -15,7 +14,7 @@ use Rattle.gq_reshape.specs.Helping.Rereading.{is_edited, AreRewrittenFrom}
 use Rattle.gq_reshape.specs.Cuts.{Cut, edits_of, PassesCheck}
 
 -- whether an edited text passes a limit, whether all read as they should, and whether the edited project is valid
-abbrev pub IsJudged : List Doc → List Parsed → Cut → Result (List DocumentEdit) Refusal → Type 0
+abbrev pub IsJudged : List Doc → List ParsedOf → Cut → Result (List DocumentEdit) Refusal → Type 0
 IsJudged documents readings cut (Ok made) =
     (made ≡ edits_of cut documents) × (IsTooLarge documents (edits_of cut documents) → ⊥) × PassesCheck documents (trees_of readings) cut
 IsJudged documents readings cut (Err ProjectInvalid) = ⊥
@@ -31,28 +30,12 @@ IsJudged documents readings cut (Err TooLarge) = IsTooLarge documents (edits_of 
 IsJudged documents readings cut (Err SelfCheck) = (IsTooLarge documents (edits_of cut documents) → ⊥) × (PassesCheck documents (trees_of readings) cut → ⊥)
 IsJudged documents readings cut (Err NoMemory) = Unit {0}
 
--- the project after the edit, or an edited text of more than 4 MiB
-abbrev pub IsEdited : List Doc → List DocumentEdit → Result (List Doc) Refusal → Type 0
-IsEdited documents edits (Ok after) = (after ≡ after_edit edits documents) × (find (is_too_large documents) edits ≡ None)
-IsEdited documents edits (Err ProjectInvalid) = ⊥
-IsEdited documents edits (Err NothingHere) = ⊥
-IsEdited documents edits (Err BadName) = ⊥
-IsEdited documents edits (Err SameName) = ⊥
-IsEdited documents edits (Err NameTaken) = ⊥
-IsEdited documents edits (Err DirectiveInWay) = ⊥
-IsEdited documents edits (Err NoPossibleType) = ⊥
-IsEdited documents edits (Err NotSiblings) = ⊥
-IsEdited documents edits (Err NotRedundant) = ⊥
-IsEdited documents edits (Err TooLarge) = (edit : DocumentEdit) × (find (is_too_large documents) edits ≡ Some edit)
-IsEdited documents edits (Err SelfCheck) = ⊥
-IsEdited documents edits (Err NoMemory) = Unit {0}
-
 -- nothing is replaced in documents in which nothing may change
 abbrev pub IsQuiet : Cut → Type 0
 IsQuiet cut = (file : ℕ) → is_edited cut.rewrite file ≡ false → replacements_in cut.replacements file ≡ []
 
 -- what is wrong with the documents after an edit, which are read so
-abbrev pub IsVerdict : Rewrite → List Doc → (before after : List Parsed) → Option Refusal → Type 0
+abbrev pub IsVerdict : Rewrite → List Doc → (before after : List ParsedOf) → Option Refusal → Type 0
 IsVerdict r documents before after None = NonePasses documents × AreRewrittenFrom r 0 before after
 IsVerdict r documents before after (Some ProjectInvalid) = ⊥
 IsVerdict r documents before after (Some NothingHere) = ⊥

@@ -1,6 +1,6 @@
 use Rattle.std.proofs.Common.{◌<◌, List, arith}
 use Rattle.gq_project.specs.declared.document.Doc.{Doc}
-use Rattle.gq_tree.specs.declared.parsed.Parsed.{Parsed}
+use Rattle.gq_tree.specs.Readings.{ParsedOf}
 use Rattle.gq_rename.specs.declared.refusal.Refusal.{Refusal}
 use Rattle.gq_rename.specs.declared.refusal.Refusal.TheVariants.{ProjectInvalid, NothingHere, BadName, SameName, NameTaken, DirectiveInWay, NoPossibleType, NotSiblings, NotRedundant, TooLarge, SelfCheck, NoMemory}
 use Rattle.gq_rename.specs.Refusals.{number_of}
@@ -8,7 +8,7 @@ use Rattle.gq_rename.specs.Asks.{RenameAsk}
 use Rattle.gq_rename.specs.Rename.{Refuses}
 use Rattle.gq_rename.proofs.laws.renames_of_invalid_projects_are_refused.Goals as goal
 
-none_earlier : (documents : List Doc) (readings : List Parsed) (ask : RenameAsk) (why : Refusal) → number_of why < 1 → Refuses documents readings ask why → ⊥
+none_earlier : (documents : List Doc) (readings : List ParsedOf) (ask : RenameAsk) (why : Refusal) → number_of why < 1 → Refuses documents readings ask why → ⊥
 none_earlier documents readings ask ProjectInvalid less h = omega (arith, less)
 none_earlier documents readings ask NothingHere less h = omega (arith, less)
 none_earlier documents readings ask BadName less h = omega (arith, less)

@@ -1,4 +1,6 @@
-use Rattle.std.proofs.Common.{◌≡◌, ◌∙◌, List, Option, Some, None, subst, ap, find}
+use Rattle.std.proofs.Common.{◌≡◌, ◌∙◌, List, Option, Some, None, subst, ap, find, arith}
+use Rattle.std.proofs.lemmas.List.{length-map}
+use Rattle.gq_tree.specs.Readings.{parsed_view, readings_view}
 use Rattle.gq_project.specs.declared.document.Doc.{Doc}
 use Rattle.gq_edit.specs.declared.edit.DocumentEdit.{DocumentEdit}
 use Rattle.gq_edit.specs.Edits.{after_edit, is_too_large}
@@ -14,31 +16,34 @@ use Rattle.gq_reshape.proofs.checking.judged.Goals as goal
 
 pub why_not-requires-clause-few : goal.why_not-requires-clause-few
 why_not-requires-clause-few c =
-    rw c.deref.ensures.value (as_many_after c.args.project.now c.documents.result.now c.args.edit c.args.readings.now c.in_ok-read_after.read_after.items c.requires.read (c.documents.ensures.all ∙ c.requires.after) c.in_ok-read_after.ensures)
+    let many = as_many_after c.args.project.now c.documents.result.now c.args.edit (readings_view c.args.readings.now) (readings_view c.in_ok-read_after.read_after.items) c.requires.read (c.documents.ensures.all ∙ c.requires.after) c.in_ok-read_after.ensures in
+    let before = length-map c.args.readings.now parsed_view in
+    let after = length-map c.in_ok-read_after.read_after.items parsed_view in
+    rw c.deref.ensures.value (omega (arith, many, before, after))
 
 pub returns-in-Some-clause-judged : goal.returns-in-Some-clause-judged
 returns-in-Some-clause-judged c cut is r quiet =
-    let V : Option Refusal → Type 0 = λ o. IsVerdict (rewrite_of c.args.rewrite.now) c.documents-2.result.now c.args.readings.now c.deref.result.now o in
-    let D : List Doc → Type 0 = λ ds. IsVerdict (rewrite_of c.args.rewrite.now) ds c.args.readings.now c.deref.result.now (Some c.in-Some.why) in
-    let W : Rewrite → Type 0 = λ x. IsVerdict x (after_edit (edits_of cut c.args.project.now) c.args.project.now) c.args.readings.now c.deref.result.now (Some c.in-Some.why) in
-    let R : List Doc → Type 0 = λ ds. AreParsed ds c.deref.result.now in
+    let V : Option Refusal → Type 0 = λ o. IsVerdict (rewrite_of c.args.rewrite.now) c.documents-2.result.now (readings_view c.args.readings.now) (readings_view c.deref.result.now) o in
+    let D : List Doc → Type 0 = λ ds. IsVerdict (rewrite_of c.args.rewrite.now) ds (readings_view c.args.readings.now) (readings_view c.deref.result.now) (Some c.in-Some.why) in
+    let W : Rewrite → Type 0 = λ x. IsVerdict x (after_edit (edits_of cut c.args.project.now) c.args.project.now) (readings_view c.args.readings.now) (readings_view c.deref.result.now) (Some c.in-Some.why) in
+    let R : List Doc → Type 0 = λ ds. AreParsed ds (readings_view c.deref.result.now) in
     let F : List DocumentEdit → Type 0 = λ es. find (is_too_large c.args.project.now) es ≡ None in
     let made : c.args.after ≡ after_edit (edits_of cut c.args.project.now) c.args.project.now = c.requires.after ∙ ap (λ (es : List DocumentEdit). after_edit es c.args.project.now) is in
-    refused c.one_tree.ensures c.no_tree_past_limits.ensures c.args.project.now c.requires.in_order c.args.readings.now c.deref.result.now c.requires.read (c.valid_documents_are_trees.ensures c.args.project.now c.args.readings.now c.requires.read c.requires.valid) cut quiet
+    refused c.one_tree.ensures c.no_tree_past_limits.ensures c.args.project.now c.requires.in_order (readings_view c.args.readings.now) (readings_view c.deref.result.now) c.requires.read (c.valid_documents_are_trees.ensures c.args.project.now (readings_view c.args.readings.now) c.requires.read c.requires.valid) cut quiet
     (subst R (c.documents.ensures.all ∙ made) (rw c.deref.ensures.value c.in_ok-read_after.ensures)) c.in-Some.why (subst F is c.requires.small)
     (subst W r (subst D (c.documents-2.ensures.all ∙ made) (subst V c.in-Some.is c.in_ok-why.ensures)))
 
 pub returns-in-None-clause-judged : goal.returns-in-None-clause-judged
 returns-in-None-clause-judged c cut is r quiet =
-    let V : Option Refusal → Type 0 = λ o. IsVerdict (rewrite_of c.args.rewrite.now) c.documents-2.result.now c.args.readings.now c.deref.result.now o in
-    let D : List Doc → Type 0 = λ ds. IsVerdict (rewrite_of c.args.rewrite.now) ds c.args.readings.now c.deref.result.now None in
-    let W : Rewrite → Type 0 = λ x. IsVerdict x (after_edit (edits_of cut c.args.project.now) c.args.project.now) c.args.readings.now c.deref.result.now None in
-    let R : List Doc → Type 0 = λ ds. AreParsed ds c.deref.result.now in
+    let V : Option Refusal → Type 0 = λ o. IsVerdict (rewrite_of c.args.rewrite.now) c.documents-2.result.now (readings_view c.args.readings.now) (readings_view c.deref.result.now) o in
+    let D : List Doc → Type 0 = λ ds. IsVerdict (rewrite_of c.args.rewrite.now) ds (readings_view c.args.readings.now) (readings_view c.deref.result.now) None in
+    let W : Rewrite → Type 0 = λ x. IsVerdict x (after_edit (edits_of cut c.args.project.now) c.args.project.now) (readings_view c.args.readings.now) (readings_view c.deref.result.now) None in
+    let R : List Doc → Type 0 = λ ds. AreParsed ds (readings_view c.deref.result.now) in
     let F : List DocumentEdit → Type 0 = λ es. find (is_too_large c.args.project.now) es ≡ None in
     let made : c.args.after ≡ after_edit (edits_of cut c.args.project.now) c.args.project.now = c.requires.after ∙ ap (λ (es : List DocumentEdit). after_edit es c.args.project.now) is in
     let A : List Doc → Type 0 = λ ds. IsValidated ds c.args.edit c.validated.result in
     let E : List DocumentEdit → Type 0 = λ es. IsValidated (after_edit (edits_of cut c.args.project.now) c.args.project.now) es c.validated.result in
-    judged c.one_tree.ensures c.no_tree_past_limits.ensures c.args.project.now c.requires.in_order c.args.readings.now c.deref.result.now c.requires.read (c.valid_documents_are_trees.ensures c.args.project.now c.args.readings.now c.requires.read c.requires.valid) cut quiet
+    judged c.one_tree.ensures c.no_tree_past_limits.ensures c.args.project.now c.requires.in_order (readings_view c.args.readings.now) (readings_view c.deref.result.now) c.requires.read (c.valid_documents_are_trees.ensures c.args.project.now (readings_view c.args.readings.now) c.requires.read c.requires.valid) cut quiet
     (subst R (c.documents.ensures.all ∙ made) (rw c.deref.ensures.value c.in_ok-read_after.ensures)) c.validated.result (subst F is c.requires.small)
     (subst W r (subst D (c.documents-2.ensures.all ∙ made) (subst V c.in-None.is c.in_ok-why.ensures))) (subst E is (subst A made c.validated.ensures))
 

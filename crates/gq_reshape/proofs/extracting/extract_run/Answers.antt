@@ -1,20 +1,36 @@
-use Rattle.std.proofs.Common.{◌∙◌, Option, Some, subst, sym, ap}
+use Rattle.std.proofs.Common.{◌≡◌, ◌∙◌, List, ℕ, ap, sym, subst}
+use Rattle.gq_tree.specs.Readings.{readings_view}
 use Rattle.gq_tree.specs.Views.{sels_view}
-use Rattle.gq_types.specs.Entries.{Text}
-use Rattle.gq_types.specs.Look.{types_view, text_of}
-use Rattle.gq_select.specs.Runs.{RunOf}
-use Rattle.gq_reshape.specs.Extract.{HasNoObject}
-use Rattle.gq_reshape.specs.Helping.Steps.{IsPossibleParent}
-use Rattle.gq_reshape.proofs.ExtractOffers.{run_without_type}
+use Rattle.gq_project.specs.declared.document.Doc.{Doc}
+use Rattle.gq_parse.specs.Parsed.{AreParsed}
+use Rattle.gq_reshape.specs.Extract.{extract_at, extract_replacements}
+use Rattle.gq_reshape.specs.Helping.Judged.{IsJudged}
+use Rattle.gq_reshape.specs.Helping.Making.{CanBeMade}
+use Rattle.gq_reshape.specs.declared.placed.PlacedReplacement.{PlacedReplacement}
+use Rattle.gq_reshape.proofs.ExtractAnswers.{run_part, run_made, run_extracted}
 use Rattle.gq_reshape.proofs.extracting.extract_run.Goals as goal
 
-pub returns-in-None-clause-answer : goal.returns-in-None-clause-answer
-returns-in-None-clause-answer c ask document asked touches =
-    run_without_type c.args.valid.now (types_view c.args.types.now) c.args.readings.now ask c.projects_are_valid.ensures c.one_reading.ensures c.args.file document asked c.args.place touches (text_of c.args.run.parent) (sels_view c.args.run.selections.now) c.requires.run
-    (subst (λ o. IsPossibleParent (types_view c.args.types.now) (text_of c.args.run.parent) (text_of o)) c.in-None.is c.in_ok-on.ensures)
+pub extract_replacements-requires : goal.extract_replacements-requires
+extract_replacements-requires c = rw c.as_str-text.ensures (run_part c.args.asked c.requires.about c.args.place c.args.on.now (sels_view c.args.run.now) c.requires.run)
 
-pub returns-in-Some-clause-answer : goal.returns-in-Some-clause-answer
-returns-in-Some-clause-answer c ask document asked touches =
-    let h = subst (λ o. IsPossibleParent (types_view c.args.types.now) (text_of c.args.run.parent) (text_of o)) c.in-Some.is c.in_ok-on.ensures in
-    c.extract_on.ensures.answer (types_view c.args.types.now) ask document asked touches
-    (c.requires.run ∙ ap (λ (p : Option Text). let r : RunOf = record { parent = p; run = sels_view c.args.run.selections.now } in Some r) h.0) (λ none. h.1 (subst (HasNoObject (types_view c.args.types.now)) (sym h.0) none))
+pub checked_edit-requires-clause-made : goal.checked_edit-requires-clause-made
+checked_edit-requires-clause-made c =
+    let a = c.args.asked in
+    let name = c.as_str-name.result.now in
+    let replacements : c.deref.result.now ≡ extract_replacements a.file a.document.now.text c.args.place name c.args.on.now =
+    c.deref.ensures.value ∙ c.in_ok-replacements.ensures ∙ ap (λ text. extract_replacements a.file text c.args.place name c.args.on.now) c.as_str-text.ensures in
+    let M : List PlacedReplacement → Type 0 = λ ps. CanBeMade a.valid.now (readings_view a.readings.now) (record { replacements = ps; rewrite = (extract_at a.file a.document.now.text c.args.place name c.args.on.now (sels_view c.args.run.now)).rewrite }) in
+    subst M (sym replacements) (run_made a c.requires.about c.args.place c.args.on.now (sels_view c.args.run.now) c.requires.run name)
+
+pub returns-clause-answer : goal.returns-clause-answer
+returns-clause-answer c =
+    let a = c.args.asked in
+    let run = sels_view c.args.run.now in
+    let name = c.as_str-name.result.now in
+    let replacements : c.deref.result.now ≡ extract_replacements a.file a.document.now.text c.args.place name c.args.on.now =
+    c.deref.ensures.value ∙ c.in_ok-replacements.ensures ∙ ap (λ text. extract_replacements a.file text c.args.place name c.args.on.now) c.as_str-text.ensures in
+    let R : List Doc → Type 0 = λ ds. AreParsed ds (readings_view a.readings.now) in
+    let J : List PlacedReplacement → Type 0 = λ ps. IsJudged a.valid.now (readings_view a.readings.now) (record { replacements = ps; rewrite = (extract_at a.file a.document.now.text c.args.place name c.args.on.now run).rewrite }) c.checked_edit.result in
+    let N : List ℕ → Type 0 = λ name. IsJudged a.valid.now (readings_view a.readings.now) (extract_at a.file a.document.now.text c.args.place name c.args.on.now run) c.checked_edit.result in
+    run_extracted a c.requires.about c.one_reading.ensures c.args.place c.args.on.now run c.requires.run c.in_ok-number.number (c.in_ok-number.ensures (readings_view a.readings.now) (subst R (sym c.project.ensures.same) c.requires.about.are_readings)) c.checked_edit.result
+    (subst N (c.as_str-name.ensures ∙ c.in_ok-name.ensures) (subst J replacements c.checked_edit.ensures.judged))

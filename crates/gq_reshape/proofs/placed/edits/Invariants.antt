@@ -5,4 +5,4 @@ use Rattle.gq_reshape.proofs.placed.edits.Given as goal
 
 abbrev pub invariant-loop-file : goal.invariant-loop-file
 invariant-loop-file l =
-    (l.edits.items ++ edits_from l.placed l.file (drop l.file l.documents) ≡ edits_from l.placed 0 l.documents) × (AllFit l.placed l.file (drop l.file l.documents) → AllFit l.placed 0 l.documents)
+    (l.edits.items ++ edits_from l.placed l.file (drop l.file l.documents) ≡ edits_from l.placed 0 l.documents) × AllFit l.placed l.file (drop l.file l.documents)
