@@ -8,7 +8,7 @@ use Rattle.gq_project.specs.declared.document.Doc.{Doc}
 use Rattle.gq_parse.specs.Derives.{Derives}
 use Rattle.gq_parse.proofs.OneReading.{OneTree}
 use Rattle.gq_types.specs.Entries.{Text}
-use Rattle.gq_types.proofs.Gathered.{nothing_in, first, later, only, from_flat, to_flat}
+use Rattle.gq_types.proofs.Gathered.{nothing_in, first, only, from_flat, to_flat}
 use Rattle.gq_completion.specs.Completions.{DefinesFragment, defines, HasFragment, IsFragmentName}
 use Rattle.gq_completion.specs.Helping.Fragments.{fragment_name, AddsFragments}
 
@@ -40,9 +40,6 @@ adds_none text none old = record {
   is = sym (append-nil old);
   exactly = λ label. (λ c. nothing_in label c, λ h. absurd (none h.tree h.derives));
 }
-
-pub none_yet : (label : Text) → Contains [] label ↔ IsFragmentName [] label
-none_yet label = (λ c. nothing_in label c, λ h. nothing_in h.document h.stands)
 
 pub one_more : (old new : List Text) (before : List Doc) (document : Doc) → AddsFragments document.text old new → ((label : Text) → Contains old label ↔ IsFragmentName before label) →
     (label : Text) → Contains new label ↔ IsFragmentName (before ++ document ∷ []) label

@@ -1,11 +1,11 @@
 -- Lists that have exactly some places, in order.
-use Rattle.std.proofs.Common.{◌≡◌, ◌↔◌, ℕ, ◌<◌, ◌≤◌, length, Bool, Result, Ok, Err, IfOk, true, false, List, [], ◌∷◌, ◌++◌, Option, Some, None, Contains, refl, sym, ap, subst, ◌∙◌, ◌⊎◌, ⊎_elim, inl, inr, arith, IsTrue}
-use Rattle.std.specs.Prelude.{nat_lt}
+use Rattle.std.proofs.Common.{◌≡◌, ◌↔◌, ℕ, ◌<◌, ◌≤◌, length, Bool, true, false, List, [], ◌∷◌, ◌++◌, Option, Some, None, Contains, refl, sym, ap, subst, ◌∙◌, ◌⊎◌, ⊎_elim, inl, inr, arith, IsTrue}
+use Rattle.std.specs.Prelude.{nat_lt, flat_map}
 use Rattle.std.specs.Option.{option_map}
 use Rattle.std.proofs.lemmas.Bool.Decides.{nat_tests}
 use Rattle.std.specs.List.Sorted.{IsStrictlySortedBy, IsStrictlyIncreasing}
 use Rattle.std.proofs.lemmas.List.Elements.{Contains-append_left, Contains-append_right, Contains-append_cases}
-use Rattle.gq_types.proofs.Gathered.{nothing_in}
+use Rattle.gq_types.proofs.Gathered.{nothing_in, from_flat, to_flat}
 use Rattle.gq_text.specs.declared.place.Span.{Span}
 use Rattle.gq_tree.specs.Plain.{NameOf, Def}
 use Rattle.gq_types.specs.Entries.{Text}
@@ -20,12 +20,12 @@ use Rattle.gq_mentions.specs.Mentions.{MentionOf}
 use Rattle.gq_mentions.specs.Views.{mention_view}
 use Rattle.gq_mentions.specs.declared.mention.Mention.{Mention}
 use Rattle.gq_query.specs.Asked.{asked, AtMention}
-use Rattle.gq_query.specs.Helping.Gathered.{if_wanted, places_among, first_of}
+use Rattle.gq_query.specs.Helping.Gathered.{if_wanted, places_at, places_among, wanted_among, first_of}
 use Rattle.gq_query.specs.Groups.{StandsInGroup, variable_at}
 use Rattle.gq_query.specs.Hovers.{IsVariableTold}
 use Rattle.gq_query.specs.Words.{variable_words}
 use Rattle.gq_query.specs.Order.{occurrence_cmp, AreExactly}
-use Rattle.gq_query.specs.References.{IsReference, IsUse, IsDeclaration}
+use Rattle.gq_query.specs.References.{IsUse, IsDeclaration}
 use Rattle.gq_index.specs.Views.{definitions_view}
 use Rattle.gq_query.specs.Helping.Wants.{IsWanted}
 use Rattle.gq_index.specs.declared.definitions.Executable.{Executable}
@@ -86,30 +86,6 @@ contains_wanted a b xs ys all P Q e p q o =
 pub same_members : (xs : List Occurrence) (o : Occurrence) → Contains xs o ↔ Contains xs o
 same_members xs o = ((λ c. c), (λ c. c))
 
--- uses and, where they are asked for, declarations
-pub references_are : (ds : List DefinitionOf) (declared : Bool) (m : MentionOf) (found : List Occurrence) → AreExactly (IsWanted ds true declared m) found → AreExactly (IsReference ds declared m) found
-references_are ds declared m found e =
-    exactly_same (IsReference ds declared m) (IsWanted ds true declared m) found
-    (λ o. (
-      (λ w. ⊎_elim (λ l. inl l.1) (λ r. inr r) w),
-      (λ w. ⊎_elim (λ l. inl (refl, l)) (λ r. inr r) w),
-    ))
-    e
-
--- declarations alone
-pub declarations_are : (ds : List DefinitionOf) (m : MentionOf) (found : List Occurrence) → AreExactly (IsWanted ds false true m) found → AreExactly (IsDeclaration ds m.kind m.name.text m.definition) found
-declarations_are ds m found e =
-    exactly_same (IsDeclaration ds m.kind m.name.text m.definition) (IsWanted ds false true m) found
-    (λ o. (
-      (λ w. ⊎_elim (λ l. absurd (let e : false ≡ true = l.0 in cc)) (λ r. r.1) w),
-      (λ is. inr (refl, is)),
-    ))
-    e
-
-pub if_ok_both : {X E : Type 0} (r : Result X E) (P Q : X → Type 0) → IfOk r P → IfOk r Q → IfOk r (λ x. P x × Q x)
-if_ok_both (Ok x) P Q p q = (p, q)
-if_ok_both (Err e) P Q p q = p
-
 -- what is in order and stands for places that are exactly those
 pub exactly_of : (Is : Occurrence → Type 0) (places found : List Occurrence) → IsStrictlySortedBy occurrence_cmp found → ((o : Occurrence) → Contains found o ↔ Contains places o) → ((o : Occurrence) → Contains places o ↔ Is o) → AreExactly Is found
 exactly_of Is places found sorted same are = record { sorted = sorted; exact = λ o. ((λ c. (are o).0 ((same o).0 c)), (λ is. (same o).1 ((are o).1 is))) }
@@ -137,12 +113,37 @@ members_or_past names ds text n numbers members past o = ⊎_elim
     (λ more. in_past names ds text n numbers more (past more) o)
     (less_or_not n (length ds))
 
+-- what is wanted of some lists together is what is wanted of each
+abbrev both_if : Bool → Bool → (f g : ℕ → List Occurrence) → ℕ → List Occurrence
+both_if a b f g k = if_wanted a (f k) ++ if_wanted b (g k)
+
+both_wanted : (a b : Bool) (f g : ℕ → List Occurrence) (k : ℕ) (o : Occurrence) → Contains (both_if a b f g k) o ↔ ((IsTrue a × Contains (f k) o) ⊎ (IsTrue b × Contains (g k) o))
+both_wanted a b f g k o = contains_wanted a b (f k) (g k) (both_if a b f g k) (λ x. Contains (f k) x) (λ x. Contains (g k) x) refl (same_members (f k)) (same_members (g k)) o
+
+gathered_wanted : (a b : Bool) (f g : ℕ → List Occurrence) (numbers : List ℕ) (o : Occurrence) →
+    Contains (flat_map (both_if a b f g) numbers) o ↔ ((IsTrue a × Contains (flat_map f numbers) o) ⊎ (IsTrue b × Contains (flat_map g numbers) o))
+gathered_wanted a b f g numbers o = (
+  (λ c.
+      let w = from_flat (both_if a b f g) numbers o c in
+      ⊎_elim (λ l. inl (l.0, to_flat f numbers w.0 o w.1 l.1)) (λ r. inr (r.0, to_flat g numbers w.0 o w.1 r.1)) ((both_wanted a b f g w.0 o).0 w.2)),
+  (λ s.
+      ⊎_elim
+      (λ l. let w = from_flat f numbers o l.1 in to_flat (both_if a b f g) numbers w.0 o w.1 ((both_wanted a b f g w.0 o).1 (inl (l.0, w.2))))
+      (λ r. let w = from_flat g numbers o r.1 in to_flat (both_if a b f g) numbers w.0 o w.1 ((both_wanted a b f g w.0 o).1 (inr (r.0, w.2))))
+      s),
+)
+
 pub variable_wanted : (ds : List DefinitionOf) (a b : Bool) (m : MentionOf) (numbers : List ℕ) (all : List Occurrence) → m.kind ≡ kind.Variable → (m.definition < length ds → (k : ℕ) → Contains numbers k ↔ VariableGroup ds m.name.text m.definition k) → (length ds ≤ m.definition → numbers ≡ []) →
-    all ≡ if_wanted a (places_among used_variables ds m.name.text numbers) ++ if_wanted b (places_among defined_variables ds m.name.text numbers) → (o : Occurrence) → Contains all o ↔ IsWanted ds a b m o
+    all ≡ wanted_among ds m.name.text a b numbers → (o : Occurrence) → Contains all o ↔ IsWanted ds a b m o
 variable_wanted ds a b m numbers all is members past e o =
+    let both = gathered_wanted a b (places_at used_variables ds m.name.text) (places_at defined_variables ds m.name.text) numbers o in
+    let uses = members_or_past used_variables ds m.name.text m.definition numbers members past o in
+    let declarations = members_or_past defined_variables ds m.name.text m.definition numbers members past o in
     subst (λ (k : MentionKind). Contains all o ↔ IsWantedOf ds a b m.name.text m.definition k o) (sym is)
-    (contains_wanted a b (places_among used_variables ds m.name.text numbers) (places_among defined_variables ds m.name.text numbers) all (λ o. StandsInGroup used_variables ds m.name.text m.definition o) (λ o. StandsInGroup defined_variables ds m.name.text m.definition o) e
-    (members_or_past used_variables ds m.name.text m.definition numbers members past) (members_or_past defined_variables ds m.name.text m.definition numbers members past) o)
+    (subst (λ (l : List Occurrence). Contains l o ↔ IsWantedOf ds a b m.name.text m.definition kind.Variable o) (sym e) (
+      (λ c. ⊎_elim (λ l. inl (l.0, uses.0 l.1)) (λ r. inr (r.0, declarations.0 r.1)) (both.0 c)),
+      (λ w. both.1 (⊎_elim (λ l. inl (l.0, uses.1 l.1)) (λ r. inr (r.0, declarations.1 r.1)) w)),
+    ))
 
 -- what an offset means in documents and definitions that are these
 pub asked_in : (o : Option Mention) (documents : List Doc) (seen all : List Executable) (ds : List DefinitionOf) (key : List ℕ) (offset : ℕ) → option_map mention_view o ≡ asked documents (definitions_view seen) key offset → seen ≡ all → definitions_view all ≡ ds →

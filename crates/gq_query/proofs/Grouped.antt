@@ -1,5 +1,5 @@
 -- What stands in the group of a variable, gathered by the numbers of its definitions.
-use Rattle.std.proofs.Common.{◌≡◌, ◌↔◌, ℕ, suc, ◌+◌, ◌<◌, ◌≤◌, List, [], ◌∷◌, ◌++◌, Option, Some, None, Contains, length, map, refl, sym, ap, subst, ◌∙◌, arith, ⊎_elim}
+use Rattle.std.proofs.Common.{◌≡◌, ◌↔◌, ℕ, suc, ◌+◌, ◌<◌, ◌≤◌, Bool, true, false, List, [], ◌∷◌, ◌++◌, Option, Some, None, Contains, length, map, refl, sym, ap, subst, ◌∙◌, append_assoc, arith, ⊎_elim}
 use Rattle.std.specs.Prelude.{slice_get, slice_index, option_and_then}
 use Rattle.std.specs.List.Sorted.{IsStrictlyIncreasing}
 use Rattle.std.specs.Option.{option_map, option_map_or, option_or}
@@ -12,8 +12,9 @@ use Rattle.gq_types.specs.Entries.{Text}
 use Rattle.gq_types.proofs.Gathered.{nothing_in, first, later, cases_cons, from_flat, to_flat}
 use Rattle.gq_index.specs.declared.occurrence.Occurrence.{Occurrence}
 use Rattle.gq_index.specs.Occurrences.{DefinitionOf, called, occurrences_of, places_called, definition_places, place_of, occurrences_in_file}
+use Rattle.gq_index.specs.VariableNames.{used_variables, defined_variables}
 use Rattle.gq_index.specs.VariableGroups.{VariableGroup, itself, with_operation, with_fragment}
-use Rattle.gq_query.specs.Helping.Gathered.{first_of, places_at, places_among}
+use Rattle.gq_query.specs.Helping.Gathered.{first_of, places_at, places_among, if_wanted, wanted_at}
 use Rattle.gq_query.specs.Groups.{StandsInGroup, variable_in, variable_at, IsFirstInGroup, here, nowhere}
 
 -- past the last definition nothing else is in the group
@@ -152,8 +153,22 @@ module _ (names : Def Span → List (NameOf Span)) (ds : List DefinitionOf) (tex
       by (Some d) e = absurd (cc)
 
 -- behind others
-pub behind : (before after found wanted : List Occurrence) → after ≡ before ++ found → found ≡ wanted → after ≡ before ++ wanted
-behind before after found wanted e same = e ∙ ap (λ (l : List Occurrence). before ++ l) same
+pub both_behind : (a b : Bool) (before between after uses declarations uses' declarations' : List Occurrence) → between ≡ before ++ if_wanted a uses → after ≡ between ++ if_wanted b declarations → uses ≡ uses' → declarations ≡ declarations' →
+    after ≡ before ++ (if_wanted a uses' ++ if_wanted b declarations')
+both_behind a b before between after uses declarations uses' declarations' first second same_uses same_declarations =
+    second
+    ∙ ap (λ (l : List Occurrence). l ++ if_wanted b declarations) first
+    ∙ append_assoc before (if_wanted a uses) (if_wanted b declarations)
+    ∙ ap (λ (l : List Occurrence). before ++ (if_wanted a l ++ if_wanted b declarations)) same_uses
+    ∙ ap (λ (l : List Occurrence). before ++ (if_wanted a uses' ++ if_wanted b l)) same_declarations
 
-pub nothing_behind : (before wanted : List Occurrence) → wanted ≡ [] → before ≡ before ++ wanted
-nothing_behind before wanted none = sym (append-nil before) ∙ ap (λ (l : List Occurrence). before ++ l) (sym none)
+none_if : (a : Bool) (l : List Occurrence) → l ≡ [] → if_wanted a l ≡ []
+none_if true l none = none
+none_if false l none = refl
+
+-- where there is no definition nothing is wanted
+pub nothing_wanted : (a b : Bool) (ds : List DefinitionOf) (text : Text) (number : ℕ) (places : List Occurrence) → places ≡ definition_places ds → slice_get places number ≡ None → (before : List Occurrence) → before ≡ before ++ wanted_at ds text a b number
+nothing_wanted a b ds text number places all at before =
+    let uses = none_if a (places_at used_variables ds text number) (nothing_at used_variables ds text number places all at) in
+    let declarations = none_if b (places_at defined_variables ds text number) (nothing_at defined_variables ds text number places all at) in
+    sym (append-nil before) ∙ ap (λ (l : List Occurrence). before ++ (l ++ [])) (sym uses) ∙ ap (λ (l : List Occurrence). before ++ (if_wanted a (places_at used_variables ds text number) ++ l)) (sym declarations)

@@ -1,7 +1,7 @@
 -- Where what is named is defined (LSP 3.17, "Goto Definition Request").
 use Rattle.std.specs.Prelude.{ℕ, List, Some}
 use Rattle.gq_project.specs.declared.document.Doc.{Doc}
-use Rattle.gq_tree.specs.declared.parsed.Parsed.{Parsed}
+use Rattle.gq_tree.specs.Readings.{ParsedOf}
 use Rattle.gq_parse.specs.Parsed.{AreParsed}
 use Rattle.gq_index.specs.declared.occurrence.Occurrence.{Occurrence}
 use Rattle.gq_index.specs.Occurrences.{DefinitionOf, executables}
@@ -23,6 +23,6 @@ IsDefinitionOf documents ds kind.Condition m o = BySchema documents (λ es. type
 
 -- the definitions of what the offset means in the document of that key; none where it means nothing
 pub record AreDefinitions (documents : List Doc) (key : List ℕ) (offset : ℕ) (found : List Occurrence) : Type 0 where
-  pub readings : List Parsed
+  pub readings : List ParsedOf
   pub are_readings : AreParsed documents readings
   pub exactly : AreExactly (λ o. AtMention documents (executables readings) key offset (λ m. IsDefinitionOf documents (executables readings) m.kind m o)) found

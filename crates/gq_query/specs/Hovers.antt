@@ -4,7 +4,7 @@ use Rattle.std.specs.Option.{option_map}
 use Rattle.gq_text.specs.declared.place.Span.{Span}
 use Rattle.gq_tree.specs.Plain.{VariableOf}
 use Rattle.gq_project.specs.declared.document.Doc.{Doc}
-use Rattle.gq_tree.specs.declared.parsed.Parsed.{Parsed}
+use Rattle.gq_tree.specs.Readings.{ParsedOf}
 use Rattle.gq_parse.specs.Parsed.{AreParsed}
 use Rattle.gq_types.specs.Entries.{Text}
 use Rattle.gq_index.specs.Occurrences.{DefinitionOf, executables}
@@ -46,6 +46,6 @@ IsHoverAt documents ds (Some m) result = IsHoverOf documents ds m result
 
 -- the answer to a hover at an offset of the document of that key
 pub record IsHover (documents : List Doc) (key : List ℕ) (offset : ℕ) (result : Option Hover) : Type 0 where
-  pub readings : List Parsed
+  pub readings : List ParsedOf
   pub are_readings : AreParsed documents readings
   pub is_hover : IsHoverAt documents (executables readings) (asked documents (executables readings) key offset) result

@@ -1,7 +1,7 @@
 -- Where fragments and variables are declared and used (LSP 3.17, "Find References Request").
 use Rattle.std.specs.Prelude.{ℕ, Bool, List, Contains, IsTrue, ◌⊎◌}
 use Rattle.gq_project.specs.declared.document.Doc.{Doc}
-use Rattle.gq_tree.specs.declared.parsed.Parsed.{Parsed}
+use Rattle.gq_tree.specs.Readings.{ParsedOf}
 use Rattle.gq_parse.specs.Parsed.{AreParsed}
 use Rattle.gq_types.specs.Entries.{Text}
 use Rattle.gq_index.specs.declared.occurrence.Occurrence.{Occurrence}
@@ -35,6 +35,6 @@ IsReference ds declared m o = IsUse ds m.kind m.name.text m.definition o ⊎ (Is
 
 -- the references to what the offset means in the document of that key; none where it means nothing
 pub record AreReferences (documents : List Doc) (key : List ℕ) (offset : ℕ) (declared : Bool) (found : List Occurrence) : Type 0 where
-  pub readings : List Parsed
+  pub readings : List ParsedOf
   pub are_readings : AreParsed documents readings
   pub exactly : AreExactly (λ o. AtMention documents (executables readings) key offset (λ m. IsReference (executables readings) declared m o)) found

@@ -1,6 +1,6 @@
 //! Where what is named is defined (LSP 3.17, "Goto Definition Request").
 ghost use Rattle.std.specs.Prelude.{◌≡◌, List, [], ◌∷◌, Some, IfOk};
-ghost use Rattle.gq_tree.specs.declared.parsed.Parsed.{Parsed};
+ghost use Rattle.gq_tree.specs.Readings.{ParsedOf, readings_view};
 ghost use Rattle.gq_parse.specs.Parsed.{AreParsed};
 ghost use Rattle.gq_index.specs.Occurrences.{executables};
 ghost use Rattle.gq_mentions.specs.declared.mention.MentionKind.TheVariants as kind;
@@ -46,8 +46,9 @@ fn definition_in(
     key: &str,
     offset: usize,
 ) -> Result<Vec<Occurrence>, NoMemory>
-    requires { AreParsed project.now readings.now }
-    ensures { IfOk result (λ found. AreExactly (λ o. AtMention project.now (executables readings.now) key.now offset (λ m. IsDefinitionOf project.now (executables readings.now) m.kind m o)) found.items) }
+    requires { AreParsed project.now (readings_view readings.now) }
+    ensures { IfOk result (λ found. AreExactly (λ o. AtMention project.now (executables (readings_view readings.now)) key.now offset
+        (λ m. IsDefinitionOf project.now (executables (readings_view readings.now)) m.kind m o)) found.items) }
 {
     let definitions = executables(alloc, readings)?;
     match asked(alloc, project, &definitions, key, offset)? {
@@ -66,7 +67,8 @@ fn definition_of(
     definitions: &[Executable<'_>],
     mention: &Mention<'_>,
 ) -> Result<Vec<Occurrence>, NoMemory>
-    ensures { IfOk result (λ found. (readings : List Parsed) → AreParsed project.now readings → definitions_view definitions.now ≡ executables readings → AreExactly (IsDefinitionOf project.now (executables readings) (mention_view mention.now).kind (mention_view mention.now)) found.items) }
+    ensures { IfOk result (λ found. (readings : List ParsedOf) → AreParsed project.now readings → definitions_view definitions.now ≡ executables readings
+        → AreExactly (IsDefinitionOf project.now (executables readings) (mention_view mention.now).kind (mention_view mention.now)) found.items) }
 {
     match mention.kind {
         MentionKind::Fragment => declarations_of(alloc, project, mention),
@@ -82,7 +84,9 @@ fn declarations_of(
     project: &Project,
     mention: &Mention<'_>,
 ) -> Result<Vec<Occurrence>, NoMemory>
-    ensures { IfOk result (λ found. (readings : List Parsed) → AreParsed project.now readings → AreExactly (IsDeclaration (executables readings) (mention_view mention.now).kind (mention_view mention.now).name.text (mention_view mention.now).definition) found.items) }
+    ensures { IfOk result (λ found. (readings : List ParsedOf) → AreParsed project.now readings
+        → AreExactly (IsDeclaration (executables readings) (mention_view mention.now).kind
+        (mention_view mention.now).name.text (mention_view mention.now).definition) found.items) }
 {
     let wanted = Wanted {
         uses: false,
@@ -111,7 +115,7 @@ fn condition_definition(
     project: &Project,
     mention: &Mention<'_>,
 ) -> Result<Vec<Occurrence>, NoMemory>
-    ensures { IfOk result (λ found. (readings : List Parsed) → AreExactly (IsDefinitionOf project.now (executables readings) kind.Condition (mention_view mention.now)) found.items) }
+    ensures { IfOk result (λ found. (readings : List ParsedOf) → AreExactly (IsDefinitionOf project.now (executables readings) kind.Condition (mention_view mention.now)) found.items) }
 {
     documents_have_one_type_system();
     let place = type_place_by_schema(alloc, project, mention.name.text.as_str())?;

@@ -1,6 +1,6 @@
 //! What a hover tells (LSP 3.17, "Hover Request").
 ghost use Rattle.std.specs.Prelude.{◌≡◌, List, IfOk};
-ghost use Rattle.gq_tree.specs.declared.parsed.Parsed.{Parsed};
+ghost use Rattle.gq_tree.specs.Readings.{ParsedOf, readings_view};
 ghost use Rattle.gq_parse.specs.Parsed.{AreParsed};
 ghost use Rattle.gq_index.specs.Occurrences.{executables};
 ghost use Rattle.gq_mentions.specs.Views.{mention_view};
@@ -43,8 +43,8 @@ fn hover_in(
     key: &str,
     offset: usize,
 ) -> Result<Option<Hover>, NoMemory>
-    requires { AreParsed project.now readings.now }
-    ensures { IfOk result (IsHoverAt project.now (executables readings.now) (asked project.now (executables readings.now) key.now offset)) }
+    requires { AreParsed project.now (readings_view readings.now) }
+    ensures { IfOk result (IsHoverAt project.now (executables (readings_view readings.now)) (asked project.now (executables (readings_view readings.now)) key.now offset)) }
 {
     let definitions = executables(alloc, readings)?;
     match asked(alloc, project, &definitions, key, offset)? {
@@ -60,7 +60,8 @@ fn hover_of(
     definitions: &[Executable<'_>],
     mention: &Mention<'_>,
 ) -> Result<Option<Hover>, NoMemory>
-    ensures { IfOk result (λ found. (readings : List Parsed) → AreParsed project.now readings → definitions_view definitions.now ≡ executables readings → IsHoverOf project.now (executables readings) (mention_view mention.now) found) }
+    ensures { IfOk result (λ found. (readings : List ParsedOf) → AreParsed project.now readings → definitions_view definitions.now ≡ executables readings
+        → IsHoverOf project.now (executables readings) (mention_view mention.now) found) }
 {
     match told_of(alloc, project, definitions, mention)? {
         Some(value) => Ok(Some(Hover {
@@ -77,7 +78,8 @@ fn told_of(
     definitions: &[Executable<'_>],
     mention: &Mention<'_>,
 ) -> Result<Option<OwnedText>, NoMemory>
-    ensures { IfOk result (λ told. (readings : List Parsed) → AreParsed project.now readings → definitions_view definitions.now ≡ executables readings → IsToldOf project.now (executables readings) (mention_view mention.now).kind (mention_view mention.now) told) }
+    ensures { IfOk result (λ told. (readings : List ParsedOf) → AreParsed project.now readings → definitions_view definitions.now ≡ executables readings
+        → IsToldOf project.now (executables readings) (mention_view mention.now).kind (mention_view mention.now) told) }
 {
     match mention.kind {
         MentionKind::Fragment => fragment_told(alloc, definitions, mention.name.text.as_str()),

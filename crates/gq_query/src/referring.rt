@@ -1,6 +1,6 @@
 //! Where fragments and variables are used (LSP 3.17, "Find References Request").
 ghost use Rattle.std.specs.Prelude.{List, IfOk};
-ghost use Rattle.gq_tree.specs.declared.parsed.Parsed.{Parsed};
+ghost use Rattle.gq_tree.specs.Readings.{ParsedOf, readings_view};
 ghost use Rattle.gq_parse.specs.Parsed.{AreParsed};
 ghost use Rattle.gq_index.specs.Occurrences.{executables};
 ghost use Rattle.gq_mentions.specs.Views.{mention_view};
@@ -43,8 +43,8 @@ fn references_in(
     offset: usize,
     declared: bool,
 ) -> Result<Vec<Occurrence>, NoMemory>
-    requires { AreParsed project.now readings.now }
-    ensures { IfOk result (λ found. AreExactly (λ o. AtMention project.now (executables readings.now) key.now offset (λ m. IsReference (executables readings.now) declared m o)) found.items) }
+    requires { AreParsed project.now (readings_view readings.now) }
+    ensures { IfOk result (λ found. AreExactly (λ o. AtMention project.now (executables (readings_view readings.now)) key.now offset (λ m. IsReference (executables (readings_view readings.now)) declared m o)) found.items) }
 {
     let definitions = executables(alloc, readings)?;
     match asked(alloc, project, &definitions, key, offset)? {
@@ -63,7 +63,7 @@ fn references_of(
     mention: &Mention<'_>,
     declared: bool,
 ) -> Result<Vec<Occurrence>, NoMemory>
-    ensures { IfOk result (λ found. (readings : List Parsed) → AreParsed project.now readings → AreExactly (IsReference (executables readings) declared (mention_view mention.now)) found.items) }
+    ensures { IfOk result (λ found. (readings : List ParsedOf) → AreParsed project.now readings → AreExactly (IsReference (executables readings) declared (mention_view mention.now)) found.items) }
 {
     let wanted = Wanted {
         uses: true,

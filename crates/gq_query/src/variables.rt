@@ -3,7 +3,7 @@ ghost use Rattle.std.specs.Prelude.{◌≡◌, ◌<◌, ◌≤◌, ◌↔◌, �
 ghost use Rattle.std.specs.Option.{option_map};
 ghost use Rattle.std.specs.List.Sorted.{IsStrictlyIncreasing};
 ghost use Rattle.gq_tree.specs.Views.{variable_view, def_view};
-ghost use Rattle.gq_tree.specs.declared.parsed.Parsed.{Parsed};
+ghost use Rattle.gq_tree.specs.Readings.{ParsedOf};
 ghost use Rattle.gq_parse.specs.Parsed.{AreParsed};
 ghost use Rattle.gq_index.specs.Indexed.{IsIndexOf};
 ghost use Rattle.gq_index.specs.Occurrences.{DefinitionOf, executables};
@@ -32,7 +32,8 @@ pub(crate) fn variable_told(
     definitions: &[Executable<'_>],
     mention: &Mention<'_>,
 ) -> Result<Option<OwnedText>, NoMemory>
-    ensures { IfOk result (λ told. (readings : List Parsed) → AreParsed project.now readings → definitions_view definitions.now ≡ executables readings → IsVariableTold (executables readings) (mention_view mention.now).name.text mention.now.definition told) }
+    ensures { IfOk result (λ told. (readings : List ParsedOf) → AreParsed project.now readings → definitions_view definitions.now ≡ executables readings
+        → IsVariableTold (executables readings) (mention_view mention.now).name.text mention.now.definition told) }
 {
     documents_have_one_list();
     let index = Index::of(alloc, project)?;
@@ -47,7 +48,8 @@ fn told_by(
     definitions: &[Executable<'_>],
     mention: &Mention<'_>,
 ) -> Result<Option<OwnedText>, NoMemory>
-    ensures { IfOk result (λ told. IsIndexOf (definitions_view definitions.now) index.now → IsVariableTold (definitions_view definitions.now) (mention_view mention.now).name.text mention.now.definition told) }
+    ensures { IfOk result (λ told. IsIndexOf (definitions_view definitions.now) index.now
+        → IsVariableTold (definitions_view definitions.now) (mention_view mention.now).name.text mention.now.definition told) }
 {
     let name = mention.name.text.as_str();
     let group = index.variable_group(alloc, mention.definition, name)?;

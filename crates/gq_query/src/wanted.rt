@@ -1,17 +1,16 @@
 //! Where a fragment or a variable is used and declared in a project.
 ghost use Rattle.std.specs.Prelude.{◌≡◌, ◌↔◌, ◌++◌, ℕ, List, Contains, IfOk, OnOk};
-ghost use Rattle.gq_tree.specs.declared.parsed.Parsed.{Parsed};
+ghost use Rattle.gq_tree.specs.Readings.{ParsedOf};
 ghost use Rattle.gq_parse.specs.Parsed.{AreParsed};
 ghost use Rattle.gq_index.specs.declared.occurrence.Occurrence.{Occurrence};
 ghost use Rattle.gq_index.specs.Indexed.{IsIndexOf};
 ghost use Rattle.gq_index.specs.Occurrences.{DefinitionOf, executables, fragment_definitions, fragment_spreads};
-ghost use Rattle.gq_index.specs.VariableNames.{used_variables, defined_variables};
 ghost use Rattle.gq_mentions.specs.Views.{mention_view};
-ghost use Rattle.gq_query.specs.Helping.Gathered.{places_among, if_wanted};
+ghost use Rattle.gq_query.specs.Helping.Gathered.{if_wanted, wanted_among};
 ghost use Rattle.gq_query.specs.Order.{AreExactly};
 ghost use Rattle.gq_query.specs.Helping.Wants.{IsWanted};
 
-use crate::groups::{put_definitions, put_uses};
+use crate::groups::put_wanted;
 use crate::order::in_order;
 use gq_index::laws::documents_have_one_list;
 use gq_index::{Index, Occurrence};
@@ -34,7 +33,8 @@ pub(crate) fn wanted_places(
     mention: &Mention<'_>,
     wanted: Wanted,
 ) -> Result<Vec<Occurrence>, NoMemory>
-    ensures { IfOk result (λ found. (readings : List Parsed) → AreParsed project.now readings → AreExactly (IsWanted (executables readings) wanted.uses wanted.declarations (mention_view mention.now)) found.items) }
+    ensures { IfOk result (λ found. (readings : List ParsedOf) → AreParsed project.now readings
+        → AreExactly (IsWanted (executables readings) wanted.uses wanted.declarations (mention_view mention.now)) found.items) }
 {
     documents_have_one_list();
     let index = Index::of(alloc, project)?;
@@ -84,7 +84,8 @@ fn fragment_places(
     name: &str,
     wanted: Wanted,
 ) -> Result<Vec<Occurrence>, NoMemory>
-    ensures { IfOk result (λ all. (ds : List DefinitionOf) → IsIndexOf ds index.now → all.items ≡ if_wanted wanted.uses (fragment_spreads ds name.now) ++ if_wanted wanted.declarations (fragment_definitions ds name.now)) }
+    ensures { IfOk result (λ all. (ds : List DefinitionOf) → IsIndexOf ds index.now
+        → all.items ≡ if_wanted wanted.uses (fragment_spreads ds name.now) ++ if_wanted wanted.declarations (fragment_definitions ds name.now)) }
 {
     let mut all = Vec::new(alloc);
     put_if(wanted.uses, index.spreads(name), &mut all)?;
@@ -100,11 +101,11 @@ fn variable_places(
     name: &str,
     wanted: Wanted,
 ) -> Result<Vec<Occurrence>, NoMemory>
-    ensures { IfOk result (λ all. (ds : List DefinitionOf) → IsIndexOf ds index.now → all.items ≡ if_wanted wanted.uses (places_among used_variables ds name.now numbers.now) ++ if_wanted wanted.declarations (places_among defined_variables ds name.now numbers.now)) }
+    ensures { IfOk result (λ all. (ds : List DefinitionOf) → IsIndexOf ds index.now
+        → all.items ≡ wanted_among ds name.now wanted.uses wanted.declarations numbers.now) }
 {
     let mut all = Vec::new(alloc);
-    put_uses_if(wanted.uses, index, numbers, name, &mut all)?;
-    put_definitions_if(wanted.declarations, index, numbers, name, &mut all)?;
+    put_wanted(index, numbers, name, wanted, &mut all)?;
     Ok(all)
 }
 
@@ -116,36 +117,4 @@ fn put_if(wanted: bool, places: &[Occurrence], all: &mut Vec<Occurrence>) -> Res
         all.extend_from_slice(places)?;
     }
     Ok(())
-}
-
-fn put_uses_if(
-    wanted: bool,
-    index: &Index,
-    numbers: &[usize],
-    name: &str,
-    all: &mut Vec<Occurrence>,
-) -> Result<(), NoMemory>
-    ensures { OnOk result ((ds : List DefinitionOf) → IsIndexOf ds index.now → all.new.items ≡ all.old.items ++ if_wanted wanted (places_among used_variables ds name.now numbers.now)) }
-{
-    if wanted {
-        put_uses(index, numbers, name, all)
-    } else {
-        Ok(())
-    }
-}
-
-fn put_definitions_if(
-    wanted: bool,
-    index: &Index,
-    numbers: &[usize],
-    name: &str,
-    all: &mut Vec<Occurrence>,
-) -> Result<(), NoMemory>
-    ensures { OnOk result ((ds : List DefinitionOf) → IsIndexOf ds index.now → all.new.items ≡ all.old.items ++ if_wanted wanted (places_among defined_variables ds name.now numbers.now)) }
-{
-    if wanted {
-        put_definitions(index, numbers, name, all)
-    } else {
-        Ok(())
-    }
 }

@@ -2,7 +2,6 @@
 -- offset.
 use Rattle.std.proofs.Common.{◌≡◌, ℕ, List, map, subst, ap, ◌∙◌}
 use Rattle.std.specs.Prelude.{Option, option_map}
-use Rattle.gq_text.specs.Place.{off}
 use Rattle.gq_text.specs.declared.place.PositionEncoding.{PositionEncoding}
 use Rattle.gq_text.specs.declared.place.Span.{Span}
 use Rattle.gq_project.specs.declared.document.Doc.{Doc}
@@ -29,19 +28,19 @@ use Rattle.gq_replies.specs.Answers.{text_at, offset_at, hover_in, item_of, prep
 asked : (Holds : List ℕ → ℕ → Type 0) (key key' : List ℕ) (offset offset' : ℕ) → key ≡ key' → offset ≡ offset' → Holds key offset → Holds key' offset'
 asked Holds key key' offset offset' k o h = subst (λ (i : ℕ). Holds key' i) o (subst (λ (x : List ℕ). Holds x offset) k h)
 
-module _ (encoding : PositionEncoding) (documents : List Doc) (key text : List ℕ) (offset : ℕ) (params : TextDocumentPositionParams) (same_key : key ≡ params.key) (same_text : text ≡ text_at documents key)
-    (same_offset : offset ≡ off encoding text params.position) where
-  at_key : text ≡ text_at documents params.key
-  at_key = same_text ∙ ap (text_at documents) same_key
-
+module _ (encoding : PositionEncoding) (documents : List Doc) (key : List ℕ) (offset : ℕ) (params : TextDocumentPositionParams) (same_key : key ≡ params.key) (same_offset : offset ≡ offset_at encoding documents key params.position) where
   at_offset : offset ≡ offset_at encoding documents params.key params.position
-  at_offset = same_offset ∙ ap (λ (t : List ℕ). off encoding t params.position) at_key
+  at_offset = same_offset ∙ ap (λ (k : List ℕ). offset_at encoding documents k params.position) same_key
 
-  pub tells_hover : (id : Id) (found : Option query.Hover) (shown : Option Hover) → IsHover documents key offset found → shown ≡ option_map (hover_in encoding text) found → TellsHover encoding documents id params (outgoing.Hover id shown)
-  tells_hover id found shown h is = record {
+  at_text : (text : List ℕ) → text ≡ text_at documents key → text ≡ text_at documents params.key
+  at_text text same_text = same_text ∙ ap (text_at documents) same_key
+
+  pub tells_hover : (text : List ℕ) → text ≡ text_at documents key → (id : Id) (found : Option query.Hover) (shown : Option Hover) → IsHover documents key offset found → shown ≡ option_map (hover_in encoding text) found
+      → TellsHover encoding documents id params (outgoing.Hover id shown)
+  tells_hover text same_text id found shown h is = record {
     found = found;
     is_found = asked (λ (k : List ℕ) (i : ℕ). IsHover documents k i found) key params.key offset _ same_key at_offset h;
-    is = ap (outgoing.Hover id) (is ∙ ap (λ (t : List ℕ). option_map (hover_in encoding t) found) at_key);
+    is = ap (outgoing.Hover id) (is ∙ ap (λ (t : List ℕ). option_map (hover_in encoding t) found) (at_text text same_text));
   }
 
   pub tells_definitions : (id : Id) (found : List Occurrence) (located : List Location) → AreDefinitions documents key offset found → located ≡ locations_of encoding documents found
@@ -59,20 +58,19 @@ module _ (encoding : PositionEncoding) (documents : List Doc) (key text : List �
     is = ap (outgoing.Completions id) is;
   }
 
-  pub tells_prepared : (id : Id) (found : Option Span) (prepared : Option PrepareRename) → IsPrepared documents key offset found → prepared ≡ option_map (prepared_in encoding text) found
+  pub tells_prepared : (text : List ℕ) → text ≡ text_at documents key → (id : Id) (found : Option Span) (prepared : Option PrepareRename) → IsPrepared documents key offset found → prepared ≡ option_map (prepared_in encoding text) found
       → TellsPrepared encoding documents id params (outgoing.Prepared id prepared)
-  tells_prepared id found prepared h is = record {
+  tells_prepared text same_text id found prepared h is = record {
     found = found;
     is_found = asked (λ (k : List ℕ) (i : ℕ). IsPrepared documents k i found) key params.key offset _ same_key at_offset h;
-    is = ap (outgoing.Prepared id) (is ∙ ap (λ (t : List ℕ). option_map (prepared_in encoding t) found) at_key);
+    is = ap (outgoing.Prepared id) (is ∙ ap (λ (t : List ℕ). option_map (prepared_in encoding t) found) (at_text text same_text));
   }
 
-pub tells_references : (encoding : PositionEncoding) (documents : List Doc) (key text : List ℕ) (offset : ℕ) (params : ReferenceParams) → key ≡ params.key → text ≡ text_at documents key → offset ≡ off encoding text params.position
+pub tells_references : (encoding : PositionEncoding) (documents : List Doc) (key : List ℕ) (offset : ℕ) (params : ReferenceParams) → key ≡ params.key → offset ≡ offset_at encoding documents key params.position
     → (id : Id) (found : List Occurrence) (located : List Location) → AreReferences documents key offset params.include_declaration found → located ≡ locations_of encoding documents found
     → TellsReferences encoding documents id params (outgoing.Locations id located)
-tells_references encoding documents key text offset params same_key same_text same_offset id found located h is =
-    let at_offset : offset ≡ offset_at encoding documents params.key params.position =
-    same_offset ∙ ap (λ (t : List ℕ). off encoding t params.position) (same_text ∙ ap (text_at documents) same_key) in
+tells_references encoding documents key offset params same_key same_offset id found located h is =
+    let at_offset : offset ≡ offset_at encoding documents params.key params.position = same_offset ∙ ap (λ (k : List ℕ). offset_at encoding documents k params.position) same_key in
     record {
       found = found;
       are_found = asked (λ (k : List ℕ) (i : ℕ). AreReferences documents k i params.include_declaration found) key params.key offset _ same_key at_offset h;

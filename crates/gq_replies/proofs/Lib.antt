@@ -6,3 +6,6 @@ pub mod Renaming
 pub mod Offering
 pub mod Responding
 pub mod Safe
+pub mod SoundEdits
+pub mod OneList
+pub mod OneReply

@@ -1,6 +1,5 @@
 -- What a rename comes to, under the names that its callers have for the project, the key and the new name.
 use Rattle.std.proofs.Common.{◌≡◌, ◌⊎◌, inl, inr, ℕ, List, Result, Ok, Err, subst, ap, ◌∙◌}
-use Rattle.gq_text.specs.Place.{off}
 use Rattle.gq_text.specs.declared.place.PositionEncoding.{PositionEncoding}
 use Rattle.gq_project.specs.declared.document.Doc.{Doc}
 use Rattle.gq_edit.specs.declared.edit.DocumentEdit.{DocumentEdit}
@@ -17,7 +16,7 @@ use Rattle.gq_rpc.specs.declared.messages.Outgoing.{Outgoing}
 use Rattle.gq_rpc.specs.declared.messages.Outgoing.TheVariants as outgoing
 use Rattle.gq_replies.specs.Sound.{IsSound}
 use Rattle.gq_replies.specs.Renames.{refused, TellsRename}
-use Rattle.gq_replies.specs.Answers.{text_at, offset_at}
+use Rattle.gq_replies.specs.Answers.{offset_at}
 use Rattle.gq_replies.specs.Helping.Results.{IsEditByPosition, IsRenameResult, IsRefusedProject}
 
 module _ (encoding : PositionEncoding) (documents : List Doc) (params : RenameParams) (offset : ℕ) (key name : List ℕ) (same_key : key ≡ params.key) (same_name : name ≡ params.new_name) where
@@ -45,9 +44,9 @@ refused_project encoding documents params offset why law (inl none) = inl none
 refused_project encoding documents params offset why law (inr h) = rw h.0 (inr (law documents params.key offset params.new_name h.1))
 
 -- the offset that is asked for
-pub offset-asked : (encoding : PositionEncoding) (documents : List Doc) (key text : List ℕ) (offset : ℕ) (params : RenameParams) → key ≡ params.key → text ≡ text_at documents key → offset ≡ off encoding text params.position
+pub offset-asked : (encoding : PositionEncoding) (documents : List Doc) (key : List ℕ) (offset : ℕ) (params : RenameParams) → key ≡ params.key → offset ≡ offset_at encoding documents key params.position
     → offset ≡ offset_at encoding documents params.key params.position
-offset-asked encoding documents key text offset params same_key same_text same_offset = same_offset ∙ ap (λ (t : List ℕ). off encoding t params.position) (same_text ∙ ap (text_at documents) same_key)
+offset-asked encoding documents key offset params same_key same_offset = same_offset ∙ ap (λ (k : List ℕ). offset_at encoding documents k params.position) same_key
 
 -- ---- the response
 

@@ -1,7 +1,6 @@
 -- The edits that an answer carries are safe.
-use Rattle.std.proofs.Common.{◌≡◌, ◌⊎◌, inl, inr, ℕ, Bool, true, false, List, [], ◌∷◌, ◌++◌, Result, Ok, Err, IfOk, map, subst, sym, refl}
+use Rattle.std.proofs.Common.{◌≡◌, ◌⊎◌, inl, inr, Bool, true, false, List, [], ◌∷◌, ◌++◌, Result, Ok, Err, IfOk, map, subst, sym, refl}
 use Rattle.std.specs.List.{AllByRecursion}
-use Rattle.std.proofs.lemmas.List.{map-append}
 use Rattle.gq_text.specs.declared.place.PositionEncoding.{PositionEncoding}
 use Rattle.gq_project.specs.declared.document.Doc.{Doc}
 use Rattle.gq_edit.specs.declared.edit.DocumentEdit.{DocumentEdit}
@@ -9,7 +8,6 @@ use Rattle.gq_edit.specs.declared.workspace.WorkspaceEdit.{WorkspaceEdit}
 use Rattle.gq_rename.specs.declared.refusal.Refusal.{Refusal}
 use Rattle.gq_rename.specs.Rename.{IsRenameAnswer}
 use Rattle.gq_rename.specs.Responses as renames
-use Rattle.gq_reshape.specs.Asks.{RangeAsk}
 use Rattle.gq_reshape.specs.Responses as reshapes
 use Rattle.gq_rpc.specs.declared.messages.Id.{Id}
 use Rattle.gq_rpc.specs.declared.messages.CodeAction.{CodeAction}
@@ -39,9 +37,6 @@ of_rename : (encoding : PositionEncoding) (documents : List Doc) (id : Id) (para
     → AreSafe encoding documents (question.Rename params) (edits_in (rename_response encoding id documents answer))
 of_rename encoding documents id params (Ok edits) exact sound responses = (record { edits = edits; exact = exact; by_positions = refl; sound = sound; responses = responses }, tt)
 of_rename encoding documents id params (Err why) exact sound responses = tt
-
-edit_of : CodeAction → WorkspaceEdit
-edit_of a = a.edit
 
 both : (encoding : PositionEncoding) (documents : List Doc) (asked : Question) (xs ys : List CodeAction) → AreSafe encoding documents asked (map (λ a. a.edit) xs) → AreSafe encoding documents asked (map (λ a. a.edit) ys) → AreSafe encoding documents asked (map (λ a. a.edit) (xs ++ ys))
 both encoding documents asked [] ys h k = k

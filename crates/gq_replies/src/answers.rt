@@ -1,23 +1,20 @@
 //! The response to a question.
-ghost use Rattle.std.specs.Prelude.{◌≡◌, ◌⊎◌, IfOk};
+ghost use Rattle.std.specs.Prelude.{◌≡◌, ◌⊎◌, IfOk, IfErr};
 ghost use Rattle.gq_edit.specs.Workspace.{AreTexts};
 ghost use Rattle.gq_rename.specs.declared.refusal.Refusal.TheVariants as refusal;
 ghost use Rattle.gq_replies.specs.Renames.{refused, TellsRename};
-ghost use Rattle.gq_replies.specs.CodeActions.{TellsCodeActions};
-ghost use Rattle.gq_replies.specs.Answers.{offset_at, span_at, TellsHover, TellsDefinitions, TellsReferences, TellsCompletions, TellsPrepared, IsAnswer};
+ghost use Rattle.gq_replies.specs.Answers.{offset_at, IsAnswer};
 
 use crate::code_actions::find_code_actions;
+use crate::offsets::offset_at;
 use crate::queries::{
-    find_completions, find_definitions, find_hover, find_prepared, find_references, text_of,
+    find_completions, find_definitions, find_hover, find_prepared, find_references,
 };
 use crate::renames::rename_at;
 use gq_project::Project;
 use gq_rename::Refusal;
-use gq_rpc::{
-    CodeActionParams, Id, Outgoing, Question, ReferenceParams, RenameParams, ResponseError,
-    TextDocumentPositionParams,
-};
-use gq_text::{NoMemory, OwnedText, PositionEncoding, offset_in};
+use gq_rpc::{Id, Outgoing, Question, RenameParams, ResponseError};
+use gq_text::{NoMemory, OwnedText, PositionEncoding};
 use std::alloc::Global;
 
 /// The response to a question about these documents: the answer that is defined, by positions (LSP 3.17, "Language
@@ -33,13 +30,31 @@ pub fn answer(
     ensures { IfOk result (λ message. IsAnswer encoding project id question.now message) }
 {
     match question {
-        Question::Completion(params) => answer_completion(alloc, encoding, &project, id, params),
-        Question::Definition(params) => answer_definition(alloc, encoding, &project, id, params),
-        Question::Hover(params) => answer_hover(alloc, encoding, &project, id, params),
-        Question::PrepareRename(params) => answer_prepare(alloc, encoding, &project, id, params),
-        Question::References(params) => answer_references(alloc, encoding, &project, id, params),
+        Question::Completion(params) => {
+            let found = find_completions(alloc, encoding, &project, params);
+            reply(alloc, id, found, Outgoing::Completions)
+        }
+        Question::Definition(params) => {
+            let found = find_definitions(alloc, encoding, &project, params);
+            reply(alloc, id, found, Outgoing::Locations)
+        }
+        Question::Hover(params) => {
+            let found = find_hover(alloc, encoding, &project, params);
+            reply(alloc, id, found, Outgoing::Hover)
+        }
+        Question::PrepareRename(params) => {
+            let found = find_prepared(alloc, encoding, &project, params);
+            reply(alloc, id, found, Outgoing::Prepared)
+        }
+        Question::References(params) => {
+            let found = find_references(alloc, encoding, &project, params);
+            reply(alloc, id, found, Outgoing::Locations)
+        }
         Question::Rename(params) => answer_rename(alloc, encoding, project, id, params),
-        Question::CodeAction(params) => answer_code_action(alloc, encoding, project, id, params),
+        Question::CodeAction(params) => {
+            let found = find_code_actions(alloc, encoding, project, params);
+            reply(alloc, id, found, Outgoing::CodeActions)
+        }
     }
 }
 
@@ -51,82 +66,19 @@ fn refuse(alloc: Global, id: Id, why: Refusal) -> Result<Outgoing, NoMemory>
     Ok(Outgoing::Error(Some(id), ResponseError::RequestFailed(words)))
 }
 
-fn answer_completion(
+/// The message that tells what is found, or the refusal where memory was refused.
+fn reply<T: Drop, F: FnOnce(Id, T) -> Outgoing + Drop>(
     alloc: Global,
-    encoding: PositionEncoding,
-    project: &Project,
     id: Id,
-    params: &TextDocumentPositionParams,
+    found: Result<T, NoMemory>,
+    message: F,
 ) -> Result<Outgoing, NoMemory>
-    requires { AreTexts project.now }
-    ensures { IfOk result (λ response. (response ≡ refused id refusal.NoMemory) ⊎ TellsCompletions encoding project.now id params.now response) }
+    requires { F.IsAlwaysCallable message }
+    ensures told { IfOk found (λ told. IfOk result (λ response. F.post message id told response)) }
+    ensures refused { IfErr found (λ why. IfOk result (λ response. response ≡ refused id refusal.NoMemory)) }
 {
-    match find_completions(alloc, encoding, project, params) {
-        Ok(items) => Ok(Outgoing::Completions(id, items)),
-        Err(NoMemory) => refuse(alloc, id, Refusal::NoMemory),
-    }
-}
-
-fn answer_definition(
-    alloc: Global,
-    encoding: PositionEncoding,
-    project: &Project,
-    id: Id,
-    params: &TextDocumentPositionParams,
-) -> Result<Outgoing, NoMemory>
-    requires { AreTexts project.now }
-    ensures { IfOk result (λ response. (response ≡ refused id refusal.NoMemory) ⊎ TellsDefinitions encoding project.now id params.now response) }
-{
-    match find_definitions(alloc, encoding, project, params) {
-        Ok(locations) => Ok(Outgoing::Locations(id, locations)),
-        Err(NoMemory) => refuse(alloc, id, Refusal::NoMemory),
-    }
-}
-
-fn answer_hover(
-    alloc: Global,
-    encoding: PositionEncoding,
-    project: &Project,
-    id: Id,
-    params: &TextDocumentPositionParams,
-) -> Result<Outgoing, NoMemory>
-    requires { AreTexts project.now }
-    ensures { IfOk result (λ response. (response ≡ refused id refusal.NoMemory) ⊎ TellsHover encoding project.now id params.now response) }
-{
-    match find_hover(alloc, encoding, project, params) {
-        Ok(shown) => Ok(Outgoing::Hover(id, shown)),
-        Err(NoMemory) => refuse(alloc, id, Refusal::NoMemory),
-    }
-}
-
-fn answer_prepare(
-    alloc: Global,
-    encoding: PositionEncoding,
-    project: &Project,
-    id: Id,
-    params: &TextDocumentPositionParams,
-) -> Result<Outgoing, NoMemory>
-    requires { AreTexts project.now }
-    ensures { IfOk result (λ response. (response ≡ refused id refusal.NoMemory) ⊎ TellsPrepared encoding project.now id params.now response) }
-{
-    match find_prepared(alloc, encoding, project, params) {
-        Ok(prepared) => Ok(Outgoing::Prepared(id, prepared)),
-        Err(NoMemory) => refuse(alloc, id, Refusal::NoMemory),
-    }
-}
-
-fn answer_references(
-    alloc: Global,
-    encoding: PositionEncoding,
-    project: &Project,
-    id: Id,
-    params: &ReferenceParams,
-) -> Result<Outgoing, NoMemory>
-    requires { AreTexts project.now }
-    ensures { IfOk result (λ response. (response ≡ refused id refusal.NoMemory) ⊎ TellsReferences encoding project.now id params.now response) }
-{
-    match find_references(alloc, encoding, project, params) {
-        Ok(locations) => Ok(Outgoing::Locations(id, locations)),
+    match found {
+        Ok(told) => Ok(message(id, told)),
         Err(NoMemory) => refuse(alloc, id, Refusal::NoMemory),
     }
 }
@@ -142,27 +94,9 @@ fn answer_rename(
     ensures { IfOk result (λ response. (response ≡ refused id refusal.NoMemory)
         ⊎ TellsRename encoding project id params.now (offset_at encoding project params.now.key params.now.position) response) }
 {
-    let text = text_of(&project, params.key.as_str());
-    let offset = offset_in(encoding, text, params.position);
+    let offset = offset_at(encoding, &project, params.key.as_str(), params.position);
     match rename_at(alloc, encoding, project, params, offset) {
         Ok(edit) => Ok(Outgoing::Renamed(id, edit)),
         Err(refusal) => refuse(alloc, id, refusal),
-    }
-}
-
-fn answer_code_action(
-    alloc: Global,
-    encoding: PositionEncoding,
-    project: Project,
-    id: Id,
-    params: &CodeActionParams,
-) -> Result<Outgoing, NoMemory>
-    requires { AreTexts project }
-    ensures { IfOk result (λ response. (response ≡ refused id refusal.NoMemory)
-        ⊎ TellsCodeActions encoding project id params.now (span_at encoding project params.now.key params.now.range) response) }
-{
-    match find_code_actions(alloc, encoding, project, params) {
-        Ok(actions) => Ok(Outgoing::CodeActions(id, actions)),
-        Err(NoMemory) => refuse(alloc, id, Refusal::NoMemory),
     }
 }

@@ -13,28 +13,20 @@ ghost use Rattle.gq_replies.specs.CodeActions as spec;
 ghost use Rattle.gq_replies.specs.Answers.{span_at};
 ghost use Rattle.gq_replies.specs.Helping.Results.{IsEditIfAny, AddsGiven};
 
-use crate::queries::text_of;
+use crate::offsets::span_at;
 use gq_edit::{Edit, to_positions};
 use gq_project::Project;
 use gq_rename::Refusal;
-use gq_reshape::laws::refactorings_of_invalid_projects_are_refused;
+use gq_rename::checking::documents_are_texts;
+use gq_reshape::laws::{
+    edits_lead_back, edits_name_documents_at_their_versions,
+    refactorings_of_invalid_projects_are_refused,
+};
 use gq_reshape::{extract, inline, remove_redundant};
 use gq_rpc::{CodeAction, CodeActionKind, CodeActionParams};
-use gq_rules::laws::projects_are_valid;
 use gq_rules::{Valid, Why};
-use gq_text::{Items, NoMemory, OwnedText, PositionEncoding, Span, offset_in};
+use gq_text::{Items, NoMemory, OwnedText, PositionEncoding, Span};
 use std::alloc::Global;
-
-/// The span of two offsets, exchanged where the first one comes after the second one.
-fn span_between(a: usize, b: usize) -> Span
-    ensures { result ≡ spec.span_between a b }
-{
-    if a <= b {
-        Span { start: a, end: b }
-    } else {
-        Span { start: b, end: a }
-    }
-}
 
 /// Whether a dot stands there.
 fn is_dot_at(name: &[u8], index: usize) -> bool
@@ -115,7 +107,10 @@ fn edit_if_any(
     ensures edit { IfOk result (λ edit. IsEditIfAny kind valid.now (record { key = key.now; range = range }) edit) }
     ensures fits { IfOk result (λ edit. IfSome edit (FitDocuments valid.now)) }
 {
-    projects_are_valid(valid);
+    edits_name_documents_at_their_versions();
+    edits_lead_back();
+    let project = valid.project();
+    documents_are_texts(project);
     match refactoring(alloc, valid, kind, key, range) {
         Ok(edit) => Ok(Some(edit)),
         Err(Refusal::NoMemory) => Err(NoMemory),
@@ -203,10 +198,7 @@ pub(crate) fn find_code_actions(
         → spec.TellsCodeActions encoding project id params.now (span_at encoding project params.now.key params.now.range) (outgoing.CodeActions id actions)) }
 {
     refactorings_of_invalid_projects_are_refused();
-    let text = text_of(&project, params.key.as_str());
-    let start = offset_in(encoding, text, params.range.start);
-    let end = offset_in(encoding, text, params.range.end);
-    let range = span_between(start, end);
+    let range = span_at(encoding, &project, params.key.as_str(), params.range);
     match Valid::new(alloc, project) {
         Ok(valid) => actions_in(alloc, encoding, &valid, params, range),
         Err(invalid) => match invalid.why {

@@ -6,6 +6,7 @@ mod code_actions;
 pub mod laws;
 mod locations;
 mod notifications;
+mod offsets;
 mod places;
 mod queries;
 mod ranges;

@@ -3,9 +3,10 @@ ghost use Rattle.std.specs.Prelude.{◌≡◌, ◌≤◌, ◌^◌, length, map, 
 ghost use Rattle.gq_edit.specs.Workspace.{AreTexts};
 ghost use Rattle.gq_rpc.specs.declared.messages.Id.{Id};
 ghost use Rattle.gq_rpc.specs.declared.messages.Outgoing.TheVariants as outgoing;
-ghost use Rattle.gq_replies.specs.Answers.{text_at, hover_in, item_kind, item_of, prepared_in, TellsHover, TellsDefinitions, TellsReferences, TellsCompletions, TellsPrepared};
+ghost use Rattle.gq_replies.specs.Answers.{hover_in, item_kind, item_of, prepared_in, TellsHover, TellsDefinitions, TellsReferences, TellsCompletions, TellsPrepared};
 
 use crate::locations::locations;
+use crate::offsets::{offset_at, text_of};
 use crate::ranges::range_in;
 use gq_completion::{Completion, CompletionKind, complete};
 use gq_project::Project;
@@ -15,20 +16,8 @@ use gq_rpc::{
     CompletionItem, CompletionItemKind, Hover, Location, PrepareRename, ReferenceParams,
     TextDocumentPositionParams,
 };
-use gq_text::{Items, NoMemory, OwnedText, PositionEncoding, Span, offset_in};
+use gq_text::{Items, NoMemory, OwnedText, PositionEncoding, Span};
 use std::alloc::Global;
-
-/// The text of the document of that key. Where there is none, nothing.
-pub(crate) fn text_of<'p>(project: &'p Project, key: &str) -> &'p str
-    requires { AreTexts project.now }
-    ensures text { result.now ≡ text_at project.now key.now }
-    ensures fits { length result.now ≤ 2 ^ 22 }
-{
-    match project.get(key) {
-        Some(document) => document.text.as_str(),
-        None => "",
-    }
-}
 
 /// What is shown at the position.
 pub(crate) fn find_hover(
@@ -41,10 +30,9 @@ pub(crate) fn find_hover(
     ensures { IfOk result (λ shown. (id : Id) → TellsHover encoding project.now id params.now (outgoing.Hover id shown)) }
 {
     let key = params.key.as_str();
-    let text = text_of(project, key);
-    let offset = offset_in(encoding, text, params.position);
+    let offset = offset_at(encoding, project, key, params.position);
     let found = hover(alloc, project, key, offset)?;
-    Ok(place_hover(encoding, text, found))
+    Ok(place_hover(encoding, text_of(project, key), found))
 }
 
 /// What is shown, with its range in the text.
@@ -74,7 +62,7 @@ pub(crate) fn find_definitions(
     ensures { IfOk result (λ located. (id : Id) → TellsDefinitions encoding project.now id params.now (outgoing.Locations id located)) }
 {
     let key = params.key.as_str();
-    let offset = offset_in(encoding, text_of(project, key), params.position);
+    let offset = offset_at(encoding, project, key, params.position);
     let found = definition(alloc, project, key, offset)?;
     locations(alloc, encoding, project.documents(), &found)
 }
@@ -90,7 +78,7 @@ pub(crate) fn find_references(
     ensures { IfOk result (λ located. (id : Id) → TellsReferences encoding project.now id params.now (outgoing.Locations id located)) }
 {
     let key = params.key.as_str();
-    let offset = offset_in(encoding, text_of(project, key), params.position);
+    let offset = offset_at(encoding, project, key, params.position);
     let found = references(alloc, project, key, offset, params.include_declaration)?;
     locations(alloc, encoding, project.documents(), &found)
 }
@@ -106,7 +94,7 @@ pub(crate) fn find_completions(
     ensures { IfOk result (λ items. (id : Id) → TellsCompletions encoding project.now id params.now (outgoing.Completions id items)) }
 {
     let key = params.key.as_str();
-    let offset = offset_in(encoding, text_of(project, key), params.position);
+    let offset = offset_at(encoding, project, key, params.position);
     let found = complete(alloc, project, key, offset)?;
     completion_items(alloc, &found)
 }
@@ -145,10 +133,9 @@ pub(crate) fn find_prepared(
     ensures { IfOk result (λ prepared. (id : Id) → TellsPrepared encoding project.now id params.now (outgoing.Prepared id prepared)) }
 {
     let key = params.key.as_str();
-    let text = text_of(project, key);
-    let offset = offset_in(encoding, text, params.position);
+    let offset = offset_at(encoding, project, key, params.position);
     let found = prepare(alloc, project, key, offset)?;
-    place_name(alloc, encoding, text, found)
+    place_name(alloc, encoding, text_of(project, key), found)
 }
 
 /// The text of the span, and its range.

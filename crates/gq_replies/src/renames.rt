@@ -5,7 +5,10 @@ ghost use Rattle.gq_replies.specs.Helping.Results.{IsRenameResult, IsRefusedProj
 
 use gq_edit::{WorkspaceEdit, to_positions};
 use gq_project::Project;
-use gq_rename::laws::renames_of_invalid_projects_are_refused;
+use gq_rename::checking::documents_are_texts;
+use gq_rename::laws::{
+    renames_lead_back, renames_name_versions, renames_of_invalid_projects_are_refused,
+};
 use gq_rename::{Refusal, rename};
 use gq_rpc::RenameParams;
 use gq_rules::{Valid, Why};
@@ -53,6 +56,10 @@ fn rename_in(
     requires { AreTexts valid.now }
     ensures { IsRenameResult encoding valid.now params.now offset result }
 {
+    renames_name_versions();
+    renames_lead_back();
+    let project = valid.project();
+    documents_are_texts(project);
     let edit = rename(
         alloc,
         valid,
@@ -60,5 +67,5 @@ fn rename_in(
         offset,
         params.new_name.as_str(),
     )?;
-    Ok(to_positions(alloc, encoding, valid.project(), &edit)?)
+    Ok(to_positions(alloc, encoding, project, &edit)?)
 }

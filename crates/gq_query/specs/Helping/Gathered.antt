@@ -1,5 +1,5 @@
 -- Look-ups as the code makes them.
-use Rattle.std.specs.Prelude.{ℕ, Bool, List, [], ◌∷◌, Option, None, find, flat_map, bytes_eq, slice_get, option_and_then, if◌then◌else◌}
+use Rattle.std.specs.Prelude.{ℕ, Bool, List, [], ◌∷◌, ◌++◌, Option, None, find, flat_map, bytes_eq, slice_get, option_and_then, if◌then◌else◌}
 use Rattle.std.specs.Option.{option_map, option_map_or, option_or}
 use Rattle.gq_text.specs.declared.place.Span.{Span}
 use Rattle.gq_tree.specs.Plain.{NameOf, FieldDefinitionOf, Def}
@@ -8,6 +8,7 @@ use Rattle.gq_types.specs.Joined.{fields_in_body}
 use Rattle.gq_types.specs.LookUps.{parts_of_entry}
 use Rattle.gq_index.specs.declared.occurrence.Occurrence.{Occurrence}
 use Rattle.gq_index.specs.Occurrences.{DefinitionOf, occurrences_of}
+use Rattle.gq_index.specs.VariableNames.{used_variables, defined_variables}
 
 -- the first that is something
 abbrev pub first_of : {X A : Type 0} → (X → Option A) → List X → Option A
@@ -33,3 +34,11 @@ places_among names ds text numbers = flat_map (places_at names ds text) numbers
 -- those that are wanted
 abbrev pub if_wanted : Bool → List Occurrence → List Occurrence
 if_wanted wanted places = if wanted then places else []
+
+-- the wanted places of a variable in the definition of that number
+abbrev pub wanted_at : List DefinitionOf → Text → (uses declarations : Bool) → ℕ → List Occurrence
+wanted_at ds text uses declarations number = if_wanted uses (places_at used_variables ds text number) ++ if_wanted declarations (places_at defined_variables ds text number)
+
+-- and in the definitions of these numbers
+abbrev pub wanted_among : List DefinitionOf → Text → (uses declarations : Bool) → List ℕ → List Occurrence
+wanted_among ds text uses declarations numbers = flat_map (wanted_at ds text uses declarations) numbers

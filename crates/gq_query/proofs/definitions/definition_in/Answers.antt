@@ -1,5 +1,6 @@
 use Rattle.std.proofs.Common.{◌≡◌, List, Some, None, ◌∙◌, ap, sym, subst}
 use Rattle.std.specs.Option.{option_map}
+use Rattle.gq_tree.specs.Readings.{readings_view}
 use Rattle.gq_index.specs.declared.occurrence.Occurrence.{Occurrence}
 use Rattle.gq_index.specs.Occurrences.{executables}
 use Rattle.gq_mentions.specs.Views.{mention_view}
@@ -13,16 +14,16 @@ use Rattle.gq_query.proofs.definitions.definition_in.Goals as goal
 pub returns-in-Some : goal.returns-in-Some
 returns-in-Some c =
     let documents = c.args.project.now in
-    let ds = executables c.args.readings.now in
+    let ds = executables (readings_view c.args.readings.now) in
     let m = mention_view c.in-Some.mention in
     let means = asked_in c.in_ok-mention.field-0 documents c.deref.result.now c.in_ok-definitions.definitions.items ds c.args.key.now c.args.offset c.in_ok-mention.ensures c.deref.ensures.value c.in_ok-definitions.ensures in
     let meant : Some m ≡ asked documents ds c.args.key.now c.args.offset = ap (option_map mention_view) (sym c.in-Some.is) ∙ means in
-    at_mention documents ds c.args.key.now c.args.offset m (λ n o. IsDefinitionOf documents ds n.kind n o) c.in_ok-found-in-Some.found.items meant (c.in_ok-found-in-Some.ensures c.args.readings.now c.requires (ap definitions_view c.deref-in-Some.ensures.value ∙ c.in_ok-definitions.ensures))
+    at_mention documents ds c.args.key.now c.args.offset m (λ n o. IsDefinitionOf documents ds n.kind n o) c.in_ok-found-in-Some.found.items meant (c.in_ok-found-in-Some.ensures (readings_view c.args.readings.now) c.requires (ap definitions_view c.deref-in-Some.ensures.value ∙ c.in_ok-definitions.ensures))
 
 pub returns : goal.returns
 returns c =
     let documents = c.args.project.now in
-    let ds = executables c.args.readings.now in
+    let ds = executables (readings_view c.args.readings.now) in
     let means = asked_in c.in_ok-mention.field-0 documents c.deref.result.now c.in_ok-definitions.definitions.items ds c.args.key.now c.args.offset c.in_ok-mention.ensures c.deref.ensures.value c.in_ok-definitions.ensures in
     let nothing : None ≡ asked documents ds c.args.key.now c.args.offset = ap (option_map mention_view) (sym c.in-None.is) ∙ means in
     subst (λ (l : List Occurrence). AreExactly (λ o. AtMention documents ds c.args.key.now c.args.offset (λ n. IsDefinitionOf documents ds n.kind n o)) l) (sym c.new.ensures.items) (at_none documents ds c.args.key.now c.args.offset (λ n o. IsDefinitionOf documents ds n.kind n o) nothing)

@@ -3,9 +3,8 @@ use Rattle.std.proofs.lemmas.Result.{IfOk-weaker}
 use Rattle.gq_types.specs.Entries.{Text}
 use Rattle.gq_index.specs.Occurrences.{fragment_definitions, fragment_spreads}
 use Rattle.gq_index.specs.VariableGroups.{VariableGroup}
-use Rattle.gq_index.specs.VariableNames.{used_variables, defined_variables}
 use Rattle.gq_mentions.specs.Views.{mention_view}
-use Rattle.gq_query.specs.Helping.Gathered.{if_wanted, places_among}
+use Rattle.gq_query.specs.Helping.Gathered.{if_wanted, wanted_among}
 use Rattle.gq_query.proofs.Exact.{fragment_wanted, variable_wanted}
 use Rattle.gq_query.proofs.wanted.places_by.Goals as goal
 
@@ -31,6 +30,6 @@ returns-in_ok-group-in-Variable c =
     variable_wanted ds uses declarations (mention_view c.args.mention.now) numbers all.items c.in-Variable.is
     (subst (λ (t : Text). n < length ds → (k : ℕ) → Contains numbers k ↔ VariableGroup ds t n k) c.as_str-name.ensures (group.ensures.group ds is))
     (group.ensures.past ds is)
-    (subst (λ (t : Text). all.items ≡ if_wanted uses (places_among used_variables ds t numbers) ++ if_wanted declarations (places_among defined_variables ds t numbers)) c.as_str-name.ensures
-    (subst (λ (ns : List ℕ). all.items ≡ if_wanted uses (places_among used_variables ds c.as_str-name.result.now ns) ++ if_wanted declarations (places_among defined_variables ds c.as_str-name.result.now ns)) c.deref.ensures.value (e ds is))))
+    (subst (λ (t : Text). all.items ≡ wanted_among ds t uses declarations numbers) c.as_str-name.ensures
+    (subst (λ (ns : List ℕ). all.items ≡ wanted_among ds c.as_str-name.result.now uses declarations ns) c.deref.ensures.value (e ds is))))
     c.variable_places.ensures

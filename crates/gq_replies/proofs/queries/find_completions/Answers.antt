@@ -8,6 +8,6 @@ pub returns : goal.returns
 returns c =
     IfOk-weaker c.completion_items.result _ _
     (λ items is id.
-    tells_completions c.args.encoding c.args.project.now c.as_str-key.result.now c.text_of.result.now c.offset_in-offset.result c.args.params.now c.as_str-key.ensures c.text_of.ensures.text c.offset_in-offset.ensures.offset
+    tells_completions c.args.encoding c.args.project.now c.as_str-key.result.now c.offset_at-offset.result c.args.params.now c.as_str-key.ensures c.offset_at-offset.ensures
     id c.in_ok-found.found.items items c.in_ok-found.ensures (is ∙ ap (map item_of) c.deref.ensures.value))
     c.completion_items.ensures

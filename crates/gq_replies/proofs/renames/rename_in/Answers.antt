@@ -2,6 +2,7 @@ use Rattle.std.proofs.Common.{Ok, refl, ap, ◌∙◌}
 use Rattle.std.proofs.lemmas.Result.{err_from_is_err_and}
 use Rattle.gq_edit.specs.Workspace.{workspace_edit_of}
 use Rattle.gq_replies.proofs.Renaming.{not_renamed, renamed}
+use Rattle.gq_replies.proofs.SoundEdits.{sound_rename}
 use Rattle.gq_replies.proofs.renames.rename_in.Goals as goal
 
 pub returns-in_err-edit : goal.returns-in_err-edit
@@ -14,5 +15,7 @@ pub returns : goal.returns
 returns c =
     renamed c.args.encoding c.args.valid.now c.args.params.now c.args.offset c.as_str.result.now c.as_str-2.result.now c.as_str.ensures c.as_str-2.ensures
     (Ok c.in_ok-edit.edit) c.in_ok-edit.edit c.in_ok-to_positions.field-0 refl c.in_ok-edit.ensures.answer
-    (c.in_ok-to_positions.ensures ∙ ap (λ documents. workspace_edit_of c.args.encoding documents c.in_ok-edit.edit) c.project.ensures.same)
-    (record { valid = c.project.ensures.valid; fits = c.in_ok-edit.ensures.fits; stays_valid = c.in_ok-edit.ensures.valid }) c.in_ok-edit.ensures.responses
+    (c.in_ok-to_positions.ensures ∙ ap (λ documents. workspace_edit_of c.args.encoding documents c.in_ok-edit.edit) c.project-project.ensures.same)
+    (sound_rename c.args.valid.now c.project-project.result.now c.project-project.ensures.same c.documents_are_texts.ensures.in_order c.documents_are_texts.ensures.utf8 c.project-project.ensures.valid c.in_ok-edit.edit c.in_ok-edit.ensures.fits c.in_ok-edit.ensures.valid
+    c.renames_name_versions.ensures c.renames_lead_back.ensures c.as_str.result.now c.args.offset c.as_str-2.result.now c.in_ok-edit.ensures.answer)
+    c.in_ok-edit.ensures.responses
