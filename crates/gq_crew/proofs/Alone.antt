@@ -1,6 +1,5 @@
 -- A desk without workers, and what follows a stop.
-use Rattle.std.proofs.Common.{◌≡◌, ℕ, suc, ◌<◌, Bool, true, false, cond, List, [], ◌∷◌, ◌++◌, map, length, drop, Option, Some, None, ap, sym, refl, ◌∙◌, subst, append-nil, length-drop, arith}
-use Rattle.std.proofs.Math.Seq.{drop-cons}
+use Rattle.std.proofs.Common.{◌≡◌, ℕ, Bool, true, false, cond, List, [], ◌∷◌, ◌++◌, map, Option, Some, None, ap, sym, refl, ◌∙◌, subst, append-nil}
 use Rattle.std.specs.Prelude.{option_to_list, option_map}
 use Rattle.gq_rpc.specs.declared.messages.Outgoing.{Outgoing}
 use Rattle.gq_rpc.specs.declared.messages.Id.{Id}
@@ -21,12 +20,12 @@ use Rattle.gq_events.specs.declared.effect.Effect.{Effect}
 use Rattle.gq_events.specs.declared.effect.Effect.TheVariants as effect
 use Rattle.gq_events.specs.Documents.{docs_of, document_at}
 use Rattle.gq_events.specs.Rules.{Turn, Session, begun, effect_of, changed_by, session_after, denied_by, taken, answered, denied_with, nothing_wrong, cleared, own_of_change, own, answer_to, FitsTaken}
-use Rattle.gq_events.specs.History.{idle, turn_at, outputs, IsAnswered}
-use Rattle.gq_events.specs.Machine.{State, start, after, writes, run, reached, effect_in, changed_in, taken_by, FitsTurn, FitsRun}
+use Rattle.gq_events.specs.History.{outputs}
+use Rattle.gq_events.specs.Machine.{State, start, after, writes, run, reached, effect_in, changed_in, taken_by, FitsRun}
 use Rattle.gq_events.proofs.Alone.{alone, writes_alone}
-use Rattle.gq_events.proofs.Steps.{run_tells, answered_from, state_at, state_step}
+use Rattle.gq_events.proofs.Behind.{steps_tell_history, outputs_go_on}
 use Rattle.gq_desk.specs.Frames.{stop_in}
-use Rattle.gq_desk.proofs.Runs.{run-append, stop_in-append}
+use Rattle.gq_desk.proofs.Runs.{stop_in-append}
 use Rattle.gq_crew.specs.Output.{event_of, AreTurnsOf}
 
 -- ---- it stays without workers
@@ -68,23 +67,23 @@ where_goes : (b : Bool) (outs : List Out) → stop_in outs ≡ None → stop_in 
 where_goes true outs h = h
 where_goes false outs h = refl
 
-change_goes : (s : Session) (c : Change) (document : Option OpenDocument) → stop_in (own_of_change s c document) ≡ None
-change_goes s c document = stop_in-append (cond s.diagnostics (cleared s.documents c) []) _ (where_goes s.diagnostics (cleared s.documents c) (cleared_goes s.documents c))
+change_goes : (s : Session) (c : Change) (document : Option OpenDocument) → stop_in (own_of_change 0 s c document) ≡ None
+change_goes s c document = stop_in-append (cond s.diagnostics (cleared s.documents c) []) [] (where_goes s.diagnostics (cleared s.documents c) (cleared_goes s.documents c))
 
 -- two that do not stop, though they are said to
 never : (xs ys : List Out) (status : ℕ) (P : Type 0) → stop_in xs ≡ None → stop_in ys ≡ None → stop_in (xs ++ ys) ≡ Some status → P
 never xs ys status P first next h = let e : None ≡ Some status = sym (stop_in-append xs ys first ∙ next) ∙ h in absurd (cc)
 
 stops_by : (s : Session) (denied : Option Denial) (e : Effect) (document : Option OpenDocument) (t : Option Task) (a : Answer) (status : ℕ)
-    → stop_in (own s denied e document ++ answer_to t a) ≡ Some status → (session_after s e document).phase ≡ Stopped
+    → stop_in (own 0 s denied e document ++ answer_to t a) ≡ Some status → (session_after s e document).phase ≡ Stopped
 stops_by s denied (effect.Stops code) document t a status h = refl
 stops_by s denied effect.Nothing document t a status h = never [] (answer_to t a) status _ refl (brought_goes t a) h
-stops_by s denied (effect.Begins id capabilities) document t a status h = never (own s denied (effect.Begins id capabilities) document) (answer_to t a) status _ refl (brought_goes t a) h
-stops_by s denied (effect.Refuses id why) document t a status h = never (own s denied (effect.Refuses id why) document) (answer_to t a) status _ refl (brought_goes t a) h
+stops_by s denied (effect.Begins id capabilities) document t a status h = never (own 0 s denied (effect.Begins id capabilities) document) (answer_to t a) status _ refl (brought_goes t a) h
+stops_by s denied (effect.Refuses id why) document t a status h = never (own 0 s denied (effect.Refuses id why) document) (answer_to t a) status _ refl (brought_goes t a) h
 stops_by s denied (effect.Asks id asked) document t a status h = never (denied_with id denied) (answer_to t a) status _ (denied_goes id denied) (brought_goes t a) h
-stops_by s denied (effect.Changes c) document t a status h = never (own_of_change s c document) (answer_to t a) status _ (change_goes s c document) (brought_goes t a) h
+stops_by s denied (effect.Changes c) document t a status h = never (own_of_change 0 s c document) (answer_to t a) status _ (change_goes s c document) (brought_goes t a) h
 stops_by s denied (effect.Cancels id) document t a status h = never [] (answer_to t a) status _ refl (brought_goes t a) h
-stops_by s denied (effect.ShutsDown id) document t a status h = never (own s denied (effect.ShutsDown id) document) (answer_to t a) status _ refl (brought_goes t a) h
+stops_by s denied (effect.ShutsDown id) document t a status h = never (own 0 s denied (effect.ShutsDown id) document) (answer_to t a) status _ refl (brought_goes t a) h
 stops_by s denied (effect.Finishes done) document t a status h = never [] (answer_to t a) status _ refl (brought_goes t a) h
 
 stop_phase : (s : Session) (turn : Turn) (status : ℕ) → stop_in (writes (alone s) turn) ≡ Some status → (after (alone s) turn).session.phase ≡ Stopped
@@ -127,7 +126,7 @@ silent s h (body ∷ bodies) =
     let nothing = nothing_in s turn h in
     let none : writes (alone s) turn ≡ [] =
     writes_alone s turn
-    ∙ ap (λ (e : Effect). own s (denied_by s [] e) e (changed_by s e turn.text_refused) ++ answer_to (taken s.diagnostics (denied_by s [] e) e) turn.answer) nothing in
+    ∙ ap (λ (e : Effect). own 0 s (denied_by s [] e) e (changed_by s e turn.text_refused) ++ answer_to (taken s.diagnostics (denied_by s [] e) e) turn.answer) nothing in
     let same : after (alone s) turn ≡ alone s = ap (λ (e : Effect). alone (session_after s e (changed_by s e turn.text_refused))) nothing in
     ap (λ (l : List Out). l ++ run (after (alone s) turn) (quiet bodies)) none
     ∙ (ap (λ (t : State). run t (quiet bodies)) same ∙ silent s h bodies)
@@ -140,31 +139,10 @@ silent_after s is turn status bodies h =
     subst (λ (t : State). run (after t turn) (quiet bodies) ≡ []) (sym is)
     (silent_alone s.session turn status bodies (ap (λ (t : State). stop_in (writes t turn)) (sym is) ∙ h))
 
--- ---- as the list of events tells it
-
-pub answered_all : (turns : List Turn) → FitsRun (start 0) turns → (j : ℕ) → j < length turns → IsAnswered 0 turns j
-answered_all turns f j h = answered_from 0 turns turns 0 refl f j (omega arith) h
-
--- turns whose answers are right are those of a run
-fits_from : (events rest : List Turn) (j : ℕ) → drop j events ≡ rest → ((k : ℕ) → k < length events → IsAnswered 0 events k) → FitsRun (state_at 0 events j) rest
-fits_from events [] j h a = tt
-fits_from events (turn ∷ rest) j h a =
-    let many : length (drop j events) ≡ suc (length rest) = ap length h in
-    let within : j < length events = omega (arith, length-drop j events) in
-    let here = drop-cons events j idle within in
-    let is : turn_at events j ≡ turn = cc in
-    let rest_is : drop (suc j) events ≡ rest = cc in (
-      subst (λ (t : Turn). FitsTurn (state_at 0 events j) t) is (a j within),
-      subst (λ (s : State). FitsRun s rest) (sym (ap (λ (t : Turn). after (state_at 0 events j) t) (sym is) ∙ state_step 0 events j)) (fits_from events rest (suc j) rest_is a),
-    )
-
-pub fits_all : (turns : List Turn) → ((j : ℕ) → j < length turns → IsAnswered 0 turns j) → FitsRun (start 0) turns
-fits_all turns a = fits_from turns turns 0 refl a
-
 -- ---- what more turns put out
 
 pub outputs_more : (turns more : List Turn) → outputs 0 (turns ++ more) ≡ outputs 0 turns ++ run (reached (start 0) turns) more
-outputs_more turns more = sym (run_tells 0 (turns ++ more)) ∙ (run-append (start 0) turns more ∙ ap (λ (l : List Out). l ++ run (reached (start 0) turns) more) (run_tells 0 turns))
+outputs_more turns more = outputs_go_on 0 turns more ∙ ap (λ (l : List Out). outputs 0 turns ++ l) (sym (steps_tell_history 0 turns more))
 
 -- behind a stop nothing more is put out
 pub outputs_stopped : (front : List Turn) (last : Turn) (status : ℕ) (bodies : List (List ℕ)) → stop_in (outputs 0 front) ≡ None → stop_in (outputs 0 (front ++ last ∷ [])) ≡ Some status

@@ -9,7 +9,8 @@ use Rattle.gq_events.specs.Rules.{Turn}
 use Rattle.gq_events.specs.History.{outputs}
 use Rattle.gq_events.specs.Machine.{start, run, reached, FitsRun}
 use Rattle.gq_desk.specs.Frames.{frame_in, frames_in, stop_in}
-use Rattle.gq_desk.specs.Driving.{AreAnswered}
+use Rattle.gq_desk.specs.Standing.{AreAnswered}
+use Rattle.gq_crew.specs.Helping.Claims.{AnswersHold}
 use Rattle.gq_crew.specs.declared.inbox.NoMore.{NoMore}
 use Rattle.gq_crew.specs.declared.inbox.NoMore.TheVariants as no_more
 use Rattle.gq_crew.specs.declared.run.Ended.{Ended}
@@ -18,14 +19,14 @@ use Rattle.gq_crew.specs.declared.run.RunFault.TheVariants as fault
 use Rattle.gq_crew.specs.Output.{event_of, AreTurnsOf}
 use Rattle.gq_crew.specs.Runs.{SourceAfter, SinkAfter, Reached, IsEnd, Ends, AnswersEarlier, Runs, bodies_max}
 use Rattle.gq_crew.specs.Helping.Inbox.{Finds, Tells, fault_of, ended_as}
-use Rattle.gq_desk.proofs.Runs.{FitsRun-append}
-use Rattle.gq_crew.proofs.Alone.{quiet, quiet_turn, quiet_of, quiet_fits, fits_all, answered_all, outputs_more, outputs_stopped, goes_before}
+use Rattle.gq_events.proofs.Behind.{FitsRun-append, answered_all, fits_all}
+use Rattle.gq_crew.proofs.Alone.{quiet, quiet_turn, quiet_of, quiet_fits, outputs_more, outputs_stopped, goes_before}
 use Rattle.gq_crew.proofs.Outputs.{AreTurnsOf-append, AreTurnsOf-cons, parts_of, Sent-more, Sent-behind}
 use Rattle.gq_crew.proofs.Inboxes.{Stands, not_failed}
 
 -- turns that are answered, and any turns of bodies behind them
 fits_behind : (turns : List Turn) (bodies : List (List ℕ)) → AreAnswered 0 turns → FitsRun (start 0) (turns ++ quiet bodies)
-fits_behind turns bodies a = FitsRun-append (start 0) turns (quiet bodies) (fits_all turns a) (quiet_fits (reached (start 0) turns) bodies)
+fits_behind turns bodies a = FitsRun-append (start 0) turns (quiet bodies) (fits_all 0 turns a) (quiet_fits (reached (start 0) turns) bodies)
 
 fits_last : (front : List Turn) (last : Turn) (bodies : List (List ℕ)) → AreAnswered 0 (front ++ last ∷ []) → FitsRun (start 0) (front ++ last ∷ quiet bodies)
 fits_last front last bodies a = subst (FitsRun (start 0)) (append_assoc front (last ∷ []) (quiet bodies)) (fits_behind (front ++ last ∷ []) bodies a)
@@ -37,7 +38,7 @@ last_of last body bodies of = AreTurnsOf-cons body bodies last (quiet bodies) of
 frames_more : (turns more : List Turn) → frames_in (outputs 0 (turns ++ more)) ≡ frames_in (outputs 0 turns) ++ frames_in (run (reached (start 0) turns) more)
 frames_more turns more = ap frames_in (outputs_more turns more) ∙ flat_map-append frame_in (outputs 0 turns) (run (reached (start 0) turns) more)
 
-module _ (first : Option (List ℕ)) (source : SourceAfter) (held : Option (List ℕ)) (sink : SinkAfter) where
+module _ (claims : AnswersHold) (first : Option (List ℕ)) (source : SourceAfter) (held : Option (List ℕ)) (sink : SinkAfter) where
   abbrev reach : List Turn → List ℕ → Reached
   reach turns rest = record { puts = outputs 0; turns = turns; rest = rest; source = source; held = held; sink = sink }
 
@@ -77,7 +78,9 @@ module _ (first : Option (List ℕ)) (source : SourceAfter) (held : Option (List
       took = st.took;
       cuts = st.cuts;
       are_turns = AreTurnsOf-append given behind done later are later_are;
-      answered = answered_all (done ++ later) fits;
+      answered = answered_all 0 (done ++ later) fits;
+      exact = (claims (done ++ later) (answered_all 0 (done ++ later) fits)).0;
+      headline = (claims (done ++ later) (answered_all 0 (done ++ later) fits)).1;
       earlier = earlier_of later more written;
       ends = ends;
     }

@@ -8,10 +8,11 @@ use Rattle.gq_events.specs.declared.event.Event.{Event}
 use Rattle.gq_events.specs.Rules.{Turn}
 use Rattle.gq_events.specs.Machine.{start}
 use Rattle.gq_crew.specs.Output.{event_of, AreTurnsOf, TurnsExist}
-use Rattle.gq_crew.proofs.Alone.{quiet, quiet_of, quiet_fits, answered_all}
+use Rattle.gq_events.proofs.Behind.{answered_all}
+use Rattle.gq_crew.proofs.Alone.{quiet, quiet_of, quiet_fits}
 
 pub turns_exist : TurnsExist
-turns_exist bodies = (quiet bodies, quiet_of bodies, answered_all (quiet bodies) (quiet_fits (start 0) bodies))
+turns_exist bodies = (quiet bodies, quiet_of bodies, answered_all 0 (quiet bodies) (quiet_fits (start 0) bodies))
 
 pub AreTurnsOf-append : (bodies more : List (List ℕ)) (turns later : List Turn) → AreTurnsOf bodies turns → AreTurnsOf more later → AreTurnsOf (bodies ++ more) (turns ++ later)
 AreTurnsOf-append bodies more turns later first next =

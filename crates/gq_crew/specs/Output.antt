@@ -1,5 +1,5 @@
 -- What a desk without workers puts out for bodies of messages, and the bytes that are written of it.
-use Rattle.std.specs.Prelude.{◌≡◌, ℕ, ◌<◌, length, List, ◌∷◌, ◌++◌, map, Option, None}
+use Rattle.std.specs.Prelude.{◌≡◌, ℕ, List, ◌∷◌, ◌++◌, map, Option, None}
 use Rattle.std.specs.Io.KnownBytes.{Appends}
 use Rattle.gq_rpc.specs.Decoding.{message_of}
 use Rattle.gq_events.specs.declared.event.Event.{Event}
@@ -7,7 +7,7 @@ use Rattle.gq_events.specs.declared.event.Event.TheVariants as event
 use Rattle.gq_events.specs.declared.event.Out.{Out}
 use Rattle.gq_desk.specs.Frames.{frames_in, stop_in}
 use Rattle.gq_events.specs.Rules.{Turn}
-use Rattle.gq_events.specs.History.{IsAnswered}
+use Rattle.gq_desk.specs.Standing.{AreAnswered}
 
 -- the event that a body is
 abbrev pub event_of : List ℕ → Event
@@ -32,4 +32,4 @@ pub record WroteBefore (puts : List Turn → List Out) (turns : List Turn) (held
 
 -- for any bodies there are turns, and their answers may be right
 abbrev pub TurnsExist : Type 0
-TurnsExist = (bodies : List (List ℕ)) → (turns : List Turn) × AreTurnsOf bodies turns × ((j : ℕ) → j < length turns → IsAnswered 0 turns j)
+TurnsExist = (bodies : List (List ℕ)) → (turns : List Turn) × AreTurnsOf bodies turns × AreAnswered 0 turns

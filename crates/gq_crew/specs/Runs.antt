@@ -1,5 +1,5 @@
 -- A run: the bytes that were read, the bodies that stand in them, and how it ended.
-use Rattle.std.specs.Prelude.{◌≡◌, ◌≢◌, ◌⊎◌, ℕ, ◌<◌, ◌≤◌, ◌^◌, List, [], ◌++◌, length, Bool, true, Option, Some, None}
+use Rattle.std.specs.Prelude.{◌≡◌, ◌≢◌, ◌⊎◌, ℕ, ◌≤◌, ◌^◌, List, [], ◌++◌, length, Bool, true, Option, Some, None}
 use Rattle.std.specs.Io.KnownBytes.{Appends, Consumes, IsAtEnd}
 use Rattle.gq_rpc.specs.Devices.{Sent}
 use Rattle.gq_rpc.specs.Frames.{Cuts, scan_of}
@@ -8,11 +8,14 @@ use Rattle.gq_rpc.specs.declared.header.FrameFault.{FrameFault}
 use Rattle.gq_rpc.specs.declared.header.FrameFault.TheVariants as frame
 use Rattle.gq_events.specs.declared.event.Out.{Out}
 use Rattle.gq_events.specs.Rules.{Turn}
-use Rattle.gq_events.specs.History.{outputs, IsAnswered}
+use Rattle.gq_events.specs.History.{outputs}
+use Rattle.gq_events.specs.Headline.{Headline}
 use Rattle.gq_crew.specs.declared.run.Ended.{Ended}
 use Rattle.gq_crew.specs.declared.run.RunFault.{RunFault}
 use Rattle.gq_crew.specs.declared.run.RunFault.TheVariants.{Frame, Device, NoMemory}
 use Rattle.gq_desk.specs.Frames.{frames_in, stop_in}
+use Rattle.gq_desk.specs.Standing.{AreAnswered}
+use Rattle.gq_desk.specs.Driving.{AreExact}
 use Rattle.gq_crew.specs.Output.{AreTurnsOf, WroteAll, WroteBefore}
 
 -- how a source stands after a run: the bytes that it has left, where they are known, and whether a read has told the
@@ -123,8 +126,8 @@ pub record AnswersEarlier (puts : List Turn → List Out) (turns : List Turn) (r
   pub written : Appends held held' (frames_in (puts front) ++ more)
 
 -- A run: the bytes read, the bodies that stand in them, and the turns of a desk without workers whose events are their
--- messages, in order, each task that they bring answered as is defined. What is written is the frames of what these turns
--- put out, as the list of events tells it.
+-- messages, in order, each task that they bring answered as is defined, so each result that is replied is exactly its question's, and each
+-- edit is safe. What is written is the frames of what these turns put out, as the list of events tells it.
 pub record Runs (left : Option (List ℕ)) (source : SourceAfter) (held : Option (List ℕ)) (sink : SinkAfter) (ended : Ended) : Type 0 where
   pub read : List ℕ
   pub bodies : List (List ℕ)
@@ -133,6 +136,8 @@ pub record Runs (left : Option (List ℕ)) (source : SourceAfter) (held : Option
   pub took : Consumes left source.left read
   pub cuts : Cuts read bodies rest
   pub are_turns : AreTurnsOf bodies turns
-  pub answered : (j : ℕ) → j < length turns → IsAnswered 0 turns j
+  pub answered : AreAnswered 0 turns
+  pub exact : AreExact 0 turns
+  pub headline : Headline 0 turns
   pub earlier : AnswersEarlier (outputs 0) turns read held sink.held
   pub ends : Ends (record { puts = outputs 0; turns = turns; rest = rest; source = source; held = held; sink = sink }) ended.status ended.fault

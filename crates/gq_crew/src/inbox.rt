@@ -38,8 +38,8 @@ fn take_frames(
 }
 
 /// Why no more is read where the source ends.
-fn find_end(framer: &Framer) -> NoMore
-    ensures { result ≡ end_in framer.now }
+fn find_end(framer: &mut Framer) -> NoMore
+    ensures { result ≡ end_in framer.old }
 {
     match framer.end() {
         Ok(()) => NoMore::End,
@@ -104,7 +104,7 @@ impl Pending {
                 self.bodies = bodies;
                 self.no_more = no_more;
             }
-            Reading::End => self.no_more = Some(find_end(&self.framer)),
+            Reading::End => self.no_more = Some(find_end(&mut self.framer)),
             Reading::Failed => self.no_more = Some(NoMore::Fault(RunFault::Device)),
         }
     }

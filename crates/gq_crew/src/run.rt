@@ -3,9 +3,11 @@ ghost use Rattle.std.specs.Prelude.{◌≡◌, Option, true, false, Some};
 ghost use Rattle.gq_crew.specs.Runs.{Runs};
 ghost use Rattle.gq_crew.specs.Helping.Inbox.{seen_in, unread, ended_as};
 ghost use Rattle.gq_crew.specs.Helping.Inbox as spec;
+ghost use Rattle.gq_crew.specs.Helping.Claims.{AnswersHold};
 
 use crate::inbox::{Inbox, Pending};
 use gq_desk::{Desk, DriveFault, NoHands, drive};
+use gq_events::laws::{edits_are_safe, modified_at_change, results_are_their_questions};
 use gq_rpc::{FrameFault, Sink, Source};
 use std::alloc::Global;
 use thiserror::Error;
@@ -68,6 +70,15 @@ fn fault_at(fault: DriveFault) -> RunFault
     }
 }
 
+/// What holds of turns that are answered.
+fn know_claims()
+    ensures { AnswersHold }
+{
+    results_are_their_questions();
+    modified_at_change();
+    edits_are_safe();
+}
+
 /// Serves what an inbox gives of which nothing was read.
 fn serve<S: Source, K: Sink>(alloc: Global, inbox: &mut Inbox<'_, S>, output: &mut K) -> Ended
     requires unread { seen_in S.left S.ended S.failed inbox.old ≡ unread (seen_in S.left S.ended S.failed inbox.old).source }
@@ -79,6 +90,7 @@ fn serve<S: Source, K: Sink>(alloc: Global, inbox: &mut Inbox<'_, S>, output: &m
     ensures source { S.failed inbox.new.input.now ≡ true → result.fault ≡ Some RunFault.Device }
     ensures sink { K.failed output.new ≡ true → result.fault ≡ Some RunFault.Device }
 {
+    know_claims();
     let mut desk = Desk::new(alloc, 0);
     match drive(alloc, &mut desk, inbox, &mut NoHands, output) {
         Ok(status) => stopped(status, inbox.pending.told()),
@@ -88,8 +100,8 @@ fn serve<S: Source, K: Sink>(alloc: Global, inbox: &mut Inbox<'_, S>, output: &m
 
 /// Reads the input up to `exit`, its end or a fault, and writes the frames of the replies and notifications that a desk
 /// without workers puts out for the bodies that stand in it, in order, however the reads cut it; what one read completes is
-/// answered before the next. After a fault of memory or of the sink what was written is a front of these frames. Neither
-/// device may have failed before.
+/// answered before the next. Each result among them is exactly its question's, and each edit keeps every response. After a
+/// fault of memory or of the sink what was written is a front of these frames. Neither device may have failed before.
 pub fn run_one<S: Source, K: Sink>(alloc: Global, input: &mut S, output: &mut K) -> Ended
     requires sound { S.failed input.old ≡ false }
     requires works { K.failed output.old ≡ false }

@@ -5,3 +5,4 @@ pub mod Stepping
 pub mod Runs
 pub mod Chains
 pub mod Drives
+pub mod Standing

@@ -119,16 +119,16 @@ changed_stays s (effect.Cancels id) refused = refl
 changed_stays s (effect.ShutsDown id) refused = refl
 changed_stays s (effect.Stops status) refused = refl
 
-pub own_stays : (s : Session) (denied : Option Denial) (e : Effect) (d : Option OpenDocument) → own s denied (rest_of e) d ≡ own s denied e d
-own_stays s denied (effect.Finishes done) d = refl
-own_stays s denied effect.Nothing d = refl
-own_stays s denied (effect.Begins id capabilities) d = refl
-own_stays s denied (effect.Refuses id why) d = refl
-own_stays s denied (effect.Asks id asked) d = refl
-own_stays s denied (effect.Changes c) d = refl
-own_stays s denied (effect.Cancels id) d = refl
-own_stays s denied (effect.ShutsDown id) d = refl
-own_stays s denied (effect.Stops status) d = refl
+pub own_stays : (workers : ℕ) (s : Session) (denied : Option Denial) (e : Effect) (d : Option OpenDocument) → own workers s denied (rest_of e) d ≡ own workers s denied e d
+own_stays workers s denied (effect.Finishes done) d = refl
+own_stays workers s denied effect.Nothing d = refl
+own_stays workers s denied (effect.Begins id capabilities) d = refl
+own_stays workers s denied (effect.Refuses id why) d = refl
+own_stays workers s denied (effect.Asks id asked) d = refl
+own_stays workers s denied (effect.Changes c) d = refl
+own_stays workers s denied (effect.Cancels id) d = refl
+own_stays workers s denied (effect.ShutsDown id) d = refl
+own_stays workers s denied (effect.Stops status) d = refl
 
 pub taken_stays : (diagnostics : Bool) (denied : Option Denial) (e : Effect) → taken diagnostics denied (rest_of e) ≡ taken diagnostics denied e
 taken_stays diagnostics denied (effect.Finishes done) = refl

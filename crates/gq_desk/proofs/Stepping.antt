@@ -25,7 +25,7 @@ module _ (s : State) (event : Event) (e : Effect) (document : Option OpenDocumen
   abbrev Given : Type 0
   Given = (a : Answer) × (s.workers ≡ 0 → FitsTaken (docs_of session.documents) t a) × (new ≡ mid ++ brings s.workers s.session s.jobs e t a)
 
-  done : e ≡ effect_of s.session.phase s.session.documents event → (r : Bool) × (document ≡ changed_by s.session e r) → mid ≡ replies_to s.session s.jobs e document
+  done : e ≡ effect_of s.session.phase s.session.documents event → (r : Bool) × (document ≡ changed_by s.session e r) → mid ≡ replies_to s.workers s.session s.jobs e document
       → t ≡ taken_by s.session s.jobs e → session ≡ session_after s.session e document → jobs ≡ jobs_after s.workers s.session s.jobs e t → Given → Steps s event new (state session s.workers jobs)
   done e_is d_is mid_is t_is session_is jobs_is given =
       let ss = s.session in
@@ -42,9 +42,9 @@ module _ (s : State) (event : Event) (e : Effect) (document : Option OpenDocumen
             (subst (λ (x : Session). FitsTaken (docs_of x.documents) t a) session_is (given.1 alone))));
         outputs = given.2
             ∙ (ap (λ (l : List Out). l ++ brings w ss sj e t a) mid_is
-            ∙ (ap (λ (t : Option Task). replies_to ss sj e document ++ brings w ss sj e t a) t_is
-            ∙ (ap (λ (d : Option OpenDocument). replies_to ss sj e d ++ brings w ss sj e (taken_by ss sj e) a) d_is.1
-            ∙ ap (λ (e : Effect). replies_to ss sj e (changed_by ss e d_is.0) ++ brings w ss sj e (taken_by ss sj e) a) e_is)));
+            ∙ (ap (λ (t : Option Task). replies_to w ss sj e document ++ brings w ss sj e t a) t_is
+            ∙ (ap (λ (d : Option OpenDocument). replies_to w ss sj e d ++ brings w ss sj e (taken_by ss sj e) a) d_is.1
+            ∙ ap (λ (e : Effect). replies_to w ss sj e (changed_by ss e d_is.0) ++ brings w ss sj e (taken_by ss sj e) a) e_is)));
         state = ap (λ (x : Session). state x w jobs) session_is
             ∙ (ap (λ (x : Table). state (session_after ss e document) w x) jobs_is
             ∙ (ap (λ (t : Option Task). state (session_after ss e document) w (jobs_after w ss sj e t)) t_is
@@ -53,15 +53,15 @@ module _ (s : State) (event : Event) (e : Effect) (document : Option OpenDocumen
       }
 
 -- an event's own reply is that of what is left of it
-abbrev pub Replied : Session → Option Denial → Effect → Session → List Out → List Out → Type 0
-Replied s denied e t old new = (r : Bool) × (t ≡ session_after s e (changed_by s e r)) × (new ≡ old ++ own s denied e (changed_by s e r))
+abbrev pub Replied : ℕ → Session → Option Denial → Effect → Session → List Out → List Out → Type 0
+Replied workers s denied e t old new = (r : Bool) × (t ≡ session_after s e (changed_by s e r)) × (new ≡ old ++ own workers s denied e (changed_by s e r))
 
-whole : (s t : Session) (denied : Option Denial) (e : Effect) (old new : List Out) → Replied s denied (rest_of e) t old new → Replied s denied e t old new
-whole s t denied e old new replied =
+whole : (workers : ℕ) (s t : Session) (denied : Option Denial) (e : Effect) (old new : List Out) → Replied workers s denied (rest_of e) t old new → Replied workers s denied e t old new
+whole workers s t denied e old new replied =
     let r = replied.0 in (
       r,
       replied.1 ∙ (session_stays s e (changed_by s (rest_of e) r) ∙ ap (session_after s e) (changed_stays s e r)),
-      replied.2 ∙ ap (λ (l : List Out). old ++ l) (own_stays s denied e (changed_by s (rest_of e) r) ∙ ap (own s denied e) (changed_stays s e r)),
+      replied.2 ∙ ap (λ (l : List Out). old ++ l) (own_stays workers s denied e (changed_by s (rest_of e) r) ∙ ap (own workers s denied e) (changed_stays s e r)),
     )
 
 module _ (s : State) (event : Event) (e rest : Effect) (denied : Option Denial) (task : Option Task) (told mid brought new : List Out) (session : Session) (settled_jobs jobs jobs' : Table) where
@@ -70,18 +70,18 @@ module _ (s : State) (event : Event) (e rest : Effect) (denied : Option Denial) 
   Brought = (a : Answer) × (s.workers ≡ 0 → FitsTaken (docs_of session.documents) task a) × (brought ≡ mid ++ (if s.workers == 0 then answer_to task a else []))
 
   joined : e ≡ effect_of s.session.phase s.session.documents event → denied ≡ denied_by s.session s.jobs.pending e → rest ≡ rest_of e → settled_jobs ≡ settled (docs_of s.session.documents) e s.jobs
-      → told ≡ verdicts (docs_of s.session.documents) e s.jobs.pending → task ≡ taken s.session.diagnostics denied rest → Replied s.session denied rest session told mid
+      → told ≡ verdicts (docs_of s.session.documents) e s.jobs.pending → task ≡ taken s.session.diagnostics denied rest → Replied s.workers s.session denied rest session told mid
       → jobs ≡ with_jobs settled_jobs (jobs_for s.workers settled_jobs.next task) → Brought → jobs' ≡ handed_on jobs → new ≡ brought ++ map out.Job (next_jobs jobs) → Steps s event new (state session s.workers jobs')
   joined e_is denied_is rest_is settled_is told_is task_is replied jobs_is given handed_is new_is =
       let ss = s.session in
       let sj = s.jobs in
       let w = s.workers in
-      let by_event = whole ss session denied e told mid (subst (λ (x : Effect). Replied ss denied x session told mid) rest_is replied) in
+      let by_event = whole w ss session denied e told mid (subst (λ (x : Effect). Replied w ss denied x session told mid) rest_is replied) in
       let d = changed_by ss e by_event.0 in
       let t_is : task ≡ taken_by ss sj e = task_is ∙ (ap (taken ss.diagnostics denied) rest_is ∙ (taken_stays ss.diagnostics denied e ∙ ap (λ (x : Option Denial). taken ss.diagnostics x e) denied_is)) in
       let then_is : jobs ≡ jobs_then w ss sj e task = jobs_is ∙ ap (λ (x : Table). with_jobs x (jobs_for w x.next task)) settled_is in
-      let mid_is : mid ≡ replies_to ss sj e d =
-      by_event.2 ∙ (ap (λ (l : List Out). l ++ own ss denied e d) told_is ∙ ap (λ (x : Option Denial). verdicts (docs_of ss.documents) e sj.pending ++ own ss x e d) denied_is) in
+      let mid_is : mid ≡ replies_to w ss sj e d =
+      by_event.2 ∙ (ap (λ (l : List Out). l ++ own w ss denied e d) told_is ∙ ap (λ (x : Option Denial). verdicts (docs_of ss.documents) e sj.pending ++ own w ss x e d) denied_is) in
       let a = given.0 in
       let new_then : new ≡ mid ++ brings w ss sj e task a =
       new_is ∙ (ap (λ (l : List Out). l ++ map out.Job (next_jobs jobs)) given.2
@@ -91,7 +91,7 @@ module _ (s : State) (event : Event) (e rest : Effect) (denied : Option Denial) 
 
   pub stepped : (result : Result (Unit {0}) NoMemory) → e ≡ effect_of s.session.phase s.session.documents event → denied ≡ denied_by s.session s.jobs.pending e → rest ≡ rest_of e
       → settled_jobs ≡ settled (docs_of s.session.documents) e s.jobs → told ≡ verdicts (docs_of s.session.documents) e s.jobs.pending → task ≡ taken s.session.diagnostics denied rest
-      → Replied s.session denied rest session told mid → jobs ≡ with_jobs settled_jobs (jobs_for s.workers settled_jobs.next task) → Brought
+      → Replied s.workers s.session denied rest session told mid → jobs ≡ with_jobs settled_jobs (jobs_for s.workers settled_jobs.next task) → Brought
       → OnOk result (jobs' ≡ handed_on jobs) → OnOk result (new ≡ brought ++ map out.Job (next_jobs jobs)) → OnOk result (Steps s event new (state session s.workers jobs'))
   stepped (Ok u) e_is denied_is rest_is settled_is told_is task_is replied jobs_is given handed_is new_is =
       joined e_is denied_is rest_is settled_is told_is task_is replied jobs_is given handed_is new_is

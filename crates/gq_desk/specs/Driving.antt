@@ -1,5 +1,5 @@
 -- What driving a desk does: which events are taken, what is written, and what is handed on.
-use Rattle.std.specs.Prelude.{◌≡◌, ◌⊎◌, ℕ, ◌<◌, ◌^◌, List, [], ◌∷◌, ◌++◌, map, length, Option, Some, None}
+use Rattle.std.specs.Prelude.{◌≡◌, ◌⊎◌, ℕ, ◌<◌, ◌≤◌, ◌^◌, List, [], ◌∷◌, ◌++◌, map, length, Option, Some, None}
 use Rattle.std.specs.Iterator.{Yields, YieldsThen}
 use Rattle.std.specs.Io.KnownBytes.{Appends}
 use Rattle.std.specs.List.{AllByRecursion}
@@ -9,12 +9,14 @@ use Rattle.gq_events.specs.declared.event.Out.{Out}
 use Rattle.gq_events.specs.declared.effect.Change.{Change}
 use Rattle.gq_events.specs.declared.effect.Effect.TheVariants as effect
 use Rattle.gq_events.specs.Rules.{Turn}
-use Rattle.gq_events.specs.History.{effect_at, outputs_at, outputs, IsAnswered}
+use Rattle.gq_events.specs.History.{effect_at, outputs_at, outputs_behind}
+use Rattle.gq_events.specs.Machine.{State}
 use Rattle.gq_events.specs.Laws.{Handing, handings, IsRightOutput, tells_modified}
 use Rattle.gq_events.specs.Headline.{Headline}
 use Rattle.gq_desk.specs.declared.driving.DriveFault.{DriveFault}
 use Rattle.gq_desk.specs.declared.driving.DriveFault.TheVariants as drive
 use Rattle.gq_desk.specs.Frames.{frames_in, stop_in}
+use Rattle.gq_desk.specs.Standing.{AreAnswered, StandsFor}
 
 abbrev pub events_of : List Turn → List Event
 events_of turns = map (λ turn. turn.event) turns
@@ -53,17 +55,14 @@ Breaks takes refuses h held outs h' held' drive.Device = (h' ≡ h) × Sent held
 Breaks takes refuses h held outs h' held' drive.Closed = Appends held held' (frames_in outs) × Refused takes refuses h (handings outs) h'
 Breaks takes refuses h held outs h' held' drive.Failed = ⊥
 
--- ---- the claims
-
--- where no worker is to answer, each task is answered as is defined
-abbrev pub AreAnswered : ℕ → List Turn → Type 0
-AreAnswered workers turns = (j : ℕ) → j < length turns → IsAnswered workers turns j
+-- ---- the claims, of turns that are taken behind earlier ones
 
 -- The events are those up to the first stop, whose status is told, or all of them where none comes: then the status is 1.
-abbrev pub EndsAt : {S : Type 0} → (S → Option Event → S → Type 0) → ℕ → S → List Turn → S → ℕ → Type 0
-EndsAt steps workers it turns it' status =
-    ((front : List Turn) × (last : Turn) × (turns ≡ front ++ last ∷ []) × (stop_in (outputs workers front) ≡ None) × (stop_in (outputs workers turns) ≡ Some status) × Yields steps it (events_of turns) it')
-    ⊎ ((stop_in (outputs workers turns) ≡ None) × (status ≡ 1) × YieldsThen steps it (events_of turns) None it')
+abbrev pub EndsAt : {S : Type 0} → (S → Option Event → S → Type 0) → ℕ → List Turn → S → List Turn → S → ℕ → Type 0
+EndsAt steps workers earlier it turns it' status =
+    ((front : List Turn) × (last : Turn) × (turns ≡ front ++ last ∷ []) × (stop_in (outputs_behind workers earlier front) ≡ None) × (stop_in (outputs_behind workers earlier turns) ≡ Some status)
+    × Yields steps it (events_of turns) it')
+    ⊎ ((stop_in (outputs_behind workers earlier turns) ≡ None) × (status ≡ 1) × YieldsThen steps it (events_of turns) None it')
 
 -- each result that is replied is exactly its question's, about the documents as they were when it was asked, and that the content was modified
 -- is told at a change
@@ -71,47 +70,53 @@ pub record AreExact (workers : ℕ) (turns : List Turn) : Type 0 where
   pub results : (j : ℕ) → j < length turns → AllByRecursion (IsRightOutput turns j) (outputs_at workers turns j)
   pub modified : (j : ℕ) → j < length turns → AllByRecursion (λ o. tells_modified o → (c : Change) × (effect_at turns j ≡ effect.Changes c)) (outputs_at workers turns j)
 
--- The events were taken up to the first stop or their end. What was written is the frames of what the list of events tells, each question that is
--- accepted answered at its deciding event, and nothing else; what was handed on is each change and each job that it tells, once, in its step.
-pub record Drives {S H : Type 0} (steps : S → Option Event → S → Type 0) (takes : H → Handing → H → Type 0) (workers : ℕ) (it : S) (h : H) (held : Option (List ℕ)) (it' : S) (h' : H) (held' : Option (List ℕ)) (status : ℕ) : Type 0 where
+-- The events were taken up to the first stop or their end, and the desk has come to where they lead. What was written is the frames of what the list
+-- of events tells of them, each question that is accepted answered at its deciding event, and nothing else; what was handed on is each change and
+-- each job that it tells, once, in its step.
+pub record Drives {S H : Type 0} (steps : S → Option Event → S → Type 0) (takes : H → Handing → H → Type 0) (workers : ℕ) (earlier : List Turn) (it : S) (h : H) (held : Option (List ℕ))
+    (it' : S) (desk' : Option State) (h' : H) (held' : Option (List ℕ)) (status : ℕ) : Type 0 where
   pub turns : List Turn
-  pub answered : AreAnswered workers turns
-  pub ends : EndsAt steps workers it turns it' status
-  pub replies : Appends held held' (frames_in (outputs workers turns))
-  pub handed_on : Chain takes h (handings (outputs workers turns)) h'
-  pub exact : AreExact workers turns
-  pub headline : Headline workers turns
+  pub few : length turns ≤ events_max
+  pub stands : StandsFor workers (earlier ++ turns) desk'
+  pub ends : EndsAt steps workers earlier it turns it' status
+  pub replies : Appends held held' (frames_in (outputs_behind workers earlier turns))
+  pub handed_on : Chain takes h (handings (outputs_behind workers earlier turns)) h'
+  pub exact : AreExact workers (earlier ++ turns)
+  pub headline : Headline workers (earlier ++ turns)
 
--- A fault came at the last of the events. All that those before it tell was written and handed on, and of its own step a front.
-pub record FailsAt {S H : Type 0} (steps : S → Option Event → S → Type 0) (takes refuses : H → Handing → H → Type 0) (workers : ℕ) (it : S) (h : H) (held : Option (List ℕ)) (it' : S) (h' : H) (held' : Option (List ℕ)) (fault : DriveFault) : Type 0 where
+-- A fault came at the last of the events, and the desk has failed. All that the events before it tell was written and handed on, and of what it puts
+-- out itself a front.
+pub record FailsAt {S H : Type 0} (steps : S → Option Event → S → Type 0) (takes refuses : H → Handing → H → Type 0) (workers : ℕ) (earlier : List Turn) (it : S) (h : H) (held : Option (List ℕ))
+    (it' : S) (desk' : Option State) (h' : H) (held' : Option (List ℕ)) (fault : DriveFault) : Type 0 where
   pub before : List Turn
   pub last : Turn
-  pub outs : List Out
-  pub puts_out : outputs workers (before ++ last ∷ []) ≡ outputs workers before ++ outs
-  pub answered : AreAnswered workers (before ++ last ∷ [])
-  pub no_stop : stop_in (outputs workers before) ≡ None
+  pub failed : desk' ≡ None
+  pub answered : AreAnswered workers (earlier ++ (before ++ last ∷ []))
+  pub no_stop : stop_in (outputs_behind workers earlier before) ≡ None
   pub it_then : S
   pub took : Yields steps it (events_of before) it_then
   pub then : steps it_then (Some last.event) it'
   pub h_then : H
   pub held_then : Option (List ℕ)
-  pub delivers : Delivers takes h held (outputs workers before) h_then held_then
-  pub breaks : Breaks takes refuses h_then held_then outs h' held' fault
-  pub exact : AreExact workers (before ++ last ∷ [])
-  pub headline : Headline workers (before ++ last ∷ [])
+  pub delivers : Delivers takes h held (outputs_behind workers earlier before) h_then held_then
+  pub breaks : Breaks takes refuses h_then held_then (outputs_behind workers (earlier ++ before) (last ∷ [])) h' held' fault
+  pub exact : AreExact workers (earlier ++ (before ++ last ∷ []))
+  pub headline : Headline workers (earlier ++ (before ++ last ∷ []))
 
--- So many events came, without a stop; all that they tell was written and handed on.
-pub record TakesTooMany {S H : Type 0} (steps : S → Option Event → S → Type 0) (takes : H → Handing → H → Type 0) (workers : ℕ) (it : S) (h : H) (held : Option (List ℕ)) (it' : S) (h' : H) (held' : Option (List ℕ)) (fault : DriveFault) : Type 0 where
+-- So many events came, without a stop; all that they tell was written and handed on, and the desk has come to where they lead.
+pub record TakesTooMany {S H : Type 0} (steps : S → Option Event → S → Type 0) (takes : H → Handing → H → Type 0) (workers : ℕ) (earlier : List Turn) (it : S) (h : H) (held : Option (List ℕ))
+    (it' : S) (desk' : Option State) (h' : H) (held' : Option (List ℕ)) (fault : DriveFault) : Type 0 where
   pub turns : List Turn
-  pub answered : AreAnswered workers turns
   pub many : length turns ≡ events_max
-  pub no_stop : stop_in (outputs workers turns) ≡ None
+  pub stands : StandsFor workers (earlier ++ turns) desk'
+  pub no_stop : stop_in (outputs_behind workers earlier turns) ≡ None
   pub took : Yields steps it (events_of turns) it'
-  pub delivers : Delivers takes h held (outputs workers turns) h' held'
+  pub delivers : Delivers takes h held (outputs_behind workers earlier turns) h' held'
   pub is_fault : fault ≡ drive.Device
-  pub exact : AreExact workers turns
-  pub headline : Headline workers turns
+  pub exact : AreExact workers (earlier ++ turns)
+  pub headline : Headline workers (earlier ++ turns)
 
-abbrev pub Fails : {S H : Type 0} → (S → Option Event → S → Type 0) → (takes refuses : H → Handing → H → Type 0) → ℕ → S → H → Option (List ℕ) → S → H → Option (List ℕ) → DriveFault → Type 0
-Fails steps takes refuses workers it h held it' h' held' fault =
-    FailsAt steps takes refuses workers it h held it' h' held' fault ⊎ TakesTooMany steps takes workers it h held it' h' held' fault
+abbrev pub Fails : {S H : Type 0} → (S → Option Event → S → Type 0) → (takes refuses : H → Handing → H → Type 0) → ℕ → List Turn → S → H → Option (List ℕ)
+    → S → Option State → H → Option (List ℕ) → DriveFault → Type 0
+Fails steps takes refuses workers earlier it h held it' desk' h' held' fault =
+    FailsAt steps takes refuses workers earlier it h held it' desk' h' held' fault ⊎ TakesTooMany steps takes workers earlier it h held it' desk' h' held' fault

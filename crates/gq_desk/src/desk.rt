@@ -1,5 +1,5 @@
 //! The desk: one event after another.
-ghost use Rattle.std.specs.Prelude.{◌≡◌, ◌++◌, ◌<◌, ◌^◌, ◌==◌, [], Some, None, Err, IfOk, IfSome, OnOk, OnErr, IsErrOf, if◌then◌else◌};
+ghost use Rattle.std.specs.Prelude.{◌≡◌, ◌++◌, ◌<◌, ◌^◌, ◌==◌, [], Some, None, is_none, Err, IfOk, IfSome, OnOk, OnErr, IsErrOf, if◌then◌else◌};
 ghost use Rattle.gq_events.specs.declared.event.Answer.{Answer};
 ghost use Rattle.gq_events.specs.Documents.{docs_of};
 ghost use Rattle.gq_events.specs.Rules.{answer_to, FitsTaken};
@@ -60,7 +60,7 @@ fn take_event(
     let effect = session.effect(event);
     let denied = session.denied_by(alloc, jobs.pending(), &effect)?;
     let rest = jobs.settle(alloc, session.documents(), effect, outs)?;
-    let task = session.take_in(alloc, denied, rest, outs)?;
+    let task = session.take_in(alloc, workers, denied, rest, outs)?;
     bring(alloc, session.documents(), workers, jobs, task, outs)?;
     jobs.hand_on(outs)
 }
@@ -95,6 +95,20 @@ impl Desk {
             jobs: Jobs::new(alloc),
             failed: false,
         }
+    }
+
+    /// Whether it has failed.
+    pub fn has_failed(&self) -> bool
+        ensures { result ≡ is_none self.now }
+    {
+        self.failed
+    }
+
+    /// It fails: what it put out was not delivered.
+    pub(crate) fn fail(&mut self)
+        ensures { self.new ≡ None }
+    {
+        self.failed = true;
     }
 
     /// Takes an event. After `NoMemory` the desk has failed.

@@ -5,8 +5,10 @@ ghost use Rattle.std.specs.Iterator.{Yields};
 ghost use Rattle.gq_rpc.specs.Encoding.{frame_of};
 ghost use Rattle.gq_events.specs.declared.event.Event.{Event};
 ghost use Rattle.gq_events.specs.Machine as machine;
+ghost use Rattle.gq_events.specs.Rules.{Turn};
 ghost use Rattle.gq_events.specs.Laws.{handing_of, handings};
 ghost use Rattle.gq_desk.specs.Frames.{frame_in, frames_in, stop_in};
+ghost use Rattle.gq_desk.specs.Standing.{StandsFor};
 ghost use Rattle.gq_desk.specs.Driving as spec;
 ghost use Rattle.gq_desk.specs.Helping.Turns as turns;
 
@@ -177,7 +179,7 @@ fn deliver<H: Hands, W: Sink>(
     Ok(())
 }
 
-/// Takes one event, and answers the status where it stops the session.
+/// Takes one event, and answers the status where it stops the session. After a fault the desk has failed.
 fn take_turn<H: Hands, W: Sink>(
     alloc: Global,
     desk: &mut Desk,
@@ -189,6 +191,7 @@ fn take_turn<H: Hands, W: Sink>(
     requires works { W.failed writer.old ≡ false }
     ensures ok { IfOk result (λ stop. turns.TakesTurn H.takes desk.old event hands.old (W.held writer.old) desk.new hands.new (W.held writer.new) stop) }
     ensures err { IfErr result (λ fault. (s : machine.State) → desk.old ≡ Some s → turns.BreaksTurn H.takes H.refuses s event hands.old (W.held writer.old) hands.new (W.held writer.new) fault) }
+    ensures fails { OnErr result (desk.new ≡ None) }
     ensures flag { W.failed writer.new ≡ turns.is_device_error result }
     ensures closed { IsErrOf result DriveFault.Closed → H.closed hands.new ≡ true }
     ensures failed { IsErrOf result DriveFault.Failed → desk.old ≡ None }
@@ -196,8 +199,13 @@ fn take_turn<H: Hands, W: Sink>(
     steps_exist();
     let outs = desk.step(alloc, event)?;
     let stop = find_stop(&outs);
-    deliver(alloc, outs, hands, writer)?;
-    Ok(stop)
+    match deliver(alloc, outs, hands, writer) {
+        Ok(()) => Ok(stop),
+        Err(fault) => {
+            desk.fail();
+            Err(fault)
+        }
+    }
 }
 
 /// The next event, if one comes.
@@ -225,25 +233,24 @@ const EVENTS_MAX: u64 = 1 << 60;
 /// The status where the events end without a stop.
 const END_STATUS: u8 = 1;
 
-/// Takes events up to the first stop, their end or a fault, and answers the stop's status, or 1 where none came. What
-/// the events tell is written and handed on, in order; at a fault all of the events before it, and of its own a front.
-/// The sink may not have failed before.
-pub fn drive<I: Iterator<Item = Event>, H: Hands, W: Sink>(
+/// Drives a desk that has not failed.
+fn drive_on<I: Iterator<Item = Event>, H: Hands, W: Sink>(
     alloc: Global,
     desk: &mut Desk,
     events: &mut I,
     hands: &mut H,
     writer: &mut W,
 ) -> Result<u8, DriveFault>
+    requires stands { desk.old ≡ None → ⊥ }
     requires can { I.can_next events.old }
     requires next { IfSome desk.old (λ s. s.jobs.next ≤ 2 ^ 61) }
     requires works { W.failed writer.old ≡ false }
-    ensures ok { IfOk result (λ status. (workers : ℕ) → desk.old ≡ Some (machine.start workers) →
-        spec.Drives I.next_gives H.takes workers events.old hands.old (W.held writer.old) events.new hands.new (W.held writer.new) status) }
-    ensures err { IfErr result (λ fault. (workers : ℕ) → desk.old ≡ Some (machine.start workers) →
-        spec.Fails I.next_gives H.takes H.refuses workers events.old hands.old (W.held writer.old) events.new hands.new (W.held writer.new) fault) }
-    ensures device { IsErrOf result DriveFault.Device → (W.failed writer.new ≡ true) ⊎ ((workers : ℕ) → desk.old ≡ Some (machine.start workers) →
-        spec.TakesTooMany I.next_gives H.takes workers events.old hands.old (W.held writer.old) events.new hands.new (W.held writer.new) DriveFault.Device) }
+    ensures ok { IfOk result (λ status. (workers : ℕ) (earlier : List Turn) → StandsFor workers earlier desk.old →
+        spec.Drives I.next_gives H.takes workers earlier events.old hands.old (W.held writer.old) events.new desk.new hands.new (W.held writer.new) status) }
+    ensures err { IfErr result (λ fault. (workers : ℕ) (earlier : List Turn) → StandsFor workers earlier desk.old →
+        spec.Fails I.next_gives H.takes H.refuses workers earlier events.old hands.old (W.held writer.old) events.new desk.new hands.new (W.held writer.new) fault) }
+    ensures device { IsErrOf result DriveFault.Device → (W.failed writer.new ≡ true) ⊎ ((workers : ℕ) (earlier : List Turn) → StandsFor workers earlier desk.old →
+        spec.TakesTooMany I.next_gives H.takes workers earlier events.old hands.old (W.held writer.old) events.new desk.new hands.new (W.held writer.new) DriveFault.Device) }
     ensures bound { IsErrOf result DriveFault.Device → (W.failed writer.new ≡ true) ⊎ ((taken : List Event) × Yields I.next_gives events.old taken events.new × (length taken ≡ spec.events_max)) }
     ensures flag { W.failed writer.new ≡ true → result ≡ Err DriveFault.Device }
     ensures closed { IsErrOf result DriveFault.Closed → H.closed hands.new ≡ true }
@@ -259,4 +266,36 @@ pub fn drive<I: Iterator<Item = Event>, H: Hands, W: Sink>(
         }
     }
     Err(DriveFault::Device)
+}
+
+/// Takes events up to the first stop, their end or a fault, and answers the stop's status, or 1 where none came. What
+/// the events tell behind those that the desk took before is written and handed on, in order; at a fault all of the
+/// events before it, and of its own a front, and then the desk has failed. One that had failed takes none. The sink may
+/// not have failed before.
+pub fn drive<I: Iterator<Item = Event>, H: Hands, W: Sink>(
+    alloc: Global,
+    desk: &mut Desk,
+    events: &mut I,
+    hands: &mut H,
+    writer: &mut W,
+) -> Result<u8, DriveFault>
+    requires can { I.can_next events.old }
+    requires next { IfSome desk.old (λ s. s.jobs.next ≤ 2 ^ 61) }
+    requires works { W.failed writer.old ≡ false }
+    ensures ok { IfOk result (λ status. (workers : ℕ) (earlier : List Turn) → StandsFor workers earlier desk.old →
+        spec.Drives I.next_gives H.takes workers earlier events.old hands.old (W.held writer.old) events.new desk.new hands.new (W.held writer.new) status) }
+    ensures err { IfErr result (λ fault. (workers : ℕ) (earlier : List Turn) → StandsFor workers earlier desk.old →
+        spec.Fails I.next_gives H.takes H.refuses workers earlier events.old hands.old (W.held writer.old) events.new desk.new hands.new (W.held writer.new) fault) }
+    ensures device { IsErrOf result DriveFault.Device → (W.failed writer.new ≡ true) ⊎ ((workers : ℕ) (earlier : List Turn) → StandsFor workers earlier desk.old →
+        spec.TakesTooMany I.next_gives H.takes workers earlier events.old hands.old (W.held writer.old) events.new desk.new hands.new (W.held writer.new) DriveFault.Device) }
+    ensures bound { IsErrOf result DriveFault.Device → (W.failed writer.new ≡ true) ⊎ ((taken : List Event) × Yields I.next_gives events.old taken events.new × (length taken ≡ spec.events_max)) }
+    ensures flag { W.failed writer.new ≡ true → result ≡ Err DriveFault.Device }
+    ensures closed { IsErrOf result DriveFault.Closed → H.closed hands.new ≡ true }
+    ensures failed { desk.old ≡ None → (result ≡ Err DriveFault.Failed) × (desk.new ≡ None) × (events.new ≡ events.old) × (hands.new ≡ hands.old) × (writer.new ≡ writer.old) }
+    ensures only_failed { IsErrOf result DriveFault.Failed → desk.old ≡ None }
+{
+    if desk.has_failed() {
+        return Err(DriveFault::Failed);
+    }
+    drive_on(alloc, desk, events, hands, writer)
 }

@@ -5,6 +5,7 @@ pub mod desk;
 pub mod driving;
 pub mod hands;
 mod jobs;
+pub mod laws;
 
 pub use desk::{Desk, DeskFault};
 pub use driving::{DriveFault, drive};

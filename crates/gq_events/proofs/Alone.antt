@@ -43,7 +43,7 @@ abbrev pub own_then_answer : Session → Turn → List Out
 own_then_answer session turn =
     let e = effect_of session.phase session.documents turn.event in
     let denied = denied_by session [] e in
-    own session denied e (changed_by session e turn.text_refused) ++ answer_to (taken session.diagnostics denied e) turn.answer
+    own 0 session denied e (changed_by session e turn.text_refused) ++ answer_to (taken session.diagnostics denied e) turn.answer
 
 nothing_behind : (a b : List Out) → a ++ (b ++ []) ≡ a ++ b
 nothing_behind a b = ap (λ (l : List Out). a ++ l) (append-nil b)
@@ -56,7 +56,7 @@ asked_none : (events : List Turn) (j : ℕ) → asked_before 0 events j ≡ []
 asked_none events zero = refl
 asked_none events (suc j) = append-nil (asked_before 0 events j) ∙ asked_none events j
 
-handed_none : (events : List Turn) (j : ℕ) (handed : List Handed) → handed_at 0 events j handed ≡ []
+pub handed_none : (events : List Turn) (j : ℕ) (handed : List Handed) → handed_at 0 events j handed ≡ []
 handed_none events j handed =
     ap (λ (asked : List Asked). take (out_max - length (filter (is_out events (suc j)) handed)) (filter (is_waiting handed) (pending_of events (suc j) asked))) (asked_none events (suc j))
     ∙ take-nil (out_max - length (filter (is_out events (suc j)) handed))
@@ -64,7 +64,7 @@ handed_none events j handed =
 abbrev outputs_with : List Turn → ℕ → List Asked → List Job → List Out
 outputs_with events j asked jobs =
     flat_map (λ a. verdict (effect_at events j) a.job) (filter (is_decided_at events j) asked)
-    ++ own (session_at events j) (denied_at events j asked) (effect_at events j) (changed_at events j)
+    ++ own 0 (session_at events j) (denied_at events j asked) (effect_at events j) (changed_at events j)
     ++ (answer_to (taken_at events j asked) (turn_at events j).answer ++ map out.Job jobs)
 
 pub answered_at_once : AnsweredAtOnce

@@ -1,5 +1,5 @@
 -- What a session puts out for an event that changes nothing, and for a task.
-use Rattle.std.proofs.Common.{◌≡◌, Bool, false, List, [], ◌∷◌, ◌++◌, map, Option, Some, ap, sym, subst, ◌∙◌}
+use Rattle.std.proofs.Common.{◌≡◌, ℕ, Bool, false, List, [], ◌∷◌, ◌++◌, map, Option, Some, ap, sym, subst, ◌∙◌}
 use Rattle.std.specs.Prelude.{codes}
 use Rattle.std.proofs.lemmas.List.{append-nil}
 use Rattle.gq_project.specs.declared.document.Doc.{Doc}
@@ -21,13 +21,13 @@ use Rattle.gq_events.specs.Positions.{position_encoding}
 use Rattle.gq_events.specs.Tasks.{Answers}
 use Rattle.gq_events.specs.Rules.{Session, changed_by, session_after, own, failed, answered}
 
--- what a session becomes by an event, and what it puts out for it
-abbrev pub Replies : Session → Option Denial → Effect → Session → List Out → List Out → Type 0
-Replies s denied e t old new = (r : Bool) × (t ≡ session_after s e (changed_by s e r)) × (new ≡ old ++ own s denied e (changed_by s e r))
+-- what a session becomes by an event, and what it puts out for it, and for so many workers
+abbrev pub Replies : ℕ → Session → Option Denial → Effect → Session → List Out → List Out → Type 0
+Replies workers s denied e t old new = (r : Bool) × (t ≡ session_after s e (changed_by s e r)) × (new ≡ old ++ own workers s denied e (changed_by s e r))
 
 -- an event that changes nothing
-pub quiet : (s : Session) (denied : Option Denial) (e f : Effect) (outs : List Out) → e ≡ f → s ≡ session_after s f (changed_by s f false) → [] ≡ own s denied f (changed_by s f false) → Replies s denied e s outs outs
-quiet s denied e f outs is stays nothing = subst (λ (e : Effect). Replies s denied e s outs outs) (sym is) (false, stays, sym (append-nil outs) ∙ ap (λ (l : List Out). outs ++ l) nothing)
+pub quiet : (workers : ℕ) (s : Session) (denied : Option Denial) (e f : Effect) (outs : List Out) → e ≡ f → s ≡ session_after s f (changed_by s f false) → [] ≡ own workers s denied f (changed_by s f false) → Replies workers s denied e s outs outs
+quiet workers s denied e f outs is stays nothing = subst (λ (e : Effect). Replies workers s denied e s outs outs) (sym is) (false, stays, sym (append-nil outs) ∙ ap (λ (l : List Out). outs ++ l) nothing)
 
 -- some answer to a task is written
 abbrev pub Answered : List Doc → Task → List Out → List Out → Type 0

@@ -1,5 +1,5 @@
 -- Documents that are edited.
-use Rattle.std.proofs.Common.{◌≡◌, ℕ, Bool, true, false, cond, ◌||◌, List, Option, Some, None, Result, Ok, Err, OnOk, is_ok, ap, sym, subst, ◌∙◌, refl}
+use Rattle.std.proofs.Common.{◌≡◌, ℕ, true, false, List, Some, Result, Ok, Err, OnOk, is_ok, ap, sym, subst, ◌∙◌}
 use Rattle.std.specs.Prelude.{ℤ}
 use Rattle.gq_text.specs.declared.place.PositionEncoding.{PositionEncoding}
 use Rattle.gq_text.specs.declared.text.Change.{Change}
@@ -8,7 +8,7 @@ use Rattle.gq_text.specs.Change.{FitEach, after_changes}
 use Rattle.gq_rpc.specs.declared.messages.DidChangeParams.{DidChangeParams}
 use Rattle.gq_events.specs.declared.documents.OpenDocument.{OpenDocument}
 use Rattle.gq_events.proofs.Keeping.{is_fit_each}
-use Rattle.gq_events.specs.Documents.{fit_each, changes_in, edited_text, document_with, edited}
+use Rattle.gq_events.specs.Documents.{fit_each, changes_in, edited_text}
 
 -- changes that can be read and kept
 pub text_after : (encoding : PositionEncoding) (document : OpenDocument) (params : DidChangeParams) (version : ℤ) (changes : List Change) (text : List ℕ) → params.version ≡ Some version → params.changes ≡ Some changes
@@ -23,16 +23,3 @@ pub all_made : (encoding : PositionEncoding) (document : OpenDocument) (params :
 all_made encoding document params version changes seen text (Ok u) ok is_version are_changes same known fit is =
     text_after encoding document params version changes text is_version are_changes known (subst (FitEach encoding document.text) same fit) (is ∙ ap (after_changes encoding document.text) same)
 all_made encoding document params version changes seen text (Err e) ok is_version are_changes same known fit is = absurd (cc)
-
--- a document that is lost afterwards
-lost_with : (key uri : List ℕ) (version : ℤ) (text : Option (List ℕ)) → let d = document_with key uri version text in document_with d.key d.uri d.version None ≡ document_with key uri version None
-lost_with key uri version None = refl
-lost_with key uri version (Some text) = refl
-
-abbrev lost_from : OpenDocument → OpenDocument
-lost_from d = document_with d.key d.uri d.version None
-
--- lost after an edit: as where it is refused memory
-pub lost_edit : (old mid new : OpenDocument) (params : DidChangeParams) (refused lost : Bool) → mid ≡ edited old params refused → new ≡ cond lost (lost_from mid) mid → new ≡ edited old params (lost || refused)
-lost_edit old mid new params refused true e is = is ∙ (ap lost_from e ∙ lost_with old.key old.uri _ _)
-lost_edit old mid new params refused false e is = is ∙ e

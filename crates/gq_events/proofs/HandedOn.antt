@@ -1,7 +1,8 @@
 -- What is handed on in a step.
-use Rattle.std.proofs.Common.{◌≡◌, Bool, true, false, cond, ◌==◌, List, [], ◌∷◌, ◌++◌, map, Option, Some, None, ap, refl, ◌∙◌}
+use Rattle.std.proofs.Common.{◌≡◌, ℕ, Bool, true, false, cond, ◌==◌, List, [], ◌∷◌, ◌++◌, map, Option, Some, None, ap, refl, ◌∙◌}
 use Rattle.std.specs.Prelude.{filter, flat_map, option_map, option_to_list}
 use Rattle.std.proofs.lemmas.Grind.{flat_map-append}
+use Rattle.gq_project.specs.declared.document.DocChange.{DocChange}
 use Rattle.gq_rpc.specs.declared.messages.Id.{Id}
 use Rattle.gq_rpc.specs.declared.messages.ResponseError.{ResponseError}
 use Rattle.gq_rpc.specs.declared.messages.Outgoing.{Outgoing}
@@ -19,9 +20,10 @@ use Rattle.gq_events.specs.declared.effect.Change.TheVariants as change
 use Rattle.gq_events.specs.declared.effect.Effect.{Effect}
 use Rattle.gq_events.specs.declared.effect.Effect.TheVariants as effect
 use Rattle.gq_events.specs.Documents.{document_at, key_of, published}
-use Rattle.gq_events.specs.Rules.{Session, refused_as, answered, verdict, denied_with, nothing_wrong, cleared, own, answer_to}
+use Rattle.gq_events.specs.Rules.{Session, refused_as, answered, verdict, denied_with, nothing_wrong, cleared, shown, own, answer_to}
 use Rattle.gq_events.specs.History.{Asked, is_decided_at, session_at, effect_at, changed_at, asked_before, denied_at, handed_at, handed_before, decided_at, at_once}
-use Rattle.gq_events.specs.Laws.{Handing, Given, handing_of, handings, published_by, HandedOnInItsStep}
+use Rattle.gq_events.specs.Laws.{Handing, Published, Given, handing_of, handings, published_by, HandedOnInItsStep, NothingIsHandedToNone}
+use Rattle.gq_events.proofs.Alone.{handed_none}
 
 -- outputs of which nothing is handed on
 abbrev IsWritten : List Out → Type 0
@@ -59,26 +61,39 @@ denied_written : (id : Id) (denied : Option Denial) → IsWritten (denied_with i
 denied_written id None = refl
 denied_written id (Some how) = refl
 
-nothing_wrong_handed : (document : Option OpenDocument) (o : Out) → handings (option_to_list (option_map nothing_wrong document) ++ o ∷ []) ≡ handing_of o ++ []
-nothing_wrong_handed None o = refl
-nothing_wrong_handed (Some document) o = refl
+shown_handed : (none : Bool) (c : DocChange) → handings (cond none [] (out.Publish c ∷ [])) ≡ cond none [] (Published c ∷ [])
+shown_handed true c = refl
+shown_handed false c = refl
 
-change_handed : (diagnostics : Bool) (documents : List OpenDocument) (c : Change) (o : Out) → handings (cond diagnostics (cleared documents c) [] ++ o ∷ []) ≡ handing_of o ++ []
-change_handed true documents (change.Open item) o = refl
-change_handed true documents (change.Edit params) o = refl
-change_handed true documents (change.Close key) o = nothing_wrong_handed (document_at key documents) o
-change_handed false documents c o = refl
+nothing_wrong_handed : (document : Option OpenDocument) (outs : List Out) → handings (option_to_list (option_map nothing_wrong document) ++ outs) ≡ handings outs
+nothing_wrong_handed None outs = refl
+nothing_wrong_handed (Some document) outs = refl
 
-own_handed : (s : Session) (denied : Option Denial) (e : Effect) (document : Option OpenDocument) → handings (own s denied e document) ≡ published_by e document
-own_handed s denied (effect.Changes c) document = change_handed s.diagnostics s.documents c (out.Publish (published (key_of c) document))
-own_handed s denied (effect.Asks id asked) document = denied_written id denied
-own_handed s denied (effect.Begins id capabilities) document = refl
-own_handed s denied (effect.Refuses id why) document = refl
-own_handed s denied (effect.ShutsDown id) document = refl
-own_handed s denied (effect.Stops status) document = refl
-own_handed s denied effect.Nothing document = refl
-own_handed s denied (effect.Cancels id) document = refl
-own_handed s denied (effect.Finishes done) document = refl
+change_handed : (diagnostics : Bool) (documents : List OpenDocument) (c : Change) (outs : List Out) → handings (cond diagnostics (cleared documents c) [] ++ outs) ≡ handings outs
+change_handed true documents (change.Open item) outs = refl
+change_handed true documents (change.Edit params) outs = refl
+change_handed true documents (change.Close key) outs = nothing_wrong_handed (document_at key documents) outs
+change_handed false documents c outs = refl
+
+-- nothing, whether there are workers or not
+abbrev nothing : List Handing
+nothing = []
+
+none_handed : (none : Bool) → nothing ≡ cond none nothing nothing
+none_handed true = refl
+none_handed false = refl
+
+own_handed : (workers : ℕ) (s : Session) (denied : Option Denial) (e : Effect) (document : Option OpenDocument) → handings (own workers s denied e document) ≡ cond (workers == 0) [] (published_by e document)
+own_handed workers s denied (effect.Changes c) document =
+    change_handed s.diagnostics s.documents c (shown workers (published (key_of c) document)) ∙ shown_handed (workers == 0) (published (key_of c) document)
+own_handed workers s denied (effect.Asks id asked) document = denied_written id denied ∙ none_handed (workers == 0)
+own_handed workers s denied (effect.Begins id capabilities) document = none_handed (workers == 0)
+own_handed workers s denied (effect.Refuses id why) document = none_handed (workers == 0)
+own_handed workers s denied (effect.ShutsDown id) document = none_handed (workers == 0)
+own_handed workers s denied (effect.Stops status) document = none_handed (workers == 0)
+own_handed workers s denied effect.Nothing document = none_handed (workers == 0)
+own_handed workers s denied (effect.Cancels id) document = none_handed (workers == 0)
+own_handed workers s denied (effect.Finishes done) document = none_handed (workers == 0)
 
 once_written : (alone : Bool) (t : Option Task) (a : Answer) → IsWritten (cond alone (answer_to t a) [])
 once_written true None a = refl
@@ -97,7 +112,10 @@ joined a b c d p q ha hb hc hd =
 
 pub handed_on_in_its_step : HandedOnInItsStep
 handed_on_in_its_step workers events j =
-    joined (decided_at workers events j) (own (session_at events j) (denied_at events j (asked_before workers events j)) (effect_at events j) (changed_at events j)) (at_once workers events j)
+    joined (decided_at workers events j) (own workers (session_at events j) (denied_at events j (asked_before workers events j)) (effect_at events j) (changed_at events j)) (at_once workers events j)
     (map out.Job (handed_at workers events j (handed_before workers events j))) _ _
     (all_written {X = Asked} (λ a. verdict (effect_at events j) a.job) (λ a. verdict_written (effect_at events j) a.job) (filter (is_decided_at events j) (asked_before workers events j)))
-    (own_handed (session_at events j) _ (effect_at events j) _) (once_written (workers == 0) _ _) (jobs_handed _)
+    (own_handed workers (session_at events j) _ (effect_at events j) _) (once_written (workers == 0) _ _) (jobs_handed _)
+
+pub nothing_is_handed_to_none : NothingIsHandedToNone
+nothing_is_handed_to_none events j = handed_on_in_its_step 0 events j ∙ ap (map Given) (handed_none events j (handed_before 0 events j))

@@ -121,7 +121,7 @@ short_found params refused (Some document) h =
 
 short_changed : (documents : List OpenDocument) (c : Change) (refused : Bool) → AllByRecursion IsShort documents → OfAny IsShort (changed documents c refused)
 short_changed documents (change.Open item) refused h =
-    short_with item.key item.uri item.version _ (short_unless refused (opened_text item.text) (opened_if (fits item.text) item.text (fits_is item.text)))
+    short_with item.key item.uri item.version (opened_text item.text) (opened_if (fits item.text) item.text (fits_is item.text))
 short_changed documents (change.Edit params) refused h = short_found params refused (document_at params.key documents) (found IsShort (has_key params.key) documents h)
 short_changed documents (change.Close key) refused h = tt
 

@@ -1,15 +1,17 @@
 -- Open documents in the order of their keys.
-use Rattle.std.proofs.Common.{◌≡◌, ℕ, Bool, true, false, cond, List, [], ◌∷◌, set, get_or, Option, Some, None, Result, Ok, Err, IfOk, IfErr, is_ok, is_some, ap, sym, subst, ◌∙◌, refl, arith}
+use Rattle.std.proofs.Common.{◌≡◌, ◌<◌, ℕ, Bool, length, true, false, cond, List, [], ◌∷◌, set, get_or, Option, Some, None, Result, Ok, Err, IfOk, IfErr, is_ok, is_some, ap, sym, subst, ◌∙◌, refl, arith}
 use Rattle.std.specs.Prelude.{ℤ, find, option_map}
 use Rattle.std.specs.Cmp.Lexicographic.{bytes_decides}
-use Rattle.std.specs.List.{insert}
-use Rattle.gq_project.specs.declared.document.Doc.{Doc}
+use Rattle.std.specs.List.{HoldsAt, insert}
+use Rattle.std.specs.Option.{MatchOption}
+use Rattle.std.proofs.Math.Seq.{lt-length-set}
+use Rattle.std.proofs.lemmas.List.{get_or-set_same}
 use Rattle.gq_project.specs.Helping.Places.{IsPlaceOf, IsGapFor}
 use Rattle.gq_project.proofs.Keys.{Ascend-with_item, Ascend-without_item, set_with_item, insert_with_item}
 use Rattle.gq_rpc.specs.declared.messages.DidChangeParams.{DidChangeParams}
 use Rattle.gq_events.specs.declared.documents.OpenDocument.{OpenDocument}
 use Rattle.gq_events.specs.declared.effect.Change.TheVariants as change
-use Rattle.gq_events.specs.Documents.{IsInOrder, has_key, document_at, is_open, with_document, with_changed, changed, document_with, edited, doc_of}
+use Rattle.gq_events.specs.Documents.{IsInOrder, has_key, document_at, is_open, with_document, with_changed, changed, document_with, edited}
 
 abbrev pub key_of : OpenDocument → List ℕ
 key_of document = document.key
@@ -63,9 +65,11 @@ module _ (documents : List OpenDocument) (params : DidChangeParams) (i : ℕ) (o
   in_order_here : IsInOrder documents → IsInOrder (set documents i new)
   in_order_here h = subst IsInOrder (sym (set_with_document documents params.key i new place new_key)) (IsInOrder-with_document documents new h)
 
--- what an edit leaves: the documents, and the copy of the one that is edited
-abbrev pub Edits : List OpenDocument → DidChangeParams → List OpenDocument → Option Doc → Type 0
-Edits old params new doc = (refused : Bool) × (new ≡ with_changed old params.key (changed old (change.Edit params) refused)) × (doc ≡ option_map doc_of (changed old (change.Edit params) refused))
+-- what an edit leaves: the documents, and where the one is that is edited
+abbrev pub Edits : List OpenDocument → DidChangeParams → List OpenDocument → Option ℕ → Type 0
+Edits old params new at =
+    (refused : Bool) × (new ≡ with_changed old params.key (changed old (change.Edit params) refused))
+    × MatchOption at (changed old (change.Edit params) refused ≡ None) (λ i. (i < length new) × HoldsAt (λ document. changed old (change.Edit params) refused ≡ Some document) new i)
 
 -- as the code reads it: the list inside is the documents, and the key that was sought that of the edit
 module _ (inside documents : List OpenDocument) (view : inside ≡ documents) (params : DidChangeParams) (key : List ℕ) (is_key : key ≡ params.key) (i : ℕ) (place : IsPlaceOf key_of key documents i) (old new : OpenDocument)
@@ -80,11 +84,17 @@ module _ (inside documents : List OpenDocument) (view : inside ≡ documents) (p
   still_in_order h =
       subst (λ (ds : List OpenDocument). IsInOrder (set ds i new)) (sym view) (in_order_here documents params i old new is.0 place_of_key old_here is.1 (subst IsInOrder view h))
 
-  pub edits : (doc : Doc) → doc ≡ doc_of new → Edits documents params (set inside i new) (Some doc)
-  edits doc doc_is = (
+  within : i < length inside
+  within = subst (λ (ds : List OpenDocument). i < length ds) (sym view) place.in_range
+
+  pub edits : Edits documents params (set inside i new) (Some i)
+  edits = (
     is.0,
     ap (λ (ds : List OpenDocument). set ds i new) view ∙ edited_here documents params i old new is.0 place_of_key old_here is.1,
-    ap (λ (d : Doc). Some d) doc_is ∙ ap (option_map doc_of) (sym (changed_here documents params i old new is.0 place_of_key old_here is.1)),
+    (
+      lt-length-set inside i new within,
+      λ d. changed_here documents params i old new is.0 place_of_key old_here is.1 ∙ ap (λ (x : OpenDocument). Some x) (sym (get_or-set_same inside i new d within)),
+    ),
   )
 
 -- none has the key, so nothing is changed
@@ -92,4 +102,4 @@ pub edits_nothing : (documents : List OpenDocument) (params : DidChangeParams) (
 edits_nothing documents params key i is_key gap =
     let at : IsGapFor key_of params.key documents i = subst (λ (k : List ℕ). IsGapFor key_of k documents i) is_key gap in
     let none : changed documents (change.Edit params) false ≡ None = ap (option_map (λ document. edited document params false)) at.none in
-    (false, at.others ∙ ap (with_changed documents params.key) (sym none), ap (option_map doc_of) (sym none))
+    (false, at.others ∙ ap (with_changed documents params.key) (sym none), none)

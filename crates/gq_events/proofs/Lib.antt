@@ -1,6 +1,7 @@
 pub mod Lists
 pub mod Places
 pub mod Steps
+pub mod Behind
 pub mod Firsts
 pub mod Sources
 pub mod Results

@@ -1,8 +1,9 @@
 -- That the content was modified is told at a change alone.
-use Rattle.std.proofs.Common.{◌≡◌, ℕ, suc, Bool, true, false, cond, not, ◌&&◌, List, [], ◌∷◌, map, Option, Some, None}
+use Rattle.std.proofs.Common.{◌≡◌, ℕ, suc, Bool, true, false, cond, not, ◌&&◌, ◌==◌, List, [], ◌∷◌, map, Option, Some, None}
 use Rattle.std.specs.Prelude.{codes, option_map, option_to_list}
 use Rattle.std.specs.List.{AllByRecursion, list_any}
 use mathlib.Core.Logic.{∥∥₁_elim}
+use Rattle.gq_project.specs.declared.document.DocChange.{DocChange}
 use Rattle.gq_rpc.specs.declared.messages.Id.{Id}
 use Rattle.gq_rpc.specs.declared.messages.ServerCapabilities.{ServerCapabilities}
 use Rattle.gq_rpc.specs.declared.messages.Question.{Question}
@@ -39,7 +40,7 @@ use Rattle.gq_events.specs.declared.effect.Effect.TheVariants as effect
 use Rattle.gq_events.specs.Documents.{document_at, is_open, is_any_lost, is_change, key_of, published}
 use Rattle.gq_events.specs.Tasks.{is_of, place_of}
 use Rattle.gq_events.specs.Positions.{position_encoding}
-use Rattle.gq_events.specs.Rules.{Turn, Session, failed, refused_as, answered, denied, denied_with, nothing_wrong, cleared, own, wants_document_changes, wants_code_actions, are_too_many, denial_of_question, denial_of_ask, denied_by, effect_of_request, effect_while_running, effect_while_not, effect_of_notification, effect_of_message, effect_going, effect_of}
+use Rattle.gq_events.specs.Rules.{Turn, Session, failed, refused_as, answered, denied, denied_with, nothing_wrong, cleared, shown, own, wants_document_changes, wants_code_actions, are_too_many, denial_of_question, denial_of_ask, denied_by, effect_of_request, effect_while_running, effect_while_not, effect_of_notification, effect_of_message, effect_going, effect_of}
 use Rattle.gq_events.specs.History.{session_at, effect_at, docs_at, turn_at, asked_before, pending_of}
 use Rattle.gq_events.specs.Laws.{tells_modified, ModifiedAtChange}
 use Rattle.gq_events.proofs.Lists.{both}
@@ -241,22 +242,26 @@ not_begun id capabilities to is = cc
 not_down : (id : Id) (to : Option Id) → outgoing.ShutDown id ≡ outgoing.Error to error.ContentModified → ⊥
 not_down id to is = cc
 
-own_all : (s : Session) (denied : Option Denial) (e : Effect) (document : Option OpenDocument) → IsOtherIfAny denied → IsFair e → All_may e (own s denied e document)
-own_all s denied (effect.Begins id capabilities) document h k = ((λ g. absurd (not_begun id _ g.0 g.1)), tt)
-own_all s denied (effect.Refuses id why) document h k = (other_error _ id why k, tt)
-own_all s denied (effect.Asks id asked) document h k = denied_all _ id denied h
-own_all s denied (effect.Changes c) document h k =
-    both _ (cond s.diagnostics (cleared s.documents c) []) (out.Publish (published (key_of c) document) ∷ []) (cleared_all _ s.diagnostics s.documents c) ((λ g. absurd g), tt)
-own_all s denied (effect.ShutsDown id) document h k = ((λ g. absurd (not_down id g.0 g.1)), tt)
-own_all s denied (effect.Stops status) document h k = ((λ g. absurd g), tt)
-own_all s denied effect.Nothing document h k = tt
-own_all s denied (effect.Cancels id) document h k = tt
-own_all s denied (effect.Finishes done) document h k = tt
+shown_all : (e : Effect) (none : Bool) (c : DocChange) → All_may e (cond none [] (out.Publish c ∷ []))
+shown_all e true c = tt
+shown_all e false c = ((λ g. absurd g), tt)
+
+own_all : (workers : ℕ) (s : Session) (denied : Option Denial) (e : Effect) (document : Option OpenDocument) → IsOtherIfAny denied → IsFair e → All_may e (own workers s denied e document)
+own_all workers s denied (effect.Begins id capabilities) document h k = ((λ g. absurd (not_begun id _ g.0 g.1)), tt)
+own_all workers s denied (effect.Refuses id why) document h k = (other_error _ id why k, tt)
+own_all workers s denied (effect.Asks id asked) document h k = denied_all _ id denied h
+own_all workers s denied (effect.Changes c) document h k =
+    both _ (cond s.diagnostics (cleared s.documents c) []) (shown workers (published (key_of c) document)) (cleared_all _ s.diagnostics s.documents c) (shown_all _ (workers == 0) (published (key_of c) document))
+own_all workers s denied (effect.ShutsDown id) document h k = ((λ g. absurd (not_down id g.0 g.1)), tt)
+own_all workers s denied (effect.Stops status) document h k = ((λ g. absurd g), tt)
+own_all workers s denied effect.Nothing document h k = tt
+own_all workers s denied (effect.Cancels id) document h k = tt
+own_all workers s denied (effect.Finishes done) document h k = tt
 
 pub modified_at_change : AnswersRespond → ModifiedAtChange
 modified_at_change respond workers events j fits =
     let e = effect_at events j in
     of_outputs workers events j (May e)
-    (own_all (session_at events j) _ e _ (denial_other (session_at events j) (pending_of events j (asked_before workers events j)) e)
+    (own_all workers (session_at events j) _ e _ (denial_other (session_at events j) (pending_of events j (asked_before workers events j)) e)
     (effect_fair (session_at events j).phase (session_at events j).documents (turn_at events j).event))
     (λ c is t. refused_change e c is t) (λ t. refused_other e t _ (failed_other _)) (λ t. refused_other e t _ (λ h. cc)) (answer_may respond e events j) (λ job. λ h. absurd h) fits

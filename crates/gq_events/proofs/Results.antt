@@ -1,9 +1,10 @@
 -- Each result that is replied is its question's.
-use Rattle.std.proofs.Common.{inl, inr, arith, Contains, ◌≡◌, ℕ, suc, Bool, true, false, cond, not, ◌&&◌, List, [], ◌∷◌, map, Option, Some, None, ap, sym, refl, ◌∙◌, subst}
+use Rattle.std.proofs.Common.{inl, inr, arith, Contains, ◌≡◌, ℕ, suc, Bool, true, false, cond, not, ◌&&◌, ◌==◌, List, [], ◌∷◌, map, Option, Some, None, ap, sym, refl, ◌∙◌, subst}
 use Rattle.std.specs.Prelude.{codes, option_map, option_to_list}
 use Rattle.std.specs.List.{AllByRecursion, list_any}
 use mathlib.Core.Logic.{∥∥₁_map}
 use Rattle.gq_project.specs.declared.document.Doc.{Doc}
+use Rattle.gq_project.specs.declared.document.DocChange.{DocChange}
 use Rattle.gq_rpc.specs.declared.messages.Id.{Id}
 use Rattle.gq_rpc.specs.declared.messages.CodeActionParams.{CodeActionParams}
 use Rattle.gq_rpc.specs.declared.messages.Question.{Question}
@@ -27,7 +28,7 @@ use Rattle.gq_events.specs.declared.effect.Effect.{Effect}
 use Rattle.gq_events.specs.declared.effect.Effect.TheVariants as effect
 use Rattle.gq_events.specs.Documents.{docs_of, document_at, is_open, is_any_lost, key_of, published}
 use Rattle.gq_events.specs.Tasks.{is_of, place_of, Answers}
-use Rattle.gq_events.specs.Rules.{Turn, Session, session_after, refused_as, answered, wants_document_changes, wants_code_actions, are_too_many, denied, denial_of_question, denial_of_ask, denied_by, denied_with, nothing_wrong, cleared, own}
+use Rattle.gq_events.specs.Rules.{Turn, Session, session_after, refused_as, answered, wants_document_changes, wants_code_actions, are_too_many, denied, denial_of_question, denial_of_ask, denied_by, denied_with, nothing_wrong, cleared, shown, own}
 use Rattle.gq_events.specs.History.{session_at, effect_at, changed_at, docs_at, asked_before, pending_of}
 use Rattle.gq_events.specs.Laws.{is_result, IsOwnAnswer, IsRightOutput, ResultsAreTheirQuestions}
 use Rattle.gq_events.proofs.Lists.{both, weaker}
@@ -193,19 +194,23 @@ module _ (events : List Turn) (j : ℕ) where
   of_cleared true (change.Close key) is = of_closed key is (document_at key (session_at events j).documents) refl
   of_cleared false c is = tt
 
-  of_own : (denied : Option Denial) (e : Effect) (document : Option OpenDocument) → effect_at events j ≡ e → IsFairBy (session_at events j) e denied → All_right (own (session_at events j) denied e document)
-  of_own denied (effect.Begins id capabilities) document is h = (no_result _ refl, tt)
-  of_own denied (effect.Refuses id why) document is h = (no_result _ refl, tt)
-  of_own denied (effect.Asks id asked) document is h = of_denied id asked denied is h
-  of_own denied (effect.Changes c) document is h =
-      both (IsRightOutput events j) (cond (session_at events j).diagnostics (cleared (session_at events j).documents c) []) (out.Publish (published (key_of c) document) ∷ [])
-      (of_cleared (session_at events j).diagnostics c is) (tt, tt)
-  of_own denied (effect.ShutsDown id) document is h = (no_result _ refl, tt)
-  of_own denied (effect.Stops status) document is h = (tt, tt)
-  of_own denied effect.Nothing document is h = tt
-  of_own denied (effect.Cancels id) document is h = tt
-  of_own denied (effect.Finishes done) document is h = tt
+  of_shown : (none : Bool) (c : DocChange) → All_right (cond none [] (out.Publish c ∷ []))
+  of_shown true c = tt
+  of_shown false c = (tt, tt)
+
+  of_own : (workers : ℕ) (denied : Option Denial) (e : Effect) (document : Option OpenDocument) → effect_at events j ≡ e → IsFairBy (session_at events j) e denied → All_right (own workers (session_at events j) denied e document)
+  of_own workers denied (effect.Begins id capabilities) document is h = (no_result _ refl, tt)
+  of_own workers denied (effect.Refuses id why) document is h = (no_result _ refl, tt)
+  of_own workers denied (effect.Asks id asked) document is h = of_denied id asked denied is h
+  of_own workers denied (effect.Changes c) document is h =
+      both (IsRightOutput events j) (cond (session_at events j).diagnostics (cleared (session_at events j).documents c) []) (shown workers (published (key_of c) document))
+      (of_cleared (session_at events j).diagnostics c is) (of_shown (workers == 0) (published (key_of c) document))
+  of_own workers denied (effect.ShutsDown id) document is h = (no_result _ refl, tt)
+  of_own workers denied (effect.Stops status) document is h = (tt, tt)
+  of_own workers denied effect.Nothing document is h = tt
+  of_own workers denied (effect.Cancels id) document is h = tt
+  of_own workers denied (effect.Finishes done) document is h = tt
 
 pub results_are_their_questions : ResultsAreTheirQuestions
 results_are_their_questions workers events j fits =
-    of_outputs workers events j (IsRightOutput events j) (of_own events j _ (effect_at events j) _ refl (denied_fair (session_at events j) (pending_of events j (asked_before workers events j)) (effect_at events j))) (λ c is t. of_refused events j t _) (λ t. of_refused events j t _) (λ t. of_refused events j t _) (of_answer events j) (λ job. tt) fits
+    of_outputs workers events j (IsRightOutput events j) (of_own events j workers _ (effect_at events j) _ refl (denied_fair (session_at events j) (pending_of events j (asked_before workers events j)) (effect_at events j))) (λ c is t. of_refused events j t _) (λ t. of_refused events j t _) (λ t. of_refused events j t _) (of_answer events j) (λ job. tt) fits

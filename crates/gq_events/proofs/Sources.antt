@@ -74,7 +74,7 @@ after_finish : (s : Session) (e : Effect) (document : Option OpenDocument) (done
 after_finish s e document done is = ap (λ (x : Effect). docs_of (session_after s x document).documents) is
 
 module _ (workers : ℕ) (events : List Turn) (j : ℕ) (P : Out → Type 0)
-    (of_own : AllByRecursion P (own (session_at events j) (denied_at events j (asked_before workers events j)) (effect_at events j) (changed_at events j)))
+    (of_own : AllByRecursion P (own workers (session_at events j) (denied_at events j (asked_before workers events j)) (effect_at events j) (changed_at events j)))
     (of_change : (c : Change) → effect_at events j ≡ effect.Changes c → (t : Task) → AllByRecursion P (refused_as t error.ContentModified))
     (of_shutdown : (t : Task) → AllByRecursion P (refused_as t (failed (codes "shutdown"))))
     (of_cancel : (t : Task) → AllByRecursion P (refused_as t error.Cancelled))
@@ -144,7 +144,7 @@ module _ (workers : ℕ) (events : List Turn) (j : ℕ) (P : Out → Type 0)
   pub of_outputs : IsAnswered workers events j → All_hold (outputs_at workers events j)
   of_outputs fits =
       let asked = asked_before workers events j in
-      let own_outs = own (session_at events j) (denied_at events j asked) (effect_at events j) (changed_at events j) in
+      let own_outs = own workers (session_at events j) (denied_at events j asked) (effect_at events j) (changed_at events j) in
       let jobs = map out.Job (handed_at workers events j (handed_before workers events j)) in
       both P (decided_at workers events j ++ own_outs) (at_once workers events j ++ jobs)
       (both P (decided_at workers events j) own_outs (of_decided asked (all_come j)) of_own)

@@ -1,7 +1,7 @@
 -- The machine's step leads from the state that the first j events tell to the one that one more tells, and puts out what they tell.
 use Rattle.std.proofs.lemmas.Bool.{cases_lt}
 use Rattle.std.proofs.lemmas.Bool.Decides.{nat_tests}
-use Rattle.std.proofs.Common.{◌&&◌, ◌||◌, inl, inr, ◌⊎◌, ◌≡◌, ℕ, zero, suc, ◌+◌, ◌-◌, ◌<◌, ◌≤◌, Bool, true, false, cond, not, ◌==◌, List, [], ◌∷◌, ◌++◌, length, map, take, drop, Option, Some, None, ap, sym, refl, ◌∙◌, subst, arith, add-zero, zero-add}
+use Rattle.std.proofs.Common.{◌&&◌, ◌||◌, inl, inr, ◌⊎◌, ◌≡◌, ℕ, zero, suc, ◌+◌, ◌-◌, ◌<◌, ◌≤◌, Bool, true, false, cond, not, ◌==◌, List, [], ◌∷◌, ◌++◌, length, map, take, drop, Option, Some, None, ap, sym, refl, ◌∙◌, subst, arith, add-zero}
 use Rattle.std.specs.Prelude.{filter, flat_map}
 use Rattle.std.specs.List.{AllByRecursion, list_any}
 use Rattle.std.specs.Cmp.{int_eq_equiv}
@@ -30,9 +30,9 @@ use Rattle.gq_events.specs.declared.effect.Effect.{Effect}
 use Rattle.gq_events.specs.declared.effect.Effect.TheVariants as effect
 use Rattle.gq_events.specs.Tasks.{same_id, is_of}
 use Rattle.gq_events.specs.Rules.{accepted, taken, denied_by, denial_of_ask, effect_of, changed_by, Turn, Session, decides, verdict, own, finishes, out_max}
-use Rattle.gq_events.specs.History.{idle, outputs, session_at, docs_at, effect_at, turn_at, Asked, may_decide, is_pending, numbered, denied_at, taken_at, asked_before, Handed, is_out, is_waiting, waiting_at, handed_at, handed_in, handed_before, decided_at, pending_at, at_once, changed_at, outputs_at, outputs_before, IsAnswered}
+use Rattle.gq_events.specs.History.{idle, outputs, session_at, docs_at, effect_at, turn_at, Asked, may_decide, is_pending, numbered, denied_at, taken_at, asked_before, Handed, is_out, is_waiting, waiting_at, handed_at, handed_in, handed_before, decided_at, pending_at, at_once, changed_at, outputs_at, outputs_from, IsAnswered}
 use Rattle.gq_events.specs.Laws.{AreAscending, Differs, HaveOwnIds}
-use Rattle.gq_events.specs.Machine.{State, Table, start, left, job_for, jobs_then, still_out, room_for, after, writes, run, handed_on, next_jobs, writes_effect, FitsTurn, FitsRun}
+use Rattle.gq_events.specs.Machine.{State, Table, start, left, job_for, jobs_then, still_out, room_for, after, writes, run, reached, handed_on, next_jobs, writes_effect, FitsTurn, FitsRun}
 use Rattle.gq_events.proofs.Lists.{filter_both, filter_swap, filter_all, filter_none, every, filter_shorter, map_filter, weaker, both, kept}
 use Rattle.gq_events.proofs.Places.{further, further_old, further_new, Ascends, lower, ascends_kept, ascends_more, ascends_below, at_most_one, rest_waits, waiting_more, new_wait}
 
@@ -392,33 +392,45 @@ module _ (workers : ℕ) (events : List Turn) where
   outputs_step j =
       let s = state_at workers events j in
       let e = effect_at events j in
-      same_outputs (own (session_at events j) (denied_at events j (asked j)) e (changed_at events j)) (at_once workers events j)
+      same_outputs (own workers (session_at events j) (denied_at events j (asked j)) e (changed_at events j)) (at_once workers events j)
       (decided_step j)
       (ap (λ n. map out.Job (take n (jobs_now j).waiting)) (room_step j) ∙ ap (λ jobs. map out.Job (take (room j) jobs)) (queue_step j))
 
   short_of : (i : ℕ) (turn : Turn) (rest : List Turn) → drop i events ≡ turn ∷ rest → i < length events
   short_of i turn rest h = let e : length (drop i events) ≡ suc (length rest) = ap length h in omega (arith, length-drop i events)
 
-  run_from : (rest : List Turn) (j : ℕ) → drop j events ≡ rest → outputs_before workers events j ++ run (state_at workers events j) rest ≡ outputs_before workers events (j + length rest)
-  run_from [] j h = rw (append-nil, add-zero) refl
+  -- the next turn, and those behind it
+  record Next (j : ℕ) (turn : Turn) (rest : List Turn) : Type 0 where
+    pub is : turn_at events j ≡ turn
+    pub rest_is : drop (suc j) events ≡ rest
+    pub leads : after (state_at workers events j) turn ≡ state_at workers events (suc j)
+
+  next_turn : (j : ℕ) (turn : Turn) (rest : List Turn) → drop j events ≡ turn ∷ rest → Next j turn rest
+  next_turn j turn rest h =
+      let here = drop-cons events j idle (short_of j turn rest h) in
+      let same : turn_at events j ≡ turn = cc in
+      record { is = same; rest_is = cc; leads = ap (λ (t : Turn). after (state_at workers events j) t) (sym same) ∙ state_step j }
+
+  -- turns from a place on put out what the list of events tells from there
+  pub run_from : (rest : List Turn) (j : ℕ) → drop j events ≡ rest → run (state_at workers events j) rest ≡ outputs_from workers events j (length rest)
+  run_from [] j h = refl
   run_from (turn ∷ rest) j h =
-      let within : j < length events = short j h in
-      let here = drop-cons events j idle within in
-      let is : turn_at events j ≡ turn = cc in
-      let rest_is : drop (suc j) events ≡ rest = cc in
-      ap (λ t. outputs_before workers events j ++ (writes (state_at workers events j) t ++ run (after (state_at workers events j) t) rest)) (sym is)
-      ∙ (ap (λ outs. outputs_before workers events j ++ (outs ++ run (after (state_at workers events j) (turn_at events j)) rest)) (outputs_step j)
-      ∙ (ap (λ s. outputs_before workers events j ++ (outputs_at workers events j ++ run s rest)) (state_step j)
-      ∙ (sym (append_assoc (outputs_before workers events j) (outputs_at workers events j) (run (state_at workers events (suc j)) rest))
-      ∙ (run_from rest (suc j) rest_is
-      ∙ ap (outputs_before workers events) (let moved : suc j + length rest ≡ j + suc (length rest) = omega arith in moved)))))
-    where
-      short : (i : ℕ) → drop i events ≡ turn ∷ rest → i < length events
-      short i h = let e : length (drop i events) ≡ suc (length rest) = ap length h in omega (arith, length-drop i events)
+      let n = next_turn j turn rest h in
+      ap (λ (t : Turn). writes (state_at workers events j) t ++ run (after (state_at workers events j) turn) rest) (sym n.is)
+      ∙ (ap (λ (outs : List Out). outs ++ run (after (state_at workers events j) turn) rest) (outputs_step j)
+      ∙ (ap (λ (s : State). outputs_at workers events j ++ run s rest) n.leads ∙ ap (λ (outs : List Out). outputs_at workers events j ++ outs) (run_from rest (suc j) n.rest_is)))
+
+  -- and lead to the state that it tells
+  pub reached_from : (front rest : List Turn) (j : ℕ) → drop j events ≡ front ++ rest → reached (state_at workers events j) front ≡ state_at workers events (j + length front)
+  reached_from [] rest j h = ap (state_at workers events) (sym (add-zero j))
+  reached_from (turn ∷ front) rest j h =
+      let n = next_turn j turn (front ++ rest) h in
+      ap (λ (s : State). reached s front) n.leads
+      ∙ (reached_from front rest (suc j) n.rest_is ∙ ap (state_at workers events) (let moved : suc j + length front ≡ j + suc (length front) = omega arith in moved))
 
   -- a whole run puts out what the list of events tells
   pub run_tells : run (start workers) events ≡ outputs workers events
-  run_tells = run_from events 0 refl ∙ ap (outputs_before workers events) (zero-add (length events))
+  run_tells = run_from events 0 refl
 
   -- the numbers handed on, then those of the jobs that wait, ascend
   abbrev all_numbers : ℕ → List ℕ
@@ -456,18 +468,23 @@ module _ (workers : ℕ) (events : List Turn) where
   pub answered_from : (rest : List Turn) (j : ℕ) → drop j events ≡ rest → FitsRun (state_at workers events j) rest → (k : ℕ) → j ≤ k → k < length events → IsAnswered workers events k
   answered_from [] j h f k later within = let e : length (drop j events) ≡ 0 = ap length h in absurd (omega (arith, length-drop j events))
   answered_from (turn ∷ rest) j h f k later within =
-      let here = drop-cons events j idle (short_of j turn rest h) in
-      let is : turn_at events j ≡ turn = cc in
-      let rest_is : drop (suc j) events ≡ rest = cc in
+      let n = next_turn j turn rest h in
       elim (cases_lt j k) as (λ x. IsAnswered workers events k) [
-        | inl further ↦
-            answered_from rest (suc j) rest_is
-            (subst (λ (s : State). FitsRun s rest) (ap (λ (t : Turn). after (state_at workers events j) t) (sym is) ∙ state_step j) f.1) k (omega arith) within
+        | inl further ↦ answered_from rest (suc j) n.rest_is (subst (λ (s : State). FitsRun s rest) n.leads f.1) k (omega arith) within
         | inr now ↦
             let same : j ≡ k = omega arith in
             subst (λ (n : ℕ). IsAnswered workers events n) same
-            (λ alone. subst (λ (t : Turn). FitsTurn (state_at workers events j) t) (sym is) f.0 alone)
+            (λ alone. subst (λ (t : Turn). FitsTurn (state_at workers events j) t) (sym n.is) f.0 alone)
       ]
+
+  -- and turns whose answers are right are those of a run
+  pub fits_from : (rest : List Turn) (j : ℕ) → drop j events ≡ rest → ((k : ℕ) → k < length events → IsAnswered workers events k) → FitsRun (state_at workers events j) rest
+  fits_from [] j h a = tt
+  fits_from (turn ∷ rest) j h a =
+      let n = next_turn j turn rest h in (
+        subst (λ (t : Turn). FitsTurn (state_at workers events j) t) n.is (a j (short_of j turn rest h)),
+        subst (λ (s : State). FitsRun s rest) (sym n.leads) (fits_from rest (suc j) n.rest_is a),
+      )
 
   -- what waits does so because there is no room
   full_or_empty : (j : ℕ) → ((jobs_at workers events j).waiting ≡ []) ⊎ (room_for (jobs_at workers events j).out ≡ 0)

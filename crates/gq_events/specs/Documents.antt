@@ -88,12 +88,12 @@ abbrev pub document_with : List ℕ → List ℕ → ℤ → Option (List ℕ) �
 document_with key uri version None = record { key = key; uri = uri; version = version; text = []; lost = true }
 document_with key uri version (Some text) = record { key = key; uri = uri; version = version; text = text; lost = false }
 
--- a text is lost, too, where it was refused memory
+abbrev pub opened : TextDocumentItem → OpenDocument
+opened item = document_with item.key item.uri item.version (opened_text item.text)
+
+-- a text is lost, too, where its changes were refused memory
 abbrev pub unless_refused : Bool → Option (List ℕ) → Option (List ℕ)
 unless_refused refused text = if refused then None else text
-
-abbrev pub opened : TextDocumentItem → Bool → OpenDocument
-opened item refused = document_with item.key item.uri item.version (unless_refused refused (opened_text item.text))
 
 -- a version that cannot be read stays as it was
 abbrev pub edited : OpenDocument → DidChangeParams → Bool → OpenDocument
@@ -101,9 +101,9 @@ edited document params refused =
     document_with document.key document.uri (unwrap_or params.version document.version)
     (unless_refused refused (edited_text position_encoding document (changes_in params)))
 
--- the document that a change leaves, if it leaves one; refused says that its text was refused memory
+-- the document that a change leaves, if it leaves one; refused says that the changes of its text were refused memory
 abbrev pub changed : List OpenDocument → Change → Bool → Option OpenDocument
-changed documents (change.Open item) refused = Some (opened item refused)
+changed documents (change.Open item) refused = Some (opened item)
 changed documents (change.Edit params) refused = option_map (λ document. edited document params refused) (document_at params.key documents)
 changed documents (change.Close key) refused = None
 

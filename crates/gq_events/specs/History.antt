@@ -139,17 +139,22 @@ at_once workers events j =
 abbrev pub outputs_at : ℕ → List Turn → ℕ → List Out
 outputs_at workers events j =
     decided_at workers events j
-    ++ own (session_at events j) (denied_at events j (asked_before workers events j)) (effect_at events j) (changed_at events j)
+    ++ own workers (session_at events j) (denied_at events j (asked_before workers events j)) (effect_at events j) (changed_at events j)
     ++ (at_once workers events j
     ++ map out.Job (handed_at workers events j (handed_before workers events j)))
 
--- what the first j events put out
-abbrev pub outputs_before : ℕ → List Turn → ℕ → List Out
-outputs_before workers events zero = []
-outputs_before workers events (suc j) = outputs_before workers events j ++ outputs_at workers events j
+-- what the events at so many places put out, from place i on
+abbrev pub outputs_from : ℕ → List Turn → (i count : ℕ) → List Out
+outputs_from workers events i zero = []
+outputs_from workers events i (suc count) = outputs_at workers events i ++ outputs_from workers events (suc i) count
 
+-- what all of them put out
 abbrev pub outputs : ℕ → List Turn → List Out
-outputs workers events = outputs_before workers events (length events)
+outputs workers events = outputs_from workers events 0 (length events)
+
+-- what events put out that come behind earlier ones
+abbrev pub outputs_behind : ℕ → (earlier events : List Turn) → List Out
+outputs_behind workers earlier events = outputs_from workers (earlier ++ events) (length earlier) (length events)
 
 -- with no workers, each task is answered by an answer to it, about the documents after its event
 abbrev pub IsAnswered : ℕ → List Turn → ℕ → Type 0

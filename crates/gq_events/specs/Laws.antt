@@ -1,5 +1,5 @@
 -- What the definitions mean: which event is the deciding one, what is answered, and what is handed on.
-use Rattle.std.specs.Prelude.{Option, Some, ◌≡◌, ℕ, suc, ◌<◌, ◌≤◌, ◌^◌, ◌⊎◌, ◌↔◌, Bool, Contains, true, false, List, [], ◌∷◌, ◌++◌, map, filter, flat_map, length}
+use Rattle.std.specs.Prelude.{Option, Some, ◌≡◌, ℕ, suc, ◌<◌, ◌≤◌, ◌^◌, ◌⊎◌, ◌↔◌, Bool, Contains, true, false, List, [], ◌∷◌, ◌++◌, map, filter, flat_map, length, ◌==◌, if◌then◌else◌}
 use Rattle.std.specs.List.{AllByRecursion}
 use Rattle.gq_project.specs.declared.document.DocChange.{DocChange}
 use Rattle.gq_project.specs.Documents.{after_change}
@@ -28,12 +28,16 @@ use Rattle.gq_events.specs.Positions.{position_encoding}
 use Rattle.gq_events.specs.Documents.{IsInOrder, document_at, key_of, published}
 use Rattle.gq_events.specs.Tasks.{is_of, Answers}
 use Rattle.gq_events.specs.Rules.{Turn, nothing_wrong, own, answer_to, decides, out_max}
-use Rattle.gq_events.specs.History.{Asked, may_decide, is_decided_at, session_at, docs_at, effect_at, changed_at, turn_at, denied_at, taken_at, pending_at, is_out, outputs, outputs_at, handed_at, handed_before, IsAnswered}
-use Rattle.gq_events.specs.Machine.{State, Steps, start, run}
+use Rattle.gq_events.specs.History.{Asked, may_decide, is_decided_at, session_at, docs_at, effect_at, changed_at, turn_at, denied_at, taken_at, pending_at, is_out, outputs, outputs_at, outputs_behind, handed_at, handed_before, IsAnswered}
+use Rattle.gq_events.specs.Machine.{State, Steps, start, run, reached}
 
--- step by step, a desk puts out what the list of events tells
+-- step by step, a desk puts out what the list of events tells, behind whatever it took before
 abbrev pub StepsTellHistory : Type 0
-StepsTellHistory = (workers : ℕ) (turns : List Turn) → run (start workers) turns ≡ outputs workers turns
+StepsTellHistory = (workers : ℕ) (earlier turns : List Turn) → run (reached (start workers) earlier) turns ≡ outputs_behind workers earlier turns
+
+-- what earlier events put out is the same, whatever comes behind them
+abbrev pub OutputsGoOn : Type 0
+OutputsGoOn = (workers : ℕ) (earlier turns : List Turn) → outputs workers (earlier ++ turns) ≡ outputs workers earlier ++ outputs_behind workers earlier turns
 
 -- from each state an event leads on
 abbrev pub StepsExist : Type 0
@@ -42,7 +46,7 @@ StepsExist = (s : State) (e : Event) → (outs : List Out) × (t : State) × Ste
 -- with no workers, an event's own reply is put out, and then the answer to the task that it brings
 abbrev pub AnsweredAtOnce : Type 0
 AnsweredAtOnce = (events : List Turn) (j : ℕ) → outputs_at 0 events j
-    ≡ own (session_at events j) (denied_at events j []) (effect_at events j) (changed_at events j) ++ answer_to (taken_at events j []) (turn_at events j).answer
+    ≡ own 0 (session_at events j) (denied_at events j []) (effect_at events j) (changed_at events j) ++ answer_to (taken_at events j []) (turn_at events j).answer
 
 -- ---- which event decides
 
@@ -202,10 +206,15 @@ published_by (effect.ShutsDown id) document = []
 published_by (effect.Finishes done) document = []
 published_by (effect.Stops status) document = []
 
--- in the step of an event its change is handed on, where it is one, and then the jobs that the list of events tells
+-- in the step of an event its change is handed on, where it is one and there are workers, and then the jobs that the list of events tells
 abbrev pub HandedOnInItsStep : Type 0
 HandedOnInItsStep = (workers : ℕ) (events : List Turn) (j : ℕ)
-    → handings (outputs_at workers events j) ≡ published_by (effect_at events j) (changed_at events j) ++ map Given (handed_at workers events j (handed_before workers events j))
+    → handings (outputs_at workers events j)
+    ≡ (if workers == 0 then [] else published_by (effect_at events j) (changed_at events j)) ++ map Given (handed_at workers events j (handed_before workers events j))
+
+-- with no workers nothing is handed on
+abbrev pub NothingIsHandedToNone : Type 0
+NothingIsHandedToNone = (events : List Turn) (j : ℕ) → handings (outputs_at 0 events j) ≡ []
 
 -- the documents after a change are those before it, changed as it is published
 abbrev pub ChangesArePublished : Type 0

@@ -76,8 +76,8 @@ abbrev pub verdicts : List Doc → Effect → List Job → List Out
 verdicts docs e pending = flat_map (verdict e) (filter (decides docs e) pending)
 
 -- that, then its own reply
-abbrev pub replies_to : Session → Table → Effect → Option OpenDocument → List Out
-replies_to session jobs e document = verdicts (docs_of session.documents) e jobs.pending ++ own session (denied_in session jobs e) e document
+abbrev pub replies_to : ℕ → Session → Table → Effect → Option OpenDocument → List Out
+replies_to workers session jobs e document = verdicts (docs_of session.documents) e jobs.pending ++ own workers session (denied_in session jobs e) e document
 
 -- the jobs that a task makes, where there are workers
 abbrev pub jobs_for : ℕ → ℕ → Option Task → List Job
@@ -104,7 +104,7 @@ after_effect s e document = record {
 }
 
 abbrev pub writes_effect : State → Effect → Option OpenDocument → Answer → List Out
-writes_effect s e document a = replies_to s.session s.jobs e document ++ brings s.workers s.session s.jobs e (taken_by s.session s.jobs e) a
+writes_effect s e document a = replies_to s.workers s.session s.jobs e document ++ brings s.workers s.session s.jobs e (taken_by s.session s.jobs e) a
 
 abbrev pub effect_in : State → Turn → Effect
 effect_in s turn = effect_of s.session.phase s.session.documents turn.event

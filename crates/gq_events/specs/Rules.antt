@@ -2,6 +2,7 @@
 use Rattle.std.specs.Prelude.{ℕ, Bool, true, false, ◌&&◌, not, ◌==◌, nat_le, List, [], ◌∷◌, ◌++◌, map, count_by, codes, option_map, option_to_list, Option, Some, None, if◌then◌else◌}
 use Rattle.std.specs.List.{list_any}
 use Rattle.gq_project.specs.declared.document.Doc.{Doc}
+use Rattle.gq_project.specs.declared.document.DocChange.{DocChange}
 use Rattle.gq_rpc.specs.declared.messages.Id.{Id}
 use Rattle.gq_rpc.specs.declared.messages.ClientCapabilities.{ClientCapabilities}
 use Rattle.gq_rpc.specs.declared.messages.ServerCapabilities.{ServerCapabilities}
@@ -40,7 +41,7 @@ use Rattle.gq_events.specs.declared.effect.Effect.TheVariants as effect
 use Rattle.gq_events.specs.Documents.{document_at, is_open, is_any_lost, is_change, changed, key_of, with_changed, published}
 use Rattle.gq_events.specs.Tasks.{same_task, same_docs, place_of, is_of, is_ask, Answers}
 
--- an event, and what was free to choose: whether the text of its change was refused memory, and the answer to the task that
+-- an event, and what was free to choose: whether the edit that it is was refused memory, and the answer to the task that
 -- it brings, where there is no worker to answer that
 pub record Turn : Type 0 where
   pub event : Event
@@ -329,20 +330,24 @@ cleared documents (change.Open item) = []
 cleared documents (change.Edit params) = []
 cleared documents (change.Close key) = option_to_list (option_map nothing_wrong (document_at key documents))
 
-abbrev pub own_of_change : Session → Change → Option OpenDocument → List Out
-own_of_change s c document = (if s.diagnostics then cleared s.documents c else []) ++ out.Publish (published (key_of c) document) ∷ []
+-- what workers are to see changed; with none, nothing is put out for them
+abbrev pub shown : ℕ → DocChange → List Out
+shown workers c = if workers == 0 then [] else out.Publish c ∷ []
 
--- the event's own reply, and what is published
-abbrev pub own : Session → Option Denial → Effect → Option OpenDocument → List Out
-own s denied (effect.Begins id capabilities) document = out.Reply (outgoing.Initialized id (server_capabilities capabilities)) ∷ []
-own s denied (effect.Refuses id why) document = out.Reply (outgoing.Error id why) ∷ []
-own s denied (effect.Asks id asked) document = denied_with id denied
-own s denied (effect.Changes c) document = own_of_change s c document
-own s denied (effect.ShutsDown id) document = out.Reply (outgoing.ShutDown id) ∷ []
-own s denied (effect.Stops status) document = out.Stop status ∷ []
-own s denied effect.Nothing document = []
-own s denied (effect.Cancels id) document = []
-own s denied (effect.Finishes done) document = []
+abbrev pub own_of_change : ℕ → Session → Change → Option OpenDocument → List Out
+own_of_change workers s c document = (if s.diagnostics then cleared s.documents c else []) ++ shown workers (published (key_of c) document)
+
+-- the event's own reply, and what is published for workers
+abbrev pub own : ℕ → Session → Option Denial → Effect → Option OpenDocument → List Out
+own workers s denied (effect.Begins id capabilities) document = out.Reply (outgoing.Initialized id (server_capabilities capabilities)) ∷ []
+own workers s denied (effect.Refuses id why) document = out.Reply (outgoing.Error id why) ∷ []
+own workers s denied (effect.Asks id asked) document = denied_with id denied
+own workers s denied (effect.Changes c) document = own_of_change workers s c document
+own workers s denied (effect.ShutsDown id) document = out.Reply (outgoing.ShutDown id) ∷ []
+own workers s denied (effect.Stops status) document = out.Stop status ∷ []
+own workers s denied effect.Nothing document = []
+own workers s denied (effect.Cancels id) document = []
+own workers s denied (effect.Finishes done) document = []
 
 -- the answer to a task that it brings, where no worker is to answer
 abbrev pub answer_to : Option Task → Answer → List Out

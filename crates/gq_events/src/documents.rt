@@ -1,5 +1,6 @@
 //! The documents that a client has open.
-ghost use Rattle.std.specs.Prelude.{◌≡◌, ◌≤◌, ◌^◌, Bool, true, false, [], length, Some, None, IfOk, IfErr, OnOk, OnErr, option_map, if◌then◌else◌};
+ghost use Rattle.std.specs.Prelude.{◌≡◌, ◌<◌, ◌≤◌, ◌^◌, Bool, true, false, [], length, Some, None, MatchOption, IfOk, IfErr, OnOk};
+ghost use Rattle.std.specs.List.{HoldsAt};
 ghost use Rattle.gq_edit.specs.Workspace.{AreTexts};
 ghost use Rattle.gq_project.specs.Helping.Places.{IsPlaceOf, IsGapFor};
 ghost use Rattle.gq_events.specs.declared.effect.Change.TheVariants as change;
@@ -32,8 +33,8 @@ pub struct OpenDocument {
 }
 
 /// The document as it is opened. It takes no memory.
-fn open_document(alloc: Global, item: TextDocumentItem) -> OpenDocument
-    ensures { result ≡ spec.opened item false }
+pub fn open_document(alloc: Global, item: TextDocumentItem) -> OpenDocument
+    ensures { result ≡ spec.opened item }
 {
     let TextDocumentItem {
         key,
@@ -60,7 +61,7 @@ fn open_document(alloc: Global, item: TextDocumentItem) -> OpenDocument
 }
 
 /// A copy of the document, for a project.
-fn copy_document(alloc: Global, document: &OpenDocument) -> Result<Doc, NoMemory>
+pub fn copy_document(alloc: Global, document: &OpenDocument) -> Result<Doc, NoMemory>
     ensures doc { IfOk result (λ doc. doc ≡ spec.doc_of document.now) }
     ensures text { IfOk result (λ doc. length doc.text ≤ 2 ^ 22) }
 {
@@ -78,20 +79,6 @@ fn lose(alloc: Global, document: &mut OpenDocument)
 {
     document.text = OpenText::empty(alloc);
     document.lost = true;
-}
-
-/// A copy of the document, as workers are to see it. Its text is lost where a copy of that finds no memory.
-fn copy_or_lose(alloc: Global, document: &mut OpenDocument) -> Result<Doc, NoMemory>
-    ensures document { (refused : Bool) × (document.new ≡ (if refused then spec.document_with document.old.key document.old.uri document.old.version None else document.old)) }
-    ensures doc { IfOk result (λ doc. doc ≡ spec.doc_of document.new) }
-{
-    match copy_document(alloc, document) {
-        Ok(doc) => Ok(doc),
-        Err(NoMemory) => {
-            lose(alloc, document);
-            copy_document(alloc, document)
-        }
-    }
 }
 
 /// Makes the changes of its text. False where it is not known after them.
@@ -138,19 +125,6 @@ fn edit_document(alloc: Global, document: &mut OpenDocument, params: &DidChangeP
 {
     change_text(alloc, POSITION_ENCODING, document, params);
     document.version = params.version.unwrap_or(document.version);
-}
-
-/// Edits the document, and copies it as workers are to see it.
-fn edit_and_copy(
-    alloc: Global,
-    document: &mut OpenDocument,
-    params: &DidChangeParams,
-) -> Result<Doc, NoMemory>
-    ensures document { (refused : Bool) × (document.new ≡ spec.edited document.old params.now refused) }
-    ensures doc { IfOk result (λ doc. doc ≡ spec.doc_of document.new) }
-{
-    edit_document(alloc, document, params);
-    copy_or_lose(alloc, document)
 }
 
 /// The documents that a client has open, in ascending byte order of their keys.
@@ -224,7 +198,7 @@ impl OpenDocuments {
     }
 
     /// Puts the document in its place. Only one more takes memory.
-    fn put(&mut self, document: OpenDocument) -> Result<(), NoMemory>
+    pub fn put(&mut self, document: OpenDocument) -> Result<(), NoMemory>
         ensures { OnOk result (self.new ≡ spec.with_document self.old document) }
     {
         match self.place(document.key.as_str()) {
@@ -239,26 +213,18 @@ impl OpenDocuments {
         }
     }
 
-    /// Opens a document, in place of the one of its key: a copy of it, as workers are to see it.
-    pub fn open(&mut self, alloc: Global, item: TextDocumentItem) -> Result<Doc, NoMemory>
-        ensures { IfOk result (λ doc. (refused : Bool) × (self.new ≡ spec.with_document self.old (spec.opened item refused)) × (doc ≡ spec.doc_of (spec.opened item refused))) }
-    {
-        let mut document = open_document(alloc, item);
-        let doc = copy_or_lose(alloc, &mut document)?;
-        self.put(document)?;
-        Ok(doc)
-    }
-
-    /// Edits the document of that key, if it is open: a copy of it, as workers are to see it.
-    pub fn edit(&mut self, alloc: Global, params: &DidChangeParams) -> Result<Option<Doc>, NoMemory>
-        ensures { IfOk result (λ doc. (refused : Bool) × (self.new ≡ spec.with_changed self.old params.now.key (spec.changed self.old (change.Edit params.now) refused)) × (doc ≡ option_map spec.doc_of (spec.changed self.old (change.Edit params.now) refused))) }
+    /// Edits the document of that key, if it is open: where it is. It takes no memory but for the changes of its text,
+    /// which is lost where they find none.
+    pub fn edit(&mut self, alloc: Global, params: &DidChangeParams) -> Option<usize>
+        ensures { (refused : Bool) × (self.new ≡ spec.with_changed self.old params.now.key (spec.changed self.old (change.Edit params.now) refused))
+            × MatchOption result (spec.changed self.old (change.Edit params.now) refused ≡ None) (λ at. (at < length self.new) × HoldsAt (λ document. spec.changed self.old (change.Edit params.now) refused ≡ Some document) self.new at) }
     {
         match self.place(params.key.as_str()) {
             Ok(at) => {
-                let doc = edit_and_copy(alloc, &mut self.documents[at], params)?;
-                Ok(Some(doc))
+                edit_document(alloc, &mut self.documents[at], params);
+                Some(at)
             }
-            Err(_) => Ok(None),
+            Err(_) => None,
         }
     }
 

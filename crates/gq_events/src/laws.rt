@@ -5,9 +5,14 @@ ghost use Rattle.gq_events.specs.Headline.{EditsAreSafe};
 
 use gq_replies::laws::{answered_edits_are_safe, answers_respond};
 
-/// Step by step, a desk puts out what the list of events tells.
+/// Step by step, a desk puts out what the list of events tells, behind whatever it took before.
 pub fn steps_tell_history()
     ensures { spec.StepsTellHistory }
+{}
+
+/// What earlier events put out is the same, whatever comes behind them.
+pub fn outputs_go_on()
+    ensures { spec.OutputsGoOn }
 {}
 
 /// From each state an event leads on.
@@ -81,9 +86,15 @@ pub fn out_is_bounded()
     ensures { spec.OutIsBounded }
 {}
 
-/// In the step of an event its change is handed on, where it is one, and then the jobs that the list of events tells.
+/// In the step of an event its change is handed on, where it is one and there are workers, and then the jobs that the list
+/// of events tells.
 pub fn handed_on_in_its_step()
     ensures { spec.HandedOnInItsStep }
+{}
+
+/// With no workers nothing is handed on.
+pub fn nothing_is_handed_to_none()
+    ensures { spec.NothingIsHandedToNone }
 {}
 
 /// What is published of a change is what it changes.

@@ -1,21 +1,21 @@
 //! How far a session has come, and the documents that its client has open.
-ghost use Rattle.std.specs.Prelude.{◌≡◌, ◌++◌, Bool, [], ◌∷◌, Some, None, IfOk, OnOk, option_to_list, option_map, if◌then◌else◌};
-ghost use Rattle.std.specs.Option.{option_map_or};
+ghost use Rattle.std.specs.Prelude.{◌≡◌, ◌++◌, Bool, [], Some, None, IfOk, OnOk, option_to_list, option_map, if◌then◌else◌};
 ghost use Rattle.gq_project.specs.declared.document.DocChange.TheVariants as doc_change;
 ghost use Rattle.gq_events.specs.declared.event.Task.TheVariants as task;
-ghost use Rattle.gq_events.specs.Documents.{key_of, changed, with_changed};
+ghost use Rattle.gq_events.specs.declared.effect.Change.TheVariants as change;
+ghost use Rattle.gq_events.specs.Documents.{doc_of, key_of, opened, changed, with_document, with_changed, published};
 ghost use Rattle.gq_events.specs.Rules as spec;
 
-use crate::documents::{OpenDocument, OpenDocuments};
+use crate::documents::{OpenDocument, OpenDocuments, copy_document, open_document};
 use crate::effect::{Change, Effect, Phase, effect_of};
 use crate::event::{Event, Job, Out, Task};
 use crate::refusals::{
     Denial, are_too_many, denied, is_pending, key_of, wants_code_actions, wants_document_changes,
 };
-use gq_project::{Doc, DocChange};
+use gq_project::DocChange;
 use gq_rpc::{
-    ClientCapabilities, Id, Outgoing, PublishDiagnosticsParams, Question, ResponseError,
-    ServerCapabilities,
+    ClientCapabilities, DidChangeParams, Id, Outgoing, PublishDiagnosticsParams, Question,
+    ResponseError, ServerCapabilities, TextDocumentItem,
 };
 use gq_text::{Items, NoMemory, OwnedText, PositionEncoding};
 use std::alloc::Global;
@@ -62,14 +62,32 @@ fn clear(
     }
 }
 
-/// What workers are told of a document that is open now, or of the key that no document has.
-fn told(key: OwnedText, doc: Option<Doc>) -> DocChange
-    ensures { result ≡ option_map_or doc_change.Put doc (doc_change.Close key) }
+/// Adds a copy of the document for workers, where there are any.
+fn show(
+    alloc: Global,
+    workers: u8,
+    document: &OpenDocument,
+    outs: &mut Vec<Out>,
+) -> Result<(), NoMemory>
+    ensures { OnOk result (outs.new.items ≡ outs.old.items ++ spec.shown workers (doc_change.Put (doc_of document.now))) }
 {
-    match doc {
-        Some(doc) => DocChange::Put(doc),
-        None => DocChange::Close(key),
+    if workers == 0 {
+        return Ok(());
     }
+    let copy = copy_document(alloc, document)?;
+    outs.push(Out::Publish(DocChange::Put(copy)))?;
+    Ok(())
+}
+
+/// Adds for workers, where there are any, that no document has that key now.
+fn hide(workers: u8, key: OwnedText, outs: &mut Vec<Out>) -> Result<(), NoMemory>
+    ensures { OnOk result (outs.new.items ≡ outs.old.items ++ spec.shown workers (doc_change.Close key)) }
+{
+    if workers == 0 {
+        return Ok(());
+    }
+    outs.push(Out::Publish(DocChange::Close(key)))?;
+    Ok(())
 }
 
 /// After a change the documents are checked, where the client takes diagnostics.
@@ -218,40 +236,83 @@ impl ClientSession {
         }
     }
 
-    /// Changes the documents, and adds what that makes known.
-    fn change(&mut self, alloc: Global, change: Change, outs: &mut Vec<Out>) -> Result<(), NoMemory>
-        ensures { OnOk result ((refused : Bool) × (self.new ≡ spec.with_documents self.old (with_changed self.old.documents (key_of change) (changed self.old.documents change refused))) × (outs.new.items ≡ outs.old.items ++ spec.own_of_change self.old change (changed self.old.documents change refused))) }
+    /// Opens a document, in place of the one of its key, and shows it to workers.
+    fn open(
+        &mut self,
+        alloc: Global,
+        workers: u8,
+        item: TextDocumentItem,
+        outs: &mut Vec<Out>,
+    ) -> Result<(), NoMemory>
+        ensures session { OnOk result (self.new ≡ spec.with_documents self.old (with_document self.old.documents (opened item))) }
+        ensures outs { OnOk result (outs.new.items ≡ outs.old.items ++ spec.shown workers (doc_change.Put (doc_of (opened item)))) }
     {
-        match change {
-            Change::Open(item) => {
-                let doc = self.documents.open(alloc, item)?;
-                outs.push(Out::Publish(DocChange::Put(doc)))?;
-                Ok(())
-            }
-            Change::Edit(params) => {
-                let doc = self.documents.edit(alloc, &params)?;
-                outs.push(Out::Publish(told(params.key, doc)))?;
-                Ok(())
-            }
-            Change::Close(key) => {
-                let closed = self.documents.close(key.as_str());
-                clear(alloc, self.diagnostics, closed, outs)?;
-                outs.push(Out::Publish(DocChange::Close(key)))?;
-                Ok(())
-            }
+        let document = open_document(alloc, item);
+        show(alloc, workers, &document, outs)?;
+        self.documents.put(document)
+    }
+
+    /// Edits a document, and shows it to workers.
+    fn edit(
+        &mut self,
+        alloc: Global,
+        workers: u8,
+        params: DidChangeParams,
+        outs: &mut Vec<Out>,
+    ) -> Result<(), NoMemory>
+        ensures { OnOk result ((refused : Bool) × (self.new ≡ spec.with_documents self.old (with_changed self.old.documents params.key (changed self.old.documents (change.Edit params) refused))) × (outs.new.items ≡ outs.old.items ++ spec.shown workers (published params.key (changed self.old.documents (change.Edit params) refused)))) }
+    {
+        match self.documents.edit(alloc, &params) {
+            Some(at) => show(alloc, workers, &self.documents.as_slice()[at], outs),
+            None => hide(workers, params.key, outs),
         }
     }
 
-    /// Takes in an event of this effect, and adds its own reply and what it publishes: the task that it brings.
+    /// Closes a document, and adds that nothing is wrong in it any more; workers see it closed.
+    fn close(
+        &mut self,
+        alloc: Global,
+        workers: u8,
+        key: OwnedText,
+        outs: &mut Vec<Out>,
+    ) -> Result<(), NoMemory>
+        ensures session { OnOk result (self.new ≡ spec.with_documents self.old (with_changed self.old.documents key None)) }
+        ensures outs { OnOk result (outs.new.items ≡ outs.old.items ++ spec.own_of_change workers self.old (change.Close key) None) }
+    {
+        let closed = self.documents.close(key.as_str());
+        clear(alloc, self.diagnostics, closed, outs)?;
+        hide(workers, key, outs)
+    }
+
+    /// Changes the documents, and adds what that makes known, to the client and to so many workers.
+    fn change(
+        &mut self,
+        alloc: Global,
+        workers: u8,
+        change: Change,
+        outs: &mut Vec<Out>,
+    ) -> Result<(), NoMemory>
+        ensures { OnOk result ((refused : Bool) × (self.new ≡ spec.with_documents self.old (with_changed self.old.documents (key_of change) (changed self.old.documents change refused))) × (outs.new.items ≡ outs.old.items ++ spec.own_of_change workers self.old change (changed self.old.documents change refused))) }
+    {
+        match change {
+            Change::Open(item) => self.open(alloc, workers, item, outs),
+            Change::Edit(params) => self.edit(alloc, workers, params, outs),
+            Change::Close(key) => self.close(alloc, workers, key, outs),
+        }
+    }
+
+    /// Takes in an event of this effect, and adds its own reply and what it publishes for so many workers: the task that
+    /// it brings.
     pub fn take_in(
         &mut self,
         alloc: Global,
+        workers: u8,
         denied: Option<Denial>,
         effect: Effect,
         outs: &mut Vec<Out>,
     ) -> Result<Option<Task>, NoMemory>
         ensures task { IfOk result (λ task. task ≡ spec.taken self.old.diagnostics denied effect) }
-        ensures own { OnOk result ((text_refused : Bool) × (self.new ≡ spec.session_after self.old effect (spec.changed_by self.old effect text_refused)) × (outs.new.items ≡ outs.old.items ++ spec.own self.old denied effect (spec.changed_by self.old effect text_refused))) }
+        ensures own { OnOk result ((text_refused : Bool) × (self.new ≡ spec.session_after self.old effect (spec.changed_by self.old effect text_refused)) × (outs.new.items ≡ outs.old.items ++ spec.own workers self.old denied effect (spec.changed_by self.old effect text_refused))) }
     {
         match effect {
             Effect::Begins(id, capabilities) => {
@@ -269,7 +330,7 @@ impl ClientSession {
             }
             Effect::Asks(id, asked) => take_question(alloc, id, asked, denied, outs),
             Effect::Changes(change) => {
-                self.change(alloc, change, outs)?;
+                self.change(alloc, workers, change, outs)?;
                 Ok(check_after(self.diagnostics))
             }
             Effect::ShutsDown(id) => {

@@ -1,5 +1,5 @@
 //! What a worker makes of a job.
-ghost use Rattle.std.specs.Prelude.{◌≡◌, true, IfOk};
+ghost use Rattle.std.specs.Prelude.{◌≡◌, IfOk};
 ghost use Rattle.gq_edit.specs.Workspace.{AreTexts};
 ghost use Rattle.gq_replies.specs.Answers.{IsAnswer, AreDiagnosticsMessages};
 ghost use Rattle.gq_events.specs.Positions.{position_encoding};
@@ -11,7 +11,6 @@ use crate::session::POSITION_ENCODING;
 use gq_project::Project;
 use gq_replies::{answer, diagnostics_messages};
 use gq_rpc::{Id, Outgoing, Question};
-use gq_text::text::TEXT_MAX;
 use gq_text::{Items, NoMemory};
 use std::alloc::Global;
 
@@ -48,24 +47,11 @@ fn find_answer(alloc: Global, task: &Task, texts: &Project) -> Result<Answer, No
     }
 }
 
-/// Whether each text has at most 4 MiB, as those of open documents have.
-fn are_texts(texts: &Project) -> bool
-    ensures { result ≡ true → AreTexts texts.now }
-{
-    texts
-        .documents()
-        .iter()
-        .all(|doc| doc.text.as_str().len() <= TEXT_MAX)
-}
-
-/// The answer to a task about the texts. Want of memory is an answer, too, and that of a longer text, which no open document
-/// has.
+/// The answer to a task about the texts. Want of memory is an answer, too.
 fn answer_task(alloc: Global, task: &Task, texts: &Project) -> Answer
+    requires { AreTexts texts.now }
     ensures { Answers texts.now task.now result }
 {
-    if !are_texts(texts) {
-        return Answer::NoMemory;
-    }
     match find_answer(alloc, task, texts) {
         Ok(answer) => answer,
         Err(NoMemory) => Answer::NoMemory,
@@ -73,10 +59,11 @@ fn answer_task(alloc: Global, task: &Task, texts: &Project) -> Answer
 }
 
 impl Done {
-    /// What a worker makes of the job of that number: the answer to its task about these texts. A question comes to a
-    /// response, and a check to a report of a notification for each text, in order of key. Want of memory is an answer,
-    /// too, and that to any task about texts of which one has more than 4 MiB, which no open document has.
+    /// What a worker makes of the job of that number: the answer to its task about these texts, each of at most 4 MiB, as
+    /// those of open documents are. A question comes to a response, and a check to a report of a notification for each
+    /// text, in order of key. Where a growth was refused, that is the answer.
     pub fn of(alloc: Global, job: u64, task: Task, texts: Project) -> Done
+        requires { AreTexts texts }
         ensures job { result.job ≡ job }
         ensures task { result.task ≡ task }
         ensures texts { result.texts ≡ texts }

@@ -78,3 +78,9 @@ abbrev pub end_of : Option (List ℕ) → Result (Unit {0}) FrameFault
 end_of None = Err Failed
 end_of (Some []) = Ok tt
 end_of (Some (b ∷ bytes)) = Err Truncated
+
+-- and what it holds afterwards: where it told a fault it has failed
+abbrev pub ended : Option (List ℕ) → Option (List ℕ)
+ended None = None
+ended (Some []) = Some []
+ended (Some (b ∷ bytes)) = None

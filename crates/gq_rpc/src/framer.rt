@@ -1,6 +1,6 @@
 //! Frames in a stream that comes in pieces, and the frame of a body (LSP 3.17, base protocol).
 ghost use Rattle.std.specs.Prelude.{◌≡◌, ◌≤◌, ◌++◌, [], ◌∷◌, ℕ, List, None, Some, Err, drop, length, OnErr, OnOk, IfSome, IfOk};
-ghost use Rattle.gq_rpc.specs.Frames.{Reads, Stops, Feeds, FeedsVec, end_of, contents, frame};
+ghost use Rattle.gq_rpc.specs.Frames.{Reads, Stops, Feeds, FeedsVec, end_of, ended, contents, frame};
 
 use crate::header::{FrameFault, Scan, scan_front, skip};
 use std::alloc::{AllocError, Global};
@@ -104,18 +104,19 @@ impl Framer {
         answer
     }
 
-    /// Whether the input may end here. It takes no memory.
-    pub fn end(&self) -> Result<(), FrameFault>
-        ensures { result ≡ end_of self.now }
+    /// Whether the input may end here. A framer that holds less than a frame has failed by it. It takes no memory.
+    pub fn end(&mut self) -> Result<(), FrameFault>
+        ensures answer { result ≡ end_of self.old }
+        ensures after { self.new ≡ ended self.old }
     {
         if self.failed {
             return Err(FrameFault::Failed);
         }
         if self.held.is_empty() {
-            Ok(())
-        } else {
-            Err(FrameFault::Truncated)
+            return Ok(());
         }
+        self.failed = true;
+        Err(FrameFault::Truncated)
     }
 }
 

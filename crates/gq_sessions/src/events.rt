@@ -1,4 +1,7 @@
 //! Lists of events that a desk with workers takes, with what it puts out for each of them.
+ghost use Rattle.std.specs.Prelude.{◌≡◌, true};
+ghost use Rattle.gq_edit.specs.Workspace.{AreTexts};
+
 use crate::no_answer::NoAnswer;
 use crate::taker::Taker;
 use gq_desk::{Done, Event, InputEnd, Job, Out, Task};
@@ -6,6 +9,7 @@ use gq_events::copy_task;
 use gq_project::{Doc, DocChange, Project};
 use gq_rpc::{Incoming, Outgoing, Request, encode, read_message};
 use gq_text::OwnedText;
+use gq_text::text::TEXT_MAX;
 use std::alloc::Global;
 
 /// A job that was handed on, and the documents that workers saw then.
@@ -72,6 +76,16 @@ fn numbered<'a>(words: &'a str, word: &str) -> Result<(u64, &'a str), NoAnswer> 
         Some((number, rest)) => Ok((number.parse::<u64>()?, rest)),
         None => Ok((rest.parse::<u64>()?, "")),
     }
+}
+
+/// Whether each text has at most 4 MiB.
+fn are_texts(texts: &Project) -> bool
+    ensures { result ≡ true → AreTexts texts.now }
+{
+    texts
+        .documents()
+        .iter()
+        .all(|doc| doc.text.as_str().len() <= TEXT_MAX)
 }
 
 impl Play {
@@ -151,6 +165,9 @@ impl Play {
         let mut texts = self.texts(seen)?;
         if let Some(change) = change {
             self.change_text(&mut texts, change)?;
+        }
+        if !are_texts(&texts) {
+            return Err(NoAnswer);
         }
         Ok(Done::of(self.alloc, number, self.task(task)?, texts))
     }

@@ -1,5 +1,6 @@
 mod check;
 mod devices;
+mod driving;
 mod refactorings;
 mod reports;
 mod runs;

@@ -4,6 +4,7 @@ ghost use Rattle.std.specs.Prelude.{◌<◌};
 use gq_crew::{Ended, RunFault, run_one};
 use gq_rpc::{Flagged, FrameFault, Reading, Sink, Source};
 use std::alloc::Global;
+use std::cell::Cell;
 use std::process::Abort;
 use std::test::Fail;
 
@@ -31,9 +32,6 @@ const RENAMED: &str =
 
 const NO_MEMORY: &str =
     "Content-Length: 72\r\n\r\n{\"error\":{\"code\":-32803,\"message\":\"12 NoMemory\"},\"id\":2,\"jsonrpc\":\"2.0\"}";
-
-const DOCUMENT_LOST: &str =
-    "Content-Length: 74\r\n\r\n{\"error\":{\"code\":-32803,\"message\":\"document lost\"},\"id\":2,\"jsonrpc\":\"2.0\"}";
 
 const SHUT_DOWN: &str = "Content-Length: 38\r\n\r\n{\"id\":3,\"jsonrpc\":\"2.0\",\"result\":null}";
 
@@ -250,19 +248,132 @@ fn is_front(bytes: &[u8], texts: &[&str; 3]) -> bool {
     rest.is_empty()
 }
 
-/// Whatever growth is refused: what is written is a front of the replies, or of the replies with the rename refused or its
-/// document lost, and a run that does not come to its end says why.
+/// Whatever growth is refused: what is written is a front of the replies, or of the replies with the rename refused; no
+/// document is lost, and a run that does not come to its end says why.
 #[test]
 fn a_refused_growth_is_told(rt: HostRuntime) -> Result<(), Fail> {
     let input = stream(rt.alloc(), &SESSION)?;
     let (written, ended) = run(rt.alloc(), input.as_bytes(), usize::MAX, false);
     let ample = is_front(&written, &REPLIES);
     let refused = is_front(&written, &[INITIALIZED, NO_MEMORY, SHUT_DOWN]);
-    let lost = is_front(&written, &[INITIALIZED, DOCUMENT_LOST, SHUT_DOWN]);
     let is_told = match ended.fault {
         None => ended.status == 0 && written.as_slice().ends_with(SHUT_DOWN.as_bytes()),
         Some(fault) => ended.status == 3 && fault != RunFault::Frame(FrameFault::Failed),
     };
-    assert!(rt; (ample || refused || lost) && is_told);
+    assert!(rt; (ample || refused) && is_told);
+    Ok(())
+}
+
+/// A message of a client, and how much it wants to be written before.
+#[derive(Drop)]
+struct Turn {
+    frame: String,
+    after: usize,
+}
+
+/// A client that waits: a read gives one message, and only once the replies to those before it are written; else it fails.
+#[derive(Drop)]
+struct Waiting<'a> {
+    turns: &'a [Turn],
+    next: usize,
+    written: &'a Cell<usize>,
+    failed: bool,
+    ended: bool,
+}
+
+impl<'a> Source for Waiting<'a> {
+    ghost use Rattle.std.specs.Prelude.{None};
+
+    ghost left = { λ _. None };
+
+    ghost failed = { λ s. s.failed };
+
+    ghost ended = { λ s. s.ended };
+
+    fn read(&mut self, buffer: &mut [u8]) -> Reading {
+        let Some(turn) = self.turns.get(self.next) else {
+            self.ended = true;
+            return Reading::End;
+        };
+        let count = turn.frame.len();
+        if self.written.get() < turn.after || count == 0 || count > buffer.len() {
+            self.failed = true;
+            return Reading::Failed;
+        }
+        buffer[..count].copy_from_slice(turn.frame.as_bytes());
+        self.next = self.next.saturating_add(1);
+        Reading::Bytes(count)
+    }
+}
+
+/// A sink that shows how much was written.
+#[derive(Drop)]
+struct Counted<'a> {
+    bytes: Vec<u8>,
+    written: &'a Cell<usize>,
+    failed: bool,
+}
+
+impl<'a> Sink for Counted<'a> {
+    ghost use Rattle.std.specs.Prelude.{None};
+
+    ghost held = { λ _. None };
+
+    ghost failed = { λ s. s.failed };
+
+    fn write(&mut self, bytes: &[u8]) -> Option<usize> {
+        if self.bytes.extend_from_slice(bytes).is_err() {
+            self.failed = true;
+            return None;
+        }
+        self.written.set(self.bytes.len());
+        Some(bytes.len())
+    }
+}
+
+/// The messages of the session, each with its reply.
+const ANSWERED: [(&str, &str); 6] = [
+    (INITIALIZE, INITIALIZED),
+    (OPEN_S, ""),
+    (OPEN_Q, ""),
+    (RENAME, RENAMED),
+    (SHUTDOWN, SHUT_DOWN),
+    (EXIT, ""),
+];
+
+/// The messages of the session, each after the replies to those before it.
+fn turns(alloc: Global) -> Result<Vec<Turn>, Fail> {
+    let mut turns = Vec::new(alloc);
+    let mut after: usize = 0;
+    for (body, reply) in ANSWERED {
+        let frame = stream(alloc, &[body])?;
+        turns.push(Turn { frame, after })?;
+        after = after.saturating_add(reply.len());
+    }
+    Ok(turns)
+}
+
+/// A body that read all that it can before it writes would wait for ever for such a client, which here fails.
+#[test]
+fn a_message_is_answered_before_the_next_is_read(rt: HostRuntime) -> Result<(), Fail> {
+    let alloc = rt.alloc();
+    let turns = turns(alloc)?;
+    let written = Cell::new(0);
+    let mut source = Waiting {
+        turns: &turns,
+        next: 0,
+        written: &written,
+        failed: false,
+        ended: false,
+    };
+    let mut sink = Counted {
+        bytes: Vec::new(alloc),
+        written: &written,
+        failed: false,
+    };
+    let ended = run_one(alloc, &mut source, &mut sink);
+    let all = joined(alloc, &REPLIES)?;
+    assert_eq!(rt; ended, stopped(0));
+    assert_eq!(rt; sink.bytes.as_slice(), all.as_bytes());
     Ok(())
 }

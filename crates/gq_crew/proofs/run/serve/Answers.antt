@@ -1,6 +1,7 @@
-use Rattle.std.proofs.Common.{◌≡◌, inl, inr, true, false, Some, Err, ap, ◌∙◌}
+use Rattle.std.proofs.Common.{◌≡◌, inl, inr, true, false, [], Some, Err, ap, ◌∙◌}
 use Rattle.gq_desk.specs.declared.driving.DriveFault.TheVariants as drive
 use Rattle.gq_crew.specs.Helping.Inbox.{seen_in, Steps, fault_at, ended_as}
+use Rattle.gq_desk.proofs.Standing.{stands_new}
 use Rattle.gq_crew.proofs.Driven.{drives, fails}
 use Rattle.gq_crew.proofs.run.serve.Goals as goal
 
@@ -10,8 +11,8 @@ returns-in-Ok g c =
     let status = c.in-Ok.status in
     let e =
     drives (Steps g.S.Source.left g.S.Source.ended g.S.Source.failed) view (λ b. b.input.ghost_name) (λ a r b s. s) _ (λ x y z. ⊥) (λ x y z bad. bad) (view c.args.inbox.now).source c.requires.sound
-    c.args.inbox.now c.drive.new.events c.requires.unread _ _ (g.K.Sink.held c.args.output.now) (record { held = g.K.Sink.held c.drive.new.writer; failed = g.K.Sink.failed c.drive.new.writer }) status
-    (c.in-Ok.ensures.ok 0 c.new-desk.ensures) in
+    c.know_claims.ensures c.args.inbox.now c.drive.new.events c.requires.unread c.drive.new.desk _ _ (g.K.Sink.held c.args.output.now) (record { held = g.K.Sink.held c.drive.new.writer; failed = g.K.Sink.failed c.drive.new.writer }) status
+    (c.in-Ok.ensures.ok 0 [] (stands_new 0 _ c.new-desk.ensures)) in
     let is : c.stopped.result ≡ ended_as status c.drive.new.events.pending.now.told = c.stopped.ensures ∙ ap (ended_as status) c.told.ensures in
     record {
       same_input = e.same;
@@ -25,11 +26,11 @@ returns g c =
     let view = seen_in g.S.Source.left g.S.Source.ended g.S.Source.failed in
     let e =
     fails (Steps g.S.Source.left g.S.Source.ended g.S.Source.failed) view (λ b. b.input.ghost_name) (λ a r b s. s) _ (λ x y z. ⊥) (λ x y z bad. bad) (view c.args.inbox.now).source c.requires.sound
-    c.args.inbox.now c.drive.new.events c.requires.unread _ _ (g.K.Sink.held c.args.output.now) (record { held = g.K.Sink.held c.drive.new.writer; failed = g.K.Sink.failed c.drive.new.writer }) c.in-Err.fault
-    (c.in-Err.ensures.err 0 c.new-desk.ensures)
-    (λ is. elim (c.in-Err.ensures.device (ap Err is)) [ inl failed ↦ inl failed | inr many ↦ inr (many 0 c.new-desk.ensures) ])
+    c.know_claims.ensures c.args.inbox.now c.drive.new.events c.requires.unread c.drive.new.desk _ _ (g.K.Sink.held c.args.output.now) (record { held = g.K.Sink.held c.drive.new.writer; failed = g.K.Sink.failed c.drive.new.writer }) c.in-Err.fault
+    (c.in-Err.ensures.err 0 [] (stands_new 0 _ c.new-desk.ensures))
+    (λ is. elim (c.in-Err.ensures.device (ap Err is)) [ inl failed ↦ inl failed | inr many ↦ inr (many 0 [] (stands_new 0 _ c.new-desk.ensures)) ])
     (λ is. let bad : false ≡ true = c.in-Err.ensures.closed (ap Err is) in cc)
-    (λ is. let bad = c.in-Err.ensures.failed (ap Err is) in let good = c.new-desk.ensures in cc) in
+    (λ is. let bad = c.in-Err.ensures.only_failed (ap Err is) in let good = c.new-desk.ensures in cc) in
     let is : c.failed.result ≡ ended_as 3 (Some (fault_at c.in-Err.fault)) = c.failed.ensures ∙ ap (λ f. ended_as 3 (Some f)) c.fault_at.ensures in
     record {
       same_input = e.same;
