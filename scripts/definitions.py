@@ -29,6 +29,8 @@ THEOREMS = [
     ("What `gqls check` prints", "gq_check", "checking", "check"),
     ("What `gqls exec` prints", "gq_check", "executing", "exec"),
 ]
+# crate, source file, trait: what theorems say of any type that has one of these, they say by its members
+TRAITS = [("gq_rpc", "devices", "Source"), ("gq_rpc", "devices", "Sink"), ("gq_desk", "hands", "Hands")]
 WORD = re.compile(r"[A-Za-z_][A-Za-z0-9_']*(?:\.[A-Za-z_][A-Za-z0-9_']*)?|◌[^\s◌,{}]+◌")
 START = re.compile(r"\s*(?:pub )?(abbrev|unfoldable|data|record|def|lemma)\b(?: pub)? ([A-Za-z_][A-Za-z0-9_']*)")
 MEMBER = re.compile(r"  (pub) ([A-Za-z_][A-Za-z0-9_']*) : ")
@@ -117,6 +119,14 @@ def contract(crate, source, function):
     lines = text.split("\n")
     at = next(i for i, line in enumerate(lines) if re.match(rf"\s*pub fn {function}\b", line))
     return clauses(lines, at), imports(text)
+
+
+def trait(crate, source, name):
+    """The lines of a trait, and what its file brings in for them."""
+    text = read(f"{TOP}/crates/{crate}/src/{source}.rt")
+    lines = text.split("\n")
+    begin = next(i for i, line in enumerate(lines) if re.match(rf"pub trait {name}\b", line))
+    return lines[begin : lines.index("}", begin) + 1], imports(text)
 
 
 def sources(crate):
@@ -239,19 +249,44 @@ def page():
     ]
     told = set()
     for title, crate, source, function in THEOREMS:
-        order, seen = below(wanted(*contract(crate, source, function), None))
-        new = seen - told
-        text += ["", f"## {title}", "", f"`{function}` of {crate} (`crates/{crate}/src/{source}.rt`): {len(seen)} definitions in {len(order)} files. To be read, in order:", ""]
-        text += textwrap.wrap(in_order(order) + ".", 118, break_long_words=False)
-        text += ["", "What they hold:" if not told else f"{len(new)} of the definitions are not told above:", ""]
-        text += ["| File | What it holds | Definitions |", "|---|---|---|"]
-        for one in order:
-            names = [name for name in specs(*one).defined if (*one, name) in new]
-            if names:
-                head = " ".join(specs(*one).head).replace("|", "\\|")
-                text.append(f"| {one[0]} {one[1]} | {head} | {', '.join(f'`{name}`' for name in names)} |")
-        told |= seen
-    return "\n".join(text) + "\n"
+        text += ["", f"## {title}", ""]
+        text += part(f"`{function}` of {crate} (`crates/{crate}/src/{source}.rt`)", wanted(*contract(crate, source, function), None), told)
+    return "\n".join(text + devices(told)) + "\n"
+
+
+def part(what, starts, told):
+    """What must be believed for something that uses these definitions, those that are told above left out of the table."""
+    order, seen = below(starts)
+    new = seen - told
+    text = [f"{what}: {len(seen)} definitions in {len(order)} files. To be read, in order:", ""]
+    text += textwrap.wrap(in_order(order) + ".", 118, break_long_words=False)
+    text += ["", "What they hold:" if not told else f"{len(new)} of the definitions are not told above" + (":" if new else "."), ""]
+    text += ["| File | What it holds | Definitions |", "|---|---|---|"] if new else []
+    for one in order:
+        names = [name for name in specs(*one).defined if (*one, name) in new]
+        if names:
+            head = " ".join(specs(*one).head).replace("|", "\\|")
+            text.append(f"| {one[0]} {one[1]} | {head} | {', '.join(f'`{name}`' for name in names)} |")
+    told |= seen
+    return text if new else text[:-1]
+
+
+def devices(told):
+    """The traits whose members the theorems speak of, as they stand in the code."""
+    text = [
+        "",
+        "## What is stated of sources, sinks and hands",
+        "",
+        "`drive`, `run_one`, `check` and `exec` speak of any types that have these traits. What came from a source, went to a",
+        "sink or was handed on is said by ghost members (`ghost`), which whoever writes such a type defines; each of its calls",
+        "must then ensure the clauses below. So of the devices of the program a theorem says no more than their members do.",
+    ]
+    starts = []
+    for crate, source, name in TRAITS:
+        lines, brings = trait(crate, source, name)
+        starts += wanted(set(WORD.findall("\n".join(line for line in lines if not line.strip().startswith("///")))), brings, None)
+        text += ["", f"`{name}` of {crate} (`crates/{crate}/src/{source}.rt`):", ""] + ["    " + line if line else "" for line in lines]
+    return text + [""] + part("These clauses", starts, told)
 
 
 def misplaced():

@@ -6,7 +6,8 @@
 
 A crate's wrong-bodies/*.edit have the form of must-fail/*.edit. They are tried on a copy, in a folder for temporary files, that begins with what
 `rt check` kept in the folders out/. So run `rt check` in the crate first: what is not proved yet is proved in the copy, and lost with it. The
-repository stays as it is. The last line is `N refused, M not`; the status is 1 if M is not 0, or if a file there is no edit."""
+repository stays as it is. The last line is `N refused, M not`. The status is 1 if M is not 0 or `rt must-fail` failed for a crate, and 2 if a name is
+none of a crate with a folder wrong-bodies, in which case nothing is tried."""
 import os
 import re
 import shutil
