@@ -21,7 +21,7 @@ module _ (static : Static) (ds ds' : List Definition) where
     same_end : {t : Text} → Rewritten t none none
     same_leaf : {t : Text} {w : Directives} {k n : Text} {a : Arguments} {rest rest' : Set} → Rewritten t rest rest' → Rewritten t (field w k n a none rest) (field w k n a none rest')
     same_field : {t : Text} (c : Text) {w : Directives} {k n : Text} {a : Arguments} {set set' rest rest' : Set} → static t n ≡ Some c → Rewritten c set set' → Rewritten t rest rest' → Rewritten t (field w k n a set rest) (field w k n a set' rest')
-    -- a spread of a fragment that stands in both, or in neither
+    -- a spread of a fragment that stands in both, on the same type
     same_spread : {t : Text} {w : Directives} {f : Text} (d d' : Definition) {rest rest' : Set} → find_definition ds f ≡ Some d → find_definition ds' f ≡ Some d' → d.on ≡ d'.on → Rewritten t rest rest' → Rewritten t (spread w f rest) (spread w f rest')
     same_inline : {t : Text} {w : Directives} {on : Text} {set set' rest rest' : Set} → Rewritten on set set' → Rewritten t rest rest' → Rewritten t (inline w (Some on) set rest) (inline w (Some on) set' rest')
     same_bare : {t : Text} {w : Directives} {set set' rest rest' : Set} → Rewritten t set set' → Rewritten t rest rest' → Rewritten t (inline w None set rest) (inline w None set' rest')
