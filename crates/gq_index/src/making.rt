@@ -1,6 +1,8 @@
 //! The index of a project.
 ghost use Rattle.std.specs.Prelude.{IfOk};
+ghost use Rattle.gq_tree.specs.Readings.{readings_view};
 ghost use Rattle.gq_index.specs.Indexed.{AreVariablesOf, AreVariables, IsIndexOf, IsIndexOfProject};
+ghost use Rattle.gq_index.specs.Occurrences.{executables};
 ghost use Rattle.gq_index.specs.Views.{definition_view, definitions_view};
 
 use crate::definitions::{Executable, executables};
@@ -14,6 +16,7 @@ use gq_graph::transposed::transposed;
 use gq_parse::read;
 use gq_project::Project;
 use gq_text::NoMemory;
+use gq_tree::Parsed;
 use std::alloc::Global;
 
 /// The places of the variables of a definition.
@@ -64,7 +67,15 @@ impl Index {
         ensures { IfOk result (λ index. IsIndexOfProject project.now index) }
     {
         let readings = read(alloc, project.documents())?;
-        let definitions = executables(alloc, &readings)?;
+        let index = Index::of_readings(alloc, &readings)?;
+        Ok(index)
+    }
+
+    /// The index of documents that are read so.
+    pub fn of_readings(alloc: Global, readings: &[Parsed]) -> Result<Index, NoMemory>
+        ensures { IfOk result (λ index. IsIndexOf (executables (readings_view readings.now)) index) }
+    {
+        let definitions = executables(alloc, readings)?;
         let index = index_of(alloc, &definitions)?;
         Ok(index)
     }

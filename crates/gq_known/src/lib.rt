@@ -1,0 +1,8 @@
+//! What is known of a project: what its documents read as, and their type system.
+#![tactic(auto)]
+
+pub mod known;
+pub mod learned;
+
+pub use known::Known;
+pub use learned::Learned;
