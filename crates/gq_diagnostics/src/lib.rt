@@ -6,4 +6,4 @@ pub mod diagnosing;
 mod parting;
 
 pub use code_words::words;
-pub use diagnosing::diagnostics;
+pub use diagnosing::{diagnostics, diagnostics_of};

@@ -6,7 +6,7 @@ use Rattle.gq_document.specs.Definitions.{OperationOf, FragmentOf}
 use Rattle.gq_document.specs.Selections.{SelectedOf, IsSelected}
 use Rattle.gq_document.specs.Selections as selections
 use Rattle.gq_document.specs.Executable.{ExecutableOf}
-use Rattle.gq_law_files.specs.Files.{in_file}
+use Rattle.gq_rules.specs.Files.{in_file}
 use Rattle.gq_law_files.proofs.Numbers.{operation_to, fragment_to}
 
 -- one definition, of the number n

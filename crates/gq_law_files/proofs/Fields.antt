@@ -13,7 +13,7 @@ use Rattle.gq_fields.specs.Directives.{Site, IsSite, HasWrongDirective}
 use Rattle.gq_fields.specs.Directives as directives
 use Rattle.gq_fields.specs.Values.{HasWrongDefault}
 use Rattle.gq_fields.specs.FieldFaults.{IsFieldFault, unknown_field, wrong_selections, wrong_argument, wrong_directive, wrong_default}
-use Rattle.gq_law_files.specs.Files.{in_file}
+use Rattle.gq_rules.specs.Files.{in_file}
 use Rattle.gq_law_files.proofs.Comes.{ComesFrom, from_operation, from_fragment, weaken, executable, AreLocal, selected_to, selected_comes}
 use Rattle.gq_law_files.proofs.Numbers.{operation_to}
 use Rattle.gq_law_files.proofs.Values.{literal_moves, argument_moves, directive_moves}

@@ -4,7 +4,7 @@ use Rattle.gq_fault.specs.declared.fault.Fault.{Fault}
 use Rattle.gq_tree.specs.Readings.{ParsedOf}
 use Rattle.gq_rules.specs.Unread.{IsUnread, syntax, limit}
 use Rattle.gq_rules.specs.ExecutableDefinitions.{IsMixed}
-use Rattle.gq_law_files.specs.Files.{in_file}
+use Rattle.gq_rules.specs.Files.{in_file}
 use Rattle.gq_law_files.specs.Laws.{UnreadAndMixedAreOfTheirFile, IsUnreadOrMixed}
 
 only_one : {r q : ParsedOf} {n : ℕ} → 0 ≡ n → slice_get (r ∷ []) n ≡ Some q → Some r ≡ Some q

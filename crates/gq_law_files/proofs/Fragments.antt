@@ -10,7 +10,7 @@ use Rattle.gq_fragments.specs.FragmentSpreadTypeExistence.{IsUnknownCondition}
 use Rattle.gq_fragments.specs.FragmentsOnCompositeTypes.{IsConditionNotComposite}
 use Rattle.gq_fragments.specs.SubscriptionOperation.{IsSubscription}
 use Rattle.gq_fragments.specs.RootOperationTypes.{HasNoRootType}
-use Rattle.gq_law_files.specs.Files.{in_file}
+use Rattle.gq_rules.specs.Files.{in_file}
 use Rattle.gq_law_files.proofs.Comes.{ComesFrom, from_operation, from_fragment, weaken, executable, AreLocal, selected_comes}
 use Rattle.gq_law_files.proofs.Numbers.{operation_to}
 

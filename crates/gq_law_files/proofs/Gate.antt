@@ -5,8 +5,8 @@ use Rattle.gq_tree.specs.Readings.{ParsedOf}
 use Rattle.gq_rules.specs.Project.{type_system_of, executable_of}
 use Rattle.gq_rules.specs.RuleFaults.{IsRuleFault}
 use Rattle.gq_rules.specs.Faults.{IsToldFirst, IsFaultOf, first, rule}
-use Rattle.gq_law_files.specs.RestsOnFile.{rests_on_file}
-use Rattle.gq_law_files.specs.Files.{IsLocalFault}
+use Rattle.gq_rules.specs.RestsOnFile.{rests_on_file}
+use Rattle.gq_rules.specs.Files.{IsLocalFault}
 use Rattle.gq_law_files.specs.Laws.{IsToldByFiles, FaultsAreToldByFiles}
 use Rattle.gq_law_files.specs.Laws as files
 use Rattle.gq_law_files.proofs.Local.{local_faults_are}

@@ -15,8 +15,8 @@ use Rattle.gq_variables.specs.VariableFaults as variables
 use Rattle.gq_merging.specs.FieldsMerge.{IsMergingFault}
 use Rattle.gq_merging.specs.FieldsMerge as merging
 use Rattle.gq_rules.specs.RuleFaults.{IsRuleFault, of_operations, of_fields, of_fragments, of_spreads, of_variables, of_merging}
-use Rattle.gq_law_files.specs.RestsOnFile.{rests_on_file}
-use Rattle.gq_law_files.specs.Files.{in_file, IsLocalFault}
+use Rattle.gq_rules.specs.RestsOnFile.{rests_on_file}
+use Rattle.gq_rules.specs.Files.{in_file, IsLocalFault}
 use Rattle.gq_law_files.proofs.Comes.{ComesFrom, weaken, executable, AreLocal}
 use Rattle.gq_law_files.proofs.Fields.{are_local}
 use Rattle.gq_law_files.proofs.Fragments.{unknown_conditions_are, not_composite_are, subscriptions_are, no_roots_are}

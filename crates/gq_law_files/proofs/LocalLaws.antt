@@ -8,7 +8,7 @@ use Rattle.gq_types.specs.Entries.{EntryOf}
 use Rattle.gq_document.specs.Definitions.{OperationOf, FragmentOf, operation_in, fragment_in, operations_of, fragments_of}
 use Rattle.gq_tree.specs.Readings.{ParsedOf, definitions_read, in_document}
 use Rattle.gq_document.specs.Executable.{ExecutableOf}
-use Rattle.gq_law_files.specs.Files.{alone, together, in_file}
+use Rattle.gq_rules.specs.Files.{alone, together, in_file}
 use Rattle.gq_law_files.specs.Laws.{IsKept}
 use Rattle.gq_law_files.proofs.Comes.{ComesFrom, from_operation, from_fragment, executable, AreLocal}
 use Rattle.gq_law_files.proofs.Numbers.{operation_to, fragment_to, from_documents, to_documents, operation_moves, fragment_moves}

@@ -14,20 +14,20 @@ operation_to m o = record o { file = m }
 abbrev pub fragment_to : ℕ → FragmentOf → FragmentOf
 fragment_to m g = record g { file = m }
 
--- a document by its number
-record Numbered (n : ℕ) (rs : List ParsedOf) (p : ℕ × ParsedOf) : Type 0 where
-  index : ℕ
-  number : p.0 ≡ n + index
-  there : slice_get rs index ≡ Some p.1
+-- one of a list, by its number
+pub record Numbered {A : Type 0} (n : ℕ) (rs : List A) (p : ℕ × A) : Type 0 where
+  pub index : ℕ
+  pub number : p.0 ≡ n + index
+  pub there : slice_get rs index ≡ Some p.1
 
-numbered : (n : ℕ) (rs : List ParsedOf) (p : ℕ × ParsedOf) → Contains (enumerate_from n rs) p → Numbered n rs p
+pub numbered : {A : Type 0} (n : ℕ) (rs : List A) (p : ℕ × A) → Contains (enumerate_from n rs) p → Numbered n rs p
 numbered n [] p c = nothing_in p c
 numbered n (r ∷ rs) p c = ⊎_elim
     (λ e. record { index = 0; number = let q : p.0 ≡ n = ap (λ z. z.0) (sym e) in omega (arith, q); there = ap (λ z. Some z.1) e })
     (λ d. let i = numbered (n + 1) rs p d in record { index = suc i.index; number = omega (arith, i.number); there = i.there })
     (cases_cons (n, r) p (enumerate_from (n + 1) rs) c)
 
-in_numbers : (n : ℕ) (rs : List ParsedOf) (k : ℕ) (r : ParsedOf) → slice_get rs k ≡ Some r → Contains (enumerate_from n rs) (n + k, r)
+pub in_numbers : {A : Type 0} (n : ℕ) (rs : List A) (k : ℕ) (r : A) → slice_get rs k ≡ Some r → Contains (enumerate_from n rs) (n + k, r)
 in_numbers n [] k r e = cc
 in_numbers n (x ∷ rs) zero r e =
     let same : x ≡ r = cc in

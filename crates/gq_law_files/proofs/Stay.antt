@@ -9,7 +9,7 @@ use Rattle.gq_types.specs.BuiltIn.{built_in}
 use Rattle.gq_types.specs.Entries.{EntryOf}
 use Rattle.gq_document.specs.Definitions.{operations_of, fragments_of, entry_in, entries_of}
 use Rattle.gq_rules.specs.Project.{type_system_of}
-use Rattle.gq_law_files.specs.Files.{in_file, IsLocalFault}
+use Rattle.gq_rules.specs.Files.{in_file, IsLocalFault}
 use Rattle.gq_law_files.specs.Laws.{NumbersOfEntriesAreUnseen, LocalFaultsStay, type_system_in, type_system_read, LocalFaultsOfProjectsStay}
 use Rattle.gq_law_files.proofs.Local.{local_faults_are}
 use Rattle.gq_law_files.proofs.LocalLaws.{kept}

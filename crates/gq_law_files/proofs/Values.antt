@@ -9,7 +9,7 @@ use Rattle.gq_values.specs.Literals.{Expected}
 use Rattle.gq_values.specs.LiteralFaults.{IsFaultOf, wrong_value, unknown_field, field_not_unique, field_missing, IsLiteralFault}
 use Rattle.gq_values.specs.ArgumentFaults.{IsArgumentFault, unknown_argument, argument_not_unique, argument_missing, fault_in_value}
 use Rattle.gq_values.specs.DirectiveFaults.{IsDirectiveFault, unknown_directive, directive_in_wrong_place, directive_repeated, fault_in_arguments}
-use Rattle.gq_law_files.specs.Files.{in_file}
+use Rattle.gq_rules.specs.Files.{in_file}
 
 -- a fault of the document n, and of m with that number
 abbrev pub Moves : (ℕ → Fault → Type 0) → ℕ → Fault → Type 0

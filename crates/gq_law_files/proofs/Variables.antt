@@ -6,7 +6,7 @@ use Rattle.gq_document.specs.Definitions.{OperationOf, FragmentOf}
 use Rattle.gq_variables.specs.VariableUniqueness.{IsNotUnique}
 use Rattle.gq_variables.specs.VariablesAreInputTypes.{IsNotOfInputType}
 use Rattle.gq_variables.specs.VariableFaults.{IsVariableFault, not_unique, not_of_input_type}
-use Rattle.gq_law_files.specs.Files.{in_file}
+use Rattle.gq_rules.specs.Files.{in_file}
 use Rattle.gq_law_files.proofs.Comes.{ComesFrom, from_operation, executable}
 use Rattle.gq_law_files.proofs.Numbers.{operation_to}
 

@@ -1,3 +1,1 @@
-pub mod RestsOnFile
-pub mod Files
 pub mod Laws

@@ -5,3 +5,5 @@ pub mod ValidityLemmas
 pub mod RuleLemmas
 pub mod OneReport
 pub mod TreeLemmas
+pub mod ByFile
+pub mod KnownLemmas

@@ -3,6 +3,8 @@ pub mod Unread
 pub mod ExecutableDefinitions
 pub mod RuleFaults
 pub mod Faults
+pub mod RestsOnFile
+pub mod Files
 pub mod Validity
 pub mod ValidityViews
 pub mod Trees

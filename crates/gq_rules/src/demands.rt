@@ -70,7 +70,7 @@ fn all_faults_by_threads<R: Threads + Sync>(
 }
 
 /// The faults of documents without a tree, and of those with definitions of both sorts.
-fn faults_of_texts(alloc: Global, readings: &[Parsed]) -> Result<Vec<Fault>, NoMemory>
+pub(crate) fn faults_of_texts(alloc: Global, readings: &[Parsed]) -> Result<Vec<Fault>, NoMemory>
     ensures { IfOk result (λ faults. faults.items ≡ each_from unread_at 0 (readings_view readings.now) ++ each_from mixed_at 0 (readings_view readings.now)) }
 {
     let mut faults = Vec::new(alloc);
@@ -80,7 +80,7 @@ fn faults_of_texts(alloc: Global, readings: &[Parsed]) -> Result<Vec<Fault>, NoM
 }
 
 /// The faults in their order, each once.
-fn in_order(mut faults: Vec<Fault>) -> Vec<Fault>
+pub(crate) fn in_order(mut faults: Vec<Fault>) -> Vec<Fault>
     ensures sorted { IsStrictlySortedBy fault_cmp result.items }
     ensures same { (fault : Fault) → Contains result.items fault ↔ Contains faults.items fault }
 {

@@ -23,7 +23,8 @@ pub fn validate(alloc: Global, project: &Project) -> Result<Report, NoMemory>
     ensures { IfOk result (λ report. IsReportOf project.now report.found.items) }
 {
     let faults = demanded(alloc, project.documents())?;
-    report_of(alloc, project, &faults)
+    let report = report_of(alloc, project, &faults)?;
+    Ok(report)
 }
 
 /// The same, looked for by four threads.
@@ -35,17 +36,17 @@ pub fn validate_by_threads<R: Threads + Sync>(
     ensures { IfOk result (λ report. IsReportOf project.now report.found.items) }
 {
     let faults = demanded_by_threads(rt, alloc, project.documents())?;
-    report_of(alloc, project, &faults)
+    let report = report_of(alloc, project, &faults)?;
+    Ok(report)
 }
 
-/// The report on a project of which these faults are told.
+/// The report on a project, if these faults are what is told of it.
 pub(crate) fn report_of(
     alloc: Global,
     project: &Project,
     faults: &[Fault],
 ) -> Result<Report, NoMemory>
-    requires { AreFaultsOf project.now faults.now }
-    ensures { IfOk result (λ report. IsReportOf project.now report.found.items) }
+    ensures { IfOk result (λ report. AreFaultsOf project.now faults.now → IsReportOf project.now report.found.items) }
 {
     let found = found_at(alloc, faults, project.documents())?;
     Ok(Report { found })

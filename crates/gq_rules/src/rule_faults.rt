@@ -56,7 +56,7 @@ pub fn reach_faults(alloc: Global, executable: &Executable<'_>) -> Result<Vec<Fa
 }
 
 /// Puts what is wrong with operations and fragments as such.
-fn add_definition_faults(
+pub(crate) fn add_definition_faults(
     alloc: Global,
     executable: &Executable<'_>,
     faults: &mut Vec<Fault>,
@@ -69,7 +69,7 @@ fn add_definition_faults(
 }
 
 /// Puts what is wrong with spreads, and with variables, whose uses stand in the fragments that an operation reaches by them.
-fn add_reach_faults(
+pub(crate) fn add_reach_faults(
     alloc: Global,
     executable: &Executable<'_>,
     faults: &mut Vec<Fault>,

@@ -78,6 +78,14 @@ impl Valid {
         Valid::judged(project, told)
     }
 
+    /// The project, of which it is known that nothing is wrong with it. It takes no memory.
+    pub fn known(project: Project) -> Valid
+        requires { ∥ IsValid project ∥₁ }
+        ensures { result ≡ project }
+    {
+        Valid { project }
+    }
+
     /// The project, if nothing is told of it.
     fn judged(project: Project, told: Result<Option<Report>, NoMemory>) -> Result<Valid, Invalid>
         requires { IfOk told (IsReported project) }
@@ -121,7 +129,8 @@ fn why_not(alloc: Global, project: &Project) -> Result<Option<Report>, NoMemory>
     ensures { IfOk result (λ report. IsReported project.now report) }
 {
     let faults = demanded(alloc, project.documents())?;
-    report_if_any(alloc, project, &faults)
+    let report = report_if_any(alloc, project, &faults)?;
+    Ok(report)
 }
 
 /// The same, by threads.
@@ -133,17 +142,17 @@ fn why_not_by_threads<R: Threads + Sync>(
     ensures { IfOk result (λ report. IsReported project.now report) }
 {
     let faults = demanded_by_threads(rt, alloc, project.documents())?;
-    report_if_any(alloc, project, &faults)
+    let report = report_if_any(alloc, project, &faults)?;
+    Ok(report)
 }
 
-/// The report on a project of which these faults are told, if there are any.
-fn report_if_any(
+/// The report on a project, if these faults are what is told of it, and there are any.
+pub(crate) fn report_if_any(
     alloc: Global,
     project: &Project,
     faults: &[Fault],
 ) -> Result<Option<Report>, NoMemory>
-    requires { AreFaultsOf project.now faults.now }
-    ensures { IfOk result (λ report. IsReported project.now report) }
+    ensures { IfOk result (λ report. AreFaultsOf project.now faults.now → IsReported project.now report) }
 {
     if faults.is_empty() {
         return Ok(None);

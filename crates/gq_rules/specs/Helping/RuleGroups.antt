@@ -24,3 +24,7 @@ IsDefinitionOrMergingFault x fault = IsDefinitionFault x fault ⊎ IsMergingFaul
 -- of fields each by itself, spreads and variables
 abbrev pub IsOtherFault : ExecutableOf → Fault → Type 0
 IsOtherFault x fault = IsFieldFault x fault ⊎ IsReachFault x fault
+
+-- of all but of fields each by itself
+abbrev pub IsAcrossGroup : ExecutableOf → Fault → Type 0
+IsAcrossGroup x fault = IsDefinitionOrMergingFault x fault ⊎ IsReachFault x fault

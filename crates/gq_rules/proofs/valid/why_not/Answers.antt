@@ -2,6 +2,7 @@ use Rattle.std.proofs.Common.{subst, sym}
 use Rattle.gq_rules.specs.Helping.AllFaults.{AreFaultsOf}
 use Rattle.gq_rules.proofs.valid.why_not.Goals as goal
 
-pub report_if_any-requires : goal.report_if_any-requires
-report_if_any-requires c =
-    subst (AreFaultsOf c.args.project.now) (sym c.deref.ensures.value) (subst (λ ds. AreFaultsOf ds c.in_ok-faults.faults.items) c.documents.ensures.all c.in_ok-faults.ensures)
+pub returns : goal.returns
+returns c =
+    c.in_ok-report.ensures
+    (subst (AreFaultsOf c.args.project.now) (sym c.deref.ensures.value) (subst (λ ds. AreFaultsOf ds c.in_ok-faults.faults.items) c.documents.ensures.all c.in_ok-faults.ensures))

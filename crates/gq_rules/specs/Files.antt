@@ -6,7 +6,7 @@ use Rattle.gq_types.specs.Entries.{EntryOf}
 use Rattle.gq_document.specs.Definitions.{operation_in, fragment_in, operations_of, fragments_of}
 use Rattle.gq_document.specs.Executable.{ExecutableOf}
 use Rattle.gq_rules.specs.RuleFaults.{IsRuleFault}
-use Rattle.gq_law_files.specs.RestsOnFile.{rests_on_file}
+use Rattle.gq_rules.specs.RestsOnFile.{rests_on_file}
 
 -- a file of that number alone
 abbrev pub alone : List EntryOf → ℕ → ParsedOf → ExecutableOf
