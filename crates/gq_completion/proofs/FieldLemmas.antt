@@ -1,5 +1,5 @@
 -- The names that are gathered of a type are those of the fields that can be selected of it.
-use Rattle.std.proofs.Common.{◌≡◌, ◌↔◌, ℕ, Bool, true, false, List, [], ◌∷◌, ◌++◌, Option, Some, None, refl, sym, ap, ◌∙◌, subst, flat_map, Contains, inl, inr, ⊎_elim}
+use Rattle.std.proofs.Common.{◌≡◌, ◌↔◌, ℕ, Bool, true, false, List, [], ◌∷◌, Option, Some, None, refl, sym, ap, ◌∙◌, subst, Contains, ⊎_elim}
 use Rattle.std.specs.Prelude.{find, if◌then◌else◌, option_and_then}
 use Rattle.std.specs.Option.{option_map, option_map_or}
 use Rattle.std.specs.Str.{bytes_eq}
@@ -12,7 +12,7 @@ use Rattle.gq_types.specs.Joined.{In, type_number, fields_in_body, fields_of}
 use Rattle.gq_types.specs.Look.{joined_numbers}
 use Rattle.gq_types.specs.LookUps.{parts_of_entry}
 use Rattle.gq_types.specs.Names.{field_named}
-use Rattle.gq_types.proofs.Gathered.{nothing_in, first, later, only, cases_cons, from_flat, to_flat, found, mapped}
+use Rattle.gq_types.proofs.Gathered.{nothing_in, first, only, cases_cons, from_flat, to_flat, found, mapped}
 use Rattle.gq_types.proofs.PartLemmas.{from_parts, to_parts}
 use Rattle.gq_document.specs.Selections.{FieldOf, typename, typename_field, is_composite_named, field_on, selected_field}
 use Rattle.gq_completion.specs.Completions.{IsFieldIn}

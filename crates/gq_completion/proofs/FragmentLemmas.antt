@@ -1,16 +1,16 @@
 -- The names of fragments that are gathered are those of the fragments in the trees.
-use Rattle.std.proofs.Common.{◌≡◌, ◌↔◌, ℕ, ◌+◌, ◌<◌, List, [], ◌∷◌, ◌++◌, length, get_or, take, refl, sym, ap, ◌∙◌, subst, flat_map, Contains, inl, inr}
+use Rattle.std.proofs.Common.{◌≡◌, ◌↔◌, List, [], ◌∷◌, refl, sym, subst, flat_map, Contains, inl, inr}
 use Rattle.std.proofs.lemmas.List.Elements.{Contains-append_left, Contains-append_right, Contains-append_cases}
-use Rattle.std.proofs.lemmas.List.{append-nil, take_more}
 use Rattle.gq_text.specs.declared.place.Span.{Span}
 use Rattle.gq_tree.specs.Plain.{Def, operation, fragment, type_system}
+use Rattle.gq_tree.specs.Readings.{ParsedOf, tree, syntax, limit}
 use Rattle.gq_project.specs.declared.document.Doc.{Doc}
-use Rattle.gq_parse.specs.Derives.{Derives}
+use Rattle.gq_parse.specs.Parsed.{IsParsed, AreParsed, none, more}
 use Rattle.gq_parse.proofs.OneReading.{OneTree}
 use Rattle.gq_types.specs.Entries.{Text}
-use Rattle.gq_types.proofs.Gathered.{nothing_in, first, only, from_flat, to_flat}
+use Rattle.gq_types.proofs.Gathered.{nothing_in, first, later, only, cases_cons, from_flat, to_flat}
 use Rattle.gq_completion.specs.Completions.{DefinesFragment, defines, HasFragment, IsFragmentName}
-use Rattle.gq_completion.specs.Helping.Fragments.{fragment_name, AddsFragments}
+use Rattle.gq_completion.specs.Helping.Fragments.{fragment_name, fragments_in}
 
 from_name : (d : Def Span) (label : Text) → Contains (fragment_name d) label → DefinesFragment label d
 from_name (operation kind name variables directives set braces place) label c = nothing_in label c
@@ -22,41 +22,31 @@ to_name (operation kind name variables directives set braces place) label h = el
 to_name (fragment name on directives set braces place) label (defines e) = first name.text label [] (sym e)
 to_name (type_system definition) label h = elim h [ ]
 
--- those of a text that has a tree
-pub adds : OneTree → (text : Text) (tree : List (Def Span)) → Derives text tree → (old new : List Text) → new ≡ old ++ flat_map fragment_name tree → AddsFragments text old new
-adds one_tree text tree derives old new e = record {
-  added = flat_map fragment_name tree;
-  is = e;
-  exactly = λ label. (
-    λ c. let q = from_flat fragment_name tree label c in record { tree = tree; derives = derives; definition = q.0; among = q.1; defines = from_name q.0 label q.2 },
-    λ h. to_flat fragment_name tree h.definition label (subst (λ ds. Contains ds h.definition) (one_tree text h.tree tree h.derives derives) h.among) (to_name h.definition label h.defines),
-  );
-}
+module _ (one_tree : OneTree) where
+  -- those of a text that reads so; one without a tree has none
+  of_text : (text : Text) (one : ParsedOf) → IsParsed text one → (label : Text) → Contains (fragments_in one) label ↔ HasFragment text label
+  of_text text (tree definitions) derives label = (
+    λ c. let q = from_flat fragment_name definitions label c in record { tree = definitions; derives = derives; definition = q.0; among = q.1; defines = from_name q.0 label q.2 },
+    λ h. to_flat fragment_name definitions h.definition label (subst (λ ds. Contains ds h.definition) (one_tree text h.tree definitions h.derives derives) h.among) (to_name h.definition label h.defines),
+  )
+  of_text text (syntax place) is label = (λ c. nothing_in label c, λ h. absurd (is.0 h.tree h.derives))
+  of_text text (limit place) is label = (λ c. nothing_in label c, λ h. absurd (is.0 h.tree h.derives))
 
--- one without a tree has none
-pub adds_none : (text : Text) → ((tree : List (Def Span)) → Derives text tree → ⊥) → (old : List Text) → AddsFragments text old old
-adds_none text none old = record {
-  added = [];
-  is = sym (append-nil old);
-  exactly = λ label. (λ c. nothing_in label c, λ h. absurd (none h.tree h.derives));
-}
+  -- those of documents that read so
+  of_documents : (documents : List Doc) (readings : List ParsedOf) → AreParsed documents readings → (label : Text) → Contains (flat_map fragments_in readings) label ↔ IsFragmentName documents label
+  of_documents [] [] none label = (λ c. nothing_in label c, λ h. nothing_in h.document h.stands)
+  of_documents [] (r ∷ rs) are label = elim are [ ]
+  of_documents (d ∷ ds) [] are label = elim are [ ]
+  of_documents (d ∷ ds) (r ∷ rs) (more is rest) label = (
+    λ c. elim (Contains-append_cases (fragments_in r) (flat_map fragments_in rs) label c) [
+      | inl here ↦ record { document = d; stands = first d d ds refl; has = (of_text d.text r is label).0 here }
+      | inr behind ↦ let h = (of_documents ds rs rest label).0 behind in record { document = h.document; stands = later d h.document ds h.stands; has = h.has }
+    ],
+    λ h. elim (cases_cons d h.document ds h.stands) [
+      | inl e ↦ Contains-append_left (fragments_in r) (flat_map fragments_in rs) label ((of_text d.text r is label).1 (subst (λ (x : Doc). HasFragment x.text label) (sym e) h.has))
+      | inr behind ↦ Contains-append_right (fragments_in r) (flat_map fragments_in rs) label ((of_documents ds rs rest label).1 (record { document = h.document; stands = behind; has = h.has }))
+    ],
+  )
 
-pub one_more : (old new : List Text) (before : List Doc) (document : Doc) → AddsFragments document.text old new → ((label : Text) → Contains old label ↔ IsFragmentName before label) →
-    (label : Text) → Contains new label ↔ IsFragmentName (before ++ document ∷ []) label
-one_more old new before document add were label = (
-  λ c. elim (Contains-append_cases old add.added label (subst (λ xs. Contains xs label) add.is c)) [
-    | inl earlier ↦ let h = (were label).0 earlier in record { document = h.document; stands = Contains-append_left before (document ∷ []) h.document h.stands; has = h.has }
-    | inr now ↦ record { document = document; stands = Contains-append_right before (document ∷ []) document (first document document [] refl); has = (add.exactly label).0 now }
-  ],
-  λ h. subst (λ xs. Contains xs label) (sym add.is) (elim (Contains-append_cases before (document ∷ []) h.document h.stands) [
-    | inl earlier ↦ Contains-append_left old add.added label ((were label).1 (record { document = h.document; stands = earlier; has = h.has }))
-    | inr now ↦ Contains-append_right old add.added label ((add.exactly label).1 (subst (λ (d : Doc). HasFragment d.text label) (only document h.document now) h.has))
-  ]),
-)
-
-pub one_more_at : (old new : List Text) (documents : List Doc) (k : ℕ) (document : Doc) → k < length documents → document ≡ get_or documents k document → AddsFragments document.text old new →
-    ((label : Text) → Contains old label ↔ IsFragmentName (take k documents) label) → (label : Text) → Contains new label ↔ IsFragmentName (take (k + 1) documents) label
-one_more_at old new documents k document l e add were label =
-    subst (λ ds. Contains new label ↔ IsFragmentName ds label)
-    (sym (take_more documents k document l ∙ ap (λ (d : Doc). take k documents ++ d ∷ []) (sym e)))
-    (one_more old new (take k documents) document add were label)
+  pub names_are : (readings : List ParsedOf) (names : List Text) → names ≡ flat_map fragments_in readings → (documents : List Doc) → AreParsed documents readings → (label : Text) → Contains names label ↔ IsFragmentName documents label
+  names_are readings names e documents are label = subst (λ xs. Contains xs label ↔ IsFragmentName documents label) (sym e) (of_documents documents readings are label)

@@ -1,5 +1,5 @@
 -- The last that passes, looked for from the front.
-use Rattle.std.proofs.Common.{◌≡◌, List, [], ◌∷◌, Option, Some, None, refl}
+use Rattle.std.proofs.Common.{◌≡◌, Option, Some, None, refl}
 use Rattle.std.specs.Option.{option_or}
 
 pub keeps_last : {A : Type 0} (r o : Option A) (x : A) → option_or (option_or r (Some x)) o ≡ option_or r (Some x)

@@ -1,20 +1,21 @@
 //! The names of the fields that can be selected (GraphQL, October 2021, section 5.3.1).
 ghost use Rattle.std.specs.Prelude.{◌≡◌, ◌↔◌, ◌++◌, ℕ, List, [], Some, IfOk, OnOk, Contains, flat_map, map};
+ghost use Rattle.gq_tree.specs.Readings.{parsed_view};
 ghost use Rattle.gq_tree.specs.Views.{field_definition_view, document_view};
+ghost use Rattle.gq_parse.specs.Parsed.{IsParsed};
 ghost use Rattle.gq_types.specs.Look.{types_view, text_of};
 ghost use Rattle.gq_document.specs.Selections.{FieldOf, selected_field};
+ghost use Rattle.gq_known.specs.Known.{IsKnown};
 ghost use Rattle.gq_completion.specs.Completions.{IsFieldIn, IsFieldBy, IsFieldName};
 ghost use Rattle.gq_completion.specs.Helping.FieldNames.{own_name, own_names_at, own_names, typename_on, names_on};
 
 use crate::sets::{innermost, is_within_one};
 use gq_document::is_composite_named;
+use gq_known::Known;
 use gq_parse::laws::one_tree;
-use gq_parse::{Fault, parse};
-use gq_project::Project;
 use gq_schema::laws::documents_have_one_type_system;
-use gq_schema::{Schema, SchemaFault};
 use gq_text::{NoMemory, OwnedText};
-use gq_tree::{Document, FieldDefinition};
+use gq_tree::{Document, FieldDefinition, Parsed};
 use gq_types::Types;
 use std::alloc::Global;
 
@@ -121,45 +122,38 @@ fn fields_in(
     field_names(alloc, types, set.parent)
 }
 
-/// The same by the type system of a project; where something is wrong with it there are none.
+/// The same by what is known of a project; where something is wrong with its type system there are none.
 fn fields_by(
     alloc: Global,
-    project: &Project,
+    known: Known<'_>,
     document: &Document,
     place: usize,
     offset: usize,
 ) -> Result<Vec<OwnedText>, NoMemory>
-    ensures { IfOk result (λ names. (label : List ℕ) → Contains names.items label ↔ IsFieldBy project.now (document_view document.now) place offset label) }
+    ensures { IfOk result (λ names. IsKnown known.entry → (label : List ℕ) → Contains names.items label ↔ IsFieldBy known.entry.project.now (document_view document.now) place offset label) }
 {
     documents_have_one_type_system();
-    match Schema::build(alloc, project) {
-        Ok(schema) => {
-            let names = fields_in(alloc, schema.types(), document, place, offset)?;
-            Ok(names)
-        }
-        Err(SchemaFault::NoMemory) => Err(NoMemory),
-        Err(SchemaFault::Faults(_)) => Ok(Vec::new(alloc)),
+    if known.has_schema {
+        return fields_in(alloc, known.types, document, place, offset);
     }
+    Ok(Vec::new(alloc))
 }
 
-/// The same in a text; one without a tree has none.
+/// The same in a text that reads so; one without a tree has none.
 pub(crate) fn fields_at(
     alloc: Global,
-    project: &Project,
-    text: &str,
+    known: Known<'_>,
+    reading: &Parsed,
     place: usize,
     offset: usize,
 ) -> Result<Vec<OwnedText>, NoMemory>
-    ensures { IfOk result (λ names. (label : List ℕ) → Contains names.items label ↔ IsFieldName project.now text.now place offset label) }
+    ensures { IfOk result (λ names. IsKnown known.entry → (text : List ℕ) → IsParsed text (parsed_view reading.now)
+        → (label : List ℕ) → Contains names.items label ↔ IsFieldName known.entry.project.now text place offset label) }
 {
     one_tree();
-    match parse(alloc, text) {
-        Ok(document) => {
-            let names = fields_by(alloc, project, &document, place, offset)?;
-            Ok(names)
-        }
-        Err(Fault::NoMemory) => Err(NoMemory),
-        Err(Fault::Syntax { .. }) => Ok(Vec::new(alloc)),
-        Err(Fault::Limit { .. }) => Ok(Vec::new(alloc)),
+    match reading {
+        Parsed::Tree(document) => fields_by(alloc, known, document, place, offset),
+        Parsed::Syntax { .. } => Ok(Vec::new(alloc)),
+        Parsed::Limit { .. } => Ok(Vec::new(alloc)),
     }
 }

@@ -10,4 +10,4 @@ mod sets;
 mod tokens;
 mod variables;
 
-pub use completion::{Completion, CompletionKind, complete};
+pub use completion::{Completion, CompletionKind, complete, complete_by};

@@ -22,11 +22,10 @@ module _ (documents : List Doc) (ds : List DefinitionOf) (m : MentionOf) (found 
   pub of_variable : m.kind ≡ kind.Variable → AreOf m.kind
   of_variable is = subst AreOf (sym is) (λ e. e)
 
--- by other definitions that are the same, and by its kind
-pub of_kind : (documents : List Doc) (ds others : List DefinitionOf) (m : MentionOf) (k : MentionKind) (found : List Occurrence) → ds ≡ others → m.kind ≡ k → AreExactly (IsDefinitionOf documents ds k m) found → AreExactly (IsDefinitionOf documents others m.kind m) found
-of_kind documents ds others m k found same is e =
-    subst (λ (l : List DefinitionOf). AreExactly (IsDefinitionOf documents l m.kind m) found) same (subst (λ (j : MentionKind). AreExactly (IsDefinitionOf documents ds j m) found) (sym is) e)
+-- by its kind
+pub of_kind : (documents : List Doc) (ds : List DefinitionOf) (m : MentionOf) (k : MentionKind) (found : List Occurrence) → m.kind ≡ k → AreExactly (IsDefinitionOf documents ds k m) found → AreExactly (IsDefinitionOf documents ds m.kind m) found
+of_kind documents ds m k found is e = subst (λ (j : MentionKind). AreExactly (IsDefinitionOf documents ds j m) found) (sym is) e
 
 -- what is told of it
-pub told_by_kind : (documents : List Doc) (ds others : List DefinitionOf) (m : MentionOf) (k : MentionKind) (told : Option Text) → ds ≡ others → m.kind ≡ k → IsToldOf documents ds k m told → IsToldOf documents others m.kind m told
-told_by_kind documents ds others m k told same is e = subst (λ (l : List DefinitionOf). IsToldOf documents l m.kind m told) same (subst (λ (j : MentionKind). IsToldOf documents ds j m told) (sym is) e)
+pub told_by_kind : (documents : List Doc) (ds : List DefinitionOf) (m : MentionOf) (k : MentionKind) (told : Option Text) → m.kind ≡ k → IsToldOf documents ds k m told → IsToldOf documents ds m.kind m told
+told_by_kind documents ds m k told is e = subst (λ (j : MentionKind). IsToldOf documents ds j m told) (sym is) e

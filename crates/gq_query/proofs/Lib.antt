@@ -1,5 +1,6 @@
 pub mod Ordered
 pub mod Exact
+pub mod Knowing
 pub mod Grouped
 pub mod Lookups
 pub mod Telling

@@ -1,26 +1,25 @@
 //! Where what is named is defined (LSP 3.17, "Goto Definition Request").
 ghost use Rattle.std.specs.Prelude.{◌≡◌, List, [], ◌∷◌, Some, IfOk};
-ghost use Rattle.gq_tree.specs.Readings.{ParsedOf, readings_view};
-ghost use Rattle.gq_parse.specs.Parsed.{AreParsed};
-ghost use Rattle.gq_index.specs.Occurrences.{executables};
+ghost use Rattle.gq_index.specs.Indexed.{IsIndexOf, IsIndexOfProject};
+ghost use Rattle.gq_index.specs.Occurrences.{DefinitionOf};
+ghost use Rattle.gq_index.specs.Views.{definitions_view};
+ghost use Rattle.gq_known.specs.Known.{IsKnown};
 ghost use Rattle.gq_mentions.specs.declared.mention.MentionKind.TheVariants as kind;
 ghost use Rattle.gq_mentions.specs.Views.{mention_view};
-ghost use Rattle.gq_query.specs.Asked.{AtMention};
 ghost use Rattle.gq_query.specs.Definitions.{IsDefinitionOf, AreDefinitions};
 ghost use Rattle.gq_query.specs.Order.{AreExactly};
 ghost use Rattle.gq_query.specs.References.{IsDeclaration};
-ghost use Rattle.gq_index.specs.Views.{definitions_view};
 
 use crate::asking::asked;
 use crate::schemas::{field_place_by_schema, type_place_by_schema};
 use crate::wanted::{Wanted, wanted_places};
-use gq_index::{Executable, Occurrence, executables};
+use gq_index::laws::documents_have_one_list;
+use gq_index::{Executable, Index, Occurrence, executables};
+use gq_known::{Known, Learned};
 use gq_mentions::{Mention, MentionKind};
-use gq_parse::read;
 use gq_project::Project;
 use gq_schema::laws::documents_have_one_type_system;
 use gq_text::NoMemory;
-use gq_tree::Parsed;
 use std::alloc::Global;
 
 /// The name tokens of the definitions of what stands at the offset, in bytes, of the document of that key: in the order
@@ -33,27 +32,28 @@ pub fn definition(
 ) -> Result<Vec<Occurrence>, NoMemory>
     ensures { IfOk result (λ found. AreDefinitions project.now key.now offset found.items) }
 {
-    let readings = read(alloc, project.documents())?;
-    let found = definition_in(alloc, project, &readings, key, offset)?;
+    let learned = Learned::of(alloc, project)?;
+    let index = Index::of_readings(alloc, &learned.readings)?;
+    let found = definition_by(alloc, learned.known(project), &index, key, offset)?;
     Ok(found)
 }
 
-/// The same, with the readings of the documents.
-fn definition_in(
+/// The same of a project of which that is known, by its index.
+pub fn definition_by(
     alloc: Global,
-    project: &Project,
-    readings: &[Parsed],
+    known: Known<'_>,
+    index: &Index,
     key: &str,
     offset: usize,
 ) -> Result<Vec<Occurrence>, NoMemory>
-    requires { AreParsed project.now (readings_view readings.now) }
-    ensures { IfOk result (λ found. AreExactly (λ o. AtMention project.now (executables (readings_view readings.now)) key.now offset
-        (λ m. IsDefinitionOf project.now (executables (readings_view readings.now)) m.kind m o)) found.items) }
+    ensures { IfOk result (λ found. IsKnown known.entry → IsIndexOfProject known.entry.project.now index.now
+        → AreDefinitions known.entry.project.now key.now offset found.items) }
 {
-    let definitions = executables(alloc, readings)?;
-    match asked(alloc, project, &definitions, key, offset)? {
+    documents_have_one_list();
+    let definitions = executables(alloc, known.readings)?;
+    match asked(alloc, known.project, &definitions, key, offset)? {
         Some(mention) => {
-            let found = definition_of(alloc, project, &definitions, &mention)?;
+            let found = definition_of(alloc, known, index, &definitions, &mention)?;
             Ok(found)
         }
         None => Ok(Vec::new(alloc)),
@@ -63,62 +63,64 @@ fn definition_in(
 /// Where what is named is defined.
 fn definition_of(
     alloc: Global,
-    project: &Project,
+    known: Known<'_>,
+    index: &Index,
     definitions: &[Executable<'_>],
     mention: &Mention<'_>,
 ) -> Result<Vec<Occurrence>, NoMemory>
-    ensures { IfOk result (λ found. (readings : List ParsedOf) → AreParsed project.now readings → definitions_view definitions.now ≡ executables readings
-        → AreExactly (IsDefinitionOf project.now (executables readings) (mention_view mention.now).kind (mention_view mention.now)) found.items) }
+    ensures { IfOk result (λ found. IsKnown known.entry → IsIndexOf (definitions_view definitions.now) index.now
+        → AreExactly (IsDefinitionOf known.entry.project.now (definitions_view definitions.now) (mention_view mention.now).kind (mention_view mention.now)) found.items) }
 {
     match mention.kind {
-        MentionKind::Fragment => declarations_of(alloc, project, mention),
-        MentionKind::Variable => declarations_of(alloc, project, mention),
-        MentionKind::Field => field_definition(alloc, project, definitions, mention),
-        MentionKind::Condition => condition_definition(alloc, project, mention),
+        MentionKind::Fragment => declarations_of(alloc, index, mention),
+        MentionKind::Variable => declarations_of(alloc, index, mention),
+        MentionKind::Field => field_definition(alloc, known, definitions, mention),
+        MentionKind::Condition => condition_definition(alloc, known, mention),
     }
 }
 
 /// Where the fragment or the variable is declared.
 fn declarations_of(
     alloc: Global,
-    project: &Project,
+    index: &Index,
     mention: &Mention<'_>,
 ) -> Result<Vec<Occurrence>, NoMemory>
-    ensures { IfOk result (λ found. (readings : List ParsedOf) → AreParsed project.now readings
-        → AreExactly (IsDeclaration (executables readings) (mention_view mention.now).kind
-        (mention_view mention.now).name.text (mention_view mention.now).definition) found.items) }
+    ensures { IfOk result (λ found. (ds : List DefinitionOf) → IsIndexOf ds index.now
+        → AreExactly (IsDeclaration ds (mention_view mention.now).kind (mention_view mention.now).name.text (mention_view mention.now).definition) found.items) }
 {
     let wanted = Wanted {
         uses: false,
         declarations: true,
     };
-    wanted_places(alloc, project, mention, wanted)
+    wanted_places(alloc, index, mention, wanted)
 }
 
 /// Where the field is defined.
 fn field_definition(
     alloc: Global,
-    project: &Project,
+    known: Known<'_>,
     definitions: &[Executable<'_>],
     mention: &Mention<'_>,
 ) -> Result<Vec<Occurrence>, NoMemory>
-    ensures { IfOk result (λ found. AreExactly (IsDefinitionOf project.now (definitions_view definitions.now) kind.Field (mention_view mention.now)) found.items) }
+    ensures { IfOk result (λ found. IsKnown known.entry
+        → AreExactly (IsDefinitionOf known.entry.project.now (definitions_view definitions.now) kind.Field (mention_view mention.now)) found.items) }
 {
     documents_have_one_type_system();
-    let place = field_place_by_schema(alloc, project, definitions, mention)?;
+    let place = field_place_by_schema(alloc, known, definitions, mention)?;
     at_most_one(alloc, place)
 }
 
 /// Where the type is defined.
 fn condition_definition(
     alloc: Global,
-    project: &Project,
+    known: Known<'_>,
     mention: &Mention<'_>,
 ) -> Result<Vec<Occurrence>, NoMemory>
-    ensures { IfOk result (λ found. (readings : List ParsedOf) → AreExactly (IsDefinitionOf project.now (executables readings) kind.Condition (mention_view mention.now)) found.items) }
+    ensures { IfOk result (λ found. (ds : List DefinitionOf) → IsKnown known.entry
+        → AreExactly (IsDefinitionOf known.entry.project.now ds kind.Condition (mention_view mention.now)) found.items) }
 {
     documents_have_one_type_system();
-    let place = type_place_by_schema(alloc, project, mention.name.text.as_str())?;
+    let place = type_place_by_schema(known, mention.name.text.as_str());
     at_most_one(alloc, place)
 }
 

@@ -19,10 +19,10 @@ mod variables;
 mod wanted;
 mod words;
 
-pub use definitions::definition;
+pub use definitions::{definition, definition_by};
 pub use gq_completion::{Completion, CompletionKind, complete};
 pub use gq_diagnostics::diagnostics;
 pub use gq_index::Occurrence;
-pub use hovers::hover;
-pub use referring::references;
+pub use hovers::{hover, hover_by};
+pub use referring::{references, references_by};
 pub use told::Hover;

@@ -3,6 +3,7 @@ ghost use Rattle.std.specs.Prelude.{◌≡◌, Some, IfOk};
 ghost use Rattle.std.specs.Option.{option_map};
 ghost use Rattle.gq_types.specs.Look.{types_view, text_of};
 ghost use Rattle.gq_document.specs.Selections.{field_on};
+ghost use Rattle.gq_known.specs.Known.{IsKnown};
 ghost use Rattle.gq_mentions.specs.Views.{mention_view};
 ghost use Rattle.gq_query.specs.Parents.{parent_of};
 ghost use Rattle.gq_query.specs.Places.{defined_field_place, type_place};
@@ -15,72 +16,63 @@ use crate::places::{field_place, type_place};
 use crate::words::{condition_words, field_words};
 use gq_document::field_on;
 use gq_index::{Executable, Occurrence};
+use gq_known::Known;
 use gq_mentions::Mention;
-use gq_project::Project;
 use gq_schema::laws::documents_have_one_type_system;
-use gq_schema::{Schema, SchemaFault};
 use gq_text::{NoMemory, OwnedText};
 use gq_types::{Types, is_built_in_scalar};
 use std::alloc::Global;
 
-/// The schema of the project, where no rule of the type system is broken.
-fn schema_of(alloc: Global, project: &Project) -> Result<Option<Schema>, NoMemory>
-    ensures { IfOk result (λ schema. BySchema project.now (λ es. Some es) (option_map (λ s. types_view s) schema)) }
+/// The type system of the project, where no rule of it is broken.
+fn schema_of<'a>(known: Known<'a>) -> Option<&'a Types>
+    ensures { IsKnown known.entry → BySchema known.entry.project.now (λ es. Some es) (option_map (λ types. types_view types.now) result) }
 {
     documents_have_one_type_system();
-    match Schema::build(alloc, project) {
-        Ok(schema) => Ok(Some(schema)),
-        Err(SchemaFault::Faults(_)) => Ok(None),
-        Err(SchemaFault::NoMemory) => Err(NoMemory),
+    if known.has_schema {
+        Some(known.types)
+    } else {
+        None
     }
 }
 
 /// Where the field that is named is defined; nowhere without a schema.
 pub(crate) fn field_place_by_schema(
     alloc: Global,
-    project: &Project,
+    known: Known<'_>,
     definitions: &[Executable<'_>],
     mention: &Mention<'_>,
 ) -> Result<Option<Occurrence>, NoMemory>
-    ensures { IfOk result (BySchema project.now (λ es. defined_field_place es (definitions_view definitions.now) (mention_view mention.now))) }
+    ensures { IfOk result (λ place. IsKnown known.entry
+        → BySchema known.entry.project.now (λ es. defined_field_place es (definitions_view definitions.now) (mention_view mention.now)) place) }
 {
-    match schema_of(alloc, project)? {
-        Some(schema) => {
-            let place = defined_field_place(alloc, schema.types(), definitions, mention)?;
-            Ok(place)
-        }
+    match schema_of(known) {
+        Some(types) => defined_field_place(alloc, types, definitions, mention),
         None => Ok(None),
     }
 }
 
 /// Where the type of that name is defined; nowhere without a schema.
-pub(crate) fn type_place_by_schema(
-    alloc: Global,
-    project: &Project,
-    name: &str,
-) -> Result<Option<Occurrence>, NoMemory>
-    ensures { IfOk result (BySchema project.now (λ es. type_place es name.now)) }
+pub(crate) fn type_place_by_schema(known: Known<'_>, name: &str) -> Option<Occurrence>
+    ensures { IsKnown known.entry → BySchema known.entry.project.now (λ es. type_place es name.now) result }
 {
-    match schema_of(alloc, project)? {
-        Some(schema) => Ok(type_place(schema.types(), name)),
-        None => Ok(None),
+    match schema_of(known) {
+        Some(types) => type_place(types, name),
+        None => None,
     }
 }
 
 /// What is told of the field that is named; nothing without a schema.
 pub(crate) fn field_told_by_schema(
     alloc: Global,
-    project: &Project,
+    known: Known<'_>,
     definitions: &[Executable<'_>],
     mention: &Mention<'_>,
 ) -> Result<Option<OwnedText>, NoMemory>
-    ensures { IfOk result (BySchema project.now (λ es. field_told es (definitions_view definitions.now) (mention_view mention.now))) }
+    ensures { IfOk result (λ told. IsKnown known.entry
+        → BySchema known.entry.project.now (λ es. field_told es (definitions_view definitions.now) (mention_view mention.now)) told) }
 {
-    match schema_of(alloc, project)? {
-        Some(schema) => {
-            let told = field_told(alloc, schema.types(), definitions, mention)?;
-            Ok(told)
-        }
+    match schema_of(known) {
+        Some(types) => field_told(alloc, types, definitions, mention),
         None => Ok(None),
     }
 }
@@ -88,16 +80,13 @@ pub(crate) fn field_told_by_schema(
 /// What is told of the type of that name; nothing without a schema.
 pub(crate) fn condition_told_by_schema(
     alloc: Global,
-    project: &Project,
+    known: Known<'_>,
     name: &str,
 ) -> Result<Option<OwnedText>, NoMemory>
-    ensures { IfOk result (BySchema project.now (λ es. condition_told es name.now)) }
+    ensures { IfOk result (λ told. IsKnown known.entry → BySchema known.entry.project.now (λ es. condition_told es name.now) told) }
 {
-    match schema_of(alloc, project)? {
-        Some(schema) => {
-            let told = condition_told(alloc, schema.types(), name)?;
-            Ok(told)
-        }
+    match schema_of(known) {
+        Some(types) => condition_told(alloc, types, name),
         None => Ok(None),
     }
 }

@@ -3,10 +3,8 @@ ghost use Rattle.std.specs.Prelude.{◌≡◌, ◌<◌, ◌≤◌, ◌↔◌, �
 ghost use Rattle.std.specs.Option.{option_map};
 ghost use Rattle.std.specs.List.Sorted.{IsStrictlyIncreasing};
 ghost use Rattle.gq_tree.specs.Views.{variable_view, def_view};
-ghost use Rattle.gq_tree.specs.Readings.{ParsedOf};
-ghost use Rattle.gq_parse.specs.Parsed.{AreParsed};
 ghost use Rattle.gq_index.specs.Indexed.{IsIndexOf};
-ghost use Rattle.gq_index.specs.Occurrences.{DefinitionOf, executables};
+ghost use Rattle.gq_index.specs.Occurrences.{DefinitionOf};
 ghost use Rattle.gq_index.specs.VariableGroups.{VariableGroup};
 ghost use Rattle.gq_mentions.specs.Views.{mention_view};
 ghost use Rattle.gq_query.specs.Helping.Gathered.{first_of};
@@ -17,32 +15,14 @@ ghost use Rattle.gq_query.specs.Helping.Views.{found_variable};
 ghost use Rattle.gq_query.specs.Words.{variable_words};
 
 use crate::words::variable_words;
-use gq_index::laws::documents_have_one_list;
 use gq_index::{Executable, Index};
 use gq_mentions::Mention;
-use gq_project::Project;
 use gq_text::{NoMemory, OwnedText};
 use gq_tree::{Definition, VariableDefinition};
 use std::alloc::Global;
 
 /// The words of the first definition of the variable in its group.
 pub(crate) fn variable_told(
-    alloc: Global,
-    project: &Project,
-    definitions: &[Executable<'_>],
-    mention: &Mention<'_>,
-) -> Result<Option<OwnedText>, NoMemory>
-    ensures { IfOk result (λ told. (readings : List ParsedOf) → AreParsed project.now readings → definitions_view definitions.now ≡ executables readings
-        → IsVariableTold (executables readings) (mention_view mention.now).name.text mention.now.definition told) }
-{
-    documents_have_one_list();
-    let index = Index::of(alloc, project)?;
-    let told = told_by(alloc, &index, definitions, mention)?;
-    Ok(told)
-}
-
-/// The same, by the index of the project.
-fn told_by(
     alloc: Global,
     index: &Index,
     definitions: &[Executable<'_>],

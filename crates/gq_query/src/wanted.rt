@@ -1,10 +1,8 @@
-//! Where a fragment or a variable is used and declared in a project.
+//! Where a fragment or a variable is used and declared in a project, by its index.
 ghost use Rattle.std.specs.Prelude.{◌≡◌, ◌↔◌, ◌++◌, ℕ, List, Contains, IfOk, OnOk};
-ghost use Rattle.gq_tree.specs.Readings.{ParsedOf};
-ghost use Rattle.gq_parse.specs.Parsed.{AreParsed};
 ghost use Rattle.gq_index.specs.declared.occurrence.Occurrence.{Occurrence};
 ghost use Rattle.gq_index.specs.Indexed.{IsIndexOf};
-ghost use Rattle.gq_index.specs.Occurrences.{DefinitionOf, executables, fragment_definitions, fragment_spreads};
+ghost use Rattle.gq_index.specs.Occurrences.{DefinitionOf, fragment_definitions, fragment_spreads};
 ghost use Rattle.gq_mentions.specs.Views.{mention_view};
 ghost use Rattle.gq_query.specs.Helping.Gathered.{if_wanted, wanted_among};
 ghost use Rattle.gq_query.specs.Order.{AreExactly};
@@ -12,10 +10,8 @@ ghost use Rattle.gq_query.specs.Helping.Wants.{IsWanted};
 
 use crate::groups::put_wanted;
 use crate::order::in_order;
-use gq_index::laws::documents_have_one_list;
 use gq_index::{Index, Occurrence};
 use gq_mentions::{Mention, MentionKind};
-use gq_project::Project;
 use gq_text::NoMemory;
 use std::alloc::Global;
 
@@ -29,27 +25,12 @@ pub(crate) struct Wanted {
 /// The wanted places of the fragment or the variable, in order, each once; none of a field or a type.
 pub(crate) fn wanted_places(
     alloc: Global,
-    project: &Project,
-    mention: &Mention<'_>,
-    wanted: Wanted,
-) -> Result<Vec<Occurrence>, NoMemory>
-    ensures { IfOk result (λ found. (readings : List ParsedOf) → AreParsed project.now readings
-        → AreExactly (IsWanted (executables readings) wanted.uses wanted.declarations (mention_view mention.now)) found.items) }
-{
-    documents_have_one_list();
-    let index = Index::of(alloc, project)?;
-    let found = wanted_by(alloc, &index, mention, wanted)?;
-    Ok(found)
-}
-
-/// The same, by the index of the project.
-fn wanted_by(
-    alloc: Global,
     index: &Index,
     mention: &Mention<'_>,
     wanted: Wanted,
 ) -> Result<Vec<Occurrence>, NoMemory>
-    ensures { IfOk result (λ found. (ds : List DefinitionOf) → IsIndexOf ds index.now → AreExactly (IsWanted ds wanted.uses wanted.declarations (mention_view mention.now)) found.items) }
+    ensures { IfOk result (λ found. (ds : List DefinitionOf) → IsIndexOf ds index.now
+        → AreExactly (IsWanted ds wanted.uses wanted.declarations (mention_view mention.now)) found.items) }
 {
     let places = places_by(alloc, index, mention, wanted)?;
     let found = in_order(alloc, &places)?;

@@ -1,5 +1,5 @@
 use Rattle.std.proofs.Common.{◌≡◌, ◌++◌, drop, flat_map}
-use Rattle.gq_types.specs.Look.{types_view, joined_numbers}
+use Rattle.gq_types.specs.Look.{types_view}
 use Rattle.gq_completion.specs.Helping.FieldNames.{own_names_at, own_names}
 use Rattle.gq_completion.proofs.fields.put_own_names.Given as goal
 

@@ -1,16 +1,14 @@
-use Rattle.std.proofs.Common.{ℕ, List, ◌≡◌, ◌↔◌, Contains, subst, take}
-use Rattle.std.proofs.lemmas.List.{take_all}
-use Rattle.gq_completion.specs.Completions.{IsFragmentName}
-use Rattle.gq_completion.specs.Helping.Fragments.{AddsFragments}
-use Rattle.gq_completion.proofs.FragmentLemmas.{one_more_at}
+use Rattle.std.proofs.Common.{◌++◌, List, sym, ap, ◌∙◌, flat_map}
+use Rattle.std.proofs.lemmas.List.{append-nil, drop_all}
+use Rattle.gq_tree.specs.Readings.{readings_view}
+use Rattle.gq_tree.specs.declared.parsed.Parsed.{Parsed}
+use Rattle.gq_completion.specs.Helping.Fragments.{fragments_in}
+use Rattle.gq_completion.proofs.FragmentLemmas.{names_are}
 use Rattle.gq_completion.proofs.fragments.fragment_names.Goals as goal
-
-pub loop-document-preserved : goal.loop-document-preserved
-loop-document-preserved c =
-    one_more_at c.loop-document.names.items c.put_names_of.new.names.items c.args.documents.now c.loop-document.document-index c.document-item.result c.loop-document-test.true c.document-item.is
-    (subst (λ text. AddsFragments text c.loop-document.names.items c.put_names_of.new.names.items) c.as_str.ensures c.in_ok-put_names_of.ensures) c.loop-document.invariant
 
 pub returns : goal.returns
 returns c =
-    let names = c.loop-document.names.items in
-    subst (λ ds. (label : List ℕ) → Contains names label ↔ IsFragmentName ds label) (take_all _ _ c.loop-document-test.false) c.loop-document.invariant
+    let names = c.loop-reading.names.items in
+    let readings = c.args.readings.now in
+    let all = ap (λ (rs : List Parsed). names ++ flat_map fragments_in (readings_view rs)) (drop_all c.loop-reading.reading-index readings c.loop-reading-test.false) in
+    names_are c.one_tree.ensures (readings_view readings) names (sym (append-nil names) ∙ sym all ∙ c.loop-reading.invariant)

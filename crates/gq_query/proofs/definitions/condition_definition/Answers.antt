@@ -9,8 +9,10 @@ use Rattle.gq_query.proofs.definitions.condition_definition.Goals as goal
 
 pub returns : goal.returns
 returns c =
-    let told = subst (λ (t : Text). BySchema c.args.project.now (λ es. type_place es t) c.in_ok-place.place) c.as_str.ensures c.in_ok-place.ensures in
+    let documents = c.args.known.project.now in
+    let place = c.type_place_by_schema-place.result in
     IfOk-weaker c.at_most_one.result _ _
-    (λ found e readings.
-    exactly_told c.args.project.now (λ es. type_place es (mention_view c.args.mention.now).name.text) c.in_ok-place.place found.items (c.documents_have_one_type_system.ensures.one c.args.project.now) told e)
+    (λ found e ds known.
+    exactly_told documents (λ es. type_place es (mention_view c.args.mention.now).name.text) place found.items (c.documents_have_one_type_system.ensures.one documents)
+    (subst (λ (t : Text). BySchema documents (λ es. type_place es t) place) c.as_str.ensures (c.type_place_by_schema-place.ensures known)) e)
     c.at_most_one.ensures

@@ -1,15 +1,12 @@
-use Rattle.std.proofs.Common.{List, subst, sym}
+use Rattle.std.proofs.Common.{◌∙◌, List, sym, subst}
 use Rattle.gq_project.specs.declared.document.Doc.{Doc}
-use Rattle.gq_tree.specs.declared.parsed.Parsed.{Parsed}
-use Rattle.gq_tree.specs.Readings.{readings_view}
-use Rattle.gq_parse.specs.Parsed.{AreParsed}
+use Rattle.gq_query.specs.Definitions.{AreDefinitions}
+use Rattle.gq_query.proofs.Knowing.{index_of_known}
 use Rattle.gq_query.proofs.definitions.definition.Goals as goal
 
 pub returns : goal.returns
 returns c =
-    let own = subst (λ (ds : List Doc). AreParsed ds (readings_view c.in_ok-readings.readings.items)) c.documents.ensures.all c.in_ok-readings.ensures in
-    record {
-      readings = readings_view c.deref.result.now;
-      are_readings = subst (λ (rs : List Parsed). AreParsed c.args.project.now (readings_view rs)) (sym c.deref.ensures.value) own;
-      exactly = c.in_ok-found.ensures;
-    }
+    let known = c.known.result in
+    let is = c.known.ensures.known c.in_ok-learned.ensures in
+    let index = index_of_known known c.in_ok-index.index c.deref.result.now (c.known.ensures.readings ∙ sym c.deref.ensures.value) c.in_ok-index.ensures is in
+    subst (λ (documents : List Doc). AreDefinitions documents c.args.key.now c.args.offset c.in_ok-found.found.items) c.known.ensures.project (c.in_ok-found.ensures is index)

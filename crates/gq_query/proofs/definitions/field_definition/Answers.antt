@@ -7,8 +7,9 @@ use Rattle.gq_query.proofs.definitions.field_definition.Goals as goal
 
 pub returns : goal.returns
 returns c =
+    let documents = c.args.known.project.now in
     IfOk-weaker c.at_most_one.result _ _
-    (λ found e.
-    exactly_told c.args.project.now (λ es. defined_field_place es (definitions_view c.args.definitions.now) (mention_view c.args.mention.now)) c.in_ok-place.place found.items
-    (c.documents_have_one_type_system.ensures.one c.args.project.now) c.in_ok-place.ensures e)
+    (λ found e known.
+    exactly_told documents (λ es. defined_field_place es (definitions_view c.args.definitions.now) (mention_view c.args.mention.now)) c.in_ok-place.place found.items
+    (c.documents_have_one_type_system.ensures.one documents) (c.in_ok-place.ensures known) e)
     c.at_most_one.ensures

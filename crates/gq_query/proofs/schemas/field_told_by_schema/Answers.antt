@@ -1,17 +1,17 @@
-use Rattle.std.proofs.Common.{Option, Some, None, refl, ap, subst, ◌∙◌}
-use Rattle.std.specs.Option.{option_map}
+use Rattle.std.proofs.Common.{Some, None, refl}
+use Rattle.std.proofs.lemmas.Result.{IfOk-weaker}
 use Rattle.gq_types.specs.Look.{types_view}
 use Rattle.gq_mentions.specs.Views.{mention_view}
 use Rattle.gq_index.specs.Views.{definitions_view}
 use Rattle.gq_query.specs.Words.{field_told}
-use Rattle.gq_query.specs.Schemas.{BySchema}
 use Rattle.gq_query.proofs.Telling.{told_by}
 use Rattle.gq_query.proofs.schemas.field_told_by_schema.Goals as goal
 
-pub returns-in_ok-told-in-Some : goal.returns-in_ok-told-in-Some
-returns-in_ok-told-in-Some c =
-    told_by c.args.project.now (λ es. field_told es (definitions_view c.args.definitions.now) (mention_view c.args.mention.now)) (Some (types_view c.in-Some.schema)) c.in_ok-told-in-Some.told
-    (subst (λ o. BySchema c.args.project.now (λ es. Some es) (option_map types_view o)) c.in-Some.is c.in_ok-schema.ensures) (c.in_ok-told-in-Some.ensures ∙ ap (λ es. field_told es (definitions_view c.args.definitions.now) (mention_view c.args.mention.now)) c.types.ensures.same)
+pub returns-in-Some : goal.returns-in-Some
+returns-in-Some c =
+    IfOk-weaker c.field_told.result _ _
+    (λ told e is. told_by c.args.known.project.now (λ es. field_told es (definitions_view c.args.definitions.now) (mention_view c.args.mention.now)) (Some (types_view c.in-Some.types.now)) told (c.in-Some.ensures is) e)
+    c.field_told.ensures
 
 pub returns-in-None : goal.returns-in-None
-returns-in-None c = told_by c.args.project.now (λ es. field_told es (definitions_view c.args.definitions.now) (mention_view c.args.mention.now)) None None (subst (λ o. BySchema c.args.project.now (λ es. Some es) (option_map types_view o)) c.in-None.is c.in_ok-schema.ensures) refl
+returns-in-None c = λ is. told_by c.args.known.project.now (λ es. field_told es (definitions_view c.args.definitions.now) (mention_view c.args.mention.now)) None None (c.in-None.ensures is) refl

@@ -1,13 +1,23 @@
-use Rattle.std.proofs.Common.{◌∙◌, List, refl, sym, subst}
-use Rattle.gq_mentions.specs.Views.{mention_view}
-use Rattle.gq_index.specs.Indexed.{IsIndexOf}
-use Rattle.gq_index.specs.Occurrences.{DefinitionOf, executables}
-use Rattle.gq_query.specs.Hovers.{IsVariableTold}
+use Rattle.std.proofs.Common.{◌≡◌, ◌↔◌, ℕ, ◌<◌, List, Contains, length, subst}
+use Rattle.std.specs.Option.{option_map}
+use Rattle.gq_types.specs.Entries.{Text}
+use Rattle.gq_index.specs.VariableGroups.{VariableGroup}
+use Rattle.gq_query.specs.Helping.Gathered.{first_of}
+use Rattle.gq_query.specs.Groups.{variable_at}
+use Rattle.gq_index.specs.Views.{definitions_view}
+use Rattle.gq_query.specs.Words.{variable_words}
+use Rattle.gq_query.proofs.Exact.{variable_is_told}
 use Rattle.gq_query.proofs.variables.variable_told.Goals as goal
 
 pub returns : goal.returns
-returns c = λ readings are same.
-    let index = c.in_ok-index.ensures in
-    let one = c.documents_have_one_list.ensures c.args.project.now index.definitions (executables readings) index.of_documents (record { readings = readings; are_readings = are; is = refl }) in
-    let told = c.in_ok-told.ensures (subst (λ (ds : List DefinitionOf). IsIndexOf ds c.in_ok-index.index) (one ∙ sym same) index.is_index) in
-    subst (λ (ds : List DefinitionOf). IsVariableTold ds (mention_view c.args.mention.now).name.text c.args.mention.now.definition c.in_ok-told.told) same told
+returns c = λ is.
+    let ds = definitions_view c.args.definitions.now in
+    let n = c.args.mention.now.definition in
+    let group = c.in_ok-group in
+    let numbers = group.group.items in
+    let told = c.in_ok-told.told in
+    let words = subst (λ (l : List ℕ). told ≡ option_map (λ v. variable_words c.as_str-name.result.now v.type_ref) (first_of (variable_at ds c.as_str-name.result.now) l)) c.deref.ensures.value c.in_ok-told.ensures in
+    variable_is_told ds c.args.mention.now.name.now.text n numbers told group.ensures.ascending
+    (subst (λ (t : Text). n < length ds → (k : ℕ) → Contains numbers k ↔ VariableGroup ds t n k) c.as_str-name.ensures (group.ensures.group ds is))
+    (group.ensures.past ds is)
+    (subst (λ (t : Text). told ≡ option_map (λ v. variable_words t v.type_ref) (first_of (variable_at ds t) numbers)) c.as_str-name.ensures words)

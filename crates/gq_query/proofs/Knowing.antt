@@ -1,0 +1,33 @@
+-- What is known of documents, and their index.
+use Rattle.std.proofs.Common.{◌≡◌, List, refl, subst}
+use Rattle.gq_project.specs.declared.document.Doc.{Doc}
+use Rattle.gq_tree.specs.declared.parsed.Parsed.{Parsed}
+use Rattle.gq_tree.specs.Readings.{ParsedOf, readings_view}
+use Rattle.gq_parse.specs.Parsed.{AreParsed}
+use Rattle.gq_index.specs.declared.index.Index.{Index}
+use Rattle.gq_index.specs.Indexed.{IsIndexOf, IsIndexOfProject}
+use Rattle.gq_index.specs.Occurrences.{DefinitionOf, AreExecutables, executables}
+use Rattle.gq_known.specs.declared.known.Known.{Known}
+use Rattle.gq_known.specs.Known.{IsKnown}
+
+-- documents have one list of executable definitions
+abbrev pub OneList : Type 0
+OneList = (documents : List Doc) (xs ys : List DefinitionOf) → AreExecutables documents xs → AreExecutables documents ys → xs ≡ ys
+
+-- so the index of a project is that of the definitions that are known
+pub own_index : (known : Known) (index : Index) (ds : List DefinitionOf) → OneList → ds ≡ executables (readings_view known.readings.now) → IsKnown known → IsIndexOfProject known.project.now index → IsIndexOf ds index
+own_index known index ds one same is of =
+    let own : AreExecutables known.project.now ds = record { readings = readings_view known.readings.now; are_readings = is.are_readings; is = same } in
+    subst (λ (l : List DefinitionOf). IsIndexOf l index) (one known.project.now of.definitions ds of.of_documents own) of.is_index
+
+-- and that of the definitions that are known is the project's
+pub index_of_known : (known : Known) (index : Index) (readings : List Parsed) → known.readings.now ≡ readings → IsIndexOf (executables (readings_view readings)) index → IsKnown known → IsIndexOfProject known.project.now index
+index_of_known known index readings same of is = record {
+  definitions = executables (readings_view readings);
+  of_documents = record {
+    readings = readings_view readings;
+    are_readings = subst (λ (l : List Parsed). AreParsed known.project.now (readings_view l)) same is.are_readings;
+    is = refl;
+  };
+  is_index = of;
+}
