@@ -4,36 +4,23 @@ use Rattle.std.specs.Prelude.{find, IfOk}
 use Rattle.std.proofs.lemmas.Grind.{not_there}
 use Rattle.gq_project.specs.declared.document.Doc.{Doc}
 use Rattle.gq_edit.specs.declared.edit.DocumentEdit.{DocumentEdit}
-use Rattle.gq_edit.specs.Edits.{FitDocuments, after_edit, is_too_large}
+use Rattle.gq_edit.specs.Edits.{after_edit, is_too_large}
 use Rattle.gq_tree.specs.Readings.{ParsedOf}
 use Rattle.gq_parse.specs.Parsed.{AreParsed}
-use Rattle.gq_index.specs.Occurrences.{DefinitionOf, executables}
-use Rattle.gq_renamed.specs.Names.{IsNameText}
-use Rattle.gq_renamed.specs.Renamings.{Renaming, MayName}
-use Rattle.gq_cut.proofs.VariableCut.{may_name}
+use Rattle.gq_index.specs.Occurrences.{executables}
+use Rattle.gq_renamed.specs.Renamings.{Renaming}
 use Rattle.gq_rules.specs.Validity.{IsValid}
 use Rattle.gq_mentions.specs.declared.target.Target.{Target}
-use Rattle.gq_mentions.specs.declared.target.TargetKind.{TargetKind}
-use Rattle.gq_mentions.specs.declared.target.TargetKind.TheVariants as kind
 use Rattle.gq_rename.specs.declared.refusal.Refusal.{Refusal}
 use Rattle.gq_rename.specs.declared.refusal.Refusal.TheVariants.{ProjectInvalid, NothingHere, BadName, SameName, NameTaken, DirectiveInWay, NoPossibleType, NotSiblings, NotRedundant, TooLarge, SelfCheck, NoMemory}
 use Rattle.gq_rename.specs.Refusals.{number_of}
-use Rattle.gq_rename.specs.Asks.{RenameAsk, trees_of, target_of, MayBeCalled, IsTaken, Changes, fragments, variables}
+use Rattle.gq_rename.specs.Asks.{RenameAsk, trees_of, target_of, MayBeCalled, IsTaken, Changes}
 use Rattle.gq_rename.specs.Rename.{Renames, cut, AtTarget, IsTooLarge, ReadsAsRenamed, PassesCheck, Refuses, IsRenameAnswer, KeepsTrees}
 use Rattle.gq_rename.specs.Sound.{IsSound, edits_by}
 use Rattle.gq_rename.specs.Helping.NameRefusals.{IsNameRefusal}
 use Rattle.gq_rename.specs.Checked.{IsChecked}
 use Rattle.gq_rename.proofs.Edited.{too_large}
 use Rattle.gq_rename.proofs.Groups.{one_rule}
-
--- what a new name has to be for both kinds
-pub name_text : (of : TargetKind) (new : List ℕ) → MayBeCalled of new → IsNameText new
-name_text kind.Fragment new may = may.is_name
-name_text kind.Variable new may = may
-
-pub may_name_each : {ds : List DefinitionOf} {old : List ℕ} {definition : ℕ} {of : TargetKind} {rule : ℕ → Renaming} (new : List ℕ) → Changes ds old definition of rule → MayBeCalled of new → (n : ℕ) → MayName (rule n) new
-may_name_each new fragments may = λ n text marked. may.not_on
-may_name_each {old = old} new (variables {group = group} is) may = may_name group old new
 
 abbrev pub ask_of : List ℕ → ℕ → List ℕ → RenameAsk
 ask_of key offset new = record { key = key; offset = offset; new = new }
@@ -205,7 +192,3 @@ module _ (documents : List Doc) (rs : List ParsedOf) (key : List ℕ) (offset : 
 pub valid_after : (documents : List Doc) (edits : List DocumentEdit) (result : Result (List DocumentEdit) Refusal) → IsChecked documents edits result → IfOk result (λ made. ∥ IsValid (after_edit made documents) ∥₁)
 valid_after documents edits (Ok made) h = subst (λ (es : List DocumentEdit). ∥ IsValid (after_edit es documents) ∥₁) (sym h.0) h.2
 valid_after documents edits (Err why) h = tt
-
-pub fits_after : (documents : List Doc) (edits : List DocumentEdit) (result : Result (List DocumentEdit) Refusal) → FitDocuments documents edits → IsChecked documents edits result → IfOk result (FitDocuments documents)
-fits_after documents edits (Ok made) fit h = subst (FitDocuments documents) (sym h.0) fit
-fits_after documents edits (Err why) fit h = tt

@@ -118,7 +118,7 @@ document_below : (n most : ℕ) (tree : List (Def Span)) → number_behind tree 
 document_below n most tree less = all_kept (Below most) can_be_renamed (mentions n tree) (tree_below n most tree less)
 
 -- how many there are, with those before
-count_in : (j k : ℕ) (tree : List (Def Span)) (rest : List DefinitionOf) → length (flat_map (executable_in j) tree ++ rest) + k ≡ length rest + number_behind tree k
+pub count_in : (j k : ℕ) (tree : List (Def Span)) (rest : List DefinitionOf) → length (flat_map (executable_in j) tree ++ rest) + k ≡ length rest + number_behind tree k
 count_in j k [] rest = refl
 count_in j k (operation kind name variables directives set braces place ∷ ds) rest = let h = count_in j (k + 1) ds rest in omega (arith, h)
 count_in j k (fragment name on directives set braces place ∷ ds) rest = let h = count_in j (k + 1) ds rest in omega (arith, h)
@@ -145,7 +145,7 @@ found_in {X} P p (y ∷ ys) x h e = by (p y) e (found_in P p ys x h.1)
     by true g later = let same : y ≡ x = cc in subst P same h.0
     by false g later = later g
 
-meant_in : (P : MentionOf → Type 0) (offset : ℕ) (ms : List MentionOf) (m : MentionOf) → AllByRecursion P ms → meant offset ms ≡ Some m → P m
+pub meant_in : (P : MentionOf → Type 0) (offset : ℕ) (ms : List MentionOf) (m : MentionOf) → AllByRecursion P ms → meant offset ms ≡ Some m → P m
 meant_in P offset ms m h e = by (find (holds offset) ms) refl e
   where
     by : (o : Option MentionOf) → find (holds offset) ms ≡ o → option_or o (find (ends_at offset) ms) ≡ Some m → P m

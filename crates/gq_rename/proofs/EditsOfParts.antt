@@ -1,5 +1,5 @@
 -- Edits of documents in order, each of its own document: what holds of each document and of what is replaced in it, and that none is moved.
-use Rattle.std.proofs.Common.{◌≡◌, ℕ, Bool, false, List, [], ◌∷◌, ◌++◌, Option, Some, None, find, Contains, refl, sym, ap, subst, ◌∙◌}
+use Rattle.std.proofs.Common.{◌≡◌, ℕ, List, [], ◌∷◌, ◌++◌, Option, Some, None, find, Contains, refl, sym, ap, subst, ◌∙◌}
 use Rattle.std.specs.Prelude.{is_none, cond}
 use Rattle.std.specs.List.{AllByRecursion}
 use Rattle.std.specs.Option.{ForSome}

@@ -1,17 +1,14 @@
 -- The edit of a rename: its documents are there, and its positions lead back to its offsets.
-use Rattle.std.proofs.Common.{◌≡◌, ℕ, Bool, true, false, List, [], ◌∷◌, ◌++◌, Ok, Some, None, find, map, Contains, refl, sym, ap, subst, ◌∙◌, append-nil, arith, length, IsUtf8}
+use Rattle.std.proofs.Common.{◌≡◌, ℕ, Bool, true, false, List, [], ◌∷◌, ◌++◌, None, find, Contains, refl, sym, ap, subst, ◌∙◌, append-nil, arith, length, IsUtf8}
 use Rattle.std.specs.Prelude.{codes, if◌then◌else◌}
 use Rattle.std.specs.List.{AllByRecursion}
 use Rattle.std.proofs.lemmas.List.Elements.{recursion_from_All, All-contains_itself}
 use Rattle.gq_text.specs.Cut.{PositionsLeadBack}
 use Rattle.gq_text.specs.declared.place.Span.{Span}
-use Rattle.gq_text.specs.declared.replacement.Replacement.{Replacement}
-use Rattle.gq_lex.specs.Tokens.{Lexeme}
 use Rattle.gq_tree.specs.Plain.{NameOf, Def}
 use Rattle.gq_tree.specs.Readings as reading
 use Rattle.gq_tree.specs.Readings.{ParsedOf, definitions_read}
 use Rattle.gq_project.specs.declared.document.Doc.{Doc}
-use Rattle.gq_project.specs.Documents.{IsInOrder}
 use Rattle.gq_parse.specs.Derives.{Derives}
 use Rattle.gq_parse.specs.Parsed.{AreParsed}
 use Rattle.gq_parse.specs.Parsed as readings

@@ -6,6 +6,8 @@ mod Taken
 mod Groups
 mod Naming
 mod Targeting
+mod Standing
+mod PreparedStanding
 mod Answering
 mod Offering
 mod Soundness

@@ -1,5 +1,5 @@
 -- The answer to the rename of a target, from what its steps answered.
-use Rattle.std.proofs.Common.{◌≡◌, ◌↔◌, ℕ, ◌<◌, List, length, Option, Some, None, Result, Err, Contains, refl, sym, subst, inl, inr, ◌⊎◌}
+use Rattle.std.proofs.Common.{◌≡◌, ◌↔◌, ℕ, ◌<◌, List, length, Option, Some, None, Result, Err, Contains, refl, sym, ap, subst, ◌∙◌, inr, ◌⊎◌}
 use Rattle.std.specs.Prelude.{find, IfOk}
 use Rattle.std.specs.List.Sorted.{IsStrictlyIncreasing}
 use Rattle.gq_text.specs.declared.place.Span.{Span}
@@ -17,7 +17,7 @@ use Rattle.gq_index.specs.VariableGroups.{VariableGroup}
 use Rattle.gq_renamed.specs.Names.{IsNameText}
 use Rattle.gq_renamed.specs.Renamings.{Renaming, MayName, fragment_called}
 use Rattle.gq_renamed.specs.Projects.{AreTrees, rename_edits}
-use Rattle.gq_cut.specs.Cut.{HaveTrees, variable_in}
+use Rattle.gq_cut.specs.Cut.{variable_in}
 use Rattle.gq_rules.specs.Validity.{IsValid}
 use Rattle.gq_mentions.specs.declared.target.Target.{Target}
 use Rattle.gq_mentions.specs.declared.target.TargetKind.{TargetKind}
@@ -45,23 +45,13 @@ Answers documents t new result = (key : List ℕ) (offset : ℕ) → IsTarget do
 abbrev pub Keeps : List Doc → Target → List ℕ → Result (List DocumentEdit) Refusal → Type 0
 Keeps documents t new result = (key : List ℕ) (offset : ℕ) → IsTarget documents key offset t → IfOk result (KeepsTrees documents key offset new)
 
--- want of memory is no answer that is wrong
-pub no_memory : (documents : List Doc) (key : List ℕ) (offset : ℕ) (new : List ℕ) (result : Result (List DocumentEdit) Refusal) → result ≡ Err NoMemory → Answer documents key offset new result
-no_memory documents key offset new result e = inl e
-
 -- nothing is at the offset
-pub nothing_there : (listed documents : List Doc) (index : Index) (key : List ℕ) (offset : ℕ) (new : List ℕ) → listed ≡ documents → IsIndexOfProject listed index → ∥ IsValid documents ∥₁ →
-    ((rs : List ParsedOf) → AreParsed listed rs → None ≡ target_of listed rs key offset) → Answer documents key offset new (Err NothingHere)
-nothing_there listed documents index key offset new same i valid none =
-    let V : List Doc → Type 0 = λ ds. ∥ IsValid ds ∥₁ in
-    let A : List Doc → Type 0 = λ ds. Answer ds key offset new (Err NothingHere) in
-    subst A same (inr (nothing_here listed i.of_documents.readings key offset new i.of_documents.are_readings (subst V (sym same) valid) (sym (none i.of_documents.readings i.of_documents.are_readings))))
-
--- something is: then what answers its rename answers the ask
-pub something_there : (listed documents : List Doc) (index : Index) (key : List ℕ) (offset : ℕ) (t : Target) → listed ≡ documents → IsIndexOfProject listed index → ((rs : List ParsedOf) → AreParsed listed rs → Some t ≡ target_of listed rs key offset) → IsTarget documents key offset t
-something_there listed documents index key offset t same i some =
-    let T : List Doc → Type 0 = λ ds. IsTarget ds key offset t in
-    subst T same (record { readings = i.of_documents.readings; are_readings = i.of_documents.are_readings; here = sym (some i.of_documents.readings i.of_documents.are_readings) })
+pub nothing_there : (held documents : List Doc) (rs : List ParsedOf) (key : List ℕ) (offset : ℕ) (new : List ℕ) → held ≡ documents → AreParsed documents rs → ∥ IsValid documents ∥₁ →
+    (AreParsed held rs → None ≡ target_of held rs key offset) → Answer documents key offset new (Err NothingHere)
+nothing_there held documents rs key offset new same are valid none =
+    let A : List Doc → Type 0 = λ ds. AreParsed ds rs in
+    let here : target_of documents rs key offset ≡ None = ap (λ (ds : List Doc). target_of ds rs key offset) (sym same) ∙ sym (none (subst A (sym same) are)) in
+    inr (nothing_here documents rs key offset new are valid here)
 
 module _ (one_list : OneList) (listed documents : List Doc) (same : listed ≡ documents) (index : Index) (i : IsIndexOfProject documents index) (valid : ∥ IsValid documents ∥₁) where
   -- the index, of any reading of the documents
@@ -69,15 +59,6 @@ module _ (one_list : OneList) (listed documents : List Doc) (same : listed ≡ d
   index_of rs are =
       let x : AreExecutables documents (executables rs) = record { readings = rs; are_readings = are; is = refl } in
       subst (λ (ds : List DefinitionOf). IsIndexOf ds index) (one_list documents i.definitions (executables rs) i.of_documents x) i.is_index
-
-  pub listed_index : IsIndexOfProject listed index
-  listed_index = let I : List Doc → Type 0 = λ ds. IsIndexOfProject ds index in subst I (sym same) i
-
-  pub listed_trees : ValidDocumentsAreTrees → HaveTrees listed
-  listed_trees trees =
-      let H : List Doc → Type 0 = λ ds. HaveTrees ds in
-      let rs : List ParsedOf = i.of_documents.readings in
-      subst H (sym same) (record { trees = trees_of rs; are_trees = trees documents rs i.of_documents.are_readings valid })
 
   module _ (t : Target) (new : List ℕ) where
     -- the number of the target's definition is one of the index
@@ -167,6 +148,3 @@ members_of ds t old group items is same members =
     let G : List ℕ → Type 0 = λ l. (n : ℕ) → Contains l n ↔ VariableGroup ds t.name.text t.definition n in
     let N : List ℕ → Type 0 = λ text. (n : ℕ) → Contains items n ↔ VariableGroup ds text t.definition n in
     subst G (sym same) (subst N is members)
-
-pub index_listed : (listed documents : List Doc) (index : Index) → listed ≡ documents → IsIndexOfProject documents index → IsIndexOfProject listed index
-index_listed listed documents index same i = let I : List Doc → Type 0 = λ ds. IsIndexOfProject ds index in subst I (sym same) i

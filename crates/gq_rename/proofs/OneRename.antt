@@ -1,5 +1,5 @@
 -- A rename has one answer, however the documents are read.
-use Rattle.std.proofs.Common.{◌≡◌, ℕ, List, Option, Some, Result, Ok, refl, sym, ap, subst, ◌∙◌}
+use Rattle.std.proofs.Common.{◌≡◌, ℕ, List, Some, sym, ap, subst, ◌∙◌}
 use Rattle.std.specs.Option.{option_map}
 use Rattle.gq_text.specs.declared.place.Span.{Span}
 use Rattle.gq_tree.specs.Plain.{Def}
@@ -19,7 +19,7 @@ use Rattle.gq_rename.specs.declared.refusal.Refusal.TheVariants.{ProjectInvalid,
 use Rattle.gq_rename.specs.Asks.{RenameAsk, trees_of, target_of, MayBeCalled, IsTaken, Changes}
 use Rattle.gq_rename.specs.Determined.{RenamesAreDetermined, PreparedNamesAreDetermined}
 use Rattle.gq_rename.specs.Offers.{IsOffer}
-use Rattle.gq_rename.specs.Rename.{Renames, cut, AtTarget, IsTooLarge, ReadsAsRenamed, Refuses, IsCut}
+use Rattle.gq_rename.specs.Rename.{Renames, AtTarget, IsTooLarge, ReadsAsRenamed, Refuses, IsCut}
 use Rattle.gq_rename.proofs.Groups.{one_rule}
 use Rattle.gq_rename.proofs.OneOffer.{one_offer, offer_carried}
 use Rattle.gq_rename.proofs.Trees.{same_target}

@@ -1,5 +1,5 @@
 -- The edit of a rename keeps every response.
-use Rattle.std.proofs.Common.{◌≡◌, ◌↔◌, ℕ, List, [], ◌∷◌, Option, Some, Result, Ok, Err, ◌⊎◌, inl, inr, refl, sym, ap, subst, ◌∙◌}
+use Rattle.std.proofs.Common.{◌≡◌, ◌↔◌, ℕ, List, ◌∷◌, Option, Some, Result, Ok, Err, ◌⊎◌, inl, inr, refl, sym, ap, subst, ◌∙◌}
 use Rattle.std.specs.Prelude.{map, IfOk}
 use Rattle.gq_text.specs.declared.place.Span.{Span}
 use Rattle.gq_tree.specs.Plain.{Def, erase_document}
@@ -28,7 +28,7 @@ use Rattle.gq_mentions.specs.declared.target.TargetKind.TheVariants as kind
 use Rattle.gq_rename.specs.declared.refusal.Refusal.{Refusal}
 use Rattle.gq_rename.specs.declared.refusal.Refusal.TheVariants.{SameName, NameTaken, NoMemory}
 use Rattle.gq_rename.specs.Asks.{trees_of, target_of, IsTaken, Changes, fragments, variables}
-use Rattle.gq_rename.specs.Rename.{Renames, cut, IsRenameAnswer, KeepsTrees}
+use Rattle.gq_rename.specs.Rename.{Renames, IsRenameAnswer, KeepsTrees}
 use Rattle.gq_rename.specs.Responses.{IsGivenAlike, KeepsResponses}
 use Rattle.gq_rename.specs.Sound.{ValidDocumentsAreTrees}
 use Rattle.gq_rename.proofs.Groups.{one_rule}

@@ -1,8 +1,7 @@
 -- Where no refusal holds only if something is cut, an ask cannot be without an answer.
-use Rattle.std.proofs.Common.{◌≡◌, ◌<◌, ℕ, zero, suc, List, Option, Some, None, Result, Ok, Err, length, slice_get, refl, arith}
+use Rattle.std.proofs.Common.{◌≡◌, ◌<◌, ℕ, zero, suc, List, Option, Some, None, Result, Ok, Err, refl, arith}
 use Rattle.gq_tree.specs.Readings.{ParsedOf}
 use Rattle.gq_project.specs.declared.document.Doc.{Doc}
-use Rattle.gq_parse.specs.Parsed.{AreParsed}
 use Rattle.gq_edit.specs.declared.edit.DocumentEdit.{DocumentEdit}
 use Rattle.gq_index.specs.Occurrences.{DefinitionOf, executables}
 use Rattle.gq_renamed.specs.Renamings.{Renaming, fragment_called}

@@ -1,5 +1,5 @@
 -- Where a text may be cut so that the position of the place leads back to it.
-use Rattle.std.proofs.Common.{◌≡◌, ℕ, zero, suc, ◌+◌, ◌-◌, ◌<◌, ◌≤◌, ◌==◌, List, [], ◌∷◌, ◌++◌, length, get_or, take, drop, refl, sym, ap, subst, ◌∙◌, arith, add-zero, length-append, IsUtf8}
+use Rattle.std.proofs.Common.{◌≡◌, ℕ, zero, suc, ◌+◌, ◌-◌, ◌<◌, ◌≤◌, List, [], ◌∷◌, ◌++◌, length, get_or, take, drop, refl, sym, ap, subst, ◌∙◌, arith, add-zero, length-append, IsUtf8}
 use Rattle.std.specs.Str.{chars, IsCharBoundary}
 use Rattle.std.proofs.lemmas.Bool.Decides.{nat_tests}
 use Rattle.std.proofs.lemmas.List.{get_or-append-add, get_or-drop, get_or-take, length-take, take-append-drop}
@@ -7,7 +7,6 @@ use Rattle.std.proofs.lemmas.Str.{chars-append, encodes-chars, length-encode, le
 use Rattle.std.proofs.Math.Utf8.{encode, encodes}
 use Rattle.gq_text.specs.Cut.{IsUnsplit, PositionsLeadBack}
 use Rattle.gq_text.specs.Place.{lines, byte_count, offset_in, position_in}
-use Rattle.gq_text.specs.declared.place.PositionEncoding.{PositionEncoding}
 use Rattle.gq_text.proofs.Further.{byte_count-chars}
 use Rattle.gq_text.proofs.Steps.{first_feed}
 use Rattle.gq_rename.specs.LeadBack.{LeadsBack}

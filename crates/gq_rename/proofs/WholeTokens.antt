@@ -1,7 +1,6 @@
 -- The tokens of a text begin and end where the position of the place leads back to it.
 use Rattle.std.proofs.Common.{◌≡◌, ℕ, ◌+◌, ◌-◌, ◌<◌, List, [], ◌∷◌, length, get_or, drop, refl, sym, ap, ◌∙◌, arith, add-zero, IsUtf8}
 use Rattle.std.specs.List.{AllByRecursion, slice_range}
-use Rattle.std.specs.Str.{IsCharBoundary}
 use Rattle.std.proofs.lemmas.List.{get_or-drop, get_or-take}
 use Rattle.std.proofs.lemmas.List.Elements.{recursion_from_All}
 use Rattle.gq_lex.specs.Places.{StandIn, IsCutOf}

@@ -5,6 +5,7 @@ pub mod Rename
 pub mod Checked
 pub mod Sound
 pub mod Prepare
+pub mod Standing
 pub mod Responses
 pub mod LeadBack
 pub mod Determined

@@ -6,6 +6,7 @@ ghost use Rattle.gq_rename.specs.declared.refusal.Refusal.TheVariants.{ProjectIn
 ghost use Rattle.gq_rename.specs.Determined.{RenamesAreDetermined, RenamesAreThere, PreparedNamesAreDetermined, RenamesNameVersions, RenamesLeadBack};
 ghost use Rattle.gq_rename.specs.Rename.{IsRenameAnswer};
 ghost use Rattle.gq_rename.specs.Responses.{RenamesKeepResponses};
+ghost use Rattle.gq_rename.specs.Standing.{PreparedNamesStandInTexts};
 ghost use Rattle.gq_rename.specs.Sound.{RenamesAreSound, ValidDocumentsAreTrees, OffsetsMeanOneTarget};
 
 use gq_law_renames::laws::{fragment_renames_keep_responses, variable_renames_keep_responses};
@@ -69,6 +70,11 @@ pub fn prepared_names_are_determined()
 {
     one_tree();
 }
+
+/// And the name stands in the text of its document: the text can be cut at both of its ends, which come in order.
+pub fn prepared_names_stand_in_texts()
+    ensures { PreparedNamesStandInTexts }
+{}
 
 /// A rename has an answer: documents that are read cannot be without one.
 pub fn renames_are_there()

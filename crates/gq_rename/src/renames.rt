@@ -1,5 +1,7 @@
 //! Renames in all documents of a project.
 ghost use Rattle.std.specs.Prelude.{◌≡◌, ◌⊎◌, ℕ, List, Err, IfOk};
+ghost use Rattle.gq_tree.specs.Readings.{readings_view};
+ghost use Rattle.gq_parse.specs.Parsed.{AreParsed};
 ghost use Rattle.gq_edit.specs.Edits.{FitDocuments, after_edit};
 ghost use Rattle.gq_index.specs.Indexed.{IsIndexOfProject};
 ghost use Rattle.gq_rules.specs.Validity.{IsValid};
@@ -18,7 +20,9 @@ use crate::targets::target_by;
 use gq_edit::Edit;
 use gq_index::Index;
 use gq_mentions::{Target, TargetKind};
+use gq_parse::read;
 use gq_rules::Valid;
+use gq_tree::Parsed;
 use std::alloc::Global;
 
 /// The edit that gives what the offset means, in bytes of the document of that key, another name: a fragment at its
@@ -45,27 +49,30 @@ pub fn rename(
     renames_keep_responses();
     let project = valid.project();
     documents_are_texts(project);
-    let index = Index::of(alloc, project)?;
-    rename_by(alloc, valid, &index, key, offset, new_name)
+    let readings = read(alloc, project.documents())?;
+    rename_by(alloc, valid, &readings, key, offset, new_name)
 }
 
-/// The same, with the index of the project.
+/// The same of a project whose documents are read so.
 fn rename_by(
     alloc: Global,
     valid: &Valid,
-    index: &Index,
+    readings: &[Parsed],
     key: &str,
     offset: usize,
     new_name: &str,
 ) -> Result<Edit, Refusal>
-    requires { IsIndexOfProject valid.now index.now }
+    requires { AreParsed valid.now (readings_view readings.now) }
     ensures answer { (result ≡ Err refusal.NoMemory) ⊎ IsRenameAnswer valid.now key.now offset new_name.now result }
     ensures fits { IfOk result (FitDocuments valid.now) }
     ensures kept { IfOk result (KeepsTrees valid.now key.now offset new_name.now) }
     ensures valid { IfOk result (λ edit. ∥ IsValid (after_edit edit valid.now) ∥₁) }
 {
-    match target_by(alloc, valid.project(), index, key, offset)? {
-        Some(target) => offer(alloc, valid, index, &target, new_name),
+    match target_by(alloc, valid.project(), readings, key, offset)? {
+        Some(target) => {
+            let index = Index::of_readings(alloc, readings)?;
+            offer(alloc, valid, &index, &target, new_name)
+        }
         None => Err(Refusal::NothingHere),
     }
 }

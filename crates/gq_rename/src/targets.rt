@@ -1,25 +1,21 @@
 //! What an offset in a document of a project means to a rename.
-ghost use Rattle.std.specs.Prelude.{◌≡◌, ◌↔◌, ◌<◌, ◌≤◌, ◌^◌, ◌+◌, List, Some, IfOk, length};
-ghost use Rattle.std.specs.List.{prefix_len};
-ghost use Rattle.gq_tree.specs.Readings.{ParsedOf};
-ghost use Rattle.gq_parse.specs.Parsed.{IsParsed, AreParsed};
-ghost use Rattle.gq_tree.specs.Readings.{definitions_read};
-ghost use Rattle.gq_index.specs.Indexed.{IsIndexOfProject};
+ghost use Rattle.std.specs.Prelude.{◌≡◌, ◌↔◌, ◌<◌, ◌^◌, Some, IfOk, length, slice_get, take};
+ghost use Rattle.gq_tree.specs.Readings.{ParsedOf, definitions_read, parsed_view, readings_view};
+ghost use Rattle.gq_parse.specs.Parsed.{AreParsed};
+ghost use Rattle.gq_index.specs.Occurrences.{executables};
 ghost use Rattle.gq_mentions.specs.declared.target.Target.{Target};
 ghost use Rattle.gq_mentions.specs.Renameables.{renameables};
 ghost use Rattle.gq_mentions.specs.Targets.{target};
 ghost use Rattle.gq_rename.specs.Asks.{IsTarget, target_of};
-ghost use Rattle.gq_rename.specs.Helping.Found.{stands_before};
 
 use crate::laws::offsets_mean_one_target;
-use gq_index::laws::documents_have_one_list;
-use gq_index::{Index, Occurrence};
+use gq_index::executables;
 use gq_mentions::{Target, target_in};
-use gq_parse::laws::one_tree;
-use gq_parse::{Fault, parse};
-use gq_project::{Doc, Project};
+use gq_parse::read;
+use gq_project::Project;
 use gq_rules::Valid;
 use gq_text::NoMemory;
+use gq_tree::Parsed;
 use std::alloc::Global;
 
 /// What a rename at the offset, in bytes, of the document of that key is of: the fragment's name or the variable whose
@@ -34,60 +30,67 @@ pub fn target(
 {
     offsets_mean_one_target();
     let project = valid.project();
-    let index = Index::of(alloc, project)?;
-    let found = target_by(alloc, project, &index, key, offset)?;
+    let readings = read(alloc, project.documents())?;
+    let found = target_by(alloc, project, &readings, key, offset)?;
     Ok(found)
 }
 
-/// The same, with the index of the project.
+/// The same of a project whose documents are read so.
 pub(crate) fn target_by(
     alloc: Global,
     project: &Project,
-    index: &Index,
+    readings: &[Parsed],
     key: &str,
     offset: usize,
 ) -> Result<Option<Target>, NoMemory>
-    requires { IsIndexOfProject project.now index.now }
-    ensures { IfOk result (λ found. (readings : List ParsedOf) → AreParsed project.now readings → found ≡ target_of project.now readings key.now offset) }
+    ensures { IfOk result (λ found. AreParsed project.now (readings_view readings.now) → found ≡ target_of project.now (readings_view readings.now) key.now offset) }
 {
-    documents_have_one_list();
     let Some(file) = project.place(key) else {
         return Ok(None);
     };
-    let documents = project.documents();
-    let first = count_before(index.places(), file);
-    target_at(alloc, &documents[file], first, offset)
+    target_at(alloc, readings, file, offset)
 }
 
-/// How many of the first definitions stand in documents before that one.
-fn count_before(places: &[Occurrence], file: usize) -> usize
-    ensures count { result ≡ prefix_len (stands_before file) places.now }
-    ensures few { result < 2 ^ 63 }
-{
-    let all = places.len();
-    for (count, place) in places.iter().enumerate() {
-        if place.file >= file {
-            return count;
-        }
-    }
-    all
-}
-
-/// The target of an offset in a document, whose first executable definition has the number `first`.
+/// The target of an offset in the document of that number.
 fn target_at(
     alloc: Global,
-    document: &Doc,
+    readings: &[Parsed],
+    file: usize,
+    offset: usize,
+) -> Result<Option<Target>, NoMemory>
+    ensures { IfOk result (λ found. (r : ParsedOf) → slice_get (readings_view readings.now) file ≡ Some r →
+        found ≡ target offset (renameables (length (executables (take file (readings_view readings.now)))) (definitions_read r))) }
+{
+    match readings.get(file) {
+        Some(reading) => {
+            let first = count_executables(alloc, &readings[..file])?;
+            target_read(alloc, reading, first, offset)
+        }
+        None => Ok(None),
+    }
+}
+
+/// The target of an offset in what is read, whose first executable definition has the number `first`.
+fn target_read(
+    alloc: Global,
+    reading: &Parsed,
     first: usize,
     offset: usize,
 ) -> Result<Option<Target>, NoMemory>
     requires { first < 2 ^ 63 }
-    ensures { IfOk result (λ found. (reading : ParsedOf) → IsParsed document.now.text reading → found ≡ target offset (renameables first (definitions_read reading))) }
+    ensures { IfOk result (λ found. found ≡ target offset (renameables first (definitions_read (parsed_view reading.now)))) }
 {
-    one_tree();
-    match parse(alloc, document.text.as_str()) {
-        Ok(tree) => target_in(alloc, &tree, first, offset),
-        Err(Fault::NoMemory) => Err(NoMemory),
-        Err(Fault::Syntax { .. }) => Ok(None),
-        Err(Fault::Limit { .. }) => Ok(None),
+    match reading {
+        Parsed::Tree(document) => target_in(alloc, document, first, offset),
+        Parsed::Syntax { .. } => Ok(None),
+        Parsed::Limit { .. } => Ok(None),
     }
+}
+
+/// How many executable definitions these documents have.
+fn count_executables(alloc: Global, readings: &[Parsed]) -> Result<usize, NoMemory>
+    ensures { IfOk result (λ count. (count ≡ length (executables (readings_view readings.now))) × (count < 2 ^ 63)) }
+{
+    let all = executables(alloc, readings)?;
+    Ok(all.len())
 }

@@ -1,5 +1,5 @@
 -- What extract finds, and its answers.
-use Rattle.std.proofs.Common.{◌≡◌, ℕ, List, Option, Some, None, Result, Err, slice_get, sym, ap, ◌∙◌, subst}
+use Rattle.std.proofs.Common.{◌≡◌, ℕ, List, Option, Some, None, Result, Err, sym, ap, ◌∙◌, subst}
 use Rattle.gq_text.specs.declared.place.Span.{Span}
 use Rattle.gq_tree.specs.Plain.{Sels}
 use Rattle.gq_project.specs.declared.document.Doc.{Doc}
@@ -34,10 +34,10 @@ module _ (asked : Asked) (about : IsAbout asked) where
   Documents = asked.valid.now
 
   abbrev pub Types : List EntryOf
-  Types = types_view asked.types.now
+  Types = types_view asked.known.types.now
 
   abbrev pub Readings : List ParsedOf
-  Readings = (readings_view asked.readings.now)
+  Readings = (readings_view asked.known.readings.now)
 
   -- the run that is touched
   pub is_run : (place : Span) (parent : Option Text) (run : Sels Span) (on : Text) → Touches asked.document.now.text asked.range place → run_at place (sets_of_asked asked) ≡ Some (record { parent = parent; run = run }) → IsPossibleParent Types parent (Some on) →

@@ -1,5 +1,5 @@
 -- Of one number more than there are definitions not all are taken.
-use Rattle.std.proofs.Common.{◌≡◌, ◌⊎◌, inl, inr, ℕ, zero, suc, ◌+◌, ◌<◌, ◌≤◌, ◌^◌, Bool, true, false, List, [], ◌∷◌, ◌++◌, length, map, Contains, codes, refl, sym, ap, ◌∙◌, subst, arith}
+use Rattle.std.proofs.Common.{◌≡◌, ◌⊎◌, inl, inr, ℕ, zero, suc, ◌<◌, ◌≤◌, ◌^◌, Bool, true, false, List, [], ◌∷◌, ◌++◌, length, map, codes, refl, sym, ap, ◌∙◌, arith}
 use Rattle.std.specs.Prelude.{decimal, flat_map}
 use Rattle.std.specs.List.{IsDistinct, AllByRecursion, list_any}
 use Rattle.std.specs.Str.{bytes_eq}
@@ -8,8 +8,8 @@ use Rattle.gq_text.specs.declared.place.Span.{Span}
 use Rattle.gq_tree.specs.Plain.{Def, operation, fragment, type_system}
 use Rattle.gq_types.specs.Entries.{Text}
 use Rattle.gq_index.specs.declared.occurrence.Occurrence.{Occurrence}
-use Rattle.gq_index.specs.Occurrences.{DefinitionOf, fragment_name, called, occurrences_of, fragment_definitions, definition_places}
-use Rattle.gq_meaning.proofs.TextLemmas.{same_text, text_same}
+use Rattle.gq_index.specs.Occurrences.{DefinitionOf, fragment_name, occurrences_of, fragment_definitions, definition_places}
+use Rattle.gq_meaning.proofs.TextLemmas.{same_text}
 use Rattle.gq_reshape.specs.Naming.{extracted_name, IsFree}
 
 -- the numbers from 1 of which the last is the first, without those that a definition takes

@@ -1,16 +1,16 @@
 -- What inline finds, and its answers.
-use Rattle.std.proofs.Common.{◌≡◌, ◌⊎◌, ℕ, zero, suc, ◌<◌, Bool, true, false, ◌||◌, List, [], ◌∷◌, length, Option, Some, None, Result, Err, Contains, slice_get, find, map, sym, ap, ◌∙◌, subst, arith}
+use Rattle.std.proofs.Common.{◌≡◌, ℕ, zero, suc, ◌<◌, Bool, true, ◌||◌, List, [], ◌∷◌, length, Some, None, Result, Err, Contains, slice_get, find, map, sym, subst, arith}
 use Rattle.std.specs.List.{list_any}
 use Rattle.std.specs.Str.{bytes_eq}
 use Rattle.std.proofs.lemmas.List.{length-map}
 use Rattle.gq_text.specs.declared.place.Span.{Span}
 use Rattle.gq_tree.specs.declared.tree.Spread.{Spread}
-use Rattle.gq_tree.specs.Plain.{Def, DirectiveOf, Head}
+use Rattle.gq_tree.specs.Plain.{DirectiveOf}
 use Rattle.gq_tree.specs.Readings.{ParsedOf, definitions_read, readings_view}
 use Rattle.gq_tree.specs.Views.{directive_view, name_of}
 use Rattle.gq_project.specs.declared.document.Doc.{Doc}
 use Rattle.gq_edit.specs.declared.edit.DocumentEdit.{DocumentEdit}
-use Rattle.gq_types.specs.Entries.{Text, EntryOf}
+use Rattle.gq_types.specs.Entries.{EntryOf}
 use Rattle.gq_types.specs.Look.{types_view}
 use Rattle.gq_types.proofs.Gathered.{found}
 use Rattle.gq_document.specs.Definitions.{FragmentOf, fragments_of}
@@ -32,6 +32,7 @@ use Rattle.gq_reshape.specs.Helping.Judged.{IsJudged}
 use Rattle.gq_reshape.specs.Helping.Making.{CanBeMade, SomeExecutable}
 use Rattle.gq_reshape.specs.Helping.Steps.{IsOffered}
 use Rattle.gq_reshape.proofs.Asking.{at_place}
+use Rattle.gq_reshape.proofs.Indexing.{are_readings}
 use Rattle.gq_reshape.proofs.InlineOffers as offers
 use Rattle.gq_reshape.proofs.LimitLemmas.{as_many}
 use Rattle.gq_reshape.proofs.Making.{inline_made}
@@ -50,10 +51,10 @@ module _ (asked : Asked) (about : IsAbout asked) where
   Documents = asked.valid.now
 
   abbrev pub Types : List EntryOf
-  Types = types_view asked.types.now
+  Types = types_view asked.known.types.now
 
   abbrev pub Readings : List ParsedOf
-  Readings = (readings_view asked.readings.now)
+  Readings = (readings_view asked.known.readings.now)
 
   pub none_meant : meant is_spread asked.range (sets_of_asked asked) ≡ None → IsOffered Inline asked (Err NothingHere)
   none_meant = offers.none_meant Documents Types Readings (ask_of asked) about.valid asked.file asked.document.now about.is_document
@@ -78,7 +79,7 @@ module _ (asked : Asked) (about : IsAbout asked) where
           let t = fragment_stands Readings f stands.0 in
           let low = inside (trees_of Readings) f.file t.tree t.is_tree in
           let a = length-map Readings definitions_read in
-          let b = as_many about.are_readings in
+          let b = as_many (are_readings asked about) in
           omega (arith, low, a, b)
 
       abbrev pub Home : (home : Doc) × (slice_get Documents f.file ≡ Some home)
@@ -91,13 +92,13 @@ module _ (asked : Asked) (about : IsAbout asked) where
       selects = selected_asked Types Readings asked.file of.selected (meant_stands is_spread asked.range (sets_of_asked asked) of.selected of.is_meant)
 
       head_fits : HeadFits asked.document.now.text (spread_head s)
-      head_fits = subst (HeadFits asked.document.now.text) of.is_spread (selection_fits Documents Readings about.are_readings about.utf8 Types chosen selects asked.document.now about.is_document.stands)
+      head_fits = subst (HeadFits asked.document.now.text) of.is_spread (selection_fits Documents Readings (are_readings asked about) about.utf8 Types chosen selects asked.document.now about.is_document.stands)
 
       pub directives_fit : DirectivesFit asked.document.now.text 0 Directives
       directives_fit = head_fits.1
 
       pub braces_part : (home : Doc) → slice_get Documents f.file ≡ Some home → IsPartOf home.text f.braces
-      braces_part home at = (fragment_fits Documents Readings about.are_readings about.utf8 f stands.0 home at).1
+      braces_part home at = (fragment_fits Documents Readings (are_readings asked about) about.utf8 f stands.0 home at).1
 
       home_executable : SomeExecutable (tree_at Readings f.file)
       home_executable =
@@ -107,10 +108,10 @@ module _ (asked : Asked) (about : IsAbout asked) where
 
       pub spread_made : NoneIsBoth → (home : Doc) → slice_get Documents f.file ≡ Some home → (goes : Bool) → CanBeMade Documents Readings (inline_at asked.file asked.document.now.text Directives s.span f home.text goes)
       spread_made apart home at goes =
-          let ranked = (promised apart Documents about.valid Readings about.are_readings).ranked in
+          let ranked = (promised apart Documents about.valid Readings (are_readings asked about)).ranked in
           inline_made Documents Readings asked.file asked.document.now about.is_document.stands (meant_executable Types (tree_at Readings asked.file) is_spread asked.range of.selected of.is_meant) f home at home_executable Directives s.span head_fits.0
-          (fragment_fits Documents Readings about.are_readings about.utf8 f stands.0 home at).0 (fragment_some Documents Readings about.are_readings ranked.0 ranked.1 f stands.0)
-          (λ same. spread_apart Documents Readings about.are_readings ranked.0 ranked.1 f stands.0 Types chosen selects (name_of s.name) Directives s.span of.is_spread named same) goes
+          (fragment_fits Documents Readings (are_readings asked about) about.utf8 f stands.0 home at).0 (fragment_some Documents Readings (are_readings asked about) ranked.0 ranked.1 f stands.0)
+          (λ same. spread_apart Documents Readings (are_readings asked about) ranked.0 ranked.1 f stands.0 Types chosen selects (name_of s.name) Directives s.span of.is_spread named same) goes
 
       pub in_way : (list_any is_in_way Directives || has_directive f.directives) ≡ true → IsOffered Inline asked (Err DirectiveInWay)
       in_way =

@@ -1,5 +1,5 @@
 -- The edits of extract, inline and remove: their documents are there, and their positions lead back to their offsets.
-use Rattle.std.proofs.Common.{◌≡◌, ◌⊎◌, inl, inr, ℕ, zero, suc, ◌-◌, Bool, true, false, List, [], ◌∷◌, Option, Some, None, Ok, Contains, length, slice_get, get_or, find, refl, sym, ap, subst, ◌∙◌, arith, IsUtf8}
+use Rattle.std.proofs.Common.{◌≡◌, inl, inr, ℕ, zero, suc, Bool, true, false, List, [], ◌∷◌, Option, Some, None, Contains, length, slice_get, get_or, find, refl, sym, ap, subst, ◌∙◌, arith, IsUtf8}
 use Rattle.std.specs.Prelude.{if◌then◌else◌}
 use Rattle.std.specs.List.{AllByRecursion}
 use Rattle.std.specs.Option.{option_map, option_or}
@@ -22,7 +22,7 @@ use Rattle.gq_types.specs.Entries.{Text, EntryOf}
 use Rattle.gq_types.proofs.Gathered.{found}
 use Rattle.gq_document.specs.Definitions.{FragmentOf, fragments_of}
 use Rattle.gq_document.specs.Last.{find_last}
-use Rattle.gq_document.specs.Selections.{SelectedOf, IsSelectionWithin, here, within, after, IsSelected, of_operation, of_fragment}
+use Rattle.gq_document.specs.Selections.{SelectedOf, IsSelectionWithin, here, within, after, of_operation, of_fragment}
 use Rattle.gq_meaning.specs.Thin.{IsIn}
 use Rattle.gq_law_rewrites.specs.KnownBefore.{Each}
 use Rattle.gq_law_rewrites.specs.Parts.{PlaceEnds, HeadEnds, DefinitionEnds}

@@ -1,9 +1,7 @@
 -- The cuts of extract, inline and remove can be made.
-use Rattle.std.proofs.Common.{◌≡◌, ◌⊎◌, inl, inr, ℕ, suc, ◌+◌, ◌<◌, ◌≤◌, Bool, true, false, ◌&&◌, ◌||◌, nat_eq, nat_lt, List, [], ◌∷◌, Option, Some, None, length, drop, map, slice_get, refl, sym, ap, ◌∙◌, subst, arith}
+use Rattle.std.proofs.Common.{◌≡◌, ◌⊎◌, inl, inr, ℕ, suc, ◌+◌, ◌<◌, ◌≤◌, Bool, true, false, ◌&&◌, ◌||◌, nat_eq, nat_lt, List, [], ◌∷◌, Some, length, drop, map, slice_get, refl, sym, ap, ◌∙◌, subst, arith}
 use Rattle.std.specs.Prelude.{if◌then◌else◌, slice_range}
 use Rattle.std.specs.List.{filter}
-use Rattle.std.specs.Option.{option_map_or}
-use Rattle.std.specs.Str.{IsCharBoundary}
 use Rattle.std.proofs.lemmas.Bool.Decides.{nat_tests}
 use Rattle.std.proofs.lemmas.Str.{IsCharBoundary-end}
 use Rattle.gq_text.specs.declared.place.Span.{Span}
@@ -24,7 +22,7 @@ use Rattle.gq_reshape.specs.Placed.{replacements_in}
 use Rattle.gq_reshape.specs.Remove.{remove_at}
 use Rattle.gq_reshape.specs.Texts.{inlined_text, opened_text, spread_text, fragment_text}
 use Rattle.gq_reshape.specs.Helping.Fitting.{AllFit}
-use Rattle.gq_reshape.specs.Helping.Making.{CanBeMade, ChangesExecutables, SomeExecutable}
+use Rattle.gq_reshape.specs.Helping.Making.{CanBeMade, SomeExecutable}
 use Rattle.gq_reshape.proofs.Quiet.{skipped, extract_quiet, inline_quiet, remove_quiet}
 use Rattle.gq_reshape.proofs.Ready.{tree_is}
 use Rattle.gq_reshape.proofs.RunStands.{same_number}

@@ -1,18 +1,17 @@
 -- An ask has one answer, however the documents are read.
-use Rattle.std.proofs.Common.{◌≡◌, ℕ, zero, suc, List, [], ◌∷◌, ◌++◌, Option, Some, None, Result, Ok, length, map, slice_get, find, nat_eq, refl, sym, ap, subst, ◌∙◌}
+use Rattle.std.proofs.Common.{◌≡◌, ℕ, zero, suc, List, [], ◌∷◌, ◌++◌, Result, length, slice_get, find, nat_eq, refl, sym, ap, subst, ◌∙◌}
 use Rattle.std.specs.Option.{option_map_or}
 use Rattle.std.specs.Str.{bytes_eq}
 use Rattle.gq_text.specs.declared.place.Span.{Span}
 use Rattle.gq_tree.specs.Plain.{Def}
-use Rattle.gq_tree.specs.Readings.{ParsedOf, definitions_read}
+use Rattle.gq_tree.specs.Readings.{ParsedOf}
 use Rattle.gq_project.specs.declared.document.Doc.{Doc}
 use Rattle.gq_parse.specs.Parsed.{AreParsed}
 use Rattle.gq_parse.proofs.OneReading.{OneTree, same_in_documents, same_trees}
 use Rattle.gq_edit.specs.declared.edit.DocumentEdit.{DocumentEdit}
 use Rattle.gq_types.specs.BuiltIn.{built_in}
 use Rattle.gq_types.specs.Entries.{EntryOf}
-use Rattle.gq_document.specs.Definitions.{FragmentOf, fragment_in, fragments_of, entry_in, entries_of}
-use Rattle.gq_document.specs.Sets.{SetOf}
+use Rattle.gq_document.specs.Definitions.{FragmentOf, fragment_in, fragments_of, entry_in}
 use Rattle.gq_index.specs.Occurrences.{DefinitionOf, executable_in, executables, fragment_spreads}
 use Rattle.gq_schema.specs.SchemaOf.{IsTypeSystemOf}
 use Rattle.gq_select.specs.Meant.{is_spread, is_inline, meant, document_sets}
@@ -22,13 +21,11 @@ use Rattle.gq_rename.specs.Asks.{trees_of}
 use Rattle.gq_rename.specs.Determined.{RenamesAreDetermined}
 use Rattle.gq_rename.specs.Offers.{IsOffer}
 use Rattle.gq_rename.proofs.OneOffer.{one_offer, offer_carried}
-use Rattle.gq_reshape.specs.declared.offering.Ask.{Ask}
 use Rattle.gq_reshape.specs.declared.offering.Ask.TheVariants.{Rename, Extract, Inline, Remove}
-use Rattle.gq_reshape.specs.Asked.{IsOfferedFor}
 use Rattle.gq_reshape.specs.Asks.{RangeAsk, tree_at}
 use Rattle.gq_reshape.specs.Cuts.{Cut, edits_of, PassesCheck}
 use Rattle.gq_reshape.specs.Determined.{OffersAreDetermined}
-use Rattle.gq_reshape.specs.Extract.{Touched, run_at, innermost_at, parent_in_question, sets_asked, Extraction, extract_cut}
+use Rattle.gq_reshape.specs.Extract.{run_at, innermost_at, parent_in_question, Extraction, extract_cut}
 use Rattle.gq_reshape.specs.Inline.{Inlining, inline_at, inline_cut, is_only_spread}
 use Rattle.gq_reshape.specs.Naming.{IsLeastFree}
 use Rattle.gq_reshape.specs.Remove.{Removal, remove_cut}

@@ -1,23 +1,23 @@
 -- An ask has one cut, over one reading and one type system.
-use Rattle.std.proofs.Common.{◌≡◌, ◌<◌, ℕ, List, Option, Some, slice_get, find, option_and_then, sym, ap, subst, ◌∙◌, arith}
+use Rattle.std.proofs.Common.{◌≡◌, ℕ, List, Option, Some, slice_get, find, option_and_then, sym, ap, subst, ◌∙◌}
 use Rattle.std.specs.Option.{option_map}
 use Rattle.std.specs.Str.{bytes_eq}
 use Rattle.gq_text.specs.declared.place.Span.{Span}
-use Rattle.gq_lex.specs.Tokens.{Lexeme, Reads}
-use Rattle.gq_tree.specs.Plain.{NameOf, DirectiveOf, Sels, spread, inline}
+use Rattle.gq_lex.specs.Tokens.{Lexeme}
+use Rattle.gq_tree.specs.Plain.{NameOf, DirectiveOf, spread, inline}
 use Rattle.gq_tree.specs.Readings.{ParsedOf}
 use Rattle.gq_project.specs.declared.document.Doc.{Doc}
 use Rattle.gq_types.specs.Entries.{Text, EntryOf}
 use Rattle.gq_document.specs.Definitions.{FragmentOf, fragments_of}
 use Rattle.gq_document.specs.Last.{find_last}
-use Rattle.gq_index.specs.Occurrences.{DefinitionOf, executables}
+use Rattle.gq_index.specs.Occurrences.{executables}
 use Rattle.gq_select.specs.Meant.{StandingOf, is_spread, is_inline, meant, document_sets}
 use Rattle.gq_select.specs.Runs.{RunOf}
 use Rattle.gq_select.specs.Touched.{Touches, is_touched}
 use Rattle.gq_reshape.specs.Asks.{RangeAsk, IsAskedOf, tree_at}
-use Rattle.gq_reshape.specs.Extract.{Touched, run_at, sets_asked, Extraction, extract_at, extract_cut}
+use Rattle.gq_reshape.specs.Extract.{run_at, sets_asked, Extraction, extract_at, extract_cut}
 use Rattle.gq_reshape.specs.Inline.{Inlining, inline_at, inline_cut, is_only_spread}
-use Rattle.gq_reshape.specs.Naming.{IsLeastFree, extracted_name}
+use Rattle.gq_reshape.specs.Naming.{extracted_name}
 use Rattle.gq_reshape.specs.Remove.{Removal, remove_at, remove_cut}
 use Rattle.gq_reshape.proofs.ExtractOffers.{OneReading, same_span, least_once}
 

@@ -2,14 +2,14 @@
 use Rattle.std.proofs.Common.{◌≡◌, ℕ, suc, Bool, true, false, List, [], ◌∷◌, ◌++◌, Option, Some, None, Contains, refl, sym, ap, subst, ◌∙◌, map, find, is_none}
 use Rattle.std.specs.List.{AllByRecursion}
 use Rattle.std.specs.Prelude.{All}
-use Rattle.std.proofs.lemmas.List.Elements.{All-contains, All-from_recursion, Contains-append_cases, Contains-append_left, Contains-append_right}
+use Rattle.std.proofs.lemmas.List.Elements.{Contains-append_cases, Contains-append_left, Contains-append_right}
 use Rattle.gq_text.specs.declared.replacement.Replacement.{Replacement}
 use Rattle.gq_project.specs.declared.document.Doc.{Doc}
 use Rattle.gq_project.specs.Documents.{IsInOrder}
 use Rattle.gq_types.proofs.Gathered.{nothing_in, cases_cons, first, later, only}
 use Rattle.gq_edit.specs.declared.edit.DocumentEdit.{DocumentEdit}
-use Rattle.gq_edit.specs.Replacements.{AreDisjoint, FitText}
-use Rattle.gq_edit.specs.Edits.{AreInOrder, FitDocuments, after_edit, document_of, edited_text, is_moved}
+use Rattle.gq_edit.specs.Replacements.{FitText}
+use Rattle.gq_edit.specs.Edits.{AreInOrder, FitDocuments, after_edit, document_of, is_moved}
 use Rattle.gq_edit.proofs.Fitting.{document_of-itself}
 use Rattle.gq_renamed.specs.Projects.{edit_if_any}
 use Rattle.gq_renamed.proofs.EditedParts.{Part, documents_of, edits_of, of_itself, made_in, after_parts, order_parts, fit_parts}

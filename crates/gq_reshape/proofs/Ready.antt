@@ -1,7 +1,6 @@
 -- In a valid project each document in which something may change is a tree of operations and fragments.
 use Rattle.std.proofs.Common.{◌≡◌, ℕ, zero, suc, true, List, [], ◌∷◌, Some, slice_get, sym, subst, map}
 use Rattle.std.specs.List.{AllByRecursion}
-use Rattle.std.specs.Option.{option_map_or}
 use Rattle.gq_text.specs.declared.place.Span.{Span}
 use Rattle.gq_tree.specs.Readings as reading
 use Rattle.gq_tree.specs.Plain.{Def, operation, fragment, type_system}
@@ -15,7 +14,7 @@ use Rattle.gq_document.specs.Sets.{SetOf, sets_of}
 use Rattle.gq_meaning.specs.Thin.{IsIn}
 use Rattle.gq_rewritten.specs.Views.{IsExecutable}
 use Rattle.gq_rules.specs.Validity.{IsValid}
-use Rattle.gq_renamed.specs.Projects.{AreTrees, none, more}
+use Rattle.gq_renamed.specs.Projects.{AreTrees, more}
 use Rattle.gq_law_renames.proofs.Promises.{nothing_demanded, of_one_kind}
 use Rattle.gq_law_renames.proofs.SameTypes as kinds
 use Rattle.gq_law_renames.proofs.SameTypes.{AreOfOneKind}
@@ -23,7 +22,7 @@ use Rattle.gq_law_renames.proofs.ValidityLemmas.{no_document_is_mixed}
 use Rattle.gq_law_rewrites.proofs.ValidityLemmas.{NoneIsBoth}
 use Rattle.gq_rename.specs.Asks.{trees_of}
 use Rattle.gq_rename.specs.Sound.{ValidDocumentsAreTrees}
-use Rattle.gq_select.specs.Meant.{StandingOf, document_sets, standing_in, standing, is_meant, meant}
+use Rattle.gq_select.specs.Meant.{StandingOf, document_sets, standing_in, meant}
 use Rattle.gq_select.specs.Runs.{RunOf, find_run}
 use Rattle.gq_tree.specs.Plain.{Head}
 use Rattle.gq_reshape.specs.Asks.{tree_at}

@@ -1,5 +1,5 @@
 -- What remove finds, and its answers.
-use Rattle.std.proofs.Common.{◌≡◌, true, false, List, Option, Some, None, Result, Err, map, sym, subst}
+use Rattle.std.proofs.Common.{◌≡◌, false, List, Option, Some, None, Result, Err, map, subst}
 use Rattle.std.specs.Option.{option_map}
 use Rattle.gq_text.specs.declared.place.Span.{Span}
 use Rattle.gq_tree.specs.declared.tree.InlineFragment.{InlineFragment}
@@ -24,6 +24,7 @@ use Rattle.gq_reshape.specs.Helping.About.{IsAbout, IsInlineAsked, ask_of, inlin
 use Rattle.gq_reshape.specs.Helping.Judged.{IsJudged}
 use Rattle.gq_reshape.specs.Helping.Making.{CanBeMade}
 use Rattle.gq_reshape.specs.Helping.Steps.{IsOffered}
+use Rattle.gq_reshape.proofs.Indexing.{are_readings}
 use Rattle.gq_reshape.proofs.Making.{remove_made}
 use Rattle.gq_reshape.proofs.Ready.{meant_executable}
 use Rattle.gq_reshape.proofs.RemoveOffers as offers
@@ -35,10 +36,10 @@ module _ (asked : Asked) (about : IsAbout asked) where
   Documents = asked.valid.now
 
   abbrev pub Types : List EntryOf
-  Types = types_view asked.types.now
+  Types = types_view asked.known.types.now
 
   abbrev pub Readings : List ParsedOf
-  Readings = (readings_view asked.readings.now)
+  Readings = (readings_view asked.known.readings.now)
 
   pub none_meant : meant is_inline asked.range (sets_of_asked asked) ≡ None → IsOffered Remove asked (Err NothingHere)
   none_meant = offers.none_meant Documents Types Readings (ask_of asked) about.valid asked.file asked.document.now about.is_document
@@ -62,7 +63,7 @@ module _ (asked : Asked) (about : IsAbout asked) where
       selects = selected_asked Types Readings asked.file of.selected (meant_stands is_inline asked.range (sets_of_asked asked) of.selected of.is_meant)
 
       head_fits : HeadFits asked.document.now.text (inline_head i)
-      head_fits = subst (HeadFits asked.document.now.text) of.is_inline (selection_fits Documents Readings about.are_readings about.utf8 Types chosen selects asked.document.now about.is_document.stands)
+      head_fits = subst (HeadFits asked.document.now.text) of.is_inline (selection_fits Documents Readings (are_readings asked about) about.utf8 Types chosen selects asked.document.now about.is_document.stands)
 
       pub braces_part : IsPartOf asked.document.now.text (between i.set.span)
       braces_part = head_fits.1

@@ -9,7 +9,6 @@ use Rattle.gq_tree.specs.Plain.{Sels, Def, operation, fragment, type_system, no_
 use Rattle.gq_project.specs.declared.document.Doc.{Doc}
 use Rattle.gq_project.specs.Documents.{IsInOrder}
 use Rattle.gq_edit.specs.Edits.{after_edit}
-use Rattle.gq_tree.specs.Readings as reading
 use Rattle.gq_parse.specs.Parsed.{IsParsed, AreParsed}
 use Rattle.gq_parse.specs.Parsed as readings
 use Rattle.gq_types.specs.Entries.{EntryOf}

@@ -1,5 +1,5 @@
 -- Documents that are read cannot be without an answer to an ask.
-use Rattle.std.proofs.Common.{◌≡◌, ◌<◌, ◌^◌, ◌++◌, ℕ, List, Option, Some, None, Result, length, refl, ap, ◌∙◌}
+use Rattle.std.proofs.Common.{◌≡◌, ◌<◌, ◌^◌, ◌++◌, List, Option, Some, None, Result, length, refl, ap, ◌∙◌}
 use Rattle.std.specs.Option.{option_map, option_or}
 use Rattle.gq_text.specs.declared.place.Span.{Span}
 use Rattle.gq_tree.specs.Plain.{Sels}
@@ -17,15 +17,13 @@ use Rattle.gq_rename.specs.declared.refusal.Refusal.{Refusal}
 use Rattle.gq_rename.specs.declared.refusal.Refusal.TheVariants.{NothingHere, NoPossibleType, NotSiblings, SelfCheck}
 use Rattle.gq_rename.specs.Determined.{RenamesAreThere}
 use Rattle.gq_rename.proofs.SomeOffer.{some_offer}
-use Rattle.gq_reshape.specs.declared.offering.Ask.{Ask}
 use Rattle.gq_reshape.specs.declared.offering.Ask.TheVariants.{Rename, Extract, Inline, Remove}
 use Rattle.gq_reshape.specs.Asks.{RangeAsk}
-use Rattle.gq_reshape.specs.Cuts.{Cut, edits_of}
+use Rattle.gq_reshape.specs.Cuts.{edits_of}
 use Rattle.gq_reshape.specs.Determined.{OffersAreThere}
 use Rattle.gq_reshape.specs.Extract.{Touched, run_at, innermost_at, parent_in_question, sets_asked, Extraction, extract_cut}
-use Rattle.gq_reshape.specs.Inline.{Inlining, inline_cut}
-use Rattle.gq_reshape.specs.Naming.{IsLeastFree}
-use Rattle.gq_reshape.specs.Remove.{Removal, remove_cut}
+use Rattle.gq_reshape.specs.Inline.{inline_cut}
+use Rattle.gq_reshape.specs.Remove.{remove_cut}
 use Rattle.gq_reshape.specs.Reshape.{RefusesExtract, RefusesInline, RefusesRemove, IsExtractEdit, IsInlineEdit, IsRemoveEdit, IsAnswerBy, IsExtractAnswer, IsInlineAnswer, IsRemoveAnswer}
 use Rattle.gq_reshape.proofs.SomeNumber.{some_number}
 

@@ -1,9 +1,8 @@
 -- Where the selections and fragments of a project stand in its texts: they cut no character, and do not overlap.
-use Rattle.std.proofs.Common.{◌≡◌, ◌⊎◌, inl, inr, ℕ, zero, suc, ◌+◌, ◌<◌, ◌≤◌, List, [], ◌∷◌, Option, Some, None, Contains, slice_get, refl, sym, ap, ◌∙◌, subst, arith, IsUtf8}
+use Rattle.std.proofs.Common.{◌≡◌, ◌⊎◌, inl, inr, ℕ, zero, suc, ◌+◌, ◌<◌, ◌≤◌, List, [], ◌∷◌, Option, Some, Contains, slice_get, refl, sym, ap, ◌∙◌, subst, arith, IsUtf8}
 use Rattle.std.specs.List.{AllByRecursion}
 use Rattle.gq_text.specs.declared.place.Span.{Span}
 use Rattle.gq_tree.specs.Readings as reading
-use Rattle.gq_tree.specs.declared.tree.OperationKind.{OperationKind}
 use Rattle.gq_tree.specs.Plain as tree
 use Rattle.gq_tree.specs.Plain.{NameOf, DirectiveOf, Head, Sel, Sels, Def, operation, fragment, type_system}
 use Rattle.gq_tree.specs.Readings.{ParsedOf, definitions_read}
@@ -12,7 +11,7 @@ use Rattle.gq_parse.specs.Parsed.{IsParsed, AreParsed}
 use Rattle.gq_parse.specs.Parsed as readings
 use Rattle.gq_types.specs.Entries.{Text, EntryOf}
 use Rattle.gq_types.proofs.Gathered.{to_map}
-use Rattle.gq_document.specs.Definitions.{OperationOf, FragmentOf, fragments_of}
+use Rattle.gq_document.specs.Definitions.{FragmentOf, fragments_of}
 use Rattle.gq_document.specs.Selections.{SelectedOf, IsSelectionWithin, here, within, after, of_operation, of_fragment}
 use Rattle.gq_meaning.specs.Acyclic.{IsRanked}
 use Rattle.gq_meaning.specs.Thin.{IsIn}

@@ -4,6 +4,8 @@ ghost use Rattle.gq_tree.specs.Readings.{readings_view};
 ghost use Rattle.gq_edit.specs.Edits.{FitDocuments, after_edit, is_moved, is_too_large};
 ghost use Rattle.gq_project.specs.Documents.{IsInOrder};
 ghost use Rattle.gq_parse.specs.Parsed.{AreParsed};
+ghost use Rattle.gq_known.specs.Known.{IsKnown};
+ghost use Rattle.gq_rename.specs.Checked.{IsValidated};
 ghost use Rattle.gq_rewritten.specs.Views.{rewrite_of};
 ghost use Rattle.gq_rules.specs.Validity.{IsValid};
 ghost use Rattle.gq_reshape.specs.Cuts.{Cut, edits_of};
@@ -18,14 +20,15 @@ use crate::depth::passes_limit;
 use crate::placed::{PlacedReplacement, edit_of};
 use crate::reading::are_rewritten;
 use gq_edit::Edit;
+use gq_known::{Known, Learned};
 use gq_parse::laws::{no_tree_past_limits, one_tree};
-use gq_parse::read;
 use gq_project::{Doc, Project};
 use gq_rename::Refusal;
-use gq_rename::checking::{edited, validated};
+use gq_rename::checking::edited;
 use gq_rename::laws::valid_documents_are_trees;
 use gq_rewritten::Rewrite;
 use gq_rules::laws::no_project_is_valid_and_invalid;
+use gq_rules::why_not_known;
 use gq_text::NoMemory;
 use gq_tree::Parsed;
 use std::alloc::Global;
@@ -52,15 +55,15 @@ pub(crate) fn checked_edit(
     rewrite: &Rewrite<'_>,
 ) -> Result<Edit, Refusal>
     requires about { IsAbout asked }
-    requires made { CanBeMade asked.valid.now (readings_view asked.readings.now) (cut_of replacements.now rewrite.now) }
-    ensures judged { IsJudged asked.entry.valid.now (readings_view asked.entry.readings.now) (cut_of replacements.now rewrite.now) result }
+    requires made { CanBeMade asked.valid.now (readings_view asked.known.readings.now) (cut_of replacements.now rewrite.now) }
+    ensures judged { IsJudged asked.entry.valid.now (readings_view asked.entry.known.readings.now) (cut_of replacements.now rewrite.now) result }
     ensures fits { IfOk result (FitDocuments asked.entry.valid.now) }
 {
     valid_documents_are_trees();
     no_project_is_valid_and_invalid();
     let project = asked.valid.project();
     let edit = edit_of(alloc, project, replacements)?;
-    checked(alloc, project, asked.readings, edit, rewrite)
+    checked(alloc, project, asked.known.readings, edit, rewrite)
 }
 
 /// The edit, if the edited texts pass no limit and read as the rewritten trees, and the edited project is valid.
@@ -81,21 +84,26 @@ fn checked(
     ensures same { IfOk result (λ made. made ≡ edit) }
 {
     match edited(alloc, project, &edit) {
-        Ok(after) => judged(alloc, project, readings, after, edit, rewrite),
+        Ok(after) => {
+            let learned = Learned::of(alloc, &after)?;
+            let known = learned.known(&after);
+            judged(alloc, project, readings, known, edit, rewrite)
+        }
         Err(why) => Err(why),
     }
 }
 
-/// The same, with the edited project, whose texts have at most 4 MiB.
+/// The same, with what is known of the edited project, whose texts have at most 4 MiB.
 fn judged(
     alloc: Global,
     project: &Project,
     readings: &[Parsed],
-    after: Project,
+    after: Known<'_>,
     edit: Edit,
     rewrite: &Rewrite<'_>,
 ) -> Result<Edit, Refusal>
-    requires after { after ≡ after_edit edit project.now }
+    requires known { IsKnown after }
+    requires after { after.project.now ≡ after_edit edit project.now }
     requires small { find (is_too_large project.now) edit ≡ None }
     requires in_order { IsInOrder project.now }
     requires read { AreParsed project.now (readings_view readings.now) }
@@ -107,10 +115,22 @@ fn judged(
     valid_documents_are_trees();
     no_tree_past_limits();
     one_tree();
-    let read_after = read(alloc, after.documents())?;
-    match why_not(alloc, readings, after.documents(), &read_after, rewrite)? {
+    let documents = after.project.documents();
+    match why_not(alloc, readings, documents, after.readings, rewrite)? {
         Some(why) => Err(why),
         None => validated(alloc, after, edit),
+    }
+}
+
+/// The edit, if the project that it leaves is valid, of which this is known, else `SelfCheck`.
+fn validated(alloc: Global, after: Known<'_>, edit: Edit) -> Result<Edit, Refusal>
+    requires { IsKnown after }
+    ensures { IsValidated after.entry.project.now edit result }
+{
+    no_project_is_valid_and_invalid();
+    match why_not_known(alloc, after)? {
+        None => Ok(edit),
+        Some(_) => Err(Refusal::SelfCheck),
     }
 }
 

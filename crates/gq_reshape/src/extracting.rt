@@ -3,6 +3,8 @@ ghost use Rattle.std.specs.Prelude.{◌≡◌, ◌⊎◌, Err, IfOk};
 ghost use Rattle.std.specs.Option.{option_map};
 ghost use Rattle.gq_tree.specs.Views.{sels_view};
 ghost use Rattle.gq_edit.specs.Edits.{FitDocuments, after_edit};
+ghost use Rattle.gq_index.specs.Indexed.{IsIndexOfProject};
+ghost use Rattle.gq_known.specs.Known.{IsKnown};
 ghost use Rattle.gq_types.specs.Look.{types_view, text_of};
 ghost use Rattle.gq_rules.specs.Validity.{IsValid};
 ghost use Rattle.gq_document.specs.SetViews.{set_view};
@@ -16,12 +18,15 @@ ghost use Rattle.gq_reshape.specs.Helping.Steps.{HasObject, IsOffered, IsPossibl
 
 use crate::asked::{Asked, sets_of};
 use crate::checking::checked_edit;
-use crate::naming::{extracted_name, new_number};
+use crate::naming::{extracted_name, free_number};
 use crate::placed::PlacedReplacement;
-use crate::reshaping::{Reshaping, reshape};
+use crate::reshaping::{Reshaping, reshape, reshape_by};
 use crate::texts::{fragment_text, spread_text};
 use gq_document::SetIn;
 use gq_edit::Edit;
+use gq_index::Index;
+use gq_index::laws::documents_have_one_list;
+use gq_known::Known;
 use gq_lex::laws::one_reading;
 use gq_rename::Refusal;
 use gq_rewritten::{Added, Change, Rewrite};
@@ -122,7 +127,8 @@ fn extract_run(
     ensures fits { IfOk result (FitDocuments asked.entry.valid.now) }
 {
     one_reading();
-    let number = new_number(alloc, asked.valid.project())?;
+    documents_have_one_list();
+    let number = free_number(alloc, asked.index)?;
     let name = extracted_name(alloc, number)?;
     let name = name.as_str();
     let text = asked.document.text.as_str();
@@ -152,9 +158,9 @@ pub(crate) fn extract_range(alloc: Global, asked: Asked<'_>) -> Result<Edit, Ref
     };
     let sets = sets_of(alloc, asked)?;
     let Some(run) = find_run(&sets, place) else {
-        return Err(no_run(alloc, asked.types, innermost(&sets, place))?);
+        return Err(no_run(alloc, asked.known.types, innermost(&sets, place))?);
     };
-    match possible_parent(alloc, asked.types, run.parent)? {
+    match possible_parent(alloc, asked.known.types, run.parent)? {
         Some(on) => extract_run(alloc, asked, place, on, run.selections),
         None => Err(Refusal::NoPossibleType),
     }
@@ -176,4 +182,24 @@ pub fn extract(alloc: Global, valid: &Valid, key: &str, range: Span) -> Result<E
     ensures valid { IfOk result (λ edit. ∥ IsValid (after_edit edit valid.now) ∥₁) }
 {
     reshape(alloc, Reshaping::Extract, valid, key, range)
+}
+
+/// The same over what is known of the project and its index.
+pub fn extract_by(
+    alloc: Global,
+    valid: &Valid,
+    known: Known<'_>,
+    index: &Index,
+    key: &str,
+    range: Span,
+) -> Result<Edit, Refusal>
+    requires known { IsKnown known }
+    requires project { known.project.now ≡ valid.now }
+    requires index { IsIndexOfProject valid.now index.now }
+    ensures answer { (result ≡ Err refusal.NoMemory) ⊎ IsExtractAnswer valid.now (record { key = key.now; range = range }) result }
+    ensures fits { IfOk result (FitDocuments valid.now) }
+    ensures responses { IfOk result (KeepsResponses valid.now) }
+    ensures valid { IfOk result (λ edit. ∥ IsValid (after_edit edit valid.now) ∥₁) }
+{
+    reshape_by(alloc, Reshaping::Extract, valid, known, index, key, range)
 }

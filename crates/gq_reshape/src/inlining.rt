@@ -4,6 +4,8 @@ ghost use Rattle.std.specs.List.{list_any};
 ghost use Rattle.std.specs.Option.{option_map};
 ghost use Rattle.gq_tree.specs.Views.{directive_view, sel_view};
 ghost use Rattle.gq_edit.specs.Edits.{FitDocuments, after_edit};
+ghost use Rattle.gq_index.specs.Indexed.{IsIndexOfProject};
+ghost use Rattle.gq_known.specs.Known.{IsKnown};
 ghost use Rattle.gq_rewritten.specs.Views.{dropped_of};
 ghost use Rattle.gq_rules.specs.Validity.{IsValid};
 ghost use Rattle.gq_select.specs.Meant.{is_spread};
@@ -16,19 +18,22 @@ ghost use Rattle.gq_reshape.specs.Reshape.{IsInlineAnswer};
 ghost use Rattle.gq_reshape.specs.Responses.{KeepsResponses};
 ghost use Rattle.gq_reshape.specs.Helping.Steps.{IsOffered};
 
-use crate::asked::{Asked, sets_of};
+use crate::asked::{Asked, meant_in};
 use crate::checking::checked_edit;
 use crate::fragments::{FragmentIn, fragment_called};
 use crate::naming::is_only_spread;
 use crate::placed::PlacedReplacement;
-use crate::reshaping::{Reshaping, reshape};
+use crate::reshaping::{Reshaping, reshape, reshape_by};
 use crate::texts::inlined_text;
 use gq_edit::Edit;
+use gq_index::Index;
+use gq_index::laws::documents_have_one_list;
+use gq_known::Known;
 use gq_rename::Refusal;
 use gq_rewritten::{Change, Dropped, Rewrite};
 use gq_rules::Valid;
 use gq_rules::laws::no_project_is_valid_and_invalid;
-use gq_select::{SelectionKind, meant};
+use gq_select::SelectionKind;
 use gq_text::{NoMemory, OwnedText, Replacement, Span};
 use gq_tree::{Directive, Selection, Spread};
 use std::alloc::Global;
@@ -158,8 +163,9 @@ fn inline_spread(
     ensures fits { IfOk result (FitDocuments asked.entry.valid.now) }
 {
     no_project_is_valid_and_invalid();
+    documents_have_one_list();
     let project = asked.valid.project();
-    let goes = is_only_spread(alloc, project, spread.name.text.as_str())?;
+    let goes = is_only_spread(asked.index, spread.name.text.as_str());
     let text = asked.document.text.as_str();
     let home = project.documents()[found.file].text.as_str();
     let replacements = inline_replacements(alloc, asked.file, text, spread, found, home, goes)?;
@@ -195,12 +201,11 @@ pub(crate) fn inline_range(alloc: Global, asked: Asked<'_>) -> Result<Edit, Refu
     ensures answer { IsOffered Reshaping.Inline asked.entry result }
     ensures fits { IfOk result (FitDocuments asked.entry.valid.now) }
 {
-    let sets = sets_of(alloc, asked)?;
-    let Some(standing) = meant(SelectionKind::Spread, asked.range, &sets) else {
+    let Some(standing) = meant_in(alloc, asked, SelectionKind::Spread)? else {
         return Err(Refusal::NothingHere);
     };
     let spread = as_spread(standing.selection);
-    let Some(found) = fragment_called(asked.readings, spread.name.text.as_str()) else {
+    let Some(found) = fragment_called(asked.known.readings, spread.name.text.as_str()) else {
         return Err(Refusal::NothingHere);
     };
     if is_directive_in_way(spread, &found) {
@@ -224,4 +229,24 @@ pub fn inline(alloc: Global, valid: &Valid, key: &str, range: Span) -> Result<Ed
     ensures valid { IfOk result (λ edit. ∥ IsValid (after_edit edit valid.now) ∥₁) }
 {
     reshape(alloc, Reshaping::Inline, valid, key, range)
+}
+
+/// The same over what is known of the project and its index.
+pub fn inline_by(
+    alloc: Global,
+    valid: &Valid,
+    known: Known<'_>,
+    index: &Index,
+    key: &str,
+    range: Span,
+) -> Result<Edit, Refusal>
+    requires known { IsKnown known }
+    requires project { known.project.now ≡ valid.now }
+    requires index { IsIndexOfProject valid.now index.now }
+    ensures answer { (result ≡ Err refusal.NoMemory) ⊎ IsInlineAnswer valid.now (record { key = key.now; range = range }) result }
+    ensures fits { IfOk result (FitDocuments valid.now) }
+    ensures responses { IfOk result (KeepsResponses valid.now) }
+    ensures valid { IfOk result (λ edit. ∥ IsValid (after_edit edit valid.now) ∥₁) }
+{
+    reshape_by(alloc, Reshaping::Inline, valid, known, index, key, range)
 }

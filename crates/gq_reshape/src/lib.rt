@@ -16,8 +16,8 @@ pub mod removing;
 mod reshaping;
 mod texts;
 
-pub use extracting::extract;
-pub use inlining::inline;
+pub use extracting::{extract, extract_by};
+pub use inlining::{inline, inline_by};
 pub use offering::{Ask, offer};
 pub use placed::PlacedReplacement;
-pub use removing::remove_redundant;
+pub use removing::{remove_redundant, remove_redundant_by};

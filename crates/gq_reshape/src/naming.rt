@@ -3,13 +3,10 @@ ghost use Rattle.std.specs.Prelude.{◌≡◌, ◌↔◌, [], List, IfOk, IsTrue
 ghost use Rattle.gq_index.specs.Indexed.{IsIndexOf};
 ghost use Rattle.gq_index.specs.Occurrences.{DefinitionOf, executables, fragment_definitions};
 ghost use Rattle.gq_tree.specs.Readings.{ParsedOf};
-ghost use Rattle.gq_parse.specs.Parsed.{AreParsed};
 ghost use Rattle.gq_reshape.specs.Inline.{is_only_spread};
 ghost use Rattle.gq_reshape.specs.Naming.{IsLeastFree, extracted_name};
 
 use gq_index::Index;
-use gq_index::laws::documents_have_one_list;
-use gq_project::Project;
 use gq_text::{NoMemory, OwnedText};
 use std::alloc::Global;
 
@@ -31,7 +28,7 @@ fn is_free(alloc: Global, index: &Index, number: usize) -> Result<bool, NoMemory
 }
 
 /// The least number from 1 whose name no fragment has.
-fn free_number(alloc: Global, index: &Index) -> Result<usize, NoMemory>
+pub(crate) fn free_number(alloc: Global, index: &Index) -> Result<usize, NoMemory>
     requires { (ds : List DefinitionOf) × IsIndexOf ds index.now }
     ensures { IfOk result (λ number. (ds : List DefinitionOf) → IsIndexOf ds index.now → IsLeastFree ds number) }
 {
@@ -45,22 +42,9 @@ fn free_number(alloc: Global, index: &Index) -> Result<usize, NoMemory>
     unreachable!()
 }
 
-/// That number in a project.
-pub(crate) fn new_number(alloc: Global, project: &Project) -> Result<usize, NoMemory>
-    ensures { IfOk result (λ number. (readings : List ParsedOf) → AreParsed project.now readings → IsLeastFree (executables readings) number) }
+/// Whether there is just one spread of the fragment of that name.
+pub(crate) fn is_only_spread(index: &Index, name: &str) -> bool
+    ensures { (readings : List ParsedOf) → IsIndexOf (executables readings) index.now → result ≡ is_only_spread readings name.now }
 {
-    documents_have_one_list();
-    let index = Index::of(alloc, project)?;
-    let number = free_number(alloc, &index)?;
-    Ok(number)
-}
-
-/// Whether a project has just one spread of the fragment of that name.
-pub(crate) fn is_only_spread(alloc: Global, project: &Project, name: &str) -> Result<bool, NoMemory>
-    ensures { IfOk result (λ only. (readings : List ParsedOf) → AreParsed project.now readings → only ≡ is_only_spread readings name.now) }
-{
-    documents_have_one_list();
-    let index = Index::of(alloc, project)?;
-    let count = index.spreads(name).len();
-    Ok(count == 1)
+    index.spreads(name).len() == 1
 }

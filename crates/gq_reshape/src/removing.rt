@@ -4,6 +4,8 @@ ghost use Rattle.std.specs.Prelude.{◌≡◌, ◌⊎◌, Err, true, IfOk, map};
 ghost use Rattle.std.specs.Option.{option_map};
 ghost use Rattle.gq_tree.specs.Views.{name_of, directive_view, sel_view};
 ghost use Rattle.gq_edit.specs.Edits.{FitDocuments, after_edit};
+ghost use Rattle.gq_index.specs.Indexed.{IsIndexOfProject};
+ghost use Rattle.gq_known.specs.Known.{IsKnown};
 ghost use Rattle.gq_types.specs.Look.{text_of};
 ghost use Rattle.gq_rules.specs.Validity.{IsValid};
 ghost use Rattle.gq_select.specs.Meant.{is_inline};
@@ -15,16 +17,18 @@ ghost use Rattle.gq_reshape.specs.Reshape.{IsRemoveAnswer};
 ghost use Rattle.gq_reshape.specs.Responses.{KeepsResponses};
 ghost use Rattle.gq_reshape.specs.Helping.Steps.{IsOffered};
 
-use crate::asked::{Asked, sets_of};
+use crate::asked::{Asked, meant_in};
 use crate::checking::checked_edit;
 use crate::placed::PlacedReplacement;
-use crate::reshaping::{Reshaping, reshape};
+use crate::reshaping::{Reshaping, reshape, reshape_by};
 use crate::texts::opened_text;
 use gq_edit::Edit;
+use gq_index::Index;
+use gq_known::Known;
 use gq_rename::Refusal;
 use gq_rewritten::{Change, Rewrite};
 use gq_rules::Valid;
-use gq_select::{SelectionKind, meant};
+use gq_select::SelectionKind;
 use gq_text::{NoMemory, Replacement, Span};
 use gq_tree::{InlineFragment, Name, Selection};
 use std::alloc::Global;
@@ -106,8 +110,7 @@ pub(crate) fn remove_range(alloc: Global, asked: Asked<'_>) -> Result<Edit, Refu
     ensures answer { IsOffered Reshaping.Remove asked.entry result }
     ensures fits { IfOk result (FitDocuments asked.entry.valid.now) }
 {
-    let sets = sets_of(alloc, asked)?;
-    let Some(standing) = meant(SelectionKind::Inline, asked.range, &sets) else {
+    let Some(standing) = meant_in(alloc, asked, SelectionKind::Inline)? else {
         return Err(Refusal::NothingHere);
     };
     let inline = as_inline(standing.selection);
@@ -135,4 +138,24 @@ pub fn remove_redundant(
     ensures valid { IfOk result (λ edit. ∥ IsValid (after_edit edit valid.now) ∥₁) }
 {
     reshape(alloc, Reshaping::Remove, valid, key, range)
+}
+
+/// The same over what is known of the project and its index.
+pub fn remove_redundant_by(
+    alloc: Global,
+    valid: &Valid,
+    known: Known<'_>,
+    index: &Index,
+    key: &str,
+    range: Span,
+) -> Result<Edit, Refusal>
+    requires known { IsKnown known }
+    requires project { known.project.now ≡ valid.now }
+    requires index { IsIndexOfProject valid.now index.now }
+    ensures answer { (result ≡ Err refusal.NoMemory) ⊎ IsRemoveAnswer valid.now (record { key = key.now; range = range }) result }
+    ensures fits { IfOk result (FitDocuments valid.now) }
+    ensures responses { IfOk result (KeepsResponses valid.now) }
+    ensures valid { IfOk result (λ edit. ∥ IsValid (after_edit edit valid.now) ∥₁) }
+{
+    reshape_by(alloc, Reshaping::Remove, valid, known, index, key, range)
 }

@@ -2,7 +2,8 @@
 ghost use Rattle.std.specs.Prelude.{◌≡◌, ◌⊎◌, Err, IfOk};
 ghost use Rattle.gq_tree.specs.Readings.{readings_view};
 ghost use Rattle.gq_edit.specs.Edits.{FitDocuments, after_edit};
-ghost use Rattle.gq_parse.specs.Parsed.{AreParsed};
+ghost use Rattle.gq_index.specs.Indexed.{IsIndexOfProject};
+ghost use Rattle.gq_known.specs.Known.{IsKnown};
 ghost use Rattle.gq_types.specs.Look.{types_view};
 ghost use Rattle.gq_rules.specs.Validity.{IsValid};
 ghost use Rattle.gq_rename.specs.declared.refusal.Refusal.TheVariants as refusal;
@@ -10,19 +11,18 @@ ghost use Rattle.gq_reshape.specs.Helping.About.{IsAbout};
 ghost use Rattle.gq_reshape.specs.Helping.Steps.{IsAnswerTo, IsOfferOver, IsOffered};
 ghost use Rattle.gq_reshape.specs.Responses.{KeepsResponses};
 
-use crate::asked::{Asked, types_of};
+use crate::asked::Asked;
 use crate::extracting::extract_range;
 use crate::inlining::inline_range;
 use crate::laws::refactorings_keep_responses;
 use crate::removing::remove_range;
 use gq_edit::Edit;
-use gq_parse::read;
+use gq_index::Index;
+use gq_known::{Known, Learned};
 use gq_rename::Refusal;
 use gq_rename::checking::documents_are_texts;
 use gq_rules::Valid;
 use gq_text::Span;
-use gq_tree::Parsed;
-use gq_types::Types;
 use std::alloc::Global;
 
 /// A refactoring of the selections that a range means.
@@ -49,18 +49,20 @@ fn answer(alloc: Global, reshaping: Reshaping, asked: Asked<'_>) -> Result<Edit,
     }
 }
 
-/// The answer where the documents are read so and have these types.
+/// The answer over what is known of the project, in the terms of its readings.
 fn answer_over(
     alloc: Global,
     reshaping: Reshaping,
     valid: &Valid,
-    readings: &[Parsed],
-    types: &Types,
+    known: Known<'_>,
+    index: &Index,
     key: &str,
     range: Span,
 ) -> Result<Edit, Refusal>
-    requires { AreParsed valid.now (readings_view readings.now) }
-    ensures answer { IsOfferOver reshaping valid.now (types_view types.now) (readings_view readings.now) (record { key = key.now; range = range }) result }
+    requires known { IsKnown known }
+    requires project { known.project.now ≡ valid.now }
+    requires index { IsIndexOfProject valid.now index.now }
+    ensures answer { IsOfferOver reshaping valid.now (types_view known.entry.types.now) (readings_view known.entry.readings.now) (record { key = key.now; range = range }) result }
     ensures fits { IfOk result (FitDocuments valid.now) }
 {
     let project = valid.project();
@@ -70,8 +72,8 @@ fn answer_over(
     };
     let asked = Asked {
         valid,
-        readings,
-        types,
+        known,
+        index,
         key,
         file,
         document: &project.documents()[file],
@@ -80,7 +82,31 @@ fn answer_over(
     answer(alloc, reshaping, asked)
 }
 
-/// The edit of that refactoring, of the document of that key, or the first refusal whose condition holds.
+/// The edit of that refactoring, of the document of that key, or the first refusal whose condition holds, over what is
+/// known of the project and its index.
+pub(crate) fn reshape_by(
+    alloc: Global,
+    reshaping: Reshaping,
+    valid: &Valid,
+    known: Known<'_>,
+    index: &Index,
+    key: &str,
+    range: Span,
+) -> Result<Edit, Refusal>
+    requires known { IsKnown known }
+    requires project { known.project.now ≡ valid.now }
+    requires index { IsIndexOfProject valid.now index.now }
+    ensures answer { (result ≡ Err refusal.NoMemory) ⊎ IsAnswerTo reshaping valid.now (record { key = key.now; range = range }) result }
+    ensures fits { IfOk result (FitDocuments valid.now) }
+    ensures responses { IfOk result (KeepsResponses valid.now) }
+    ensures valid { IfOk result (λ edit. ∥ IsValid (after_edit edit valid.now) ∥₁) }
+{
+    refactorings_keep_responses();
+    documents_are_texts(valid.project());
+    answer_over(alloc, reshaping, valid, known, index, key, range)
+}
+
+/// The same, with the project learned and indexed here.
 pub(crate) fn reshape(
     alloc: Global,
     reshaping: Reshaping,
@@ -93,11 +119,9 @@ pub(crate) fn reshape(
     ensures responses { IfOk result (KeepsResponses valid.now) }
     ensures valid { IfOk result (λ edit. ∥ IsValid (after_edit edit valid.now) ∥₁) }
 {
-    refactorings_keep_responses();
     let project = valid.project();
-    documents_are_texts(project);
-    let documents = project.documents();
-    let readings = read(alloc, documents)?;
-    let types = types_of(alloc, documents)?;
-    answer_over(alloc, reshaping, valid, &readings, &types, key, range)
+    let learned = Learned::of(alloc, project)?;
+    let index = Index::of_readings(alloc, &learned.readings)?;
+    let known = learned.known(project);
+    reshape_by(alloc, reshaping, valid, known, &index, key, range)
 }

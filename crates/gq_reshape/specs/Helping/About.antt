@@ -10,12 +10,13 @@ use Rattle.gq_tree.specs.declared.tree.Spread.{Spread}
 use Rattle.gq_tree.specs.Plain.{DirectiveOf, Head, Sels, inline, spread}
 use Rattle.gq_tree.specs.Views.{directive_view, name_of}
 use Rattle.gq_project.specs.Documents.{IsInOrder}
-use Rattle.gq_parse.specs.Parsed.{AreParsed}
 use Rattle.gq_types.specs.Entries.{Text}
 use Rattle.gq_types.specs.Look.{types_view}
 use Rattle.gq_document.specs.Definitions.{FragmentOf, fragments_of}
 use Rattle.gq_document.specs.Sets.{SetOf}
 use Rattle.gq_rules.specs.Validity.{IsValid}
+use Rattle.gq_index.specs.Indexed.{IsIndexOfProject}
+use Rattle.gq_known.specs.Known.{IsKnown}
 use Rattle.gq_select.specs.Meant.{StandingOf, document_sets, is_inline, is_spread, meant}
 use Rattle.gq_select.specs.Touched.{Touches}
 use Rattle.gq_rename.specs.Sound.{AreUtf8}
@@ -25,12 +26,14 @@ use Rattle.gq_reshape.specs.Extract.{HasNoObject, run_at}
 use Rattle.gq_reshape.specs.Inline.{has_directive, is_in_way}
 use Rattle.gq_reshape.specs.Remove.{says_nothing}
 
--- The documents are texts of a valid project, and are read so, and the document is the one of that key.
+-- The documents are texts of a valid project, which is known and indexed, and the document is the one of that key.
 pub record IsAbout (asked : Asked) : Type 0 where
   pub valid : ∥ IsValid asked.valid.now ∥₁
   pub in_order : IsInOrder asked.valid.now
   pub utf8 : AreUtf8 asked.valid.now
-  pub are_readings : AreParsed asked.valid.now (readings_view asked.readings.now)
+  pub is_known : IsKnown asked.known
+  pub is_project : asked.known.project.now ≡ asked.valid.now
+  pub is_index : IsIndexOfProject asked.valid.now asked.index.now
   pub is_document : IsAskedOf asked.valid.now asked.key.now asked.file asked.document.now
 
 abbrev pub ask_of : Asked → RangeAsk
@@ -38,13 +41,13 @@ ask_of asked = record { key = asked.key.now; range = asked.range }
 
 -- the selection sets of the document
 abbrev pub sets_of_asked : Asked → List SetOf
-sets_of_asked asked = document_sets (types_view asked.types.now) (tree_at (readings_view asked.readings.now) asked.file)
+sets_of_asked asked = document_sets (types_view asked.known.types.now) (tree_at (readings_view asked.known.readings.now) asked.file)
 
 -- the range touches the tokens of that place, which are a run in a set whose parent has that type, for which an object type is possible
 pub record IsRunOn (asked : Asked) (place : Span) (on : Text) (run : Sels Span) : Type 0 where
   pub touches : Touches asked.document.now.text asked.range place
   pub is_run : run_at place (sets_of_asked asked) ≡ Some (record { parent = Some on; run = run })
-  pub has_object : HasNoObject (types_view asked.types.now) (Some on) → ⊥
+  pub has_object : HasNoObject (types_view asked.known.types.now) (Some on) → ⊥
 
 -- what a spread and an inline fragment of the code are in the tree
 abbrev pub spread_head : Spread → Head Span
@@ -58,7 +61,7 @@ pub record IsSpreadOf (asked : Asked) (s : Spread) (f : FragmentOf) : Type 0 whe
   pub selected : StandingOf
   pub is_meant : meant is_spread asked.range (sets_of_asked asked) ≡ Some selected
   pub is_spread : selected.selection.label ≡ spread_head s
-  pub is_definition : find (λ f. bytes_eq f.name.text (name_of s.name).text) (fragments_of (readings_view asked.readings.now)) ≡ Some f
+  pub is_definition : find (λ f. bytes_eq f.name.text (name_of s.name).text) (fragments_of (readings_view asked.known.readings.now)) ≡ Some f
 
 -- no directive of the spread or of the definition is in the way
 abbrev pub IsDirectiveFree : List (DirectiveOf Span) → FragmentOf → Type 0

@@ -46,7 +46,7 @@ IsOfferOver r documents es readings ask result = (result ≡ Err NoMemory) ⊎ I
 
 -- the answer to what is asked
 abbrev pub IsOffered : Reshaping → Asked → Result (List DocumentEdit) Refusal → Type 0
-IsOffered r asked result = IsOfferOver r asked.valid.now (types_view asked.types.now) (readings_view asked.readings.now) (ask_of asked) result
+IsOffered r asked result = IsOfferOver r asked.valid.now (types_view asked.known.types.now) (readings_view asked.known.readings.now) (ask_of asked) result
 
 -- whether an object type is possible for the type of that name
 abbrev pub HasObject : List EntryOf → Text → Bool → Type 0

@@ -1,4 +1,4 @@
-use Rattle.std.proofs.Common.{◌∙◌, ℕ, List, Some, subst, sym, ap}
+use Rattle.std.proofs.Common.{◌∙◌, ℕ, List, subst, sym, ap}
 use Rattle.std.specs.Option.{option_map}
 use Rattle.gq_tree.specs.Views.{sels_view}
 use Rattle.gq_types.specs.Look.{types_view, text_of}
@@ -31,7 +31,7 @@ extract_run-requires-clause-run c =
     let T : List ℕ → Type 0 = λ text. Touches text a.range c.in-Some.place in
     let touches = subst T c.as_str.ensures (subst (IsTouchedPlace c.as_str.result.now a.range) c.in-Some.is c.in_ok-place.ensures) in
     is_run a c.requires c.in-Some.place (text_of run.parent) (sels_view run.selections.now) c.in-Some-2.on.now touches (ap (run_at c.in-Some.place) (sym (ap sets_view c.deref.ensures.value ∙ c.in_ok-sets.ensures)) ∙ sym c.in-Some-find_run.ensures)
-    (subst (λ o. IsPossibleParent (types_view a.types.now) (text_of run.parent) (text_of o)) c.in-Some-2.is c.in_ok-on.ensures)
+    (subst (λ o. IsPossibleParent (types_view a.known.types.now) (text_of run.parent) (text_of o)) c.in-Some-2.is c.in_ok-on.ensures)
 
 pub returns-clause-answer : goal.returns-clause-answer
 returns-clause-answer c =
@@ -40,4 +40,4 @@ returns-clause-answer c =
     let T : List ℕ → Type 0 = λ text. Touches text a.range c.in-Some.place in
     let touches = subst T c.as_str.ensures (subst (IsTouchedPlace c.as_str.result.now a.range) c.in-Some.is c.in_ok-place.ensures) in
     without_type a c.requires c.one_reading.ensures c.in-Some.place touches (text_of run.parent) (sels_view run.selections.now) (ap (run_at c.in-Some.place) (sym (ap sets_view c.deref.ensures.value ∙ c.in_ok-sets.ensures)) ∙ sym c.in-Some-find_run.ensures)
-    (subst (λ o. IsPossibleParent (types_view a.types.now) (text_of run.parent) (text_of o)) c.in-None.is c.in_ok-on.ensures)
+    (subst (λ o. IsPossibleParent (types_view a.known.types.now) (text_of run.parent) (text_of o)) c.in-None.is c.in_ok-on.ensures)

@@ -5,7 +5,6 @@ use Rattle.gq_tree.specs.declared.tree.Selection.{Selection}
 use Rattle.gq_tree.specs.Plain.{erase_all}
 use Rattle.gq_tree.specs.Views.{directive_view, name_of, sels_view}
 use Rattle.gq_project.specs.declared.document.Doc.{Doc}
-use Rattle.gq_parse.specs.Parsed.{AreParsed}
 use Rattle.gq_rewritten.specs.Rewrites.{Rewrite, DefinitionPlace, with_inlined}
 use Rattle.gq_rewritten.specs.Views.{dropped_of}
 use Rattle.gq_reshape.specs.Inline.{inline_at, inline_replacements, is_only_spread}
@@ -13,6 +12,7 @@ use Rattle.gq_reshape.specs.Helping.Fragments.{fragment_found}
 use Rattle.gq_reshape.specs.Helping.Judged.{IsJudged}
 use Rattle.gq_reshape.specs.Helping.Making.{CanBeMade}
 use Rattle.gq_reshape.specs.declared.placed.PlacedReplacement.{PlacedReplacement}
+use Rattle.gq_reshape.proofs.Indexing.{index_is}
 use Rattle.gq_reshape.proofs.InlineAnswers.{Home, home_inside, directives_fit, braces_part, spread_made, spread_inlined}
 use Rattle.gq_reshape.proofs.Quiet.{slice_is}
 use Rattle.gq_reshape.proofs.inlining.inline_spread.Goals as goal
@@ -41,7 +41,7 @@ checked_edit-requires-clause-made c =
     let f = fragment_found c.args.found.now in
     let ds = map directive_view c.args.spread.now.directives.items in
     let place = c.args.spread.now.span in
-    let goes = c.in_ok-goes.goes in
+    let goes = c.is_only_spread-goes.result in
     let home = Home a c.requires.about c.args.spread.now f c.requires.of in
     let listed : slice_get c.documents.result.now f.file ≡ Some home.0 = ap (λ (ds : List Doc). slice_get ds f.file) (c.documents.ensures.all ∙ c.project-project.ensures.same) ∙ home.1 in
     let text : c.as_str-home.result.now ≡ home.0.text = c.as_str-home.ensures ∙ ap (λ (d : Doc). d.text) (slice_is c.documents.result.now f.file home.0 c.index-documents-found.result listed) in
@@ -50,7 +50,7 @@ checked_edit-requires-clause-made c =
     let rewrite = ap (λ name. made name c.deref.result.now (option_map dropped_of c.dropped.result)) c.as_str-2.ensures ∙ ap (λ set. made on set (option_map dropped_of c.dropped.result)) c.deref.ensures.value ∙ ap (λ gone. made on c.args.found.now.definition.now.set.items.items gone) c.dropped.ensures in
     let replacements : c.deref-2.result.now ≡ inline_replacements a.file a.document.now.text ds place f home.0.text goes =
     c.deref-2.ensures.value ∙ c.in_ok-replacements.ensures ∙ ap (λ text. inline_replacements a.file text ds place f c.as_str-home.result.now goes) c.as_str-text.ensures ∙ ap (λ text. inline_replacements a.file a.document.now.text ds place f text goes) text in
-    let M : List PlacedReplacement → Rewrite → Type 0 = λ ps r. CanBeMade a.valid.now (readings_view a.readings.now) (record { replacements = ps; rewrite = r }) in
+    let M : List PlacedReplacement → Rewrite → Type 0 = λ ps r. CanBeMade a.valid.now (readings_view a.known.readings.now) (record { replacements = ps; rewrite = r }) in
     subst (λ (ps : List PlacedReplacement). M ps (made c.as_str-2.result.now c.deref.result.now (option_map dropped_of c.dropped.result))) (sym replacements)
     (subst (M (inline_replacements a.file a.document.now.text ds place f home.0.text goes)) (sym rewrite) (spread_made a c.requires.about c.args.spread.now f c.requires.of c.no_project_is_valid_and_invalid.ensures home.0 home.1 goes))
 
@@ -60,7 +60,7 @@ returns-clause-answer c =
     let f = fragment_found c.args.found.now in
     let ds = map directive_view c.args.spread.now.directives.items in
     let place = c.args.spread.now.span in
-    let goes = c.in_ok-goes.goes in
+    let goes = c.is_only_spread-goes.result in
     let home = Home a c.requires.about c.args.spread.now f c.requires.of in
     let listed : slice_get c.documents.result.now f.file ≡ Some home.0 = ap (λ (ds : List Doc). slice_get ds f.file) (c.documents.ensures.all ∙ c.project-project.ensures.same) ∙ home.1 in
     let text : c.as_str-home.result.now ≡ home.0.text = c.as_str-home.ensures ∙ ap (λ (d : Doc). d.text) (slice_is c.documents.result.now f.file home.0 c.index-documents-found.result listed) in
@@ -69,10 +69,9 @@ returns-clause-answer c =
     let rewrite = ap (λ name. made name c.deref.result.now (option_map dropped_of c.dropped.result)) c.as_str-2.ensures ∙ ap (λ set. made on set (option_map dropped_of c.dropped.result)) c.deref.ensures.value ∙ ap (λ gone. made on c.args.found.now.definition.now.set.items.items gone) c.dropped.ensures in
     let replacements : c.deref-2.result.now ≡ inline_replacements a.file a.document.now.text ds place f home.0.text goes =
     c.deref-2.ensures.value ∙ c.in_ok-replacements.ensures ∙ ap (λ text. inline_replacements a.file text ds place f c.as_str-home.result.now goes) c.as_str-text.ensures ∙ ap (λ text. inline_replacements a.file a.document.now.text ds place f text goes) text in
-    let J : List PlacedReplacement → Rewrite → Type 0 = λ ps r. IsJudged a.valid.now (readings_view a.readings.now) (record { replacements = ps; rewrite = r }) c.checked_edit.result in
-    let R : List Doc → Type 0 = λ ds. AreParsed ds (readings_view a.readings.now) in
-    let only : goes ≡ is_only_spread (readings_view a.readings.now) (name_of c.args.spread.now.name).text = c.in_ok-goes.ensures (readings_view a.readings.now) (subst R (sym c.project-project.ensures.same) c.requires.about.are_readings) ∙ ap (is_only_spread (readings_view a.readings.now)) c.as_str.ensures in
-    let G : Bool → Type 0 = λ b. IsJudged a.valid.now (readings_view a.readings.now) (inline_at a.file a.document.now.text ds place f home.0.text b) c.checked_edit.result in
+    let J : List PlacedReplacement → Rewrite → Type 0 = λ ps r. IsJudged a.valid.now (readings_view a.known.readings.now) (record { replacements = ps; rewrite = r }) c.checked_edit.result in
+    let only : goes ≡ is_only_spread (readings_view a.known.readings.now) (name_of c.args.spread.now.name).text = c.is_only_spread-goes.ensures (readings_view a.known.readings.now) (index_is a c.requires.about c.documents_have_one_list.ensures) ∙ ap (is_only_spread (readings_view a.known.readings.now)) c.as_str.ensures in
+    let G : Bool → Type 0 = λ b. IsJudged a.valid.now (readings_view a.known.readings.now) (inline_at a.file a.document.now.text ds place f home.0.text b) c.checked_edit.result in
     spread_inlined a c.requires.about c.args.spread.now f c.requires.of c.requires.free home.0 home.1 c.checked_edit.result
     (subst G only (subst (J (inline_replacements a.file a.document.now.text ds place f home.0.text goes)) rewrite
     (subst (λ (ps : List PlacedReplacement). J ps (made c.as_str-2.result.now c.deref.result.now (option_map dropped_of c.dropped.result))) replacements c.checked_edit.ensures.judged)))

@@ -1,9 +1,8 @@
-use Rattle.std.proofs.Common.{◌≡◌, List, None, subst, sym, find, ◌∙◌, ap}
+use Rattle.std.proofs.Common.{◌≡◌, List, None, subst, sym, find, ◌∙◌}
 use Rattle.gq_project.specs.declared.document.Doc.{Doc}
 use Rattle.gq_project.specs.Documents.{IsInOrder}
 use Rattle.gq_edit.specs.declared.edit.DocumentEdit.{DocumentEdit}
-use Rattle.gq_edit.specs.Edits.{AreInOrder, FitDocuments, is_moved}
-use Rattle.gq_reshape.specs.Placed.{edits_from}
+use Rattle.gq_edit.specs.Edits.{FitDocuments, is_moved}
 use Rattle.gq_reshape.specs.Helping.Fitting.{AllFit}
 use Rattle.gq_reshape.proofs.PlacedLemmas.{edits_in_order, edits_fit, edits_there}
 use Rattle.gq_reshape.proofs.placed.edit_of.Goals as goal

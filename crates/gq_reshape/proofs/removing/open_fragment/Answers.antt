@@ -16,7 +16,7 @@ checked_edit-requires-clause-made c =
     let i = c.args.inline.now in
     let replacements : c.deref.result.now ≡ remove_replacements a.file a.document.now.text i.span i.set.span =
     c.deref.ensures.value ∙ c.in_ok-replacements.ensures ∙ ap (λ text. remove_replacements a.file text i.span i.set.span) c.as_str-text.ensures in
-    let M : List PlacedReplacement → Type 0 = λ ps. CanBeMade a.valid.now (readings_view a.readings.now) (record { replacements = ps; rewrite = (remove_at a.file a.document.now.text i.span i.set.span).rewrite }) in
+    let M : List PlacedReplacement → Type 0 = λ ps. CanBeMade a.valid.now (readings_view a.known.readings.now) (record { replacements = ps; rewrite = (remove_at a.file a.document.now.text i.span i.set.span).rewrite }) in
     subst M (sym replacements) (inline_opened a c.requires.about i c.requires.of)
 
 pub returns-clause-answer : goal.returns-clause-answer
@@ -25,5 +25,5 @@ returns-clause-answer c =
     let i = c.args.inline.now in
     let replacements : c.deref.result.now ≡ remove_replacements a.file a.document.now.text i.span i.set.span =
     c.deref.ensures.value ∙ c.in_ok-replacements.ensures ∙ ap (λ text. remove_replacements a.file text i.span i.set.span) c.as_str-text.ensures in
-    let J : List PlacedReplacement → Type 0 = λ ps. IsJudged a.valid.now (readings_view a.readings.now) (record { replacements = ps; rewrite = (remove_at a.file a.document.now.text i.span i.set.span).rewrite }) c.checked_edit.result in
+    let J : List PlacedReplacement → Type 0 = λ ps. IsJudged a.valid.now (readings_view a.known.readings.now) (record { replacements = ps; rewrite = (remove_at a.file a.document.now.text i.span i.set.span).rewrite }) c.checked_edit.result in
     removed a c.requires.about i c.requires.of c.checked_edit.result (subst J replacements c.checked_edit.ensures.judged)

@@ -19,7 +19,9 @@ answer-requires c =
       valid = c.project-project.ensures.valid;
       in_order = subst (λ (ds : List Doc). IsInOrder ds) same c.documents_are_texts.ensures.in_order;
       utf8 = subst (λ (ds : List Doc). AreUtf8 ds) same c.documents_are_texts.ensures.utf8;
-      are_readings = c.requires;
+      is_known = c.requires.known;
+      is_project = c.requires.project;
+      is_index = c.requires.index;
       is_document =
           asked_document c.args.valid.now c.args.key.now c.in-Some.file c.index-documents-file.result (ap (position (has_key c.args.key.now)) (sym same) ∙ sym c.in-Some.ensures)
           (c.index-documents-file.is ∙ ap (λ (ds : List Doc). get_or ds c.in-Some.file c.index-documents-file.result) (c.documents.ensures.all ∙ same));
@@ -27,5 +29,5 @@ answer-requires c =
 
 pub returns-in_default-clause-answer : goal.returns-in_default-clause-answer
 returns-in_default-clause-answer c =
-    no_document c.args.reshaping c.args.valid.now (types_view c.args.types.now) (readings_view c.args.readings.now) (record { key = c.args.key.now; range = c.args.range }) c.project-project.ensures.valid
+    no_document c.args.reshaping c.args.valid.now (types_view c.args.known.types.now) (readings_view c.args.known.readings.now) (record { key = c.args.key.now; range = c.args.range }) c.project-project.ensures.valid
     (ap (position (has_key c.args.key.now)) (sym c.project-project.ensures.same) ∙ sym c.in_default.ensures)

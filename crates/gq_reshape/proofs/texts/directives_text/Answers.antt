@@ -1,7 +1,5 @@
 use Rattle.std.proofs.Common.{◌∙◌, arith, sym, false-eqb}
 use Rattle.std.proofs.lemmas.Result.{IfOk-weaker}
-use Rattle.std.specs.Prelude.{◌∷◌}
-use Rattle.std.proofs.Common.{List, ℕ, ap}
 use Rattle.gq_reshape.proofs.LowLemmas.{all_directives, all_fit}
 use Rattle.gq_reshape.proofs.texts.directives_text.Goals as goal
 
