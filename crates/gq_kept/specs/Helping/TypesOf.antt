@@ -1,0 +1,19 @@
+-- The type system of documents that are read so.
+use Rattle.std.specs.Prelude.{◌≡◌, ◌++◌, true, false, List}
+use Rattle.gq_tree.specs.Readings.{ParsedOf, in_document}
+use Rattle.gq_types.specs.BuiltIn.{built_in}
+use Rattle.gq_types.specs.Entries.{EntryOf}
+use Rattle.gq_types.specs.Look.{types_view}
+use Rattle.gq_document.specs.Definitions.{entry_in, entries_of}
+use Rattle.gq_schema.specs.SchemaOf.{HasNoFault}
+use Rattle.gq_kept.specs.declared.typed.Typed.{Typed}
+
+-- what one document defines, as if it were the first one
+abbrev pub types_defined : ParsedOf → List EntryOf
+types_defined reading = in_document entry_in 0 reading
+
+-- it is the type system of the documents, and the flag tells whether no rule of it is broken
+pub record AreTypesOf (readings : List ParsedOf) (made : Typed) : Type 0 where
+  pub is_type_system : types_view made.types ≡ built_in ++ entries_of readings
+  pub sound : made.has_schema ≡ true → HasNoFault (types_view made.types)
+  pub faulty : made.has_schema ≡ false → HasNoFault (types_view made.types) → ⊥

@@ -1,0 +1,381 @@
+//! What is known of a project, kept from question to question.
+ghost use Rattle.std.specs.Prelude.{◌≡◌, ◌<◌, ◌≤◌, true, false, Some, None, IfOk, IfSome, IfNone, OnOk, OnErr, find, length, remove, slice_set};
+ghost use Rattle.std.specs.List.{insert};
+ghost use Rattle.gq_tree.specs.Readings.{parsed_view};
+ghost use Rattle.gq_parse.specs.Parsed.{IsParsed};
+ghost use Rattle.gq_project.specs.Documents.{IsInOrder, has_key, with_doc, without};
+ghost use Rattle.gq_project.specs.Helping.Places.{IsPlaceOf, IsGapFor};
+ghost use Rattle.gq_index.specs.Indexed.{IsIndexOfProject};
+ghost use Rattle.gq_known.specs.Known.{IsKnown};
+ghost use Rattle.gq_rules.specs.Validity.{IsReportOf, IsValid};
+ghost use Rattle.gq_kept.specs.Helping.Gone.{AreGone, AreDropped, IsPut, ArePut};
+
+use crate::judged::Judged;
+use crate::places::place_or_gap;
+use crate::typed::{Typed, retype, typed_less, typed_more};
+use gq_index::Index;
+use gq_known::{Known, Learned};
+use gq_parse::reader::read_text;
+use gq_project::{Doc, Project};
+use gq_rules::laws::no_project_is_valid_and_invalid;
+use gq_rules::{Report, Valid, why_not_known};
+use gq_text::{NoMemory, OwnedText};
+use gq_tree::Parsed;
+use std::alloc::Global;
+use std::marker::Model;
+
+/// A project, what its documents read as, and their type system; its index and its validity too, once they were asked for.
+///
+/// Contracts see it as the list of its documents, whether it is indexed, and whether it is known if it is valid.
+#[derive(Drop)]
+pub struct Kept {
+    judged: Judged,
+    /// What the documents read as, one for each, in their order.
+    readings: Vec<Parsed>,
+    typed: Typed,
+    index: Option<Index>,
+}
+
+impl Model for Kept {
+    ghost use Rattle.std.specs.Prelude.{is_some};
+    ghost use Rattle.gq_kept.specs.KeptOf.{KeptOf};
+
+    ghost Value = { KeptOf };
+
+    ghost use Rattle.gq_kept.specs.Helping.Facts.{AreKept};
+
+    ghost view = { λ k. record { documents = k.judged.documents; is_indexed = is_some k.index; is_judged = k.judged.is_judged } };
+
+    ghost invariant = { λ k. AreKept k.judged.documents k.readings.items k.typed k.index };
+}
+
+impl Kept {
+    /// What is learned of a project by reading a copy of it. It is neither indexed nor judged.
+    pub fn of(alloc: Global, project: &Project) -> Result<Kept, NoMemory>
+        ensures { IfOk result (λ kept. kept ≡ record { documents = project.now; is_indexed = false; is_judged = false }) }
+    {
+        let Learned {
+            readings,
+            types,
+            has_schema,
+        } = Learned::of(alloc, project)?;
+        let copy = project.copied(alloc)?;
+        Ok(Kept {
+            judged: Judged::unjudged(copy),
+            readings,
+            typed: Typed { types, has_schema },
+            index: None,
+        })
+    }
+
+    /// The project.
+    pub fn project(&self) -> &Project
+        ensures { result.now ≡ self.now.documents }
+    {
+        self.judged.project()
+    }
+
+    /// All that is known without an index, lent.
+    pub fn known(&self) -> Known<'_>
+        ensures project { result.project.now ≡ self.now.documents }
+        ensures known { ∥ IsKnown result ∥₁ }
+    {
+        Known {
+            project: self.judged.project(),
+            readings: &self.readings,
+            types: &self.typed.types,
+            has_schema: self.typed.has_schema,
+        }
+    }
+
+    /// Whether the project has this document, with the same URI, version and text.
+    pub fn has_same(&self, doc: &Doc) -> bool
+        ensures { result ≡ true → find (has_key doc.now.key) self.now.documents ≡ Some doc.now }
+    {
+        match self.judged.project().get(doc.key.as_str()) {
+            Some(kept) => kept == doc,
+            None => false,
+        }
+    }
+
+    /// Adds the document, or replaces the one of its key, and reads its text alone. The project is then neither indexed nor
+    /// judged.
+    pub fn replace_file(&mut self, alloc: Global, doc: Doc) -> Result<(), NoMemory>
+        ensures ok { OnOk result (self.new.documents ≡ with_doc self.old.documents doc) }
+        ensures err { OnErr result (self.new ≡ self.old) }
+    {
+        let reading = read_text(alloc, doc.text.as_str())?;
+        match place_or_gap(self.judged.project().documents(), doc.key.as_str()) {
+            Ok(at) => self.replace_at(alloc, at, doc, reading),
+            Err(at) => self.insert_at(alloc, at, doc, reading),
+        }
+    }
+
+    /// Replaces the document at that place, which has the same key.
+    fn replace_at(
+        &mut self,
+        alloc: Global,
+        at: usize,
+        doc: Doc,
+        reading: Parsed,
+    ) -> Result<(), NoMemory>
+        requires place { IsPlaceOf (λ other. other.key) doc.key self.old.documents at }
+        requires parsed { IsParsed doc.text (parsed_view reading) }
+        ensures ok { OnOk result (self.new.documents ≡ with_doc self.old.documents doc) }
+        ensures err { OnErr result (self.new ≡ self.old) }
+    {
+        retype(
+            alloc,
+            self.judged.project().documents(),
+            &self.readings,
+            at,
+            doc.text.as_str(),
+            &reading,
+            &mut self.typed,
+        )?;
+        self.judged.put(alloc, doc)?;
+        write_over(&mut self.readings, at, reading);
+        forget(&mut self.index);
+        Ok(())
+    }
+
+    /// Puts in a document whose key no document has.
+    fn insert_at(
+        &mut self,
+        alloc: Global,
+        at: usize,
+        doc: Doc,
+        reading: Parsed,
+    ) -> Result<(), NoMemory>
+        requires gap { IsGapFor (λ other. other.key) doc.key self.old.documents at }
+        requires parsed { IsParsed doc.text (parsed_view reading) }
+        ensures ok { OnOk result (self.new.documents ≡ with_doc self.old.documents doc) }
+        ensures err { OnErr result (self.new ≡ self.old) }
+    {
+        let documents = self.judged.project().documents();
+        let made = typed_more(
+            alloc,
+            documents,
+            &self.readings,
+            at,
+            doc.text.as_str(),
+            &reading,
+        )?;
+        match put_in(
+            alloc,
+            &mut self.judged,
+            &mut self.readings,
+            at,
+            doc,
+            reading,
+        ) {
+            Ok(()) => {
+                settle(&mut self.typed, made);
+                forget(&mut self.index);
+                Ok(())
+            }
+            Err(NoMemory) => Err(NoMemory),
+        }
+    }
+
+    /// Takes out the document of that key. The project is then neither indexed nor judged. Where there is none, all stays.
+    pub fn drop_file(&mut self, alloc: Global, key: &str) -> Result<(), NoMemory>
+        ensures ok { OnOk result (self.new.documents ≡ without self.old.documents key.now) }
+        ensures err { OnErr result (self.new ≡ self.old) }
+        ensures absent { find (has_key key.now) self.old.documents ≡ None → self.new ≡ self.old }
+    {
+        match place_or_gap(self.judged.project().documents(), key) {
+            Ok(at) => self.drop_at(alloc, at, key),
+            Err(_) => Ok(()),
+        }
+    }
+
+    /// Takes out the document at that place, which has that key.
+    fn drop_at(&mut self, alloc: Global, at: usize, key: &str) -> Result<(), NoMemory>
+        requires { IsPlaceOf (λ other. other.key) key.now self.old.documents at }
+        ensures ok { OnOk result (self.new.documents ≡ without self.old.documents key.now) }
+        ensures err { OnErr result (self.new ≡ self.old) }
+    {
+        let documents = self.judged.project().documents();
+        let made = typed_less(alloc, documents, &self.readings, at)?;
+        self.judged.take(alloc, key);
+        take_out(&mut self.readings, at);
+        settle(&mut self.typed, made);
+        forget(&mut self.index);
+        Ok(())
+    }
+
+    /// Makes the project that of these documents: what is the same is not read again, other documents are replaced by copies,
+    /// and those that are no longer there are dropped. Where memory is refused, some of that is done.
+    pub fn bring_to(&mut self, alloc: Global, project: &Project) -> Result<(), NoMemory>
+        ensures { OnOk result (self.new.documents ≡ project.now) }
+    {
+        let gone = gone(alloc, self.project().documents(), project)?;
+        self.drop_all(alloc, &gone)?;
+        self.put_all(alloc, project.documents())?;
+        let _in_order = self.project().documents();
+        Ok(())
+    }
+
+    /// Takes out the documents of these keys.
+    fn drop_all(&mut self, alloc: Global, keys: &[OwnedText]) -> Result<(), NoMemory>
+        ensures { OnOk result (AreDropped self.old.documents keys.now self.new.documents) }
+    {
+        for key in keys {
+            self.drop_file(alloc, key.as_str())?;
+        }
+        Ok(())
+    }
+
+    /// Adds copies of these documents, or replaces those of their keys, where they are not the same.
+    fn put_all(&mut self, alloc: Global, documents: &[Doc]) -> Result<(), NoMemory>
+        requires { IsInOrder documents.now }
+        ensures { OnOk result (ArePut self.old.documents documents.now self.new.documents) }
+    {
+        for doc in documents {
+            self.put_copy(alloc, doc)?;
+        }
+        Ok(())
+    }
+
+    /// Adds a copy of the document, or replaces the one of its key, where that is not the same.
+    fn put_copy(&mut self, alloc: Global, doc: &Doc) -> Result<(), NoMemory>
+        ensures { OnOk result (IsPut self.old.documents doc.now self.new.documents) }
+    {
+        if self.has_same(doc) {
+            return Ok(());
+        }
+        let copy = doc.copied(alloc)?;
+        self.replace_file(alloc, copy)?;
+        Ok(())
+    }
+
+    /// Makes the index, where there is none.
+    pub fn make_index(&mut self, alloc: Global) -> Result<(), NoMemory>
+        ensures ok { OnOk result (self.new ≡ record self.old { is_indexed = true }) }
+        ensures err { OnErr result (self.new ≡ self.old) }
+    {
+        if self.index.is_none() {
+            let index = Index::of_readings(alloc, &self.readings)?;
+            self.index = Some(index);
+        }
+        Ok(())
+    }
+
+    /// The index.
+    pub fn index(&self) -> &Index
+        requires { self.now.is_indexed ≡ true }
+        ensures { ∥ IsIndexOfProject self.now.documents result.now ∥₁ }
+    {
+        self.index.as_ref().unwrap()
+    }
+
+    /// The report on the project, which is then judged.
+    pub fn report(&mut self, alloc: Global) -> Result<Report, NoMemory>
+        ensures report { IfOk result (λ report. ∥ IsReportOf self.old.documents report.found.items ∥₁) }
+        ensures ok { OnOk result (self.new ≡ record self.old { is_judged = true }) }
+        ensures err { OnErr result (self.new ≡ self.old) }
+    {
+        no_project_is_valid_and_invalid();
+        match why_not_known(alloc, self.known())? {
+            Some(report) => {
+                self.judged.set_invalid(alloc);
+                Ok(report)
+            }
+            None => {
+                self.judged.set_valid(alloc);
+                Ok(Report {
+                    found: Vec::new(alloc),
+                })
+            }
+        }
+    }
+
+    /// Finds out whether the project is valid, where that is not known.
+    pub fn judge(&mut self, alloc: Global) -> Result<(), NoMemory>
+        ensures ok { OnOk result (self.new ≡ record self.old { is_judged = true }) }
+        ensures err { OnErr result (self.new ≡ self.old) }
+    {
+        if !self.judged.is_judged() {
+            let _ = self.report(alloc)?;
+        }
+        Ok(())
+    }
+
+    /// The project, where it is valid.
+    pub fn valid(&self) -> Option<&Valid>
+        requires { self.now.is_judged ≡ true }
+        ensures some { IfSome result (λ valid. valid.now ≡ self.now.documents) }
+        ensures none { IfNone result (IsValid self.now.documents → ⊥) }
+    {
+        self.judged.valid()
+    }
+}
+
+/// Adds a document whose key no document has, and what it reads as, at that place.
+fn put_in(
+    alloc: Global,
+    judged: &mut Judged,
+    readings: &mut Vec<Parsed>,
+    at: usize,
+    doc: Doc,
+    reading: Parsed,
+) -> Result<(), NoMemory>
+    requires { at ≤ length readings.old.items }
+    ensures document { OnOk result (judged.new ≡ record { documents = with_doc judged.old.documents doc; is_judged = false }) }
+    ensures reading { OnOk result (readings.new.items ≡ insert readings.old.items at reading) }
+    ensures same_documents { OnErr result (judged.new ≡ judged.old) }
+    ensures same_readings { OnErr result (readings.new.items ≡ readings.old.items) }
+{
+    if readings.insert(at, reading).is_err() {
+        return Err(NoMemory);
+    }
+    if judged.put(alloc, doc).is_err() {
+        take_out(readings, at);
+        return Err(NoMemory);
+    }
+    Ok(())
+}
+
+/// Writes what a document reads as over what is at that place.
+fn write_over(readings: &mut Vec<Parsed>, at: usize, reading: Parsed)
+    requires { at < length readings.old.items }
+    ensures { readings.new.items ≡ slice_set readings.old.items at reading }
+{
+    readings[at] = reading;
+}
+
+/// Takes out what is at that place.
+fn take_out(readings: &mut Vec<Parsed>, at: usize)
+    requires { at < length readings.old.items }
+    ensures { readings.new.items ≡ remove readings.old.items at }
+{
+    let _ = readings.remove(at);
+}
+
+/// Puts that type system in the place of another one.
+fn settle(typed: &mut Typed, made: Typed)
+    ensures { typed.new ≡ made }
+{
+    *typed = made;
+}
+
+/// Forgets the index.
+fn forget(index: &mut Option<Index>)
+    ensures { index.new ≡ None }
+{
+    *index = None;
+}
+
+/// The keys of the documents that the project does not have.
+fn gone(alloc: Global, documents: &[Doc], project: &Project) -> Result<Vec<OwnedText>, NoMemory>
+    ensures { IfOk result (λ keys. AreGone documents.now project.now keys.items) }
+{
+    let mut keys = Vec::new(alloc);
+    for doc in documents {
+        if project.get(doc.key.as_str()).is_none() {
+            keys.push(doc.key.copied(alloc)?)?;
+        }
+    }
+    Ok(keys)
+}

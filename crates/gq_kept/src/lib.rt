@@ -1,0 +1,9 @@
+//! What is known of a project, kept from question to question, and mended where a file changes.
+#![tactic(auto)]
+
+mod judged;
+pub mod kept;
+mod places;
+mod typed;
+
+pub use kept::Kept;

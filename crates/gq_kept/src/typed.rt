@@ -1,0 +1,148 @@
+//! The type system of documents, made anew where one of them changes.
+ghost use Rattle.std.specs.Prelude.{◌≡◌, ◌<◌, ◌≤◌, [], false, ℕ, IfOk, OnOk, OnErr, length, map, remove, slice_set};
+ghost use Rattle.std.specs.List.{insert};
+ghost use Rattle.gq_tree.specs.Readings.{in_document, parsed_view, readings_view};
+ghost use Rattle.gq_parse.specs.Parsed.{AreParsed, IsParsed};
+ghost use Rattle.gq_document.specs.Definitions.{entry_in, entries_of};
+ghost use Rattle.gq_kept.specs.Helping.TypesOf.{AreTypesOf, types_defined};
+
+use gq_document::take_entries;
+use gq_known::learned::defines_types;
+use gq_parse::reader::read_text;
+use gq_project::Doc;
+use gq_text::NoMemory;
+use gq_tree::{Document, Parsed};
+use gq_type_system::schema_faults;
+use gq_types::Types;
+use std::alloc::Global;
+
+/// A type system, and whether no rule of it is broken.
+#[derive(Drop)]
+pub(crate) struct Typed {
+    pub(crate) types: Types,
+    pub(crate) has_schema: bool,
+}
+
+/// The type system of documents that are read so.
+fn made_of(alloc: Global, readings: Vec<Parsed>) -> Result<Typed, NoMemory>
+    ensures { IfOk result (AreTypesOf (readings_view readings.items)) }
+{
+    let (entries, _) = take_entries(alloc, readings)?;
+    let types = Types::of(alloc, entries)?;
+    let has_schema = schema_faults(alloc, &types)?.is_empty();
+    Ok(Typed { types, has_schema })
+}
+
+/// A text that is read so, once more, for its definitions of the type system alone; nothing is read where it has none.
+fn types_in(alloc: Global, text: &str, reading: &Parsed) -> Result<Parsed, NoMemory>
+    ensures { IfOk result (λ again. IsParsed text.now (parsed_view reading.now) → types_defined (parsed_view again) ≡ types_defined (parsed_view reading.now)) }
+{
+    gq_parse::laws::one_tree();
+    if defines_types(reading) {
+        let again = read_text(alloc, text)?;
+        return Ok(again);
+    }
+    Ok(Parsed::Tree(Document {
+        definitions: Vec::new(alloc),
+    }))
+}
+
+/// The documents that are read so, once more, for their definitions of the type system alone.
+fn types_read(
+    alloc: Global,
+    documents: &[Doc],
+    readings: &[Parsed],
+) -> Result<Vec<Parsed>, NoMemory>
+    requires { length documents.now ≡ length readings.now }
+    ensures count { IfOk result (λ again. length again.items ≡ length readings.now) }
+    ensures same { IfOk result (λ again. AreParsed documents.now (readings_view readings.now) → map types_defined (readings_view again.items) ≡ map types_defined (readings_view readings.now)) }
+{
+    let mut all = Vec::with_capacity(alloc, readings.len())?;
+    for (document, reading) in documents.iter().zip(readings) {
+        all.push(types_in(alloc, document.text.as_str(), reading)?)?;
+    }
+    Ok(all)
+}
+
+/// Makes the type system that of documents of which the one at that place is replaced by this text, which reads so. Where
+/// neither defines types, it stays as it is.
+pub(crate) fn retype(
+    alloc: Global,
+    documents: &[Doc],
+    readings: &[Parsed],
+    at: usize,
+    text: &str,
+    reading: &Parsed,
+    typed: &mut Typed,
+) -> Result<(), NoMemory>
+    requires count { length documents.now ≡ length readings.now }
+    requires in_range { at < length readings.now }
+    ensures ok { OnOk result (AreParsed documents.now (readings_view readings.now) → IsParsed text.now (parsed_view reading.now) →
+        AreTypesOf (readings_view readings.now) typed.old → AreTypesOf (slice_set (readings_view readings.now) at (parsed_view reading.now)) typed.new) }
+    ensures err { OnErr result (typed.new ≡ typed.old) }
+{
+    if !defines_types(reading) && !defines_types(&readings[at]) {
+        return Ok(());
+    }
+    *typed = typed_with(alloc, documents, readings, at, text, reading)?;
+    Ok(())
+}
+
+/// The type system, where the document at that place is replaced by this text, which reads so.
+fn typed_with(
+    alloc: Global,
+    documents: &[Doc],
+    readings: &[Parsed],
+    at: usize,
+    text: &str,
+    reading: &Parsed,
+) -> Result<Typed, NoMemory>
+    requires count { length documents.now ≡ length readings.now }
+    requires in_range { at < length readings.now }
+    ensures { IfOk result (λ made. AreParsed documents.now (readings_view readings.now) → IsParsed text.now (parsed_view reading.now) →
+        AreTypesOf (slice_set (readings_view readings.now) at (parsed_view reading.now)) made) }
+{
+    let mut again = types_read(alloc, documents, readings)?;
+    let one = types_in(alloc, text, reading)?;
+    again[at] = one;
+    let made = made_of(alloc, again)?;
+    Ok(made)
+}
+
+/// The type system, where a document is put in at that place, whose text reads so.
+pub(crate) fn typed_more(
+    alloc: Global,
+    documents: &[Doc],
+    readings: &[Parsed],
+    at: usize,
+    text: &str,
+    reading: &Parsed,
+) -> Result<Typed, NoMemory>
+    requires count { length documents.now ≡ length readings.now }
+    requires in_range { at ≤ length readings.now }
+    ensures { IfOk result (λ made. AreParsed documents.now (readings_view readings.now) → IsParsed text.now (parsed_view reading.now) →
+        AreTypesOf (insert (readings_view readings.now) at (parsed_view reading.now)) made) }
+{
+    let mut again = types_read(alloc, documents, readings)?;
+    let one = types_in(alloc, text, reading)?;
+    again.insert(at, one)?;
+    let made = made_of(alloc, again)?;
+    Ok(made)
+}
+
+/// The type system, where the document at that place is taken out.
+pub(crate) fn typed_less(
+    alloc: Global,
+    documents: &[Doc],
+    readings: &[Parsed],
+    at: usize,
+) -> Result<Typed, NoMemory>
+    requires count { length documents.now ≡ length readings.now }
+    requires in_range { at < length readings.now }
+    ensures { IfOk result (λ made. AreParsed documents.now (readings_view readings.now) → AreTypesOf (remove (readings_view readings.now) at) made) }
+{
+    let mut again = types_read(alloc, documents, readings)?;
+    let _ = again.remove(at);
+    let made = made_of(alloc, again)?;
+    Ok(made)
+}
