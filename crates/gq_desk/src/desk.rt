@@ -9,6 +9,7 @@ use crate::jobs::Jobs;
 use gq_events::answers::answer_task;
 use gq_events::documents::OpenDocuments;
 use gq_events::{ClientSession, Event, Out, Task};
+use gq_kept::Kept;
 use gq_text::NoMemory;
 use std::alloc::Global;
 use std::marker::Model;
@@ -22,10 +23,11 @@ pub enum DeskFault {
     Failed,
 }
 
-/// Answers a task at once where there are no workers, else makes a job for it.
+/// Answers a task at once where there are no workers, by what is kept of the documents; else makes a job for it.
 fn bring(
     alloc: Global,
     documents: &OpenDocuments,
+    kept: &mut Option<Kept>,
     workers: u8,
     jobs: &mut Jobs,
     task: Option<Task>,
@@ -33,10 +35,11 @@ fn bring(
 ) -> Result<(), NoMemory>
     requires { jobs.old.next < 2 ^ 62 }
     ensures jobs { OnOk result (jobs.new ≡ spec.with_jobs jobs.old (spec.jobs_for workers jobs.old.next task)) }
-    ensures outs { OnOk result ((answer : Answer) × (workers ≡ 0 → FitsTaken (docs_of documents.now) task answer) × (outs.new.items ≡ outs.old.items ++ (if workers == 0 then answer_to task answer else []))) }
+    ensures outs { OnOk result ((answer : Answer) × (workers ≡ 0 → FitsTaken (docs_of documents.now) task answer)
+        × (outs.new.items ≡ outs.old.items ++ (if workers == 0 then answer_to task answer else []))) }
 {
     if workers == 0 {
-        return answer_task(alloc, documents, task, outs);
+        return answer_task(alloc, documents, kept, task, outs);
     }
     match task {
         Some(task) => jobs.add(alloc, task),
@@ -48,6 +51,7 @@ fn bring(
 fn take_event(
     alloc: Global,
     session: &mut ClientSession,
+    kept: &mut Option<Kept>,
     workers: u8,
     jobs: &mut Jobs,
     event: Event,
@@ -55,13 +59,14 @@ fn take_event(
 ) -> Result<(), NoMemory>
     requires next { jobs.old.next < 2 ^ 62 }
     requires empty { outs.old.items ≡ [] }
-    ensures { OnOk result (spec.Steps (record { session = session.old; workers = workers; jobs = jobs.old }) event outs.new.items (record { session = session.new; workers = workers; jobs = jobs.new })) }
+    ensures { OnOk result (spec.Steps (record { session = session.old; workers = workers; jobs = jobs.old }) event outs.new.items
+        (record { session = session.new; workers = workers; jobs = jobs.new })) }
 {
     let effect = session.effect(event);
     let denied = session.denied_by(alloc, jobs.pending(), &effect)?;
     let rest = jobs.settle(alloc, session.documents(), effect, outs)?;
     let task = session.take_in(alloc, workers, denied, rest, outs)?;
-    bring(alloc, session.documents(), workers, jobs, task, outs)?;
+    bring(alloc, session.documents(), kept, workers, jobs, task, outs)?;
     jobs.hand_on(outs)
 }
 
@@ -69,6 +74,9 @@ fn take_event(
 #[derive(Drop)]
 pub struct Desk {
     session: ClientSession,
+    /// What is known of the documents, from the last task that was answered here. Nothing is told of it: an answer is the
+    /// same without.
+    kept: Option<Kept>,
     workers: u8,
     jobs: Jobs,
     failed: bool,
@@ -91,6 +99,7 @@ impl Desk {
     {
         Desk {
             session: ClientSession::new(alloc),
+            kept: None,
             workers,
             jobs: Jobs::new(alloc),
             failed: false,
@@ -126,6 +135,7 @@ impl Desk {
         let done = take_event(
             alloc,
             &mut self.session,
+            &mut self.kept,
             self.workers,
             &mut self.jobs,
             event,

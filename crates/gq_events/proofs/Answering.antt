@@ -19,11 +19,7 @@ use Rattle.gq_events.specs.declared.event.Task.{Task}
 use Rattle.gq_events.specs.declared.event.Task.TheVariants as task
 use Rattle.gq_events.specs.Positions.{position_encoding}
 use Rattle.gq_events.specs.Tasks.{Answers}
-use Rattle.gq_events.specs.Rules.{Session, changed_by, session_after, own, failed, answered}
-
--- what a session becomes by an event, and what it puts out for it, and for so many workers
-abbrev pub Replies : ℕ → Session → Option Denial → Effect → Session → List Out → List Out → Type 0
-Replies workers s denied e t old new = (r : Bool) × (t ≡ session_after s e (changed_by s e r)) × (new ≡ old ++ own workers s denied e (changed_by s e r))
+use Rattle.gq_events.specs.Rules.{Session, changed_by, session_after, own, failed, answered, Replies}
 
 -- an event that changes nothing
 pub quiet : (workers : ℕ) (s : Session) (denied : Option Denial) (e f : Effect) (outs : List Out) → e ≡ f → s ≡ session_after s f (changed_by s f false) → [] ≡ own workers s denied f (changed_by s f false) → Replies workers s denied e s outs outs
@@ -33,11 +29,11 @@ quiet workers s denied e f outs is stays nothing = subst (λ (e : Effect). Repli
 abbrev pub Answered : List Doc → Task → List Out → List Out → Type 0
 Answered docs t old new = (a : Answer) × Answers docs t a × (new ≡ old ++ answered t a)
 
-pub answered_by : (docs seen : List Doc) (id : Id) (q : Question) (message : Outgoing) (old new : List Out) → seen ≡ docs → IsAnswer position_encoding seen id q message → new ≡ old ++ out.Reply message ∷ [] → Answered docs (task.Ask id q) old new
-answered_by docs seen id q message old new e h is = (answer.Response message, ∣ subst (λ (ds : List Doc). IsAnswer position_encoding ds id q message) e h ∣₁, is)
+pub answered_by : (docs seen : List Doc) (id : Id) (q : Question) (message : Outgoing) (old new : List Out) → seen ≡ docs → ∥ IsAnswer position_encoding seen id q message ∥₁ → new ≡ old ++ out.Reply message ∷ [] → Answered docs (task.Ask id q) old new
+answered_by docs seen id q message old new e h is = (answer.Response message, subst (λ (ds : List Doc). ∥ IsAnswer position_encoding ds id q message ∥₁) e h, is)
 
 pub failed_by : (docs : List Doc) (id : Id) (q : Question) (why : ResponseError) (old new : List Out) → why ≡ failed (codes "12 NoMemory") → new ≡ old ++ out.Reply (outgoing.Error (Some id) why) ∷ [] → Answered docs (task.Ask id q) old new
 failed_by docs id q why old new e is = (answer.NoMemory, ∣ tt ∣₁, is ∙ ap (λ (w : ResponseError). old ++ out.Reply (outgoing.Error (Some id) w) ∷ []) e)
 
-pub checked_by : (docs : List Doc) (messages : List Outgoing) (old new : List Out) → AreDiagnosticsMessages position_encoding docs messages → new ≡ old ++ map out.Notify messages → Answered docs task.Check old new
-checked_by docs messages old new h is = (answer.Report messages, ∣ h ∣₁, is)
+pub checked_by : (docs : List Doc) (messages : List Outgoing) (old new : List Out) → ∥ AreDiagnosticsMessages position_encoding docs messages ∥₁ → new ≡ old ++ map out.Notify messages → Answered docs task.Check old new
+checked_by docs messages old new h is = (answer.Report messages, h, is)

@@ -11,7 +11,7 @@ use Rattle.gq_project.proofs.Keys.{Ascend-with_item, Ascend-without_item, set_wi
 use Rattle.gq_rpc.specs.declared.messages.DidChangeParams.{DidChangeParams}
 use Rattle.gq_events.specs.declared.documents.OpenDocument.{OpenDocument}
 use Rattle.gq_events.specs.declared.effect.Change.TheVariants as change
-use Rattle.gq_events.specs.Documents.{IsInOrder, has_key, document_at, is_open, with_document, with_changed, changed, document_with, edited}
+use Rattle.gq_events.specs.Documents.{IsInOrder, has_key, document_at, is_open, with_document, with_changed, changed, document_with, edited, EditsAt}
 
 abbrev pub key_of : OpenDocument → List ℕ
 key_of document = document.key
@@ -65,12 +65,6 @@ module _ (documents : List OpenDocument) (params : DidChangeParams) (i : ℕ) (o
   in_order_here : IsInOrder documents → IsInOrder (set documents i new)
   in_order_here h = subst IsInOrder (sym (set_with_document documents params.key i new place new_key)) (IsInOrder-with_document documents new h)
 
--- what an edit leaves: the documents, and where the one is that is edited
-abbrev pub Edits : List OpenDocument → DidChangeParams → List OpenDocument → Option ℕ → Type 0
-Edits old params new at =
-    (refused : Bool) × (new ≡ with_changed old params.key (changed old (change.Edit params) refused))
-    × MatchOption at (changed old (change.Edit params) refused ≡ None) (λ i. (i < length new) × HoldsAt (λ document. changed old (change.Edit params) refused ≡ Some document) new i)
-
 -- as the code reads it: the list inside is the documents, and the key that was sought that of the edit
 module _ (inside documents : List OpenDocument) (view : inside ≡ documents) (params : DidChangeParams) (key : List ℕ) (is_key : key ≡ params.key) (i : ℕ) (place : IsPlaceOf key_of key documents i) (old new : OpenDocument)
     (is_old : old ≡ get_or inside i old) (is : (refused : Bool) × (new ≡ edited old params refused)) where
@@ -87,7 +81,7 @@ module _ (inside documents : List OpenDocument) (view : inside ≡ documents) (p
   within : i < length inside
   within = subst (λ (ds : List OpenDocument). i < length ds) (sym view) place.in_range
 
-  pub edits : Edits documents params (set inside i new) (Some i)
+  pub edits : EditsAt documents params (set inside i new) (Some i)
   edits = (
     is.0,
     ap (λ (ds : List OpenDocument). set ds i new) view ∙ edited_here documents params i old new is.0 place_of_key old_here is.1,
@@ -98,7 +92,7 @@ module _ (inside documents : List OpenDocument) (view : inside ≡ documents) (p
   )
 
 -- none has the key, so nothing is changed
-pub edits_nothing : (documents : List OpenDocument) (params : DidChangeParams) (key : List ℕ) (i : ℕ) → key ≡ params.key → IsGapFor key_of key documents i → Edits documents params documents None
+pub edits_nothing : (documents : List OpenDocument) (params : DidChangeParams) (key : List ℕ) (i : ℕ) → key ≡ params.key → IsGapFor key_of key documents i → EditsAt documents params documents None
 edits_nothing documents params key i is_key gap =
     let at : IsGapFor key_of params.key documents i = subst (λ (k : List ℕ). IsGapFor key_of k documents i) is_key gap in
     let none : changed documents (change.Edit params) false ≡ None = ap (option_map (λ document. edited document params false)) at.none in

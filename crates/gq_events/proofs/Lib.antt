@@ -14,6 +14,7 @@ pub mod Editing
 pub mod Answering
 pub mod Going
 pub mod Keeping
+pub mod OpenNow
 pub mod Lifecycles
 pub mod Agreeing
 pub mod Headline

@@ -1,7 +1,8 @@
 -- The documents that a client has open (LSP 3.17, "Text Document Synchronization").
-use Rattle.std.specs.Prelude.{ℕ, ◌^◌, Bool, true, false, not, ◌||◌, ◌&&◌, nat_lt, nat_le, List, [], ◌∷◌, ◌++◌, length, map, filter, find, Option, Some, None, is_some, option_map, unwrap_or, ℤ, if◌then◌else◌}
+use Rattle.std.specs.Prelude.{◌≡◌, ℕ, ◌<◌, ◌^◌, Bool, true, false, not, ◌||◌, ◌&&◌, nat_lt, nat_le, List, [], ◌∷◌, ◌++◌, length, map, filter, find, Option, Some, None, is_some, option_map, unwrap_or, ℤ, if◌then◌else◌}
 use Rattle.std.specs.Cmp.Lexicographic.{slice_cmp}
-use Rattle.std.specs.List.{list_any}
+use Rattle.std.specs.List.{list_any, HoldsAt}
+use Rattle.std.specs.Option.{MatchOption}
 use Rattle.std.specs.List.Sorted.{IsStrictlySortedBy}
 use Rattle.std.specs.Ordering.{nat_cmp, is_lt, is_gt}
 use Rattle.std.specs.Str.{bytes_eq}
@@ -122,6 +123,12 @@ with_document documents document = filter (is_before document.key) documents ++ 
 abbrev pub with_changed : List OpenDocument → List ℕ → Option OpenDocument → List OpenDocument
 with_changed documents key None = filter (λ document. not (has_key key document)) documents
 with_changed documents key (Some document) = with_document documents document
+
+-- what an edit leaves, and where the document is that it edits; refused says that the changes of its text were refused memory
+abbrev pub EditsAt : List OpenDocument → DidChangeParams → List OpenDocument → Option ℕ → Type 0
+EditsAt old params new at =
+    (refused : Bool) × (new ≡ with_changed old params.key (changed old (change.Edit params) refused))
+    × MatchOption at (changed old (change.Edit params) refused ≡ None) (λ i. (i < length new) × HoldsAt (λ document. changed old (change.Edit params) refused ≡ Some document) new i)
 
 -- what workers are to see changed
 abbrev pub published : List ℕ → Option OpenDocument → DocChange

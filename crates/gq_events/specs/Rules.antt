@@ -1,11 +1,12 @@
 -- What one event does, by how far the session has come and by what is pending.
-use Rattle.std.specs.Prelude.{ℕ, Bool, true, false, ◌&&◌, not, ◌==◌, nat_le, List, [], ◌∷◌, ◌++◌, map, count_by, codes, option_map, option_to_list, Option, Some, None, if◌then◌else◌}
+use Rattle.std.specs.Prelude.{◌≡◌, ℕ, Bool, true, false, ◌&&◌, not, ◌==◌, nat_le, List, [], ◌∷◌, ◌++◌, map, count_by, codes, option_map, option_to_list, Option, Some, None, if◌then◌else◌}
 use Rattle.std.specs.List.{list_any}
 use Rattle.gq_project.specs.declared.document.Doc.{Doc}
 use Rattle.gq_project.specs.declared.document.DocChange.{DocChange}
 use Rattle.gq_rpc.specs.declared.messages.Id.{Id}
 use Rattle.gq_rpc.specs.declared.messages.ClientCapabilities.{ClientCapabilities}
 use Rattle.gq_rpc.specs.declared.messages.ServerCapabilities.{ServerCapabilities}
+use Rattle.gq_rpc.specs.declared.messages.DidChangeParams.{DidChangeParams}
 use Rattle.gq_rpc.specs.declared.messages.Question.{Question}
 use Rattle.gq_rpc.specs.declared.messages.Question.TheVariants as question
 use Rattle.gq_rpc.specs.declared.messages.Request.{Request}
@@ -348,6 +349,20 @@ own workers s denied (effect.Stops status) document = out.Stop status ∷ []
 own workers s denied effect.Nothing document = []
 own workers s denied (effect.Cancels id) document = []
 own workers s denied (effect.Finishes done) document = []
+
+-- What a session becomes by an edit of a document, by a change, and by an event, and what is put out for it by then, and for so many workers. Of each
+-- it may be that a text was refused memory.
+abbrev pub Edits : ℕ → Session → DidChangeParams → Session → List Out → List Out → Type 0
+Edits workers s params t old new =
+    (refused : Bool) × (t ≡ with_documents s (with_changed s.documents params.key (changed s.documents (change.Edit params) refused)))
+    × (new ≡ old ++ shown workers (published params.key (changed s.documents (change.Edit params) refused)))
+
+abbrev pub Changes : ℕ → Session → Change → Session → List Out → List Out → Type 0
+Changes workers s c t old new =
+    (refused : Bool) × (t ≡ with_documents s (with_changed s.documents (key_of c) (changed s.documents c refused))) × (new ≡ old ++ own_of_change workers s c (changed s.documents c refused))
+
+abbrev pub Replies : ℕ → Session → Option Denial → Effect → Session → List Out → List Out → Type 0
+Replies workers s how e t old new = (refused : Bool) × (t ≡ session_after s e (changed_by s e refused)) × (new ≡ old ++ own workers s how e (changed_by s e refused))
 
 -- the answer to a task that it brings, where no worker is to answer
 abbrev pub answer_to : Option Task → Answer → List Out

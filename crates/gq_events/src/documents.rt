@@ -1,9 +1,7 @@
 //! The documents that a client has open.
-ghost use Rattle.std.specs.Prelude.{◌≡◌, ◌<◌, ◌≤◌, ◌^◌, Bool, true, false, [], length, Some, None, MatchOption, IfOk, IfErr, OnOk};
-ghost use Rattle.std.specs.List.{HoldsAt};
+ghost use Rattle.std.specs.Prelude.{◌≡◌, ◌≤◌, ◌^◌, Bool, true, false, [], length, Some, None, IfOk, IfErr, OnOk};
 ghost use Rattle.gq_edit.specs.Workspace.{AreTexts};
 ghost use Rattle.gq_project.specs.Helping.Places.{IsPlaceOf, IsGapFor};
-ghost use Rattle.gq_events.specs.declared.effect.Change.TheVariants as change;
 ghost use Rattle.gq_events.specs.Documents as spec;
 
 use crate::effect::Change;
@@ -162,6 +160,16 @@ impl OpenDocuments {
         self.documents.as_slice()
     }
 
+    /// The documents are in order, and each has a text of at most 4 MiB.
+    pub(crate) fn texts_fit(&self)
+        ensures in_order { spec.IsInOrder self.now }
+        ensures texts { AreTexts (spec.docs_of self.now) }
+    {
+        for document in self.documents.iter() {
+            document.text.fits();
+        }
+    }
+
     /// Where the document of that key is, or where it would go.
     fn place(&self, key: &str) -> Result<usize, usize>
         ensures found { IfOk result (IsPlaceOf (λ document. document.key) key.now self.now) }
@@ -216,8 +224,7 @@ impl OpenDocuments {
     /// Edits the document of that key, if it is open: where it is. It takes no memory but for the changes of its text,
     /// which is lost where they find none.
     pub fn edit(&mut self, alloc: Global, params: &DidChangeParams) -> Option<usize>
-        ensures { (refused : Bool) × (self.new ≡ spec.with_changed self.old params.now.key (spec.changed self.old (change.Edit params.now) refused))
-            × MatchOption result (spec.changed self.old (change.Edit params.now) refused ≡ None) (λ at. (at < length self.new) × HoldsAt (λ document. spec.changed self.old (change.Edit params.now) refused ≡ Some document) self.new at) }
+        ensures { spec.EditsAt self.old params.now self.new result }
     {
         match self.place(params.key.as_str()) {
             Ok(at) => {

@@ -3,6 +3,7 @@
 #![tactic(auto)]
 
 pub mod answers;
+mod bringing;
 mod copies;
 pub mod documents;
 pub mod effect;

@@ -156,7 +156,7 @@ pub fn same_task(a: &Task, b: &Task) -> bool
     }
 }
 
-fn same_document(a: &Doc, b: &OpenDocument) -> bool
+pub(crate) fn same_document(a: &Doc, b: &OpenDocument) -> bool
     ensures { result ≡ spec.same_doc a.now (doc_of b.now) }
 {
     let version = Some(b.version);

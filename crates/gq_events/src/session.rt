@@ -1,9 +1,9 @@
 //! How far a session has come, and the documents that its client has open.
-ghost use Rattle.std.specs.Prelude.{◌≡◌, ◌++◌, Bool, [], Some, None, IfOk, OnOk, option_to_list, option_map, if◌then◌else◌};
+ghost use Rattle.std.specs.Prelude.{◌≡◌, ◌++◌, [], Some, None, IfOk, OnOk, option_to_list, option_map, if◌then◌else◌};
 ghost use Rattle.gq_project.specs.declared.document.DocChange.TheVariants as doc_change;
 ghost use Rattle.gq_events.specs.declared.event.Task.TheVariants as task;
 ghost use Rattle.gq_events.specs.declared.effect.Change.TheVariants as change;
-ghost use Rattle.gq_events.specs.Documents.{doc_of, key_of, opened, changed, with_document, with_changed, published};
+ghost use Rattle.gq_events.specs.Documents.{doc_of, opened, with_document, with_changed};
 ghost use Rattle.gq_events.specs.Rules as spec;
 
 use crate::documents::{OpenDocument, OpenDocuments, copy_document, open_document};
@@ -260,7 +260,7 @@ impl ClientSession {
         params: DidChangeParams,
         outs: &mut Vec<Out>,
     ) -> Result<(), NoMemory>
-        ensures { OnOk result ((refused : Bool) × (self.new ≡ spec.with_documents self.old (with_changed self.old.documents params.key (changed self.old.documents (change.Edit params) refused))) × (outs.new.items ≡ outs.old.items ++ spec.shown workers (published params.key (changed self.old.documents (change.Edit params) refused)))) }
+        ensures { OnOk result (spec.Edits workers self.old params self.new outs.old.items outs.new.items) }
     {
         match self.documents.edit(alloc, &params) {
             Some(at) => show(alloc, workers, &self.documents.as_slice()[at], outs),
@@ -292,7 +292,7 @@ impl ClientSession {
         change: Change,
         outs: &mut Vec<Out>,
     ) -> Result<(), NoMemory>
-        ensures { OnOk result ((refused : Bool) × (self.new ≡ spec.with_documents self.old (with_changed self.old.documents (key_of change) (changed self.old.documents change refused))) × (outs.new.items ≡ outs.old.items ++ spec.own_of_change workers self.old change (changed self.old.documents change refused))) }
+        ensures { OnOk result (spec.Changes workers self.old change self.new outs.old.items outs.new.items) }
     {
         match change {
             Change::Open(item) => self.open(alloc, workers, item, outs),
@@ -312,7 +312,7 @@ impl ClientSession {
         outs: &mut Vec<Out>,
     ) -> Result<Option<Task>, NoMemory>
         ensures task { IfOk result (λ task. task ≡ spec.taken self.old.diagnostics denied effect) }
-        ensures own { OnOk result ((text_refused : Bool) × (self.new ≡ spec.session_after self.old effect (spec.changed_by self.old effect text_refused)) × (outs.new.items ≡ outs.old.items ++ spec.own workers self.old denied effect (spec.changed_by self.old effect text_refused))) }
+        ensures own { OnOk result (spec.Replies workers self.old denied effect self.new outs.old.items outs.new.items) }
     {
         match effect {
             Effect::Begins(id, capabilities) => {

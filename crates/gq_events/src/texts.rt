@@ -79,6 +79,13 @@ impl OpenText {
         self.text.as_str()
     }
 
+    /// It has at most 4 MiB.
+    pub(crate) fn fits(&self)
+        ensures { length self.now ≤ 2 ^ 22 }
+    {
+        let _text = &self.text;
+    }
+
     /// A copy of the text.
     pub fn copied(&self, alloc: Global) -> Result<OwnedText, NoMemory>
         ensures same { IfOk result (λ t. t ≡ self.now) }

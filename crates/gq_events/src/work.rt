@@ -8,6 +8,7 @@ ghost use Rattle.gq_events.specs.Tasks.{Answers};
 use crate::copies::copy_id;
 use crate::event::{Answer, Done, Task};
 use crate::session::POSITION_ENCODING;
+use gq_kept::Kept;
 use gq_project::Project;
 use gq_replies::{answer, diagnostics_messages};
 use gq_rpc::{Id, Outgoing, Question};
@@ -22,19 +23,21 @@ fn respond(
     texts: &Project,
 ) -> Result<Outgoing, NoMemory>
     requires { AreTexts texts.now }
-    ensures { IfOk result (λ message. IsAnswer position_encoding texts.now id.now question.now message) }
+    ensures { IfOk result (λ message. ∥ IsAnswer position_encoding texts.now id.now question.now message ∥₁) }
 {
-    let project = texts.copied(alloc)?;
+    let mut kept = Kept::of(alloc, texts)?;
     let id = copy_id(alloc, id)?;
-    answer(alloc, POSITION_ENCODING, project, id, question)
+    answer(alloc, POSITION_ENCODING, &mut kept, id, question)
 }
 
 /// The notifications that tell what is wrong with each of the texts.
 fn report(alloc: Global, texts: &Project) -> Result<Items<Outgoing>, NoMemory>
     requires { AreTexts texts.now }
-    ensures { IfOk result (λ messages. AreDiagnosticsMessages position_encoding texts.now messages) }
+    ensures { IfOk result (λ messages. ∥ AreDiagnosticsMessages position_encoding texts.now messages ∥₁) }
 {
-    Ok(Items::from_vec(diagnostics_messages(alloc, POSITION_ENCODING, texts)?))
+    let mut kept = Kept::of(alloc, texts)?;
+    let messages = diagnostics_messages(alloc, POSITION_ENCODING, &mut kept)?;
+    Ok(Items::from_vec(messages))
 }
 
 fn find_answer(alloc: Global, task: &Task, texts: &Project) -> Result<Answer, NoMemory>

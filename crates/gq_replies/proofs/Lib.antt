@@ -2,6 +2,9 @@ pub mod Texts
 pub mod Sorting
 pub mod Rows
 pub mod Asking
+pub mod Keeping
+pub mod NotValid
+pub mod Cutting
 pub mod Renaming
 pub mod Offering
 pub mod Responding

@@ -6,10 +6,9 @@ use Rattle.gq_edit.specs.declared.edit.DocumentEdit.{DocumentEdit}
 use Rattle.gq_edit.specs.declared.workspace.WorkspaceEdit.{WorkspaceEdit}
 use Rattle.gq_edit.specs.Workspace.{workspace_edit_of}
 use Rattle.gq_rename.specs.declared.refusal.Refusal.{Refusal}
-use Rattle.gq_rename.specs.declared.refusal.Refusal.TheVariants.{ProjectInvalid, NoMemory}
+use Rattle.gq_rename.specs.declared.refusal.Refusal.TheVariants.{NoMemory}
 use Rattle.gq_rename.specs.Rename.{IsRenameAnswer}
 use Rattle.gq_rename.specs.Responses.{KeepsResponses}
-use Rattle.gq_rules.specs.Validity.{IsInvalid}
 use Rattle.gq_rpc.specs.declared.messages.Id.{Id}
 use Rattle.gq_rpc.specs.declared.messages.RenameParams.{RenameParams}
 use Rattle.gq_rpc.specs.declared.messages.Outgoing.{Outgoing}
@@ -17,7 +16,7 @@ use Rattle.gq_rpc.specs.declared.messages.Outgoing.TheVariants as outgoing
 use Rattle.gq_replies.specs.Sound.{IsSound}
 use Rattle.gq_replies.specs.Renames.{refused, TellsRename}
 use Rattle.gq_replies.specs.Answers.{offset_at}
-use Rattle.gq_replies.specs.Helping.Results.{IsEditByPosition, IsRenameResult, IsRefusedProject}
+use Rattle.gq_replies.specs.Helping.Results.{IsEditByPosition, IsRenameResult}
 
 module _ (encoding : PositionEncoding) (documents : List Doc) (params : RenameParams) (offset : ℕ) (key name : List ℕ) (same_key : key ≡ params.key) (same_name : name ≡ params.new_name) where
   named : (answer : Result (List DocumentEdit) Refusal) → IsRenameAnswer documents key offset name answer → IsRenameAnswer documents params.key offset params.new_name answer
@@ -35,13 +34,6 @@ module _ (encoding : PositionEncoding) (documents : List Doc) (params : RenamePa
   renamed answer edit by_position is (inl none) same sound responses = absurd (cc)
   renamed answer edit by_position is (inr h) same sound responses =
       record { edit = edit; is_answer = named (Ok edit) (subst (IsRenameAnswer documents key offset name) is h); is = same; sound = sound; responses = kept edit responses }
-
--- a project that is no valid one has one answer
-pub refused_project : (encoding : PositionEncoding) (documents : List Doc) (params : RenameParams) (offset : ℕ) (why : Refusal)
-    → ((documents : List Doc) (key : List ℕ) (offset : ℕ) (new : List ℕ) → IsInvalid documents → IsRenameAnswer documents key offset new (Err ProjectInvalid))
-    → IsRefusedProject documents why → IsRenameResult encoding documents params offset (Err why)
-refused_project encoding documents params offset why law (inl none) = inl none
-refused_project encoding documents params offset why law (inr h) = rw h.0 (inr (law documents params.key offset params.new_name h.1))
 
 -- the offset that is asked for
 pub offset-asked : (encoding : PositionEncoding) (documents : List Doc) (key : List ℕ) (offset : ℕ) (params : RenameParams) → key ≡ params.key → offset ≡ offset_at encoding documents key params.position

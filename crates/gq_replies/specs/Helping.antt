@@ -2,3 +2,4 @@
 pub mod Places
 pub mod Results
 pub mod Rows
+pub mod Studying

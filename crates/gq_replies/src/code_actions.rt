@@ -1,5 +1,5 @@
 //! Code actions: the refactorings of selections that a range of a document can have (LSP 3.17, "Code Action Request").
-ghost use Rattle.std.specs.Prelude.{◌≡◌, ◌⊎◌, false, nat_eq, slice_get, Err, IfOk, IfSome, OnOk};
+ghost use Rattle.std.specs.Prelude.{◌≡◌, ◌⊎◌, ◌||◌, true, false, nat_eq, slice_get, Err, IfOk, IfSome, OnOk};
 ghost use Rattle.std.specs.List.{list_any, starts_with};
 ghost use Rattle.std.specs.Option.{option_map_or};
 ghost use Rattle.gq_edit.specs.Edits.{FitDocuments, after_edit};
@@ -7,24 +7,25 @@ ghost use Rattle.gq_edit.specs.Workspace.{AreTexts};
 ghost use Rattle.gq_rules.specs.Validity.{IsValid};
 ghost use Rattle.gq_rename.specs.declared.refusal.Refusal.TheVariants as refusal;
 ghost use Rattle.gq_reshape.specs.Responses.{KeepsResponses};
+ghost use Rattle.gq_rpc.specs.declared.messages.CodeActionKind.TheVariants as action;
 ghost use Rattle.gq_rpc.specs.declared.messages.Id.{Id};
 ghost use Rattle.gq_rpc.specs.declared.messages.Outgoing.TheVariants as outgoing;
 ghost use Rattle.gq_replies.specs.CodeActions as spec;
 ghost use Rattle.gq_replies.specs.Answers.{span_at};
 ghost use Rattle.gq_replies.specs.Helping.Results.{IsEditIfAny, AddsGiven};
+ghost use Rattle.gq_replies.specs.Helping.Studying.{IsStudied};
 
 use crate::offsets::span_at;
 use gq_edit::{Edit, to_positions};
-use gq_project::Project;
+use gq_index::Index;
+use gq_kept::Kept;
+use gq_known::{Known, Learned};
 use gq_rename::Refusal;
 use gq_rename::checking::documents_are_texts;
-use gq_reshape::laws::{
-    edits_lead_back, edits_name_documents_at_their_versions,
-    refactorings_of_invalid_projects_are_refused,
-};
-use gq_reshape::{extract, inline, remove_redundant};
+use gq_reshape::laws::{edits_lead_back, edits_name_documents_at_their_versions};
+use gq_reshape::{extract_by, inline_by, remove_redundant_by};
 use gq_rpc::{CodeAction, CodeActionKind, CodeActionParams};
-use gq_rules::{Valid, Why};
+use gq_rules::Valid;
 use gq_text::{Items, NoMemory, OwnedText, PositionEncoding, Span};
 use std::alloc::Global;
 
@@ -76,42 +77,66 @@ fn is_asked_for(only: &Option<Items<OwnedText>>, kind: CodeActionKind) -> bool
     }
 }
 
+/// Whether actions of some kind are asked for.
+fn is_any_asked_for(only: &Option<Items<OwnedText>>) -> bool
+    ensures { result ≡ (spec.is_asked_for only.now action.Extract || (spec.is_asked_for only.now action.Inline || spec.is_asked_for only.now action.Rewrite)) }
+{
+    is_asked_for(only, CodeActionKind::Extract)
+        || is_asked_for(only, CodeActionKind::Inline)
+        || is_asked_for(only, CodeActionKind::Rewrite)
+}
+
+/// A valid project, what is known of it, and its index, for all kinds of actions.
+#[derive(Clone, Copy)]
+pub(crate) struct Studied<'a> {
+    valid: &'a Valid,
+    known: Known<'a>,
+    index: &'a Index,
+}
+
 /// The answer to the refactoring of a kind, of a range in bytes.
 fn refactoring(
     alloc: Global,
-    valid: &Valid,
+    studied: &Studied<'_>,
     kind: CodeActionKind,
     key: &str,
     range: Span,
 ) -> Result<Edit, Refusal>
-    ensures answer { (result ≡ Err refusal.NoMemory) ⊎ spec.IsRefactoring kind valid.now (record { key = key.now; range = range }) result }
-    ensures fits { IfOk result (FitDocuments valid.now) }
-    ensures valid { IfOk result (λ edit. ∥ IsValid (after_edit edit valid.now) ∥₁) }
-    ensures responses { IfOk result (KeepsResponses valid.now) }
+    requires { IsStudied studied.now }
+    ensures answer { (result ≡ Err refusal.NoMemory) ⊎ spec.IsRefactoring kind studied.now.valid.now (record { key = key.now; range = range }) result }
+    ensures fits { IfOk result (FitDocuments studied.now.valid.now) }
+    ensures valid { IfOk result (λ edit. ∥ IsValid (after_edit edit studied.now.valid.now) ∥₁) }
+    ensures responses { IfOk result (KeepsResponses studied.now.valid.now) }
 {
+    let Studied {
+        valid,
+        known,
+        index,
+    } = *studied;
     match kind {
-        CodeActionKind::Extract => extract(alloc, valid, key, range),
-        CodeActionKind::Inline => inline(alloc, valid, key, range),
-        CodeActionKind::Rewrite => remove_redundant(alloc, valid, key, range),
+        CodeActionKind::Extract => extract_by(alloc, valid, known, index, key, range),
+        CodeActionKind::Inline => inline_by(alloc, valid, known, index, key, range),
+        CodeActionKind::Rewrite => remove_redundant_by(alloc, valid, known, index, key, range),
     }
 }
 
 /// The edit of the refactoring, unless it is refused.
 fn edit_if_any(
     alloc: Global,
-    valid: &Valid,
+    studied: &Studied<'_>,
     kind: CodeActionKind,
     key: &str,
     range: Span,
 ) -> Result<Option<Edit>, NoMemory>
-    ensures edit { IfOk result (λ edit. IsEditIfAny kind valid.now (record { key = key.now; range = range }) edit) }
-    ensures fits { IfOk result (λ edit. IfSome edit (FitDocuments valid.now)) }
+    requires { IsStudied studied.now }
+    ensures edit { IfOk result (λ edit. IsEditIfAny kind studied.now.valid.now (record { key = key.now; range = range }) edit) }
+    ensures fits { IfOk result (λ edit. IfSome edit (FitDocuments studied.now.valid.now)) }
 {
     edits_name_documents_at_their_versions();
     edits_lead_back();
-    let project = valid.project();
+    let project = studied.valid.project();
     documents_are_texts(project);
-    match refactoring(alloc, valid, kind, key, range) {
+    match refactoring(alloc, studied, kind, key, range) {
         Ok(edit) => Ok(Some(edit)),
         Err(Refusal::NoMemory) => Err(NoMemory),
         Err(_) => Ok(None),
@@ -122,21 +147,22 @@ fn edit_if_any(
 fn put_action(
     alloc: Global,
     encoding: PositionEncoding,
-    valid: &Valid,
+    studied: &Studied<'_>,
     params: &CodeActionParams,
     range: Span,
     kind: CodeActionKind,
     actions: &mut Items<CodeAction>,
 ) -> Result<(), NoMemory>
-    requires { AreTexts valid.now }
-    ensures { OnOk result (AddsGiven encoding valid.now (record { key = params.now.key; range = range }) params.now.only kind actions.old actions.new) }
+    requires studied { IsStudied studied.now }
+    requires texts { AreTexts studied.now.valid.now }
+    ensures { OnOk result (AddsGiven encoding studied.now.valid.now (record { key = params.now.key; range = range }) params.now.only kind actions.old actions.new) }
 {
     if !is_asked_for(&params.only, kind) {
         return Ok(());
     }
-    match edit_if_any(alloc, valid, kind, params.key.as_str(), range)? {
+    match edit_if_any(alloc, studied, kind, params.key.as_str(), range)? {
         Some(edit) => {
-            let edit = to_positions(alloc, encoding, valid.project(), &edit)?;
+            let edit = to_positions(alloc, encoding, studied.valid.project(), &edit)?;
             actions.push(CodeAction { kind, edit })?;
             Ok(())
         }
@@ -145,6 +171,49 @@ fn put_action(
 }
 
 /// The actions in a valid project, in order of kinds.
+fn actions_over(
+    alloc: Global,
+    encoding: PositionEncoding,
+    studied: &Studied<'_>,
+    params: &CodeActionParams,
+    range: Span,
+) -> Result<Items<CodeAction>, NoMemory>
+    requires studied { IsStudied studied.now }
+    requires texts { AreTexts studied.now.valid.now }
+    ensures { IfOk result (λ actions. (id : Id) → spec.TellsCodeActions encoding studied.now.valid.now id params.now range (outgoing.CodeActions id actions)) }
+{
+    let mut actions = Items::new(alloc);
+    put_action(
+        alloc,
+        encoding,
+        studied,
+        params,
+        range,
+        CodeActionKind::Extract,
+        &mut actions,
+    )?;
+    put_action(
+        alloc,
+        encoding,
+        studied,
+        params,
+        range,
+        CodeActionKind::Inline,
+        &mut actions,
+    )?;
+    put_action(
+        alloc,
+        encoding,
+        studied,
+        params,
+        range,
+        CodeActionKind::Rewrite,
+        &mut actions,
+    )?;
+    Ok(actions)
+}
+
+/// The actions in a valid project, which is read and indexed once for them all.
 fn actions_in(
     alloc: Global,
     encoding: PositionEncoding,
@@ -155,55 +224,55 @@ fn actions_in(
     requires { AreTexts valid.now }
     ensures { IfOk result (λ actions. (id : Id) → spec.TellsCodeActions encoding valid.now id params.now range (outgoing.CodeActions id actions)) }
 {
-    let mut actions = Items::new(alloc);
-    put_action(
-        alloc,
-        encoding,
+    let project = valid.project();
+    let learned = Learned::of(alloc, project)?;
+    let index = Index::of_readings(alloc, &learned.readings)?;
+    let studied = Studied {
         valid,
-        params,
-        range,
-        CodeActionKind::Extract,
-        &mut actions,
-    )?;
-    put_action(
-        alloc,
-        encoding,
-        valid,
-        params,
-        range,
-        CodeActionKind::Inline,
-        &mut actions,
-    )?;
-    put_action(
-        alloc,
-        encoding,
-        valid,
-        params,
-        range,
-        CodeActionKind::Rewrite,
-        &mut actions,
-    )?;
+        known: learned.known(project),
+        index: &index,
+    };
+    let actions = actions_over(alloc, encoding, &studied, params, range)?;
     Ok(actions)
 }
 
-/// The actions that are asked for. A project that is not valid has none.
-pub(crate) fn find_code_actions(
+/// The actions that are asked for, where it is known whether the project is valid. One that is not has none.
+fn actions_judged(
     alloc: Global,
     encoding: PositionEncoding,
-    project: Project,
+    kept: &Kept,
     params: &CodeActionParams,
 ) -> Result<Items<CodeAction>, NoMemory>
-    requires { AreTexts project }
+    requires texts { AreTexts kept.now.documents }
+    requires judged { kept.now.is_judged ≡ true }
     ensures { IfOk result (λ actions. (id : Id)
-        → spec.TellsCodeActions encoding project id params.now (span_at encoding project params.now.key params.now.range) (outgoing.CodeActions id actions)) }
+        → ∥ spec.TellsCodeActions encoding kept.now.documents id params.now (span_at encoding kept.now.documents params.now.key params.now.range) (outgoing.CodeActions id actions) ∥₁) }
 {
-    refactorings_of_invalid_projects_are_refused();
-    let range = span_at(encoding, &project, params.key.as_str(), params.range);
-    match Valid::new(alloc, project) {
-        Ok(valid) => actions_in(alloc, encoding, &valid, params, range),
-        Err(invalid) => match invalid.why {
-            Why::Report(_) => Ok(Items::new(alloc)),
-            Why::NoMemory => Err(NoMemory),
-        },
+    // its documents are read, whatever they are
+    let _known = kept.known();
+    let range = span_at(encoding, kept.project(), params.key.as_str(), params.range);
+    match kept.valid() {
+        Some(valid) => actions_in(alloc, encoding, valid, params, range),
+        None => Ok(Items::new(alloc)),
     }
+}
+
+/// The actions that are asked for, by what is kept. Where none are, nothing is found out for them.
+pub(crate) fn ask_code_actions(
+    alloc: Global,
+    encoding: PositionEncoding,
+    kept: &mut Kept,
+    params: &CodeActionParams,
+) -> Result<Items<CodeAction>, NoMemory>
+    requires { AreTexts kept.old.documents }
+    ensures told { IfOk result (λ actions. (id : Id)
+        → ∥ spec.TellsCodeActions encoding kept.old.documents id params.now (span_at encoding kept.old.documents params.now.key params.now.range) (outgoing.CodeActions id actions) ∥₁) }
+    ensures documents { kept.new.documents ≡ kept.old.documents }
+{
+    if !is_any_asked_for(&params.only) {
+        return Ok(Items::new(alloc));
+    }
+    kept.judge(alloc)?;
+    let actions = actions_judged(alloc, encoding, kept, params)?;
+    Ok(actions)
 }

@@ -7,6 +7,7 @@ pub mod laws;
 mod locations;
 mod notifications;
 mod offsets;
+mod over_kept;
 mod places;
 mod queries;
 mod ranges;

@@ -1,27 +1,46 @@
 //! The notifications that tell what is wrong with documents.
 ghost use Rattle.std.specs.Prelude.{◌≡◌, ◌≤◌, ◌^◌, length, map, IfOk};
 ghost use Rattle.gq_edit.specs.Workspace.{AreTexts};
+ghost use Rattle.gq_rules.specs.Validity.{IsReportOf};
 ghost use Rattle.gq_replies.specs.Notifications.{diagnostic_in, diagnostics_in, messages_of, AreDiagnosticsMessages};
 
 use crate::places::Places;
-use gq_diagnostics::{diagnostics, words};
+use gq_diagnostics::{diagnostics_of, words};
 use gq_fault::Found;
+use gq_kept::Kept;
 use gq_project::{Doc, Project};
 use gq_rpc::{Diagnostic, Outgoing, PublishDiagnosticsParams};
+use gq_rules::Report;
 use gq_text::{Items, NoMemory, OwnedText, PositionEncoding, Span};
 use std::alloc::Global;
 
 /// The notifications that tell all that is wrong with each document (LSP 3.17, "PublishDiagnostics Notification"), in the
-/// order of the documents.
+/// order of the documents that are kept. These stay as they are.
 pub fn diagnostics_messages(
     alloc: Global,
     encoding: PositionEncoding,
+    kept: &mut Kept,
+) -> Result<Vec<Outgoing>, NoMemory>
+    requires { AreTexts kept.old.documents }
+    ensures messages { IfOk result (λ messages. ∥ AreDiagnosticsMessages encoding kept.old.documents messages.items ∥₁) }
+    ensures documents { kept.new.documents ≡ kept.old.documents }
+{
+    let report = kept.report(alloc)?;
+    let messages = messages_of(alloc, encoding, kept.project(), report)?;
+    Ok(messages)
+}
+
+/// The notifications for a project on which that is the report.
+fn messages_of(
+    alloc: Global,
+    encoding: PositionEncoding,
     project: &Project,
+    report: Report,
 ) -> Result<Vec<Outgoing>, NoMemory>
     requires { AreTexts project.now }
-    ensures { IfOk result (λ messages. AreDiagnosticsMessages encoding project.now messages.items) }
+    ensures { IfOk result (λ messages. IsReportOf project.now report.found.items → AreDiagnosticsMessages encoding project.now messages.items) }
 {
-    let all = diagnostics(alloc, project)?;
+    let all = diagnostics_of(alloc, project, report)?;
     notifications(alloc, encoding, project.documents(), &all)
 }
 

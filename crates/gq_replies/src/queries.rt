@@ -1,6 +1,9 @@
 //! Hovers, completions and what a rename would be of, by positions.
-ghost use Rattle.std.specs.Prelude.{◌≡◌, ◌≤◌, ◌^◌, length, map, option_map, IfOk};
+ghost use Rattle.std.specs.Prelude.{◌≡◌, ◌≤◌, ◌^◌, length, map, option_map, IfOk, IfSome};
 ghost use Rattle.gq_edit.specs.Workspace.{AreTexts};
+ghost use Rattle.gq_index.specs.Indexed.{IsIndexOfProject};
+ghost use Rattle.gq_known.specs.Known.{IsKnown};
+ghost use Rattle.gq_rename.specs.Standing.{CanBeCut};
 ghost use Rattle.gq_rpc.specs.declared.messages.Id.{Id};
 ghost use Rattle.gq_rpc.specs.declared.messages.Outgoing.TheVariants as outgoing;
 ghost use Rattle.gq_replies.specs.Answers.{hover_in, item_kind, item_of, prepared_in, TellsHover, TellsDefinitions, TellsReferences, TellsCompletions, TellsPrepared};
@@ -8,10 +11,13 @@ ghost use Rattle.gq_replies.specs.Answers.{hover_in, item_kind, item_of, prepare
 use crate::locations::locations;
 use crate::offsets::{offset_at, text_of};
 use crate::ranges::range_in;
-use gq_completion::{Completion, CompletionKind, complete};
-use gq_project::Project;
-use gq_query::{definition, hover, references};
-use gq_rename::prepare;
+use gq_completion::{Completion, CompletionKind, complete_by};
+use gq_index::Index;
+use gq_known::Known;
+use gq_query::{definition_by, hover_by, references_by};
+use gq_rename::checking::documents_are_texts;
+use gq_rename::laws::prepared_names_stand_in_texts;
+use gq_rename::prepare_by;
 use gq_rpc::{
     CompletionItem, CompletionItemKind, Hover, Location, PrepareRename, ReferenceParams,
     TextDocumentPositionParams,
@@ -23,16 +29,18 @@ use std::alloc::Global;
 pub(crate) fn find_hover(
     alloc: Global,
     encoding: PositionEncoding,
-    project: &Project,
+    known: Known<'_>,
+    index: &Index,
     params: &TextDocumentPositionParams,
 ) -> Result<Option<Hover>, NoMemory>
-    requires { AreTexts project.now }
-    ensures { IfOk result (λ shown. (id : Id) → TellsHover encoding project.now id params.now (outgoing.Hover id shown)) }
+    requires { AreTexts known.project.now }
+    ensures { IfOk result (λ shown. IsKnown known.entry → IsIndexOfProject known.entry.project.now index.now
+        → (id : Id) → TellsHover encoding known.entry.project.now id params.now (outgoing.Hover id shown)) }
 {
     let key = params.key.as_str();
-    let offset = offset_at(encoding, project, key, params.position);
-    let found = hover(alloc, project, key, offset)?;
-    Ok(place_hover(encoding, text_of(project, key), found))
+    let offset = offset_at(encoding, known.project, key, params.position);
+    let found = hover_by(alloc, known, index, key, offset)?;
+    Ok(place_hover(encoding, text_of(known.project, key), found))
 }
 
 /// What is shown, with its range in the text.
@@ -55,47 +63,51 @@ fn place_hover(
 pub(crate) fn find_definitions(
     alloc: Global,
     encoding: PositionEncoding,
-    project: &Project,
+    known: Known<'_>,
+    index: &Index,
     params: &TextDocumentPositionParams,
 ) -> Result<Items<Location>, NoMemory>
-    requires { AreTexts project.now }
-    ensures { IfOk result (λ located. (id : Id) → TellsDefinitions encoding project.now id params.now (outgoing.Locations id located)) }
+    requires { AreTexts known.project.now }
+    ensures { IfOk result (λ located. IsKnown known.entry → IsIndexOfProject known.entry.project.now index.now
+        → (id : Id) → TellsDefinitions encoding known.entry.project.now id params.now (outgoing.Locations id located)) }
 {
     let key = params.key.as_str();
-    let offset = offset_at(encoding, project, key, params.position);
-    let found = definition(alloc, project, key, offset)?;
-    locations(alloc, encoding, project.documents(), &found)
+    let offset = offset_at(encoding, known.project, key, params.position);
+    let found = definition_by(alloc, known, index, key, offset)?;
+    locations(alloc, encoding, known.project.documents(), &found)
 }
 
 /// The references to what stands at the position.
 pub(crate) fn find_references(
     alloc: Global,
     encoding: PositionEncoding,
-    project: &Project,
+    known: Known<'_>,
+    index: &Index,
     params: &ReferenceParams,
 ) -> Result<Items<Location>, NoMemory>
-    requires { AreTexts project.now }
-    ensures { IfOk result (λ located. (id : Id) → TellsReferences encoding project.now id params.now (outgoing.Locations id located)) }
+    requires { AreTexts known.project.now }
+    ensures { IfOk result (λ located. IsKnown known.entry → IsIndexOfProject known.entry.project.now index.now
+        → (id : Id) → TellsReferences encoding known.entry.project.now id params.now (outgoing.Locations id located)) }
 {
     let key = params.key.as_str();
-    let offset = offset_at(encoding, project, key, params.position);
-    let found = references(alloc, project, key, offset, params.include_declaration)?;
-    locations(alloc, encoding, project.documents(), &found)
+    let offset = offset_at(encoding, known.project, key, params.position);
+    let found = references_by(alloc, known, index, key, offset, params.include_declaration)?;
+    locations(alloc, encoding, known.project.documents(), &found)
 }
 
 /// What may be written at the position.
 pub(crate) fn find_completions(
     alloc: Global,
     encoding: PositionEncoding,
-    project: &Project,
+    known: Known<'_>,
     params: &TextDocumentPositionParams,
 ) -> Result<Items<CompletionItem>, NoMemory>
-    requires { AreTexts project.now }
-    ensures { IfOk result (λ items. (id : Id) → TellsCompletions encoding project.now id params.now (outgoing.Completions id items)) }
+    requires { AreTexts known.project.now }
+    ensures { IfOk result (λ items. IsKnown known.entry → (id : Id) → TellsCompletions encoding known.entry.project.now id params.now (outgoing.Completions id items)) }
 {
     let key = params.key.as_str();
-    let offset = offset_at(encoding, project, key, params.position);
-    let found = complete(alloc, project, key, offset)?;
+    let offset = offset_at(encoding, known.project, key, params.position);
+    let found = complete_by(alloc, known, key, offset)?;
     completion_items(alloc, &found)
 }
 
@@ -126,34 +138,37 @@ fn kind_of(kind: CompletionKind) -> CompletionItemKind
 pub(crate) fn find_prepared(
     alloc: Global,
     encoding: PositionEncoding,
-    project: &Project,
+    known: Known<'_>,
     params: &TextDocumentPositionParams,
 ) -> Result<Option<PrepareRename>, NoMemory>
-    requires { AreTexts project.now }
-    ensures { IfOk result (λ prepared. (id : Id) → TellsPrepared encoding project.now id params.now (outgoing.Prepared id prepared)) }
+    requires texts { AreTexts known.project.now }
+    requires known { ∥ IsKnown known ∥₁ }
+    ensures { IfOk result (λ prepared. IsKnown known.entry → (id : Id) → TellsPrepared encoding known.entry.project.now id params.now (outgoing.Prepared id prepared)) }
 {
+    prepared_names_stand_in_texts();
+    documents_are_texts(known.project);
     let key = params.key.as_str();
-    let offset = offset_at(encoding, project, key, params.position);
-    let found = prepare(alloc, project, key, offset)?;
-    place_name(alloc, encoding, text_of(project, key), found)
+    let offset = offset_at(encoding, known.project, key, params.position);
+    let found = prepare_by(alloc, known, key, offset)?;
+    place_name(alloc, encoding, text_of(known.project, key), found)
 }
 
-/// The text of the span, and its range.
+/// The text of the span, whose ends stand between characters, and its range.
 fn place_name(
     alloc: Global,
     encoding: PositionEncoding,
     text: &str,
     found: Option<Span>,
 ) -> Result<Option<PrepareRename>, NoMemory>
-    requires { length text.now ≤ 2 ^ 22 }
+    requires fits { length text.now ≤ 2 ^ 22 }
+    requires cut { IfSome found (λ span. ∥ CanBeCut text.now span ∥₁) }
     ensures { IfOk result (λ prepared. prepared ≡ option_map (prepared_in encoding text.now) found) }
 {
     let Some(span) = found else {
         return Ok(None);
     };
     let Some(name) = text.get(span.start..span.end) else {
-        // not met: the ends of a name stand between characters
-        return Err(NoMemory);
+        unreachable!();
     };
     Ok(Some(PrepareRename {
         placeholder: OwnedText::from_str(alloc, name)?,

@@ -1,47 +1,51 @@
 //! Renames that are asked for.
-ghost use Rattle.std.specs.Prelude.{◌≡◌, IfOk, IfErr};
+ghost use Rattle.std.specs.Prelude.{◌≡◌, true};
 ghost use Rattle.gq_edit.specs.Workspace.{AreTexts};
-ghost use Rattle.gq_replies.specs.Helping.Results.{IsRenameResult, IsRefusedProject};
+ghost use Rattle.gq_replies.specs.Helping.Results.{IsRenameResult};
 
 use gq_edit::{WorkspaceEdit, to_positions};
-use gq_project::Project;
+use gq_kept::Kept;
 use gq_rename::checking::documents_are_texts;
-use gq_rename::laws::{
-    renames_lead_back, renames_name_versions, renames_of_invalid_projects_are_refused,
-};
+use gq_rename::laws::{renames_lead_back, renames_name_versions};
 use gq_rename::{Refusal, rename};
 use gq_rpc::RenameParams;
-use gq_rules::{Valid, Why};
+use gq_rules::Valid;
 use gq_text::PositionEncoding;
 use std::alloc::Global;
 
-/// What a rename at this offset, in bytes, comes to: its edit, by positions in the texts.
+/// What a rename at this offset, in bytes, comes to in what is kept: its edit, by positions in the texts.
 pub(crate) fn rename_at(
     alloc: Global,
     encoding: PositionEncoding,
-    project: Project,
+    kept: &mut Kept,
     params: &RenameParams,
     offset: usize,
 ) -> Result<WorkspaceEdit, Refusal>
-    requires { AreTexts project }
-    ensures { IsRenameResult encoding project params.now offset result }
+    requires { AreTexts kept.old.documents }
+    ensures renamed { ∥ IsRenameResult encoding kept.old.documents params.now offset result ∥₁ }
+    ensures documents { kept.new.documents ≡ kept.old.documents }
 {
-    renames_of_invalid_projects_are_refused();
-    let valid = valid_project(alloc, project)?;
-    rename_in(alloc, encoding, &valid, params, offset)
+    kept.judge(alloc)?;
+    rename_judged(alloc, encoding, kept, params, offset)
 }
 
-/// The project, where it is valid.
-fn valid_project(alloc: Global, project: Project) -> Result<Valid, Refusal>
-    ensures project { IfOk result (λ valid. valid ≡ project) }
-    ensures refused { IfErr result (IsRefusedProject project) }
+/// The same, where it is known whether the project is valid.
+fn rename_judged(
+    alloc: Global,
+    encoding: PositionEncoding,
+    kept: &Kept,
+    params: &RenameParams,
+    offset: usize,
+) -> Result<WorkspaceEdit, Refusal>
+    requires texts { AreTexts kept.now.documents }
+    requires judged { kept.now.is_judged ≡ true }
+    ensures { ∥ IsRenameResult encoding kept.now.documents params.now offset result ∥₁ }
 {
-    match Valid::new(alloc, project) {
-        Ok(valid) => Ok(valid),
-        Err(invalid) => match invalid.why {
-            Why::Report(_) => Err(Refusal::ProjectInvalid),
-            Why::NoMemory => Err(Refusal::NoMemory),
-        },
+    // its documents are read, whatever they are
+    let _known = kept.known();
+    match kept.valid() {
+        Some(valid) => rename_in(alloc, encoding, valid, params, offset),
+        None => Err(Refusal::ProjectInvalid),
     }
 }
 

@@ -1,6 +1,7 @@
 mod check;
 mod devices;
 mod driving;
+mod kept;
 mod refactorings;
 mod reports;
 mod runs;

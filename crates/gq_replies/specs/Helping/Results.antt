@@ -6,16 +6,19 @@ use Rattle.gq_edit.specs.declared.edit.DocumentEdit.{DocumentEdit}
 use Rattle.gq_edit.specs.declared.workspace.WorkspaceEdit.{WorkspaceEdit}
 use Rattle.gq_edit.specs.Workspace.{workspace_edit_of}
 use Rattle.gq_rename.specs.declared.refusal.Refusal.{Refusal}
-use Rattle.gq_rename.specs.declared.refusal.Refusal.TheVariants.{ProjectInvalid, NoMemory}
+use Rattle.gq_rename.specs.declared.refusal.Refusal.TheVariants.{NoMemory}
 use Rattle.gq_rename.specs.Rename.{IsRenameAnswer}
 use Rattle.gq_rename.specs.Responses as renames
-use Rattle.gq_rules.specs.Validity.{IsInvalid}
+use Rattle.gq_rpc.specs.declared.messages.Id.{Id}
+use Rattle.gq_rpc.specs.declared.messages.Outgoing.{Outgoing}
 use Rattle.gq_rpc.specs.declared.messages.RenameParams.{RenameParams}
 use Rattle.gq_rpc.specs.declared.messages.CodeActionKind.{CodeActionKind}
 use Rattle.gq_rpc.specs.declared.messages.CodeAction.{CodeAction}
 use Rattle.gq_reshape.specs.Asks.{RangeAsk}
 use Rattle.gq_reshape.specs.Responses as reshapes
 use Rattle.gq_replies.specs.Sound.{IsSound}
+use Rattle.gq_replies.specs.Renames.{refused, TellsRename}
+use Rattle.gq_replies.specs.Answers.{offset_at}
 use Rattle.gq_replies.specs.CodeActions.{IsRefactoring, IsGiven}
 
 -- the edit of a rename, by positions in the texts
@@ -31,9 +34,9 @@ abbrev pub IsRenameResult : PositionEncoding → List Doc → RenameParams → �
 IsRenameResult encoding documents params offset (Ok by_position) = IsEditByPosition encoding documents params offset by_position
 IsRenameResult encoding documents params offset (Err why) = (why ≡ NoMemory) ⊎ IsRenameAnswer documents params.key offset params.new_name (Err why)
 
--- a project that is no valid one is refused for that, or memory was
-abbrev pub IsRefusedProject : List Doc → Refusal → Type 0
-IsRefusedProject documents why = (why ≡ NoMemory) ⊎ ((why ≡ ProjectInvalid) × IsInvalid documents)
+-- the response tells that, or that memory was refused
+abbrev pub IsRenamed : PositionEncoding → List Doc → Id → RenameParams → Outgoing → Type 0
+IsRenamed encoding documents id params response = (response ≡ refused id NoMemory) ⊎ TellsRename encoding documents id params (offset_at encoding documents params.key params.position) response
 
 -- the edit of the refactoring of a kind
 pub record IsEditOf (kind : CodeActionKind) (documents : List Doc) (ask : RangeAsk) (edit : List DocumentEdit) : Type 0 where

@@ -8,7 +8,7 @@ use gq_text::{Items, NoMemory, OwnedText};
 use std::alloc::Global;
 use std::test::Fail;
 
-fn file(alloc: Global, key: &str, text: &str) -> Result<Doc, NoMemory> {
+pub(crate) fn file(alloc: Global, key: &str, text: &str) -> Result<Doc, NoMemory> {
     Ok(Doc {
         key: OwnedText::from_str(alloc, key)?,
         uri: OwnedText::from_str(alloc, key)?,

@@ -5,5 +5,5 @@ pub returns-in-Ok-clause-edit : goal.returns-in-Ok-clause-edit
 returns-in-Ok-clause-edit c =
     let versions = c.edits_name_documents_at_their_versions.ensures in
     let leads = c.edits_lead_back.ensures in
-    edit_of c.args.valid.now c.project-project.result.now c.project-project.ensures.same c.documents_are_texts.ensures.in_order c.documents_are_texts.ensures.utf8 c.project-project.ensures.valid c.in-Ok.edit c.in-Ok.ensures.fits c.in-Ok.ensures.valid
+    edit_of c.args.studied.now.valid.now c.project-project.result.now c.project-project.ensures.same c.documents_are_texts.ensures.in_order c.documents_are_texts.ensures.utf8 c.project-project.ensures.valid c.in-Ok.edit c.in-Ok.ensures.fits c.in-Ok.ensures.valid
     (record { key = c.args.key.now; range = c.args.range }) versions.extract versions.inline versions.remove leads.extract leads.inline leads.remove c.args.kind c.in-Ok.ensures.responses c.in-Ok.ensures.answer

@@ -1,15 +1,18 @@
-use Rattle.std.proofs.Common.{◌∙◌, ap, List}
-use Rattle.std.proofs.lemmas.Result.{IfOk-weaker}
+use Rattle.std.proofs.Common.{◌∙◌, ap, sym, subst, List}
+use mathlib.Core.Logic.{∥∥₁_map}
 use Rattle.gq_project.specs.declared.document.Doc.{Doc}
-use Rattle.gq_replies.specs.Notifications.{messages_of}
+use Rattle.gq_edit.specs.Workspace.{AreTexts}
+use Rattle.gq_kept.specs.KeptOf.{KeptOf}
+use Rattle.gq_rules.specs.Validity.{IsReportOf}
+use Rattle.gq_replies.specs.Notifications.{AreDiagnosticsMessages}
 use Rattle.gq_replies.proofs.notifications.diagnostics_messages.Goals as goal
 
-pub returns : goal.returns
-returns c =
-    IfOk-weaker c.notifications.result _ _
-    (λ messages are. record {
-      found = c.in_ok-all.all.items;
-      are_found = c.in_ok-all.ensures;
-      are = are ∙ ap (λ (documents : List Doc). messages_of c.args.encoding documents c.deref.result.now) c.documents.ensures.all ∙ ap (messages_of c.args.encoding c.args.project.now) c.deref.ensures.value;
-    })
-    c.notifications.ensures
+pub messages_of-requires : goal.messages_of-requires
+messages_of-requires c = subst AreTexts (sym (c.project.ensures ∙ ap (λ (k : KeptOf). k.documents) c.in_ok-report.ensures.ok)) c.requires
+
+pub returns-clause-messages : goal.returns-clause-messages
+returns-clause-messages c =
+    let same = c.project.ensures ∙ ap (λ (k : KeptOf). k.documents) c.in_ok-report.ensures.ok in
+    ∥∥₁_map c.in_ok-report.ensures.report
+    (λ report. subst (λ (ds : List Doc). AreDiagnosticsMessages c.args.encoding ds c.in_ok-messages.messages.items) same
+    (c.in_ok-messages.ensures (subst (λ (ds : List Doc). IsReportOf ds c.in_ok-report.report.found.items) (sym same) report)))

@@ -8,8 +8,8 @@ use Rattle.gq_replies.proofs.queries.find_references.Goals as goal
 pub returns : goal.returns
 returns c =
     IfOk-weaker c.locations.result _ _
-    (λ located is id.
-    tells_references c.args.encoding c.args.project.now c.as_str-key.result.now c.offset_at-offset.result c.args.params.now c.as_str-key.ensures c.offset_at-offset.ensures
-    id c.in_ok-found.found.items located c.in_ok-found.ensures
-    (is ∙ ap (λ (documents : List Doc). locations_of c.args.encoding documents c.deref.result.now) c.documents.ensures.all ∙ ap (locations_of c.args.encoding c.args.project.now) c.deref.ensures.value))
+    (λ located is known indexed id.
+    tells_references c.args.encoding c.args.known.project.now c.as_str-key.result.now c.offset_at-offset.result c.args.params.now c.as_str-key.ensures c.offset_at-offset.ensures
+    id c.in_ok-found.found.items located (c.in_ok-found.ensures known indexed)
+    (is ∙ ap (λ (documents : List Doc). locations_of c.args.encoding documents c.deref.result.now) c.documents.ensures.all ∙ ap (locations_of c.args.encoding c.args.known.project.now) c.deref.ensures.value))
     c.locations.ensures

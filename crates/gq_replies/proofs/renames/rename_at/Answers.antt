@@ -1,13 +1,17 @@
-use Rattle.std.proofs.Common.{subst}
+use Rattle.std.proofs.Common.{inl, ap, sym, subst, List}
 use Rattle.std.proofs.lemmas.Result.{err_from_is_err_and}
+use Rattle.gq_project.specs.declared.document.Doc.{Doc}
+use Rattle.gq_edit.specs.Workspace.{AreTexts}
+use Rattle.gq_kept.specs.KeptOf.{KeptOf}
 use Rattle.gq_replies.specs.Helping.Results.{IsRenameResult}
-use Rattle.gq_replies.proofs.Renaming.{refused_project}
 use Rattle.gq_replies.proofs.renames.rename_at.Goals as goal
 
-pub returns-in_err-valid : goal.returns-in_err-valid
-returns-in_err-valid c =
-    let told = err_from_is_err_and c.from_residual.result c.from_residual.ensures.1 in
-    rw (told.1, told.2) (refused_project c.args.encoding c.args.project c.args.params.now c.args.offset _ c.renames_of_invalid_projects_are_refused.ensures c.in_err-valid.ensures.refused)
+pub returns-in_err-judge-clause-renamed : goal.returns-in_err-judge-clause-renamed
+returns-in_err-judge-clause-renamed c = let told = err_from_is_err_and c.from_residual.result c.from_residual.ensures.1 in rw told.1 (∣ inl told.2 ∣₁)
 
-pub returns : goal.returns
-returns c = subst (λ documents. IsRenameResult c.args.encoding documents c.args.params.now c.args.offset c.rename_in.result) c.in_ok-valid.ensures.project c.rename_in.ensures
+pub rename_judged-requires-clause-texts : goal.rename_judged-requires-clause-texts
+rename_judged-requires-clause-texts c = subst AreTexts (sym (ap (λ (k : KeptOf). k.documents) c.in_ok-judge.ensures.ok)) c.requires
+
+pub returns-clause-renamed : goal.returns-clause-renamed
+returns-clause-renamed c =
+    subst (λ (ds : List Doc). ∥ IsRenameResult c.args.encoding ds c.args.params.now c.args.offset c.rename_judged.result ∥₁) (ap (λ (k : KeptOf). k.documents) c.in_ok-judge.ensures.ok) c.rename_judged.ensures

@@ -1,0 +1,96 @@
+//! What is kept of a project while its files change, beside what is found anew.
+use crate::tests::versions::file;
+use gq_fault::Code;
+use gq_kept::Kept;
+use gq_project::Project;
+use gq_rules::{Report, Valid, validate};
+use gq_text::NoMemory;
+use std::alloc::Global;
+use std::test::Fail;
+
+/// Whether these are all faults of a report: unknown fragments in the document of that key, from these places on.
+fn are_unknown_fragments(report: &Report, key: &str, places: &[usize]) -> bool {
+    if report.found.len() != places.len() {
+        return false;
+    }
+    for (found, place) in report.found.iter().zip(places) {
+        if found.code != Code::UnknownFragment
+            || found.key.as_str() != key
+            || found.span.start != *place
+        {
+            return false;
+        }
+    }
+    true
+}
+
+#[test]
+fn a_fragment_goes_and_comes_back(rt: HostRuntime) -> Result<(), Fail> {
+    let alloc = rt.alloc();
+    let mut kept = Kept::of(alloc, &Project::new(alloc))?;
+    kept.replace_file(alloc, file(alloc, "s", "type Query{x:Int}")?)?;
+    kept.replace_file(alloc, file(alloc, "q", "{...F ...F}")?)?;
+    kept.replace_file(alloc, file(alloc, "f", "fragment F on Query{x}")?)?;
+    assert!(rt; kept.report(alloc)?.found.is_empty());
+    kept.replace_file(alloc, file(alloc, "f", "")?)?;
+    assert!(rt; are_unknown_fragments(&kept.report(alloc)?, "q", &[4, 9]));
+    kept.drop_file(alloc, "f")?;
+    assert!(rt; are_unknown_fragments(&kept.report(alloc)?, "q", &[4, 9]));
+    kept.replace_file(alloc, file(alloc, "f", "fragment F on Query{x}")?)?;
+    assert!(rt; kept.report(alloc)?.found.is_empty());
+    assert!(rt; kept.valid().is_some());
+    Ok(())
+}
+
+const KEYS: [&str; 4] = ["a", "b", "c", "d"];
+
+/// Schemas and operations, right and wrong, with definitions of both sorts, without a tree, and empty.
+const TEXTS: [&str; 17] = [
+    "type Query{x:Int f(a:Int):Int q:Query}",
+    "{...F ...F}",
+    "fragment F on Query{x}",
+    "query A($a:Int){f(a:$a)...G}",
+    "type Query{x:Int f(a:Int!):Int q:Query}",
+    "fragment G on Query{f(a:$b)}",
+    "fragment F on Query{y ...F}",
+    "",
+    "query A{x}{x}",
+    "extend type Query{y:Int}",
+    "{x x:f q{z}}",
+    "{",
+    "type Query{y:Int}",
+    "extend type Query{z:Int} {z}",
+    "query B($a:Int $a:Q){x...G...F @skip(if:1)}",
+    "type T implements Query{x:Int}",
+    "mutation{x} subscription{x}",
+];
+
+/// Makes the change of that number: a document goes in each ninth, else one comes, or comes in place of another.
+fn change(alloc: Global, kept: &mut Kept, number: usize) -> Result<(), NoMemory> {
+    let key = KEYS[(number % 4 + number / 5 % 4) % 4];
+    if number % 9 == 8 {
+        return kept.drop_file(alloc, key);
+    }
+    let text = TEXTS[(number % 17 * 7 + number / 4 % 17) % 17];
+    kept.replace_file(alloc, file(alloc, key, text)?)
+}
+
+/// Whether what is kept tells what is found anew.
+fn is_as_anew(alloc: Global, kept: &mut Kept) -> Result<bool, NoMemory> {
+    let report = kept.report(alloc)?;
+    let project = kept.project().copied(alloc)?;
+    let anew = validate(alloc, &project)?;
+    let is_valid = Valid::new(alloc, project).is_ok();
+    Ok(report.found == anew.found && kept.valid().is_some() == is_valid)
+}
+
+#[test]
+fn a_thousand_changes_tell_what_is_found_anew(rt: HostRuntime) -> Result<(), Fail> {
+    let alloc = rt.alloc();
+    let mut kept = Kept::of(alloc, &Project::new(alloc))?;
+    for number in 0..1000 {
+        change(alloc, &mut kept, number)?;
+        assert!(rt; is_as_anew(alloc, &mut kept)?);
+    }
+    Ok(())
+}
