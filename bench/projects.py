@@ -100,9 +100,8 @@ def formatted(text):
     return "\n".join(out)
 
 
-def large(files, bytes_each, is_formatted):
-    """A type system of 1 MB, and many files of operations and fragments."""
-    count = 5000
+def large(files, bytes_each, is_formatted, count=5000):
+    """A type system of some 200 bytes a type, and many files of operations and fragments."""
     yield from types(count)
     for f in range(files):
         rows, size, i = [], 0, 0
@@ -241,4 +240,5 @@ def main():
                 out.write(text)
 
 
-main()
+if __name__ == "__main__":
+    main()

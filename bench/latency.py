@@ -1,0 +1,208 @@
+#!/usr/bin/env python3
+"""Times what an editor waits for: a client opens projects of three sizes in `gqls serve` and asks.
+
+    python3 bench/latency.py PROGRAM [PROGRAM..] [--rounds N] [--sizes 12,50,200]
+
+Each program is run on one processor (taskset -c 0), beside a `check` of the same files by the same program. Each question
+and each keystroke is timed so often, and the best time is told in milliseconds and as a part of that check's time. A
+keystroke lasts until the last diagnostics notification that it brings. docs/PERFORMANCE.md has what was seen.
+"""
+import argparse
+import json
+import os
+import resource
+import subprocess
+import sys
+import tempfile
+import time
+
+sys.path.insert(0, os.path.dirname(os.path.abspath(__file__)))
+from projects import large  # noqa: E402
+
+BYTES_EACH = 20_000
+TYPES_A_FILE = 25
+CAPABILITIES = {
+    "workspace": {"workspaceEdit": {"documentChanges": True}},
+    "textDocument": {
+        "publishDiagnostics": {},
+        "hover": {"contentFormat": ["plaintext"]},
+        "definition": {},
+        "references": {},
+        "completion": {},
+        "rename": {"prepareSupport": True},
+        "codeAction": {"codeActionLiteralSupport": {"codeActionKind": {"valueSet": ["refactor"]}}},
+    },
+}
+
+
+class Client:
+    """A session with a server, message by message."""
+
+    def __init__(self, program):
+        self.server = subprocess.Popen(["taskset", "-c", "0", program, "serve", "--workers", "0"], stdin=subprocess.PIPE, stdout=subprocess.PIPE)
+        self.number = 0
+        self.versions = {}
+
+    def send(self, message):
+        body = json.dumps({"jsonrpc": "2.0", **message}).encode()
+        self.server.stdin.write(b"Content-Length: %d\r\n\r\n" % len(body) + body)
+        self.server.stdin.flush()
+
+    def read(self):
+        length = 0
+        while True:
+            line = self.server.stdout.readline()
+            if not line:
+                sys.exit("the server has ended")
+            if line == b"\r\n":
+                return json.loads(self.server.stdout.read(length))
+            name, value = line.split(b":")
+            if name.lower() == b"content-length":
+                length = int(value)
+
+    def ask(self, method, params):
+        """The response to a request."""
+        self.number += 1
+        self.send({"id": self.number, "method": method, "params": params})
+        while True:
+            message = self.read()
+            if message.get("id") == self.number:
+                return message
+
+    def tell(self, method, params):
+        self.send({"method": method, "params": params})
+
+    def diagnosed(self, count):
+        """So many notifications of diagnostics: those in which something is wrong."""
+        return [m["params"] for m in (self.read() for _ in range(count)) if m["params"]["diagnostics"]]
+
+    def open(self, uri, text):
+        self.versions[uri] = 1
+        self.tell("textDocument/didOpen", {"textDocument": {"uri": uri, "languageId": "graphql", "version": 1, "text": text}})
+        return self.diagnosed(len(self.versions))
+
+    def edit(self, uri, start, end, text):
+        self.versions[uri] += 1
+        change = {"range": {"start": start, "end": end}, "text": text}
+        self.tell("textDocument/didChange", {"textDocument": {"uri": uri, "version": self.versions[uri]}, "contentChanges": [change]})
+        return self.diagnosed(len(self.versions))
+
+    def memory(self):
+        """The most memory that it had, in MB."""
+        with open("/proc/%d/status" % self.server.pid, encoding="ascii") as status:
+            return next(int(line.split()[1]) for line in status if line.startswith("VmHWM")) / 1024
+
+    def end(self):
+        self.ask("shutdown", None)
+        self.tell("exit", None)
+        self.server.wait()
+
+
+def position(text, offset):
+    """The position of an offset in a text of ASCII characters."""
+    return {"line": text.count("\n", 0, offset), "character": offset - (text.rfind("\n", 0, offset) + 1)}
+
+
+def best(rounds, what):
+    """The best time of so many, in milliseconds, and the last result."""
+    times, result = [], None
+    for _ in range(rounds):
+        start = time.perf_counter()
+        result = what()
+        times.append(time.perf_counter() - start)
+    return min(times) * 1000, result
+
+
+def checked(program, folder, files, rounds):
+    """The best time of a check on one processor, in milliseconds, and its memory in MB."""
+    names = [os.path.join(folder, name) for name in sorted(files)]
+
+    def check():
+        done = subprocess.run(["taskset", "-c", "0", program, "check", *names], capture_output=True, check=True)
+        return done.stdout
+
+    spent, out = best(rounds, check)
+    if out != b"ok\n":
+        sys.exit("the project is not valid")
+    return spent, resource.getrusage(resource.RUSAGE_CHILDREN).ru_maxrss / 1024
+
+
+def typed(client, rounds, uri, text, offset):
+    """A space is typed, and taken away again: the best time of both."""
+    there, behind = position(text, offset), position(text, offset)
+    behind["character"] += 1
+    spent = []
+    for _ in range(rounds):
+        for start, end, new in ((there, there, " "), (there, behind, "")):
+            one, wrong = best(1, lambda: client.edit(uri, start, end, new))
+            spent.append(one)
+            if wrong:
+                sys.exit("something is wrong after a keystroke: %s" % wrong[:1])
+    return min(spent)
+
+
+def session(program, files, rounds):
+    """What is timed in a session over these files: pairs of a name and milliseconds."""
+    client = Client(program)
+    client.ask("initialize", {"capabilities": CAPABILITIES, "processId": None, "rootUri": None})
+    client.tell("initialized", {})
+    uri = {name: "file:///project/" + name for name in files}
+    opening, _ = best(1, lambda: [client.open(uri[name], files[name]) for name in sorted(files)])
+    rows = [("opening all files one after the other", opening)]
+    name = "q0.graphql"
+    text, schema = files[name], files["s.graphql"]
+    field, spread, fragment = text.index("t0("), text.index("...F0_0") + 3, text.index("fragment F0_0") + 9
+    brace = text.index("{", text.index("fragment F0_0"))
+    set_start, set_end = text.index("id", brace), text.index("size", brace)
+
+    def place(offset):
+        return {"textDocument": {"uri": uri[name]}, "position": position(text, offset)}
+
+    def one(what, method, params, is_answer):
+        spent, answer = best(rounds, lambda: client.ask(method, params))
+        if not is_answer(answer.get("result")):
+            sys.exit("no answer to %s: %s" % (what, str(answer)[:300]))
+        rows.append((what, spent))
+
+    one("hover on a field", "textDocument/hover", place(field), bool)
+    one("hover on a fragment", "textDocument/hover", place(spread), bool)
+    one("definition of a field", "textDocument/definition", place(field), bool)
+    one("completion of a field", "textDocument/completion", place(set_start), bool)
+    one("prepareRename", "textDocument/prepareRename", place(spread), bool)
+    one("references", "textDocument/references", {**place(fragment), "context": {"includeDeclaration": True}}, bool)
+    one("rename of a fragment", "textDocument/rename", {**place(spread), "newName": "Renamed"}, bool)
+    actions = {"textDocument": {"uri": uri[name]}, "range": {"start": position(text, set_start), "end": position(text, set_end)}, "context": {"diagnostics": []}}
+    one("code actions", "textDocument/codeAction", actions, bool)
+    rows.append(("a keystroke in a file of operations", typed(client, rounds, uri[name], text, brace)))
+    rows.append(("a keystroke in the schema", typed(client, max(1, rounds // 3), uri["s.graphql"], schema, schema.index("{"))))
+    for _ in range(100):
+        typed(client, 1, uri[name], text, brace)
+    for _ in range(20):
+        client.ask("textDocument/codeAction", actions)
+    memory = client.memory()
+    client.end()
+    return rows, memory
+
+
+def main():
+    words = argparse.ArgumentParser(description=__doc__, formatter_class=argparse.RawDescriptionHelpFormatter)
+    words.add_argument("programs", nargs="+", metavar="PROGRAM")
+    words.add_argument("--rounds", type=int, default=9)
+    words.add_argument("--sizes", default="12,50,200", help="numbers of files of operations")
+    asked = words.parse_args()
+    for count in map(int, asked.sizes.split(",")):
+        files = dict(large(count, BYTES_EACH, True, TYPES_A_FILE * count))
+        with tempfile.TemporaryDirectory() as folder:
+            for name, text in files.items():
+                with open(os.path.join(folder, name), "w", encoding="utf-8") as out:
+                    out.write(text)
+            for program in asked.programs:
+                check, check_memory = checked(program, folder, files, asked.rounds)
+                rows, memory = session(program, files, asked.rounds)
+                print("%s: %d files, %.1f MB; check %.0f ms, %.0f MB" % (program, len(files), sum(map(len, files.values())) / 1e6, check, check_memory))
+                for what, spent in rows:
+                    print("  %-40s %10.1f ms %8.3f of the check" % (what, spent, spent / check))
+                print("  %-40s %10.0f MB %8.2f of the check" % ("memory of the server, at the end", memory, memory / check_memory), flush=True)
+
+
+main()
