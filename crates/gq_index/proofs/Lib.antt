@@ -1,5 +1,10 @@
 pub mod GroupLemmas
 pub mod VariableLemmas
+pub mod PartLemmas
 pub mod SpreadLemmas
 pub mod GroupMeaning
 pub mod SharedLemmas
+pub mod Parallel
+pub mod FileLemmas
+pub mod SearchLemmas
+pub mod MendLemmas

@@ -1,25 +1,24 @@
--- The variables of definitions, one more at the end.
+-- The variables of parts, one more at the end.
 use Rattle.std.proofs.Common.{◌≡◌, ℕ, zero, suc, ◌<◌, List, [], ◌∷◌, ◌++◌, Some, length, map, get_or, sym, ◌∙◌, ap, subst, arith}
 use Rattle.std.specs.Prelude.{slice_get}
 use Rattle.std.proofs.lemmas.Option.{none-some, same_Some}
 use Rattle.gq_index.specs.declared.index.Variables.{Variables}
-use Rattle.gq_index.specs.Occurrences.{DefinitionOf}
-use Rattle.gq_index.specs.Indexed.{AreVariablesOf}
+use Rattle.gq_index.specs.Helping.PlacedParts.{PartAt, AreVariablesIn}
 
-abbrev pub Each : List DefinitionOf → List Variables → Type 0
-Each ds vs = (n : ℕ) (d : DefinitionOf) (v : Variables) → slice_get ds n ≡ Some d → slice_get vs n ≡ Some v → AreVariablesOf d v
+abbrev pub Each : List PartAt → List Variables → Type 0
+Each ps vs = (n : ℕ) (p : PartAt) (v : Variables) → slice_get ps n ≡ Some p → slice_get vs n ≡ Some v → AreVariablesIn p.part v
 
-pub each_none : (ds : List DefinitionOf) → Each ds []
-each_none ds n d v at there = absurd (none-some v there)
+pub each_none : (ps : List PartAt) → Each ps []
+each_none ps n p v at there = absurd (none-some v there)
 
-pub each_more : (ds : List DefinitionOf) (vs : List Variables) (d : DefinitionOf) (v : Variables) → slice_get ds (length vs) ≡ Some d → AreVariablesOf d v → Each ds vs → Each ds (vs ++ v ∷ [])
-each_more [] vs d v at is each n e w here there = absurd (none-some d at)
-each_more (x ∷ ds) [] d v at is each zero e w here there =
-    let same : d ≡ e = sym (same_Some x d at) ∙ same_Some x e here in
-    subst (λ u. AreVariablesOf e u) (same_Some v w there) (subst (λ y. AreVariablesOf y v) same is)
-each_more (x ∷ ds) [] d v at is each (suc n) e w here there = absurd (none-some w there)
-each_more (x ∷ ds) (u ∷ vs) d v at is each zero e w here there = each zero e w here there
-each_more (x ∷ ds) (u ∷ vs) d v at is each (suc n) e w here there = each_more ds vs d v at is (λ k. each (suc k)) n e w here there
+pub each_more : (ps : List PartAt) (vs : List Variables) (p : PartAt) (v : Variables) → slice_get ps (length vs) ≡ Some p → AreVariablesIn p.part v → Each ps vs → Each ps (vs ++ v ∷ [])
+each_more [] vs p v at is each n q w here there = absurd (none-some p at)
+each_more (x ∷ ps) [] p v at is each zero q w here there =
+    let same : p ≡ q = sym (same_Some x p at) ∙ same_Some x q here in
+    subst (λ u. AreVariablesIn q.part u) (same_Some v w there) (subst (λ (y : PartAt). AreVariablesIn y.part v) same is)
+each_more (x ∷ ps) [] p v at is each (suc n) q w here there = absurd (none-some w there)
+each_more (x ∷ ps) (u ∷ vs) p v at is each zero q w here there = each zero q w here there
+each_more (x ∷ ps) (u ∷ vs) p v at is each (suc n) q w here there = each_more ps vs p v at is (λ k. each (suc k)) n q w here there
 
 -- what stands at a place of a list that is seen
 pub seen_at : {X Y : Type 0} (see : X → Y) (xs : List X) (i : ℕ) (x : X) → i < length xs → x ≡ get_or xs i x → slice_get (map see xs) i ≡ Some (see x)

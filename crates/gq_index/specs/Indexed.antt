@@ -4,10 +4,15 @@ use Rattle.gq_names.specs.UnderNames.{items_under}
 use Rattle.gq_project.specs.declared.document.Doc.{Doc}
 use Rattle.gq_graph.specs.Reach.{row}
 use Rattle.gq_graph.specs.Transposed.{Transposed}
+use Rattle.gq_tree.specs.Readings.{ParsedOf}
 use Rattle.gq_types.specs.Entries.{Text}
+use Rattle.gq_index.specs.declared.files.File.{File}
 use Rattle.gq_index.specs.declared.index.Variables.{Variables}
+use Rattle.gq_index.specs.declared.index.Tables.{Tables}
 use Rattle.gq_index.specs.declared.index.Index.{Index}
+use Rattle.gq_index.specs.Parts.{parts_in}
 use Rattle.gq_index.specs.VariableGroups.{SpreadsFragment}
+use Rattle.gq_index.specs.Views.{parts_kept}
 use Rattle.gq_index.specs.Occurrences.{DefinitionOf, AreExecutables, is_operation, fragment_definitions, fragment_spreads, fragment_occurrences, definition_places, uses_in, definitions_in}
 
 -- the places of the variables of a definition, by their names
@@ -20,20 +25,30 @@ pub record AreVariables (ds : List DefinitionOf) (vs : List Variables) : Type 0 
   pub count : length vs ≡ length ds
   pub each : (n : ℕ) (d : DefinitionOf) (v : Variables) → slice_get ds n ≡ Some d → slice_get vs n ≡ Some v → AreVariablesOf d v
 
+-- what the tables hold of these definitions
+pub record AreTablesOf (ds : List DefinitionOf) (tables : Tables) : Type 0 where
+  pub definitions : (text : Text) → items_under tables.definitions text ≡ fragment_definitions ds text
+  pub spreads : (text : Text) → items_under tables.spreads text ≡ fragment_spreads ds text
+  pub occurrences : (text : Text) → items_under tables.occurrences text ≡ fragment_occurrences ds text
+  pub places : tables.places.items ≡ definition_places ds
+  pub variables : AreVariables ds tables.variables.items
+  pub count : length tables.spread_in.items ≡ length ds
+  pub spread_in : (n k : ℕ) → Contains (row tables.spread_in.items n) k ↔ SpreadsFragment ds n k
+  pub spreading : Transposed tables.spread_in.items tables.spreading.items
+  pub operations : tables.operations.items ≡ map (λ d. is_operation d.definition) ds
+
 -- what the index holds of these definitions
 pub record IsIndexOf (ds : List DefinitionOf) (index : Index) : Type 0 where
-  pub definitions : (text : Text) → items_under index.definitions text ≡ fragment_definitions ds text
-  pub spreads : (text : Text) → items_under index.spreads text ≡ fragment_spreads ds text
-  pub occurrences : (text : Text) → items_under index.occurrences text ≡ fragment_occurrences ds text
-  pub places : index.places.items ≡ definition_places ds
-  pub variables : AreVariables ds index.variables.items
-  pub count : length index.spread_in.items ≡ length ds
-  pub spread_in : (n k : ℕ) → Contains (row index.spread_in.items n) k ↔ SpreadsFragment ds n k
-  pub spreading : Transposed index.spread_in.items index.spreading.items
-  pub operations : index.operations.items ≡ map (λ d. is_operation d.definition) ds
+  pub tables : AreTablesOf ds index.tables
 
--- what it holds of the definitions of these documents
+-- what is kept of these documents, which are read so, one after the other
+pub record AreFilesOf (documents : List Doc) (readings : List ParsedOf) (files : List File) : Type 0 where
+  pub keyed : map (λ f. f.key) files ≡ map (λ d. d.key) documents
+  pub parted : map parts_kept files ≡ map parts_in readings
+
+-- what the index holds of these documents: of their definitions, and of each document apart
 pub record IsIndexOfProject (documents : List Doc) (index : Index) : Type 0 where
   pub definitions : List DefinitionOf
   pub of_documents : AreExecutables documents definitions
   pub is_index : IsIndexOf definitions index
+  pub files : AreFilesOf documents of_documents.readings index.files

@@ -1,5 +1,6 @@
 pub mod VariableNames
 pub mod Occurrences
+pub mod Parts
 pub mod Views
 pub mod VariableGroups
 pub mod Indexed

@@ -1,11 +1,37 @@
--- What the code's definitions stand for.
+-- What the code's definitions and parts stand for.
 use Rattle.std.specs.Prelude.{List, map}
-use Rattle.gq_tree.specs.Views.{def_view}
+use Rattle.gq_text.specs.declared.place.Span.{Span}
+use Rattle.gq_tree.specs.declared.tree.Name.{Name}
+use Rattle.gq_tree.specs.Plain.{NameOf}
+use Rattle.gq_tree.specs.Views.{name_of, def_view}
 use Rattle.gq_index.specs.declared.definitions.Executable.{Executable}
+use Rattle.gq_index.specs.declared.parts.Part.{Part}
+use Rattle.gq_index.specs.declared.files.File.{File}
 use Rattle.gq_index.specs.Occurrences.{DefinitionOf}
+use Rattle.gq_index.specs.Parts.{PartOf}
 
 abbrev pub definition_view : Executable → DefinitionOf
 definition_view e = record { file = e.file; definition = def_view e.definition.now }
 
 abbrev pub definitions_view : List Executable → List DefinitionOf
 definitions_view es = map definition_view es
+
+abbrev pub names_view : List Name → List (NameOf Span)
+names_view names = map name_of names
+
+abbrev pub part_view : Part → PartOf
+part_view p = record {
+  is_operation = p.is_operation;
+  place = p.place;
+  own_name = names_view p.own_name.items;
+  spreads = names_view p.spreads.items;
+  used = names_view p.used.items;
+  defined = names_view p.defined.items;
+}
+
+abbrev pub parts_view : List Part → List PartOf
+parts_view parts = map part_view parts
+
+-- the parts that are kept of a document
+abbrev pub parts_kept : File → List PartOf
+parts_kept file = parts_view file.parts.items

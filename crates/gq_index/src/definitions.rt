@@ -1,9 +1,9 @@
 //! The executable definitions of documents (GraphQL, October 2021, section 2.2).
 ghost use Rattle.std.specs.Prelude.{◌≡◌, ◌++◌, IfOk, OnOk, flat_map, map};
-ghost use Rattle.gq_tree.specs.Names.{names_at, spread_names, names_in};
+ghost use Rattle.gq_tree.specs.Names.{names_at, spread_names};
 ghost use Rattle.gq_tree.specs.Views.{def_view, type_system_view};
 ghost use Rattle.gq_tree.specs.Readings.{in_document, parsed_view, readings_view};
-ghost use Rattle.gq_index.specs.Occurrences.{executable_in, executables, fragment_name, spreads_in, place_of, type_system_place};
+ghost use Rattle.gq_index.specs.Occurrences.{executable_in, executables, is_operation, fragment_name, spreads_in, place_of, type_system_place};
 ghost use Rattle.gq_index.specs.Views.{definitions_view};
 
 use gq_text::{NoMemory, Span};
@@ -74,6 +74,12 @@ fn put_one<'a>(
     Ok(())
 }
 
+pub(crate) fn is_operation(definition: &Definition) -> bool
+    ensures { result ≡ is_operation (def_view definition.now) }
+{
+    matches!(definition, Definition::Operation(_))
+}
+
 /// The name that a fragment is defined under.
 pub(crate) fn fragment_name<'a>(
     alloc: Global,
@@ -100,19 +106,6 @@ pub(crate) fn spreads_in<'a>(
         Definition::Fragment(fragment) => spread_names(alloc, &fragment.set.items),
         Definition::TypeSystem(_) => Ok(Vec::new(alloc)),
     }
-}
-
-/// The names of fragments in a definition: its own, and those in its spreads, in the order of the text.
-pub(crate) fn names_in<'a>(
-    alloc: Global,
-    definition: &'a Definition,
-) -> Result<Vec<&'a Name>, NoMemory>
-    ensures { IfOk result (λ names. names_at names.items ≡ names_in (def_view definition.now)) }
-{
-    let mut names = fragment_name(alloc, definition)?;
-    let mut spreads = spreads_in(alloc, definition)?;
-    names.append(&mut spreads)?;
-    Ok(names)
 }
 
 /// The place of all tokens of a definition.

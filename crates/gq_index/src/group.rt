@@ -12,7 +12,7 @@ ghost use Rattle.gq_index.specs.Occurrences.{DefinitionOf};
 ghost use Rattle.gq_index.specs.Helping.Shared.{operation_at, uses_at, shared};
 ghost use Rattle.gq_index.specs.VariableGroups.{VariableGroup};
 
-use crate::index::Index;
+use crate::index::{Index, Tables};
 use gq_graph::{Graph, reach};
 use gq_text::NoMemory;
 use std::alloc::Global;
@@ -20,7 +20,7 @@ use std::alloc::Global;
 /// What the definitions of a project share of a variable.
 #[derive(Clone, Copy)]
 struct Shared<'a> {
-    index: &'a Index,
+    tables: &'a Tables,
     name: &'a str,
 }
 
@@ -39,25 +39,25 @@ fn further(alloc: Global, by: usize, numbers: &[usize]) -> Result<Vec<usize>, No
 impl Shared<'_> {
     /// How many definitions there are.
     fn count(&self) -> usize
-        ensures count { result ≡ length self.now.index.now.spread_in.items }
+        ensures count { result ≡ length self.now.tables.now.spread_in.items }
         ensures few { result + result + result < 2 ^ 63 }
     {
-        self.index.spread_in.as_slice().len()
+        self.tables.spread_in.as_slice().len()
     }
 
     fn is_operation(&self, number: usize) -> bool
-        ensures { result ≡ operation_at self.now.index.now number }
+        ensures { result ≡ operation_at self.now.tables.now number }
     {
-        match self.index.operations.get(number) {
+        match self.tables.operations.get(number) {
             Some(is_operation) => *is_operation,
             None => false,
         }
     }
 
     fn uses(&self, number: usize) -> bool
-        ensures { result ≡ uses_at self.now.index.now self.now.name.now number }
+        ensures { result ≡ uses_at self.now.tables.now self.now.name.now number }
     {
-        match self.index.variables.get(number) {
+        match self.tables.variables.get(number) {
             Some(variables) => !variables.uses.get(self.name).is_empty(),
             None => false,
         }
@@ -65,25 +65,25 @@ impl Shared<'_> {
 
     /// What a member of the group leads to.
     fn next_of_member(&self, alloc: Global, number: usize) -> Result<Vec<usize>, NoMemory>
-        requires { number < length self.now.index.now.spread_in.items }
-        ensures { IfOk result (λ all. all.items ≡ leads_of_member (shared self.now.index.now self.now.name.now) number) }
+        requires { number < length self.now.tables.now.spread_in.items }
+        ensures { IfOk result (λ all. all.items ≡ leads_of_member (shared self.now.tables.now self.now.name.now) number) }
     {
         let count = self.count();
         if self.is_operation(number) {
-            return further(alloc, count, &self.index.spread_in[number]);
+            return further(alloc, count, &self.tables.spread_in[number]);
         }
         if self.uses(number) {
-            return further(alloc, count + count, &self.index.spreading[number]);
+            return further(alloc, count + count, &self.tables.spreading[number]);
         }
         Ok(Vec::new(alloc))
     }
 
     /// What a fragment that an operation of the group reaches leads to.
     fn next_of_reached(&self, alloc: Global, number: usize) -> Result<Vec<usize>, NoMemory>
-        requires { number < length self.now.index.now.spread_in.items }
-        ensures { IfOk result (λ all. all.items ≡ leads_of_reached (shared self.now.index.now self.now.name.now) number) }
+        requires { number < length self.now.tables.now.spread_in.items }
+        ensures { IfOk result (λ all. all.items ≡ leads_of_reached (shared self.now.tables.now self.now.name.now) number) }
     {
-        let mut all = further(alloc, self.count(), &self.index.spread_in[number])?;
+        let mut all = further(alloc, self.count(), &self.tables.spread_in[number])?;
         if self.uses(number) {
             all.push(number)?;
         }
@@ -92,21 +92,21 @@ impl Shared<'_> {
 
     /// What a definition that leads to a fragment of the group leads to.
     fn next_of_leading(&self, alloc: Global, number: usize) -> Result<Vec<usize>, NoMemory>
-        requires { number < length self.now.index.now.spread_in.items }
-        ensures { IfOk result (λ all. all.items ≡ leads_of_leading (shared self.now.index.now self.now.name.now) number) }
+        requires { number < length self.now.tables.now.spread_in.items }
+        ensures { IfOk result (λ all. all.items ≡ leads_of_leading (shared self.now.tables.now self.now.name.now) number) }
     {
         let count = self.count();
         if self.is_operation(number) {
             return Ok(vec![in alloc; number]?);
         }
-        further(alloc, count + count, &self.index.spreading[number])
+        further(alloc, count + count, &self.tables.spreading[number])
     }
 }
 
 impl Graph for Shared<'_> {
-    ghost count = { λ s. length s.index.now.spread_in.items + length s.index.now.spread_in.items + length s.index.now.spread_in.items };
+    ghost count = { λ s. length s.tables.now.spread_in.items + length s.tables.now.spread_in.items + length s.tables.now.spread_in.items };
 
-    ghost leads = { λ s. leads_of (shared s.index.now s.name.now) };
+    ghost leads = { λ s. leads_of (shared s.tables.now s.name.now) };
 
     fn size(&self) -> usize {
         let count = self.count();
@@ -153,7 +153,10 @@ impl Index {
         ensures past { IfOk result (λ numbers. (ds : List DefinitionOf) → IsIndexOf ds self.now → length ds ≤ definition → numbers.items ≡ []) }
         ensures ascending { IfOk result (λ numbers. IsStrictlyIncreasing numbers.items) }
     {
-        let shared = Shared { index: self, name };
+        let shared = Shared {
+            tables: &self.tables,
+            name,
+        };
         let count = shared.count();
         if definition >= count {
             return Ok(Vec::new(alloc));

@@ -2,6 +2,7 @@
 ghost use Rattle.std.specs.Prelude.{◌≡◌, length};
 ghost use Rattle.gq_graph.specs.Reach.{InRange};
 
+use crate::files::Files;
 use crate::occurrence::Occurrence;
 use gq_names::ByName;
 use gq_text::Span;
@@ -13,11 +14,11 @@ pub struct Variables {
     pub(crate) definitions: ByName<Span>,
 }
 
-/// Where fragments and variables stand in a project.
+/// Where fragments and variables stand in all documents.
 ///
 /// An operation or fragment has a number: its place among all of them, in the order of documents and places, from 0.
 #[derive(Drop)]
-pub struct Index {
+pub struct Tables {
     pub(crate) definitions: ByName<Occurrence>,
     pub(crate) spreads: ByName<Occurrence>,
     /// The definitions and the spreads of each name, in the order of the texts.
@@ -34,4 +35,12 @@ pub struct Index {
     ghost spread_in_range: { InRange spread_in.items },
     ghost spreading_in_range: { InRange spreading.items },
     ghost same_count: { length spreading.items ≡ length spread_in.items },
+}
+
+/// Where fragments and variables stand in a project.
+#[derive(Drop)]
+pub struct Index {
+    pub(crate) tables: Tables,
+    /// What the tables are made of, document by document.
+    pub(crate) files: Files,
 }

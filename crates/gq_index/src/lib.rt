@@ -2,12 +2,16 @@
 #![tactic(auto)]
 
 pub mod definitions;
+pub mod files;
 mod group;
 pub mod index;
 pub mod laws;
 mod look_ups;
 mod making;
+mod mending;
 pub mod occurrence;
+pub mod parts;
+mod placed;
 mod places;
 mod spreads;
 mod variables;

@@ -12,14 +12,14 @@ impl Index {
     pub fn definitions(&self, name: &str) -> &[Occurrence]
         ensures { (ds : List DefinitionOf) → IsIndexOf ds self.now → result.now ≡ fragment_definitions ds name.now }
     {
-        self.definitions.get(name)
+        self.tables.definitions.get(name)
     }
 
     /// Where the fragment of that name is spread: the places of its name, in the order of documents and places. It takes no memory.
     pub fn spreads(&self, name: &str) -> &[Occurrence]
         ensures { (ds : List DefinitionOf) → IsIndexOf ds self.now → result.now ≡ fragment_spreads ds name.now }
     {
-        self.spreads.get(name)
+        self.tables.spreads.get(name)
     }
 
     /// Where the name of that fragment stands: the places of its name at its definitions and in its spreads, in the order of documents and places. It takes no
@@ -27,14 +27,14 @@ impl Index {
     pub fn occurrences(&self, name: &str) -> &[Occurrence]
         ensures { (ds : List DefinitionOf) → IsIndexOf ds self.now → result.now ≡ fragment_occurrences ds name.now }
     {
-        self.occurrences.get(name)
+        self.tables.occurrences.get(name)
     }
 
     /// Where each operation and fragment stands, by its number: the place of all its tokens. It takes no memory.
     pub fn places(&self) -> &[Occurrence]
         ensures { (ds : List DefinitionOf) → IsIndexOf ds self.now → result.now ≡ definition_places ds }
     {
-        self.places.as_slice()
+        self.tables.places.as_slice()
     }
 
     /// Where the variable of that name is used in the definition of that number: the places of its name, in order. Past the last
@@ -42,8 +42,8 @@ impl Index {
     pub fn variable_uses(&self, definition: usize, name: &str) -> &[Span]
         ensures { (ds : List DefinitionOf) → IsIndexOf ds self.now → result.now ≡ variable_uses ds definition name.now }
     {
-        if definition < self.variables.len() {
-            self.variables[definition].uses.get(name)
+        if definition < self.tables.variables.len() {
+            self.tables.variables[definition].uses.get(name)
         } else {
             &[]
         }
@@ -54,8 +54,8 @@ impl Index {
     pub fn variable_definitions(&self, definition: usize, name: &str) -> &[Span]
         ensures { (ds : List DefinitionOf) → IsIndexOf ds self.now → result.now ≡ variable_definitions ds definition name.now }
     {
-        if definition < self.variables.len() {
-            self.variables[definition].definitions.get(name)
+        if definition < self.tables.variables.len() {
+            self.tables.variables[definition].definitions.get(name)
         } else {
             &[]
         }

@@ -1,64 +1,94 @@
 //! The index of a project.
-ghost use Rattle.std.specs.Prelude.{IfOk};
+ghost use Rattle.std.specs.Prelude.{◌≡◌, ◌++◌, IfOk, List, OnOk, map};
+ghost use Rattle.gq_parse.specs.Parsed.{AreParsed};
 ghost use Rattle.gq_tree.specs.Readings.{readings_view};
-ghost use Rattle.gq_index.specs.Indexed.{AreVariablesOf, AreVariables, IsIndexOf, IsIndexOfProject};
-ghost use Rattle.gq_index.specs.Occurrences.{executables};
-ghost use Rattle.gq_index.specs.Views.{definition_view, definitions_view};
+ghost use Rattle.gq_index.specs.Helping.Made.{AreTablesFor};
+ghost use Rattle.gq_index.specs.Helping.PlacedParts.{AreVariablesIn, AreVariablesAt, placed_view, parts_at};
+ghost use Rattle.gq_index.specs.Indexed.{AreTablesOf, IsIndexOfProject};
+ghost use Rattle.gq_index.specs.Occurrences.{DefinitionOf};
+ghost use Rattle.gq_index.specs.Views.{part_view};
 
-use crate::definitions::{Executable, executables};
-use crate::index::{Index, Variables};
+use crate::files::{File, Files};
+use crate::index::{Index, Tables, Variables};
+use crate::parts::Part;
+use crate::placed::{Placed, all_parts};
 use crate::places::{
     definition_places, fragment_definitions, fragment_occurrences, fragment_spreads, places_of,
 };
 use crate::spreads::{are_operations, spread_rows};
-use crate::variables::{defined_variables, used_variables};
 use gq_graph::transposed::transposed;
 use gq_parse::read;
-use gq_project::Project;
+use gq_project::{Doc, Project};
 use gq_text::NoMemory;
 use gq_tree::Parsed;
 use std::alloc::Global;
 
-/// The places of the variables of a definition.
-fn variables_of(alloc: Global, one: &Executable<'_>) -> Result<Variables, NoMemory>
-    ensures { IfOk result (λ variables. AreVariablesOf (definition_view one.now) variables) }
+/// The places of the variables of a part.
+fn variables_of(alloc: Global, part: &Part) -> Result<Variables, NoMemory>
+    ensures { IfOk result (λ variables. AreVariablesIn (part_view part.now) variables) }
 {
-    let used = used_variables(alloc, one.definition)?;
-    let defined = defined_variables(alloc, one.definition)?;
     Ok(Variables {
-        uses: places_of(alloc, &used)?,
-        definitions: places_of(alloc, &defined)?,
+        uses: places_of(alloc, &part.used)?,
+        definitions: places_of(alloc, &part.defined)?,
     })
 }
 
-/// Those of each definition.
-fn all_variables(alloc: Global, definitions: &[Executable<'_>]) -> Result<Vec<Variables>, NoMemory>
-    ensures { IfOk result (λ all. AreVariables (definitions_view definitions.now) all.items) }
+/// Those of each part.
+fn all_variables(alloc: Global, parts: &[Placed<'_>]) -> Result<Vec<Variables>, NoMemory>
+    ensures { IfOk result (λ all. AreVariablesAt (placed_view parts.now) all.items) }
 {
     let mut all = Vec::new(alloc);
-    for one in definitions {
-        all.push(variables_of(alloc, one)?)?;
+    for one in parts {
+        all.push(variables_of(alloc, one.part)?)?;
     }
     Ok(all)
 }
 
-/// The index of these definitions.
+/// The tables that are made of these parts.
 #[tactic(auto, using(gq_graph::proofs::Turning::turned_in_range))]
-fn index_of(alloc: Global, definitions: &[Executable<'_>]) -> Result<Index, NoMemory>
-    ensures { IfOk result (λ index. IsIndexOf (definitions_view definitions.now) index) }
+fn made_of(alloc: Global, parts: &[Placed<'_>]) -> Result<Tables, NoMemory>
+    ensures { IfOk result (λ tables. (ds : List DefinitionOf) → placed_view parts.now ≡ parts_at ds → AreTablesOf ds tables) }
 {
-    let spread_in = spread_rows(alloc, definitions)?;
+    let spread_in = spread_rows(alloc, parts)?;
     let spreading = transposed(alloc, &spread_in)?;
-    Ok(Index {
-        definitions: fragment_definitions(alloc, definitions)?,
-        spreads: fragment_spreads(alloc, definitions)?,
-        occurrences: fragment_occurrences(alloc, definitions)?,
-        places: definition_places(alloc, definitions)?,
-        variables: all_variables(alloc, definitions)?,
+    Ok(Tables {
+        definitions: fragment_definitions(alloc, parts)?,
+        spreads: fragment_spreads(alloc, parts)?,
+        occurrences: fragment_occurrences(alloc, parts)?,
+        places: definition_places(alloc, parts)?,
+        variables: all_variables(alloc, parts)?,
         spread_in,
         spreading,
-        operations: are_operations(alloc, definitions)?,
+        operations: are_operations(alloc, parts)?,
     })
+}
+
+/// Lends each of these files.
+fn lend<'a>(files: &'a [File], lent: &mut Vec<&'a File>) -> Result<(), NoMemory>
+    ensures { OnOk result (map (λ f. f.now) lent.new.items ≡ map (λ f. f.now) lent.old.items ++ files.now) }
+{
+    for file in files {
+        lent.push(file)?;
+    }
+    Ok(())
+}
+
+/// The tables of documents of which these files are kept, the ones behind the others.
+pub(crate) fn tables_of<'a>(
+    alloc: Global,
+    front: &'a [File],
+    between: &'a [&'a File],
+    back: &'a [File],
+) -> Result<Tables, NoMemory>
+    ensures { IfOk result (AreTablesFor (front.now ++ map (λ f. f.now) between.now ++ back.now)) }
+{
+    let mut files = Vec::new(alloc);
+    lend(front, &mut files)?;
+    files.extend_from_slice(between)?;
+    lend(back, &mut files)?;
+    let parts = all_parts(alloc, &files)?;
+    let tables = made_of(alloc, &parts)?;
+    Ok(tables)
 }
 
 impl Index {
@@ -66,17 +96,22 @@ impl Index {
     pub fn of(alloc: Global, project: &Project) -> Result<Index, NoMemory>
         ensures { IfOk result (λ index. IsIndexOfProject project.now index) }
     {
-        let readings = read(alloc, project.documents())?;
-        let index = Index::of_readings(alloc, &readings)?;
+        let documents = project.documents();
+        let readings = read(alloc, documents)?;
+        let index = Index::of_readings(alloc, documents, &readings)?;
         Ok(index)
     }
 
     /// The index of documents that are read so.
-    pub fn of_readings(alloc: Global, readings: &[Parsed]) -> Result<Index, NoMemory>
-        ensures { IfOk result (λ index. IsIndexOf (executables (readings_view readings.now)) index) }
+    pub fn of_readings(
+        alloc: Global,
+        documents: &[Doc],
+        readings: &[Parsed],
+    ) -> Result<Index, NoMemory>
+        ensures { IfOk result (λ index. AreParsed documents.now (readings_view readings.now) → IsIndexOfProject documents.now index) }
     {
-        let definitions = executables(alloc, readings)?;
-        let index = index_of(alloc, &definitions)?;
-        Ok(index)
+        let files = Files::of(alloc, documents, readings)?;
+        let tables = tables_of(alloc, files.as_slice(), &[], &[])?;
+        Ok(Index { tables, files })
     }
 }

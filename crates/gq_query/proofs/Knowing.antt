@@ -1,5 +1,5 @@
 -- What is known of documents, and their index.
-use Rattle.std.proofs.Common.{◌≡◌, List, refl, subst}
+use Rattle.std.proofs.Common.{◌≡◌, List, subst, sym}
 use Rattle.gq_project.specs.declared.document.Doc.{Doc}
 use Rattle.gq_tree.specs.declared.parsed.Parsed.{Parsed}
 use Rattle.gq_tree.specs.Readings.{ParsedOf, readings_view}
@@ -20,14 +20,9 @@ own_index known index ds one same is of =
     let own : AreExecutables known.project.now ds = record { readings = readings_view known.readings.now; are_readings = is.are_readings; is = same } in
     subst (λ (l : List DefinitionOf). IsIndexOf l index) (one known.project.now of.definitions ds of.of_documents own) of.is_index
 
--- and that of the definitions that are known is the project's
-pub index_of_known : (known : Known) (index : Index) (readings : List Parsed) → known.readings.now ≡ readings → IsIndexOf (executables (readings_view readings)) index → IsKnown known → IsIndexOfProject known.project.now index
-index_of_known known index readings same of is = record {
-  definitions = executables (readings_view readings);
-  of_documents = record {
-    readings = readings_view readings;
-    are_readings = subst (λ (l : List Parsed). AreParsed known.project.now (readings_view l)) same is.are_readings;
-    is = refl;
-  };
-  is_index = of;
-}
+-- and that of the documents, listed, is the project's
+pub index_of_known : (known : Known) (index : Index) (listed : List Doc) (readings : List Parsed) → listed ≡ known.project.now → known.readings.now ≡ readings
+    → (AreParsed listed (readings_view readings) → IsIndexOfProject listed index) → IsKnown known → IsIndexOfProject known.project.now index
+index_of_known known index listed readings all same of is =
+    let are : AreParsed known.project.now (readings_view readings) = subst (λ (l : List Parsed). AreParsed known.project.now (readings_view l)) same is.are_readings in
+    subst (λ (ds : List Doc). IsIndexOfProject ds index) all (of (subst (λ (ds : List Doc). AreParsed ds (readings_view readings)) (sym all) are))

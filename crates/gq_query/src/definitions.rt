@@ -33,7 +33,7 @@ pub fn definition(
     ensures { IfOk result (λ found. AreDefinitions project.now key.now offset found.items) }
 {
     let learned = Learned::of(alloc, project)?;
-    let index = Index::of_readings(alloc, &learned.readings)?;
+    let index = Index::of_readings(alloc, project.documents(), &learned.readings)?;
     let found = definition_by(alloc, learned.known(project), &index, key, offset)?;
     Ok(found)
 }

@@ -29,7 +29,7 @@ pub fn hover(
     ensures { IfOk result (IsHover project.now key.now offset) }
 {
     let learned = Learned::of(alloc, project)?;
-    let index = Index::of_readings(alloc, &learned.readings)?;
+    let index = Index::of_readings(alloc, project.documents(), &learned.readings)?;
     let found = hover_by(alloc, learned.known(project), &index, key, offset)?;
     Ok(found)
 }

@@ -29,7 +29,7 @@ pub fn references(
     ensures { IfOk result (λ found. AreReferences project.now key.now offset include_declaration found.items) }
 {
     let learned = Learned::of(alloc, project)?;
-    let index = Index::of_readings(alloc, &learned.readings)?;
+    let index = Index::of_readings(alloc, project.documents(), &learned.readings)?;
     let known = learned.known(project);
     let found = references_by(alloc, known, &index, key, offset, include_declaration)?;
     Ok(found)

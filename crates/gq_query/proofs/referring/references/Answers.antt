@@ -8,5 +8,5 @@ pub returns : goal.returns
 returns c =
     let known = c.known-known.result in
     let is = c.known-known.ensures.known c.in_ok-learned.ensures in
-    let index = index_of_known known c.in_ok-index.index c.deref.result.now (c.known-known.ensures.readings ∙ sym c.deref.ensures.value) c.in_ok-index.ensures is in
+    let index = index_of_known known c.in_ok-index.index c.documents.result.now c.deref.result.now (c.documents.ensures.all ∙ sym c.known-known.ensures.project) (c.known-known.ensures.readings ∙ sym c.deref.ensures.value) c.in_ok-index.ensures is in
     subst (λ (documents : List Doc). AreReferences documents c.args.key.now c.args.offset c.args.include_declaration c.in_ok-found.found.items) c.known-known.ensures.project (c.in_ok-found.ensures is index)

@@ -8,17 +8,17 @@ use Rattle.gq_index.proofs.group.Shared.next_of_reached.Goals.{then-uses+in_ok-p
 
 pub returns : goal.returns
 returns c =
-    let index = c.args.self.now.index.now in
+    let tables = c.args.self.now.tables.now in
     let text = c.args.self.now.name.now in
-    let s = shared index text in
-    let listed : c.deref.result.now ≡ row index.spread_in.items c.args.number = c.deref.ensures.value ∙ ap (λ (v : Vec ℕ Global). v.items) c.index.ensures ∙ sym (row_at index.spread_in.items c.args.number c.index.result.now c.requires) in
+    let s = shared tables text in
+    let listed : c.deref.result.now ≡ row tables.spread_in.items c.args.number = c.deref.ensures.value ∙ ap (λ (v : Vec ℕ Global). v.items) c.index.ensures ∙ sym (row_at tables.spread_in.items c.args.number c.index.result.now c.requires) in
     let by : c.count.result ≡ s.count = search rules in
     let made : c.in_ok-all.all.items ≡ map (λ j. s.count + j) (s.spread_in c.args.number) = c.in_ok-all.ensures ∙ ap (λ b. map (λ j. b + j) c.deref.result.now) by ∙ ap (map (λ j. s.count + j)) listed in
     elim c.if-uses.branch [
       | then-uses+in_ok-push w ↦
-          let used : uses_at index text c.args.number ≡ true = search rules in
+          let used : uses_at tables text c.args.number ≡ true = search rules in
           ap (λ (v : Vec ℕ Global). v.items) w.all-is ∙ w.in_ok-push.ensures.items ∙ ap (λ l. l ++ c.args.number ∷ []) made ∙ sym (reached_user s c.args.number used)
       | else-uses w ↦
-          let unused : uses_at index text c.args.number ≡ false = search rules in
+          let unused : uses_at tables text c.args.number ≡ false = search rules in
           ap (λ (v : Vec ℕ Global). v.items) w.all-is ∙ made ∙ sym (reached_other s c.args.number unused)
     ]

@@ -19,20 +19,20 @@ returns-clause-ascending c = rw (dedup_is _ _ _ c.dedup.ensures.filtered) (IsStr
 
 pub returns-clause-group : goal.returns-clause-group
 returns-clause-group c ds is inside n =
-    let index = c.args.self.now in
+    let tables = c.args.self.now.tables in
     let text = c.args.name.now in
     let once = dedup_is _ _ _ c.dedup.ensures.filtered in
     let moved = c.sort_unstable.ensures.permutation in
     let reached = c.in_ok-reached.reached.items in
-    let count = length index.spread_in.items in
+    let count = length tables.spread_in.items in
     let kept : c.in_ok-numbers.numbers.items ≡ filter (λ m. nat_lt m count) reached = search rules in (
       λ there.
           let sorted = Contains-permutation _ _ n (IsPermutation-sym _ _ moved) (Contains-from_dedup _ _ n (rw once at there)) in
           let f = from_filter (λ m. nat_lt m count) reached n (subst (λ l. Contains l n) kept sorted) in
-          let way : Reach (c.args.definition ∷ []) (leads_of (shared index text)) n = All-contains (λ m. Reach (c.args.definition ∷ []) (leads_of (shared index text)) m) reached n c.in_ok-reached.ensures.sound f.0 in
-          reached_group ds index is text c.args.definition n inside (ltb-true n count f.1, way),
+          let way : Reach (c.args.definition ∷ []) (leads_of (shared tables text)) n = All-contains (λ m. Reach (c.args.definition ∷ []) (leads_of (shared tables text)) m) reached n c.in_ok-reached.ensures.sound f.0 in
+          reached_group ds tables is.tables text c.args.definition n inside (ltb-true n count f.1, way),
       λ member.
-          let r = group_reached ds index is text c.args.definition n inside member in
+          let r = group_reached ds tables is.tables text c.args.definition n inside member in
           let there : Contains reached n = c.in_ok-reached.ensures.complete n r.1 in
           let held : Contains c.in_ok-numbers.numbers.items n = subst (λ l. Contains l n) (sym kept) (to_filter (λ m. nat_lt m count) reached n there (lt-ltb n count r.0)) in
           rw once (Contains-dedup_nat _ n (Contains-permutation _ _ n moved held)),

@@ -1,0 +1,25 @@
+-- The tables are those of the definitions of which these are the parts.
+use Rattle.std.proofs.Common.{◌≡◌, ℕ, Vec, Global, List, ◌∙◌, map, subst, ap}
+use Rattle.std.proofs.lemmas.List.{length-map}
+use Rattle.gq_graph.specs.Transposed.{Transposed}
+use Rattle.gq_index.specs.Helping.PlacedParts.{PartAt, part_at, parts_at, definitions_at, spreads_at, names_at_all, places_at, operations_at, AreVariablesAt}
+use Rattle.gq_index.specs.Helping.SpreadNumbers.{spread_rows}
+use Rattle.gq_index.proofs.PartLemmas.{definitions_same, spreads_same, names_same, places_same, operations_same, variables_same}
+use Rattle.gq_index.proofs.SpreadLemmas.{rows_count, rows_hold}
+use Rattle.gq_index.proofs.making.made_of.Goals as goal
+
+pub returns : goal.returns
+returns c ds are =
+    let rows = c.in_ok-spread_in.spread_in.items in
+    let rows_are : map (λ v. v.items) rows ≡ spread_rows (parts_at ds) = c.in_ok-spread_in.ensures.rows ∙ ap (λ (ps : List PartAt). spread_rows ps) are in
+    record {
+      definitions = λ text. c.in_ok-fragment_definitions.ensures text ∙ ap (λ (ps : List PartAt). definitions_at ps text) are ∙ definitions_same ds text;
+      spreads = λ text. c.in_ok-fragment_spreads.ensures text ∙ ap (λ (ps : List PartAt). spreads_at ps text) are ∙ spreads_same ds text;
+      occurrences = λ text. c.in_ok-fragment_occurrences.ensures text ∙ ap (λ (ps : List PartAt). names_at_all ps text) are ∙ names_same ds text;
+      places = c.in_ok-definition_places.ensures ∙ ap (λ (ps : List PartAt). places_at ps) are ∙ places_same ds;
+      variables = variables_same ds _ (subst (λ (ps : List PartAt). AreVariablesAt ps c.in_ok-all_variables.field-0.items) are c.in_ok-all_variables.ensures);
+      count = rows_count (parts_at ds) rows rows_are ∙ length-map ds part_at;
+      spread_in = rows_hold ds rows rows_are;
+      spreading = subst (λ (table : List (Vec ℕ Global)). Transposed table c.in_ok-spreading.spreading.items) c.deref.ensures.value c.in_ok-spreading.ensures;
+      operations = c.in_ok-are_operations.ensures ∙ ap (λ (ps : List PartAt). operations_at ps) are ∙ operations_same ds;
+    }
