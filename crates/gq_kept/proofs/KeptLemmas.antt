@@ -1,42 +1,78 @@
 -- What is kept of documents, where one is replaced, put in or taken out.
-use Rattle.std.proofs.Common.{◌≡◌, ℕ, List, [], set, Some, None, Option, ◌<◌, ◌≤◌, length, refl, ap, ◌∙◌, arith}
+use Rattle.std.proofs.Common.{◌≡◌, ℕ, Bool, false, List, [], ◌++◌, set, get_or, map, Some, None, Option, IfNone, is_some, ◌<◌, ◌≤◌, length, refl, sym, ap, subst, ◌∙◌, arith}
 use Rattle.std.specs.List.{insert, remove}
 use Rattle.std.specs.List.Sorted.{IsStrictlySortedBy}
-use Rattle.std.proofs.lemmas.List.{length-map}
+use Rattle.std.proofs.lemmas.List.{length-map, map-set, map-append, take-map, drop-map}
 use Rattle.std.proofs.Math.Nat.{ℕ_set}
-use mathlib.Core.Logic.{∥∥₁_map, ∥∥₁_elim}
+use mathlib.Core.Logic.{∥∥₁_map, ∥∥₁_elim, ∥∥₁_prop}
 use Rattle.gq_project.specs.declared.document.Doc.{Doc}
 use Rattle.gq_project.specs.Documents.{with_doc, without}
 use Rattle.gq_project.specs.Helping.Places.{IsPlaceOf, IsGapFor}
-use Rattle.gq_tree.specs.Readings.{parsed_view, readings_view}
+use Rattle.gq_tree.specs.Readings.{ParsedOf, parsed_view, readings_view}
 use Rattle.gq_tree.specs.declared.parsed.Parsed.{Parsed}
 use Rattle.gq_parse.specs.Parsed.{IsParsed, AreParsed}
+use Rattle.gq_types.specs.BuiltIn.{built_in}
+use Rattle.gq_types.specs.Entries.{EntryOf}
 use Rattle.gq_types.specs.Look.{types_view}
+use Rattle.gq_document.specs.Definitions.{entries_of}
+use Rattle.gq_law_files.specs.Laws.{AreOneTypeSystem}
 use Rattle.gq_index.specs.declared.index.Index.{Index}
-use Rattle.gq_index.specs.Indexed.{IsIndexOf}
-use Rattle.gq_index.specs.Occurrences.{executables}
+use Rattle.gq_index.specs.Indexed.{IsIndexOfProject}
 use Rattle.gq_known.specs.Known.{AreKnown}
 use Rattle.gq_rules.specs.Validity.{IsReportOf, IsValid}
 use Rattle.gq_kept.specs.declared.typed.Typed.{Typed}
 use Rattle.gq_kept.specs.Helping.Facts.{AreKept}
-use Rattle.gq_kept.specs.Helping.TypesOf.{AreTypesOf}
-use Rattle.gq_kept.proofs.Parallel.{as_many}
+use Rattle.gq_kept.specs.Helping.Own.{AreOwn}
+use Rattle.gq_kept.specs.Helping.Own as owning
+use Rattle.gq_kept.specs.Helping.TypesOf.{AreTypesOf, IsOneTypeSystem, types_defined}
+use Rattle.gq_index.proofs.Parallel.{as_many}
 use Rattle.gq_kept.proofs.KnownLemmas.{types_known, replaced, inserted, removed}
+use Rattle.gq_kept.proofs.OwnLemmas.{Own}
+use Rattle.gq_kept.proofs.TypesLemmas.{system_inserted, system_removed}
 
 -- with no index
-kept_by : (documents : List Doc) (readings : List Parsed) (typed : Typed) → ∥ AreKnown documents readings (types_view typed.types) typed.has_schema ∥₁ → AreKept documents readings typed None
-kept_by documents readings typed known = record { known = known; indexed = ∣ tt ∣₁ }
+kept_by : (documents : List Doc) (readings : List Parsed) (typed : Typed) (own : Own) → ∥ AreKnown documents readings (types_view typed.types) typed.has_schema × AreOwn (types_view typed.types) (readings_view readings) own ∥₁ →
+    AreKept documents readings typed own None
+kept_by documents readings typed own both = record { known = ∥∥₁_map both (λ b. b.0); owned = ∥∥₁_map both (λ b. b.1); indexed = ∣ tt ∣₁ }
 
-module _ (documents : List Doc) (readings : List Parsed) (typed : Typed) (index : Option Index) (kept : AreKept documents readings typed index) where
+pub kept_first : (documents told : List Doc) (readings : List Parsed) (typed : Typed) (own : Own) → told ≡ documents → own ≡ [] → AreKnown documents readings (types_view typed.types) typed.has_schema → AreKept told readings typed own None
+kept_first documents told readings typed own same nothing known =
+    let at_first : AreKept documents readings typed [] None = kept_by documents readings typed [] ∣ (known, nothing_owned) ∣₁ in
+    let D : List Doc → Type 0 = λ ds. AreKept ds readings typed [] None in
+    subst (λ (os : Own). AreKept told readings typed os None) (sym nothing) (subst D (sym same) at_first)
+  where
+    nothing_owned : AreOwn (types_view typed.types) (readings_view readings) []
+    nothing_owned = owning.none
+
+pub not_none : {A P : Type 0} (o : Option A) → is_some o ≡ false → IfNone o P → P
+not_none None e p = p
+not_none (Some x) e p = absurd (cc)
+
+-- both at once
+pub both_known : {A B C : Type 0} → ∥ A ∥₁ → ∥ B ∥₁ → (A → B → C) → ∥ C ∥₁
+both_known a b f = ∥∥₁_elim a ∥∥₁_prop (λ x. ∥∥₁_map b (λ y. f x y))
+
+-- the type systems before and after
+systems : (before after : List ParsedOf) (old made : Typed) (changes : Bool) → AreTypesOf before old → AreTypesOf after made → (changes ≡ false → IsOneTypeSystem before after) → changes ≡ false → AreOneTypeSystem (types_view old.types) (types_view made.types)
+systems before after old made changes was is stays e =
+    let D : List EntryOf → List EntryOf → Type 0 = λ es us. AreOneTypeSystem es us in
+    subst (λ (es : List EntryOf). D es (types_view made.types)) (sym was.is_type_system) (subst (λ (us : List EntryOf). D (built_in ++ entries_of before) us) (sym is.is_type_system) (stays e))
+
+module _ (documents : List Doc) (readings : List Parsed) (typed : Typed) (own : Own) (index : Option Index) (kept : AreKept documents readings typed own index) where
   -- as many readings as documents
   pub kept_count : length documents ≡ length readings
   kept_count = ∥∥₁_elim kept.known (ℕ_set _ _) (λ known. as_many known.are_readings ∙ length-map readings parsed_view)
 
-  pub kept_indexed : (made : Index) → IsIndexOf (executables (readings_view readings)) made → AreKept documents readings typed (Some made)
-  kept_indexed made is = record {
+  pub kept_indexed : (made : Index) → (AreParsed documents (readings_view readings) → IsIndexOfProject documents made) → AreKept documents readings typed own (Some made)
+  kept_indexed made of = record {
     known = kept.known;
-    indexed = ∥∥₁_map kept.known (λ known. record { definitions = executables (readings_view readings); of_documents = record { readings = readings_view readings; are_readings = known.are_readings; is = refl }; is_index = is });
+    owned = kept.owned;
+    indexed = ∥∥₁_map kept.known (λ known. of known.are_readings);
   }
+
+  -- more is known of the files each by itself
+  pub kept_owned : (others : Own) → (AreOwn (types_view typed.types) (readings_view readings) own → AreOwn (types_view typed.types) (readings_view readings) others) → AreKept documents readings typed others index
+  kept_owned others goes_on = record { known = kept.known; owned = ∥∥₁_map kept.owned goes_on; indexed = kept.indexed }
 
   -- the documents as they are told of and lent, and the readings as they are given
   module _ (told lent : List Doc) (given : List Parsed) (is_told : documents ≡ told) (is_lent : lent ≡ documents) (is_given : given ≡ readings) where
@@ -52,26 +88,46 @@ module _ (documents : List Doc) (readings : List Parsed) (typed : Typed) (index 
     parsed_given : AreParsed documents (readings_view readings) → AreParsed lent (readings_view given)
     parsed_given are = rw (is_lent, is_given) are
 
-    pub kept_replaced : (at : ℕ) (doc : Doc) (reading : Parsed) (made : Typed) → IsPlaceOf (λ d. d.key) doc.key told at → IsParsed doc.text (parsed_view reading)
-        → (AreParsed lent (readings_view given) → AreTypesOf (readings_view given) typed → AreTypesOf (set (readings_view given) at (parsed_view reading)) made) → AreKept (with_doc documents doc) (set readings at reading) made None
-    kept_replaced at doc reading made place parsed types =
-        kept_by _ _ _ (∥∥₁_map kept.known (λ known.
-        let are : AreTypesOf (set (readings_view given) at (parsed_view reading)) made = types (parsed_given known.are_readings) (rw is_given (types_known documents readings typed known)) in
-        replaced documents readings typed known at doc reading made (rw is_told place) parsed (rw (← is_given) are)))
+    pub kept_replaced : (at : ℕ) (doc : Doc) (reading : Parsed) (made : Typed) (left : Own) (changes : Bool) → IsPlaceOf (λ d. d.key) doc.key told at → IsParsed doc.text (parsed_view reading)
+        → (AreParsed lent (readings_view given) → AreTypesOf (readings_view given) typed → AreTypesOf (set (readings_view given) at (parsed_view reading)) made)
+        → (changes ≡ false → IsOneTypeSystem (readings_view given) (set (readings_view given) at (parsed_view reading)))
+        → ((es us : List EntryOf) (rs : List ParsedOf) (r : ParsedOf) → (changes ≡ false → AreOneTypeSystem es us) → AreOwn es rs own → AreOwn us (set rs at r) left)
+        → AreKept (with_doc documents doc) (set readings at reading) made left None
+    kept_replaced at doc reading made left changes place parsed types stays forgets =
+        kept_by _ _ _ left (both_known kept.known kept.owned (λ known owned.
+        let was : AreTypesOf (readings_view given) typed = rw is_given (types_known documents readings typed known) in
+        let are : AreTypesOf (set (readings_view given) at (parsed_view reading)) made = types (parsed_given known.are_readings) was in
+        let one = systems (readings_view given) (set (readings_view given) at (parsed_view reading)) typed made changes was are stays in
+        let there : AreOwn (types_view made.types) (set (readings_view readings) at (parsed_view reading)) left = forgets (types_view typed.types) (types_view made.types) (readings_view readings) (parsed_view reading) one owned in
+        (replaced documents readings typed known at doc reading made (rw is_told place) parsed (rw (← is_given) are), rw map-set there)))
 
-    pub kept_inserted : (at : ℕ) (doc : Doc) (reading : Parsed) (made : Typed) → IsGapFor (λ d. d.key) doc.key told at → IsParsed doc.text (parsed_view reading)
-        → (AreParsed lent (readings_view given) → AreTypesOf (insert (readings_view given) at (parsed_view reading)) made) → AreKept (with_doc documents doc) (insert readings at reading) made None
-    kept_inserted at doc reading made gap parsed types =
-        kept_by _ _ _ (∥∥₁_map kept.known (λ known.
+    pub kept_inserted : (at : ℕ) (doc : Doc) (reading : Parsed) (made : Typed) (left : Own) (changes : Bool) → IsGapFor (λ d. d.key) doc.key told at → IsParsed doc.text (parsed_view reading)
+        → (AreParsed lent (readings_view given) → AreTypesOf (insert (readings_view given) at (parsed_view reading)) made)
+        → (changes ≡ false → types_defined (parsed_view reading) ≡ [])
+        → ((es us : List EntryOf) (rs : List ParsedOf) (r : ParsedOf) → (changes ≡ false → AreOneTypeSystem es us) → AreOwn es rs own → AreOwn us (insert rs at r) left)
+        → AreKept (with_doc documents doc) (insert readings at reading) made left None
+    kept_inserted at doc reading made left changes gap parsed types defines opens =
+        kept_by _ _ _ left (both_known kept.known kept.owned (λ known owned.
+        let was : AreTypesOf (readings_view given) typed = rw is_given (types_known documents readings typed known) in
         let are : AreTypesOf (insert (readings_view given) at (parsed_view reading)) made = types (parsed_given known.are_readings) in
-        inserted documents readings typed known at doc reading made (rw is_told gap) parsed (rw (← is_given) are)))
+        let one = systems (readings_view given) (insert (readings_view given) at (parsed_view reading)) typed made changes was are (λ e. system_inserted (readings_view given) at (parsed_view reading) (defines e)) in
+        let there : AreOwn (types_view made.types) (insert (readings_view readings) at (parsed_view reading)) left = opens (types_view typed.types) (types_view made.types) (readings_view readings) (parsed_view reading) one owned in
+        let same : readings_view (insert readings at reading) ≡ insert (readings_view readings) at (parsed_view reading) = simp (map-append, take-map, drop-map) in
+        (inserted documents readings typed known at doc reading made (rw is_told gap) parsed (rw (← is_given) are), rw same there)))
 
-    pub kept_removed : (at : ℕ) (key : List ℕ) (made : Typed) → IsPlaceOf (λ d. d.key) key told at
-        → (AreParsed lent (readings_view given) → AreTypesOf (remove (readings_view given) at) made) → AreKept (without documents key) (remove readings at) made None
-    kept_removed at key made place types =
-        kept_by _ _ _ (∥∥₁_map kept.known (λ known.
+    pub kept_removed : (at : ℕ) (key : List ℕ) (made : Typed) (left : Own) (changes : Bool) → IsPlaceOf (λ d. d.key) key told at
+        → (AreParsed lent (readings_view given) → AreTypesOf (remove (readings_view given) at) made)
+        → (changes ≡ false → get_or (map types_defined (readings_view given)) at [] ≡ [])
+        → ((es us : List EntryOf) (rs : List ParsedOf) → (changes ≡ false → AreOneTypeSystem es us) → AreOwn es rs own → AreOwn us (remove rs at) left)
+        → AreKept (without documents key) (remove readings at) made left None
+    kept_removed at key made left changes place types defines closes =
+        kept_by _ _ _ left (both_known kept.known kept.owned (λ known owned.
+        let was : AreTypesOf (readings_view given) typed = rw is_given (types_known documents readings typed known) in
         let are : AreTypesOf (remove (readings_view given) at) made = types (parsed_given known.are_readings) in
-        removed documents readings typed known at key made (rw is_told place) (rw (← is_given) are)))
+        let one = systems (readings_view given) (remove (readings_view given) at) typed made changes was are (λ e. system_removed (readings_view given) at (defines e)) in
+        let there : AreOwn (types_view made.types) (remove (readings_view readings) at) left = closes (types_view typed.types) (types_view made.types) (readings_view readings) one owned in
+        let same : readings_view (remove readings at) ≡ remove (readings_view readings) at = simp (map-append, take-map, drop-map) in
+        (removed documents readings typed known at key made (rw is_told place) (rw (← is_given) are), rw same there)))
 
 -- nothing is told of a valid project
 pub report_of_valid : (documents : List Doc) → IsValid documents → IsReportOf documents []

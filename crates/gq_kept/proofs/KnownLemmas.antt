@@ -13,7 +13,7 @@ use Rattle.gq_types.specs.Look.{types_view}
 use Rattle.gq_known.specs.Known.{AreKnown}
 use Rattle.gq_kept.specs.declared.typed.Typed.{Typed}
 use Rattle.gq_kept.specs.Helping.TypesOf.{AreTypesOf}
-use Rattle.gq_kept.proofs.Parallel.{set_both, insert_both, remove_both}
+use Rattle.gq_index.proofs.Parallel.{set_both, insert_both, remove_both}
 
 -- documents that are read so, and their type system
 pub known_by : (documents : List Doc) (readings : List Parsed) (made : Typed) → AreParsed documents (readings_view readings) → AreTypesOf (readings_view readings) made → AreKnown documents readings (types_view made.types) made.has_schema

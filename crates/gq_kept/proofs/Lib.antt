@@ -1,6 +1,7 @@
 pub mod Again
 pub mod Brought
+pub mod JudgingLemmas
 pub mod KeptLemmas
 pub mod KnownLemmas
-pub mod Parallel
+pub mod OwnLemmas
 pub mod TypesLemmas

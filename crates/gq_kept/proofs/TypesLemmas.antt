@@ -2,17 +2,18 @@
 use Rattle.std.proofs.Common.{◌≡◌, ℕ, zero, suc, ◌+◌, List, [], ◌∷◌, ◌++◌, get_or, set, refl, sym, ◌∙◌, ap}
 use Rattle.std.specs.Prelude.{map, flat_map}
 use Rattle.std.specs.List.{enumerate_from, insert, remove}
-use Rattle.std.proofs.lemmas.List.{map-append, map-set, take-map, drop-map}
+use Rattle.std.proofs.lemmas.List.{map-append, map-set}
 use Rattle.std.proofs.Math.ListN.{get_or-map}
 use Rattle.gq_text.specs.declared.place.Span.{Span}
-use Rattle.gq_tree.specs.Plain.{Def, operation, fragment, type_system}
+use Rattle.gq_tree.specs.Plain.{Def, TypeSystemOf, operation, fragment, type_system}
 use Rattle.gq_tree.specs.Readings.{ParsedOf, definitions_read, in_document, parsed_view, readings_view}
 use Rattle.gq_tree.specs.declared.parsed.Parsed.{Parsed}
 use Rattle.gq_types.specs.BuiltIn.{built_in}
 use Rattle.gq_types.specs.Entries.{EntryOf}
 use Rattle.gq_document.specs.Definitions.{entry_in, entries_of}
+use Rattle.gq_index.proofs.Parallel.{map_insert, map_remove}
 use Rattle.gq_kept.specs.declared.typed.Typed.{Typed}
-use Rattle.gq_kept.specs.Helping.TypesOf.{AreTypesOf, types_defined}
+use Rattle.gq_kept.specs.Helping.TypesOf.{AreTypesOf, IsOneTypeSystem, types_defined}
 
 -- the same in another document
 entry_at : ℕ → EntryOf → EntryOf
@@ -54,12 +55,6 @@ same_map f [] i x d e = refl
 same_map {X} {Y} f (y ∷ xs) zero x d e = ap (λ (z : Y). z ∷ map f xs) (sym e)
 same_map {X} {Y} f (y ∷ xs) (suc i) x d e = ap (λ (zs : List Y). f y ∷ zs) (same_map f xs i x d e)
 
-map_insert : {X Y : Type 0} (f : X → Y) (xs : List X) (i : ℕ) (x : X) → map f (insert xs i x) ≡ insert (map f xs) i (f x)
-map_insert f xs i x = simp (map-append, take-map, drop-map)
-
-map_remove : {X Y : Type 0} (f : X → Y) (xs : List X) (i : ℕ) → map f (remove xs i) ≡ remove (map f xs) i
-map_remove f xs i = simp (map-append, take-map, drop-map)
-
 -- one that defines nothing is replaced by another one that does not
 pub types_alike : (readings : List Parsed) (at : ℕ) (old new : Parsed) (made : Typed) → old ≡ get_or readings at old → types_defined (parsed_view old) ≡ [] → types_defined (parsed_view new) ≡ []
     → AreTypesOf (readings_view readings) made → AreTypesOf (set (readings_view readings) at (parsed_view new)) made
@@ -95,3 +90,67 @@ module _ (again readings : List Parsed) (at : ℕ) (made : Typed) (same : map ty
       ∙ map_remove types_defined (readings_view again) at
       ∙ ap (λ (ess : List (List EntryOf)). remove ess at) same
       ∙ sym (map_remove types_defined (readings_view readings) at)) are
+
+-- ---- one type system, whatever the numbers of its documents are
+
+definition_in : EntryOf → TypeSystemOf Span
+definition_in e = e.definition
+
+same_definitions : (n : ℕ) (es : List EntryOf) → map definition_in (map (entry_at n) es) ≡ map definition_in es
+unfolding entry_at definition_in
+same_definitions n [] = refl
+same_definitions n (e ∷ es) = ap (λ (ds : List (TypeSystemOf Span)). e.definition ∷ ds) (same_definitions n es)
+
+definitions_gathered : (n : ℕ) (ess : List (List EntryOf)) → map definition_in (gathered n ess) ≡ flat_map (map definition_in) ess
+unfolding gathered
+definitions_gathered n [] = refl
+definitions_gathered n (es ∷ ess) =
+    map-append definition_in (map (entry_at n) es) (gathered (n + 1) ess)
+    ∙ ap (λ (ds : List (TypeSystemOf Span)). ds ++ map definition_in (gathered (n + 1) ess)) (same_definitions n es)
+    ∙ ap (λ (ds : List (TypeSystemOf Span)). map definition_in es ++ ds) (definitions_gathered (n + 1) ess)
+
+flat_insert : {X Y : Type 0} (f : List X → List Y) → f [] ≡ [] → (xss : List (List X)) (at : ℕ) → flat_map f (insert xss at []) ≡ flat_map f xss
+flat_insert {X} {Y} f e [] zero = ap (λ (ys : List Y). ys ++ []) e
+flat_insert {X} {Y} f e [] (suc at) = ap (λ (ys : List Y). ys ++ []) e
+flat_insert {X} {Y} f e (xs ∷ xss) zero = ap (λ (ys : List Y). ys ++ flat_map f (xs ∷ xss)) e
+flat_insert {X} {Y} f e (xs ∷ xss) (suc at) = ap (λ (ys : List Y). f xs ++ ys) (flat_insert f e xss at)
+
+flat_remove : {X Y : Type 0} (f : List X → List Y) → f [] ≡ [] → (xss : List (List X)) (at : ℕ) → get_or xss at [] ≡ [] → flat_map f (remove xss at) ≡ flat_map f xss
+flat_remove f e [] zero h = refl
+flat_remove f e [] (suc at) h = refl
+flat_remove {X} {Y} f e (xs ∷ xss) zero h = sym (ap (λ (ys : List Y). ys ++ flat_map f xss) (ap f h ∙ e))
+flat_remove {X} {Y} f e (xs ∷ xss) (suc at) h = ap (λ (ys : List Y). f xs ++ ys) (flat_remove f e xss at h)
+
+system_of : (rs : List ParsedOf) → map definition_in (built_in ++ entries_of rs) ≡ map definition_in built_in ++ flat_map (map definition_in) (map types_defined rs)
+system_of rs =
+    map-append definition_in built_in (entries_of rs)
+    ∙ ap (λ (es : List EntryOf). map definition_in built_in ++ map definition_in es) (entries_from 0 rs)
+    ∙ ap (λ (ds : List (TypeSystemOf Span)). map definition_in built_in ++ ds) (definitions_gathered 0 (map types_defined rs))
+
+one_system : (rs ss : List ParsedOf) → flat_map (map definition_in) (map types_defined rs) ≡ flat_map (map definition_in) (map types_defined ss) → IsOneTypeSystem rs ss
+unfolding definition_in
+one_system rs ss e = system_of rs ∙ ap (λ (ds : List (TypeSystemOf Span)). map definition_in built_in ++ ds) e ∙ sym (system_of ss)
+
+-- a document that defines nothing is put in, or taken out
+pub system_inserted : (rs : List ParsedOf) (at : ℕ) (r : ParsedOf) → types_defined r ≡ [] → IsOneTypeSystem rs (insert rs at r)
+system_inserted rs at r none =
+    one_system rs (insert rs at r)
+    (sym (ap (flat_map (map definition_in)) (map_insert types_defined rs at r ∙ ap (λ (es : List EntryOf). insert (map types_defined rs) at es) none) ∙ flat_insert (map definition_in) refl (map types_defined rs) at))
+
+pub nothing_at : (readings : List Parsed) (at : ℕ) (r : Parsed) → r ≡ get_or readings at r → types_defined (parsed_view r) ≡ [] → get_or (map types_defined (readings_view readings)) at [] ≡ []
+nothing_at readings at r is none =
+    let there : get_or (readings_view readings) at (parsed_view r) ≡ parsed_view r = get_or-map parsed_view readings at r ∙ ap parsed_view (sym is) in
+    ap (get_or (map types_defined (readings_view readings)) at) (sym none) ∙ get_or-map types_defined (readings_view readings) at (parsed_view r) ∙ ap types_defined there ∙ none
+
+pub system_removed : (rs : List ParsedOf) (at : ℕ) → get_or (map types_defined rs) at [] ≡ [] → IsOneTypeSystem rs (remove rs at)
+system_removed rs at nothing =
+    one_system rs (remove rs at)
+    (sym (ap (flat_map (map definition_in)) (map_remove types_defined rs at) ∙ flat_remove (map definition_in) refl (map types_defined rs) at nothing))
+
+pub system_replaced : (readings : List Parsed) (at : ℕ) (old new : Parsed) → old ≡ get_or readings at old → types_defined (parsed_view old) ≡ [] → types_defined (parsed_view new) ≡ []
+    → IsOneTypeSystem (readings_view readings) (set (readings_view readings) at (parsed_view new))
+system_replaced readings at old new is none none_new =
+    let there : get_or (readings_view readings) at (parsed_view old) ≡ parsed_view old = get_or-map parsed_view readings at old ∙ ap parsed_view (sym is) in
+    let same : types_defined (get_or (readings_view readings) at (parsed_view old)) ≡ types_defined (parsed_view new) = ap types_defined there ∙ none ∙ sym none_new in
+    one_system (readings_view readings) (set (readings_view readings) at (parsed_view new))
+    (ap (flat_map (map definition_in)) (sym (same_map types_defined (readings_view readings) at (parsed_view new) (parsed_view old) same)))

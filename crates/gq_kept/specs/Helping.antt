@@ -2,4 +2,5 @@
 pub mod Facts
 pub mod Gone
 pub mod Judgements
+pub mod Own
 pub mod TypesOf

@@ -7,19 +7,23 @@ ghost use Rattle.gq_project.specs.Documents.{IsInOrder, has_key, with_doc, witho
 ghost use Rattle.gq_project.specs.Helping.Places.{IsPlaceOf, IsGapFor};
 ghost use Rattle.gq_index.specs.Indexed.{IsIndexOfProject};
 ghost use Rattle.gq_known.specs.Known.{IsKnown};
-ghost use Rattle.gq_rules.specs.Validity.{IsReportOf, IsValid};
+ghost use Rattle.gq_rules.specs.Validity.{IsInvalid, IsReportOf, IsValid};
 ghost use Rattle.gq_kept.specs.Helping.Gone.{AreGone, AreDropped, IsPut, ArePut};
 
 use crate::judged::Judged;
+use crate::judging::report_if_any;
+use crate::own::{close_room, forget_at, make_room};
 use crate::places::place_or_gap;
-use crate::typed::{Typed, retype, typed_less, typed_more};
+use crate::typed::{Typed, defines_types_at, retype, typed_less, typed_more};
+use gq_fault::Fault;
 use gq_index::Index;
+use gq_known::learned::defines_types;
 use gq_known::{Known, Learned};
 use gq_parse::reader::read_text;
 use gq_project::{Doc, Project};
 use gq_rules::laws::no_project_is_valid_and_invalid;
-use gq_rules::{Report, Valid, why_not_known};
-use gq_text::{NoMemory, OwnedText};
+use gq_rules::{Report, Valid};
+use gq_text::{Items, NoMemory, OwnedText};
 use gq_tree::Parsed;
 use std::alloc::Global;
 use std::marker::Model;
@@ -33,6 +37,8 @@ pub struct Kept {
     /// What the documents read as, one for each, in their order.
     readings: Vec<Parsed>,
     typed: Typed,
+    /// What rests on each document and the type system alone, where it was looked for.
+    own: Vec<Option<Items<Fault>>>,
     index: Option<Index>,
 }
 
@@ -46,7 +52,7 @@ impl Model for Kept {
 
     ghost view = { λ k. record { documents = k.judged.documents; is_indexed = is_some k.index; is_judged = k.judged.is_judged } };
 
-    ghost invariant = { λ k. AreKept k.judged.documents k.readings.items k.typed k.index };
+    ghost invariant = { λ k. AreKept k.judged.documents k.readings.items k.typed k.own.items k.index };
 }
 
 impl Kept {
@@ -64,6 +70,7 @@ impl Kept {
             judged: Judged::unjudged(copy),
             readings,
             typed: Typed { types, has_schema },
+            own: Vec::new(alloc),
             index: None,
         })
     }
@@ -124,7 +131,7 @@ impl Kept {
         ensures ok { OnOk result (self.new.documents ≡ with_doc self.old.documents doc) }
         ensures err { OnErr result (self.new ≡ self.old) }
     {
-        retype(
+        let changes_types = retype(
             alloc,
             self.judged.project().documents(),
             &self.readings,
@@ -135,6 +142,7 @@ impl Kept {
         )?;
         self.judged.put(alloc, doc)?;
         write_over(&mut self.readings, at, reading);
+        forget_at(&mut self.own, at, changes_types);
         forget(&mut self.index);
         Ok(())
     }
@@ -152,6 +160,7 @@ impl Kept {
         ensures ok { OnOk result (self.new.documents ≡ with_doc self.old.documents doc) }
         ensures err { OnErr result (self.new ≡ self.old) }
     {
+        let changes_types = defines_types(&reading);
         let documents = self.judged.project().documents();
         let made = typed_more(
             alloc,
@@ -171,6 +180,7 @@ impl Kept {
         ) {
             Ok(()) => {
                 settle(&mut self.typed, made);
+                make_room(&mut self.own, at, changes_types);
                 forget(&mut self.index);
                 Ok(())
             }
@@ -196,11 +206,13 @@ impl Kept {
         ensures ok { OnOk result (self.new.documents ≡ without self.old.documents key.now) }
         ensures err { OnErr result (self.new ≡ self.old) }
     {
+        let changes_types = defines_types_at(&self.readings, at);
         let documents = self.judged.project().documents();
         let made = typed_less(alloc, documents, &self.readings, at)?;
         self.judged.take(alloc, key);
         take_out(&mut self.readings, at);
         settle(&mut self.typed, made);
+        close_room(&mut self.own, at, changes_types);
         forget(&mut self.index);
         Ok(())
     }
@@ -256,7 +268,8 @@ impl Kept {
         ensures err { OnErr result (self.new ≡ self.old) }
     {
         if self.index.is_none() {
-            let index = Index::of_readings(alloc, &self.readings)?;
+            let documents = self.judged.project().documents();
+            let index = Index::of_readings(alloc, documents, &self.readings)?;
             self.index = Some(index);
         }
         Ok(())
@@ -270,6 +283,21 @@ impl Kept {
         self.index.as_ref().unwrap()
     }
 
+    /// What is told of the project, if something is.
+    fn told(&mut self, alloc: Global) -> Result<Option<Report>, NoMemory>
+        ensures same { self.new ≡ self.old }
+        ensures valid { IfOk result (λ report. ∥ IfNone report (IsValid self.old.documents) ∥₁) }
+        ensures invalid { IfOk result (λ report. ∥ IfSome report (λ r. IsReportOf self.old.documents r.found.items × IsInvalid self.old.documents) ∥₁) }
+    {
+        let known = Known {
+            project: self.judged.project(),
+            readings: &self.readings,
+            types: &self.typed.types,
+            has_schema: self.typed.has_schema,
+        };
+        report_if_any(alloc, known, &mut self.own)
+    }
+
     /// The report on the project, which is then judged.
     pub fn report(&mut self, alloc: Global) -> Result<Report, NoMemory>
         ensures report { IfOk result (λ report. ∥ IsReportOf self.old.documents report.found.items ∥₁) }
@@ -277,7 +305,7 @@ impl Kept {
         ensures err { OnErr result (self.new ≡ self.old) }
     {
         no_project_is_valid_and_invalid();
-        match why_not_known(alloc, self.known())? {
+        match self.told(alloc)? {
             Some(report) => {
                 self.judged.set_invalid(alloc);
                 Ok(report)
@@ -298,6 +326,19 @@ impl Kept {
     {
         if !self.judged.is_judged() {
             let _ = self.report(alloc)?;
+        }
+        Ok(())
+    }
+
+    /// Finds out whether the project is valid, and makes its index where it is, as refactorings want it.
+    pub fn study(&mut self, alloc: Global) -> Result<(), NoMemory>
+        ensures documents { self.new.documents ≡ self.old.documents }
+        ensures judged { OnOk result (self.new.is_judged ≡ true) }
+        ensures indexed { OnOk result (∥ IsValid self.old.documents ∥₁ → self.new.is_indexed ≡ true) }
+    {
+        self.judge(alloc)?;
+        if self.valid().is_some() {
+            self.make_index(alloc)?;
         }
         Ok(())
     }

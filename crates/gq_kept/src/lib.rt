@@ -2,7 +2,9 @@
 #![tactic(auto)]
 
 mod judged;
+mod judging;
 pub mod kept;
+mod own;
 mod places;
 mod typed;
 

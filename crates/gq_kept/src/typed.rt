@@ -1,10 +1,10 @@
 //! The type system of documents, made anew where one of them changes.
-ghost use Rattle.std.specs.Prelude.{◌≡◌, ◌<◌, ◌≤◌, [], false, ℕ, IfOk, OnOk, OnErr, length, map, remove, slice_set};
+ghost use Rattle.std.specs.Prelude.{◌≡◌, ◌<◌, ◌≤◌, [], false, ℕ, IfOk, OnOk, OnErr, length, map, remove, slice_index_or, slice_set};
 ghost use Rattle.std.specs.List.{insert};
 ghost use Rattle.gq_tree.specs.Readings.{in_document, parsed_view, readings_view};
 ghost use Rattle.gq_parse.specs.Parsed.{AreParsed, IsParsed};
 ghost use Rattle.gq_document.specs.Definitions.{entry_in, entries_of};
-ghost use Rattle.gq_kept.specs.Helping.TypesOf.{AreTypesOf, types_defined};
+ghost use Rattle.gq_kept.specs.Helping.TypesOf.{AreTypesOf, IsOneTypeSystem, types_defined};
 
 use gq_document::take_entries;
 use gq_known::learned::defines_types;
@@ -64,8 +64,8 @@ fn types_read(
     Ok(all)
 }
 
-/// Makes the type system that of documents of which the one at that place is replaced by this text, which reads so. Where
-/// neither defines types, it stays as it is.
+/// Makes the type system that of documents of which the one at that place is replaced by this text, which reads so, and
+/// answers whether one of the two defines types. Where neither does, it stays as it is.
 pub(crate) fn retype(
     alloc: Global,
     documents: &[Doc],
@@ -74,18 +74,19 @@ pub(crate) fn retype(
     text: &str,
     reading: &Parsed,
     typed: &mut Typed,
-) -> Result<(), NoMemory>
+) -> Result<bool, NoMemory>
     requires count { length documents.now ≡ length readings.now }
     requires in_range { at < length readings.now }
-    ensures ok { OnOk result (AreParsed documents.now (readings_view readings.now) → IsParsed text.now (parsed_view reading.now) →
+    ensures ok { IfOk result (λ changes. AreParsed documents.now (readings_view readings.now) → IsParsed text.now (parsed_view reading.now) →
         AreTypesOf (readings_view readings.now) typed.old → AreTypesOf (slice_set (readings_view readings.now) at (parsed_view reading.now)) typed.new) }
+    ensures stays { IfOk result (λ changes. changes ≡ false → IsOneTypeSystem (readings_view readings.now) (slice_set (readings_view readings.now) at (parsed_view reading.now))) }
     ensures err { OnErr result (typed.new ≡ typed.old) }
 {
     if !defines_types(reading) && !defines_types(&readings[at]) {
-        return Ok(());
+        return Ok(false);
     }
     *typed = typed_with(alloc, documents, readings, at, text, reading)?;
-    Ok(())
+    Ok(true)
 }
 
 /// The type system, where the document at that place is replaced by this text, which reads so.
@@ -145,4 +146,12 @@ pub(crate) fn typed_less(
     let _ = again.remove(at);
     let made = made_of(alloc, again)?;
     Ok(made)
+}
+
+/// Whether the document at that place defines types.
+pub(crate) fn defines_types_at(readings: &[Parsed], at: usize) -> bool
+    requires { at < length readings.now }
+    ensures { result ≡ false → slice_index_or (map types_defined (readings_view readings.now)) at [] ≡ [] }
+{
+    defines_types(&readings[at])
 }

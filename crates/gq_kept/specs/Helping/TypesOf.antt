@@ -6,6 +6,7 @@ use Rattle.gq_types.specs.Entries.{EntryOf}
 use Rattle.gq_types.specs.Look.{types_view}
 use Rattle.gq_document.specs.Definitions.{entry_in, entries_of}
 use Rattle.gq_schema.specs.SchemaOf.{HasNoFault}
+use Rattle.gq_law_files.specs.Laws.{AreOneTypeSystem}
 use Rattle.gq_kept.specs.declared.typed.Typed.{Typed}
 
 -- what one document defines, as if it were the first one
@@ -17,3 +18,7 @@ pub record AreTypesOf (readings : List ParsedOf) (made : Typed) : Type 0 where
   pub is_type_system : types_view made.types ≡ built_in ++ entries_of readings
   pub sound : made.has_schema ≡ true → HasNoFault (types_view made.types)
   pub faulty : made.has_schema ≡ false → HasNoFault (types_view made.types) → ⊥
+
+-- both define the same of the type system, whatever the numbers of their documents are
+abbrev pub IsOneTypeSystem : List ParsedOf → List ParsedOf → Type 0
+IsOneTypeSystem readings others = AreOneTypeSystem (built_in ++ entries_of readings) (built_in ++ entries_of others)

@@ -2,7 +2,7 @@
 use Rattle.std.proofs.Common.{◌≡◌, true, List, ap, ◌∙◌, is_ok, rules}
 use Rattle.std.specs.List.{remove}
 use Rattle.gq_tree.specs.declared.parsed.Parsed.{Parsed}
-use Rattle.gq_kept.proofs.Parallel.{remove_insert}
+use Rattle.gq_index.proofs.Parallel.{remove_insert}
 use Rattle.gq_kept.proofs.kept.put_in.Goals as goal
 
 pub returns-then-is_err-2-clause-same_readings : goal.returns-then-is_err-2-clause-same_readings

@@ -6,19 +6,20 @@ use Rattle.gq_kept.proofs.KeptLemmas.{count_given, given_in_range, kept_replaced
 use Rattle.gq_kept.proofs.kept.Kept.replace_at.Goals as goal
 
 pub retype-requires-clause-count : goal.retype-requires-clause-count
-retype-requires-clause-count c = count_given _ _ _ _ c.self.invariant c.args.self.now.documents c.documents.result.now c.deref.result.now (ap (λ (k : KeptOf). k.documents) c.self.view_is) (c.documents.ensures.all ∙ c.project.ensures) c.deref.ensures.value
+retype-requires-clause-count c = count_given _ _ _ _ _ c.self.invariant c.args.self.now.documents c.documents.result.now c.deref.result.now (ap (λ (k : KeptOf). k.documents) c.self.view_is) (c.documents.ensures.all ∙ c.project.ensures) c.deref.ensures.value
 
 pub retype-requires-clause-in_range : goal.retype-requires-clause-in_range
-retype-requires-clause-in_range c = rw c.deref.ensures.value (given_in_range _ _ _ _ c.self.invariant c.args.self.now.documents c.documents.result.now c.deref.result.now (ap (λ (k : KeptOf). k.documents) c.self.view_is) (c.documents.ensures.all ∙ c.project.ensures) c.deref.ensures.value c.args.at c.args.doc.key c.requires.place)
+retype-requires-clause-in_range c = rw c.deref.ensures.value (given_in_range _ _ _ _ _ c.self.invariant c.args.self.now.documents c.documents.result.now c.deref.result.now (ap (λ (k : KeptOf). k.documents) c.self.view_is) (c.documents.ensures.all ∙ c.project.ensures) c.deref.ensures.value c.args.at c.args.doc.key c.requires.place)
 
 pub invariant_of-self-in_err-put : goal.invariant_of-self-in_err-put
 invariant_of-self-in_err-put c =
     absurd (place_found c.self.inside.judged.documents c.args.doc.key c.args.at (rw (ap (λ (k : KeptOf). k.documents) c.self.view_is) c.requires.place) c.in_err-put.ensures.refused)
 
 pub write_over-requires : goal.write_over-requires
-write_over-requires c = given_in_range _ _ _ _ c.self.invariant c.args.self.now.documents c.documents.result.now c.deref.result.now (ap (λ (k : KeptOf). k.documents) c.self.view_is) (c.documents.ensures.all ∙ c.project.ensures) c.deref.ensures.value c.args.at c.args.doc.key c.requires.place
+write_over-requires c = given_in_range _ _ _ _ _ c.self.invariant c.args.self.now.documents c.documents.result.now c.deref.result.now (ap (λ (k : KeptOf). k.documents) c.self.view_is) (c.documents.ensures.all ∙ c.project.ensures) c.deref.ensures.value c.args.at c.args.doc.key c.requires.place
 
 pub invariant_of-self-2 : goal.invariant_of-self-2
 invariant_of-self-2 c =
     rw (ap (λ (j : JudgedOf). j.documents) c.in_ok-put.ensures.ok, c.write_over.ensures, c.forget.ensures)
-    (kept_replaced _ _ _ _ c.self.invariant c.args.self.now.documents c.documents.result.now c.deref.result.now (ap (λ (k : KeptOf). k.documents) c.self.view_is) (c.documents.ensures.all ∙ c.project.ensures) c.deref.ensures.value c.args.at c.args.doc c.args.reading c.retype.new.typed c.requires.place c.requires.parsed (λ are. c.in_ok-retype.ensures.ok are (rw c.as_str.ensures c.requires.parsed)))
+    (kept_replaced _ _ _ _ _ c.self.invariant c.args.self.now.documents c.documents.result.now c.deref.result.now (ap (λ (k : KeptOf). k.documents) c.self.view_is) (c.documents.ensures.all ∙ c.project.ensures) c.deref.ensures.value c.args.at c.args.doc c.args.reading c.retype.new.typed c.forget_at.new.own.items c.in_ok-changes_types.changes_types
+    c.requires.place c.requires.parsed (λ are. c.in_ok-changes_types.ensures.ok are (rw c.as_str.ensures c.requires.parsed)) c.in_ok-changes_types.ensures.stays c.forget_at.ensures)
