@@ -1,3 +1,4 @@
+pub mod Propositions
 pub mod RunLemmas
 pub mod FragmentCut
 pub mod Constant

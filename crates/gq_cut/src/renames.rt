@@ -27,11 +27,12 @@ pub fn fragment_edit(
     old_name: &str,
     new_name: &str,
 ) -> Result<Edit, NoMemory>
-    requires trees { HaveTrees project.now }
-    requires index { IsIndexOfProject project.now index.now }
+    requires trees { ∥ HaveTrees project.now ∥₁ }
+    requires index { ∥ IsIndexOfProject project.now index.now ∥₁ }
     requires is_name { IsToken kind.Name new_name.now [] }
     requires not_on { new_name.now ≢ codes "on" }
-    ensures { IfOk result (λ edit. (trees : List (List (Def Span))) → AreTrees project.now trees → edit ≡ rename_edits (λ n. fragment_called old_name.now) 0 new_name.now project.now trees) }
+    ensures { IfOk result (λ edit. IsIndexOfProject project.now index.now → (trees : List (List (Def Span))) → AreTrees project.now trees →
+        edit ≡ rename_edits (λ n. fragment_called old_name.now) 0 new_name.now project.now trees) }
 {
     let edits = edits_at(
         alloc,
@@ -52,11 +53,12 @@ pub fn variable_edit(
     old_name: &str,
     new_name: &str,
 ) -> Result<Edit, NoMemory>
-    requires trees { HaveTrees project.now }
-    requires index { IsIndexOfProject project.now index.now }
+    requires trees { ∥ HaveTrees project.now ∥₁ }
+    requires index { ∥ IsIndexOfProject project.now index.now ∥₁ }
     requires ascending { IsStrictlyIncreasing group.now }
     requires is_name { IsToken kind.Name new_name.now [] }
-    ensures { IfOk result (λ edit. (trees : List (List (Def Span))) → AreTrees project.now trees → edit ≡ rename_edits (variable_in group.now old_name.now) 0 new_name.now project.now trees) }
+    ensures { IfOk result (λ edit. IsIndexOfProject project.now index.now → (trees : List (List (Def Span))) → AreTrees project.now trees →
+        edit ≡ rename_edits (variable_in group.now old_name.now) 0 new_name.now project.now trees) }
 {
     let places = group_places(alloc, index, group, old_name)?;
     let edits = edits_at(alloc, project.documents(), &places, new_name)?;

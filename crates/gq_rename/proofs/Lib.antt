@@ -6,9 +6,11 @@ mod Taken
 mod Groups
 mod Naming
 mod Targeting
+pub mod Anew
 mod Standing
 mod PreparedStanding
 mod Answering
+mod Propositions
 mod Offering
 mod Soundness
 mod Responding

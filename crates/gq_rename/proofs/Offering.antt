@@ -1,5 +1,5 @@
 -- The answer to the rename of a target, from what its steps answered.
-use Rattle.std.proofs.Common.{◌≡◌, ◌↔◌, ℕ, ◌<◌, List, length, Option, Some, None, Result, Err, Contains, refl, sym, ap, subst, ◌∙◌, inr, ◌⊎◌}
+use Rattle.std.proofs.Common.{◌≡◌, ◌↔◌, ℕ, ◌<◌, List, length, Option, Some, None, Result, Ok, Err, Contains, refl, sym, ap, subst, ◌∙◌, inr, ◌⊎◌}
 use Rattle.std.specs.Prelude.{find, IfOk}
 use Rattle.std.specs.List.Sorted.{IsStrictlyIncreasing}
 use Rattle.gq_text.specs.declared.place.Span.{Span}
@@ -7,7 +7,7 @@ use Rattle.gq_tree.specs.Plain.{Def}
 use Rattle.gq_project.specs.declared.document.Doc.{Doc}
 use Rattle.gq_project.specs.Documents.{IsInOrder}
 use Rattle.gq_edit.specs.declared.edit.DocumentEdit.{DocumentEdit}
-use Rattle.gq_edit.specs.Edits.{FitDocuments, is_moved}
+use Rattle.gq_edit.specs.Edits.{FitDocuments, after_edit, is_moved}
 use Rattle.gq_tree.specs.Readings.{ParsedOf}
 use Rattle.gq_parse.specs.Parsed.{AreParsed}
 use Rattle.gq_index.specs.declared.index.Index.{Index}
@@ -17,7 +17,7 @@ use Rattle.gq_index.specs.VariableGroups.{VariableGroup}
 use Rattle.gq_renamed.specs.Names.{IsNameText}
 use Rattle.gq_renamed.specs.Renamings.{Renaming, MayName, fragment_called}
 use Rattle.gq_renamed.specs.Projects.{AreTrees, rename_edits}
-use Rattle.gq_cut.specs.Cut.{variable_in}
+use Rattle.gq_cut.specs.Cut.{HaveTrees, variable_in}
 use Rattle.gq_rules.specs.Validity.{IsValid}
 use Rattle.gq_mentions.specs.declared.target.Target.{Target}
 use Rattle.gq_mentions.specs.declared.target.TargetKind.{TargetKind}
@@ -46,12 +46,40 @@ abbrev pub Keeps : List Doc → Target → List ℕ → Result (List DocumentEdi
 Keeps documents t new result = (key : List ℕ) (offset : ℕ) → IsTarget documents key offset t → IfOk result (KeepsTrees documents key offset new)
 
 -- nothing is at the offset
-pub nothing_there : (held documents : List Doc) (rs : List ParsedOf) (key : List ℕ) (offset : ℕ) (new : List ℕ) → held ≡ documents → AreParsed documents rs → ∥ IsValid documents ∥₁ →
+pub nothing_there : (held documents : List Doc) (rs : List ParsedOf) (key : List ℕ) (offset : ℕ) (new : List ℕ) → held ≡ documents → AreParsed held rs → ∥ IsValid documents ∥₁ →
     (AreParsed held rs → None ≡ target_of held rs key offset) → Answer documents key offset new (Err NothingHere)
 nothing_there held documents rs key offset new same are valid none =
     let A : List Doc → Type 0 = λ ds. AreParsed ds rs in
-    let here : target_of documents rs key offset ≡ None = ap (λ (ds : List Doc). target_of ds rs key offset) (sym same) ∙ sym (none (subst A (sym same) are)) in
-    inr (nothing_here documents rs key offset new are valid here)
+    let here : target_of documents rs key offset ≡ None = ap (λ (ds : List Doc). target_of ds rs key offset) (sym same) ∙ sym (none are) in
+    inr (nothing_here documents rs key offset new (subst A same are) valid here)
+
+-- what was found is the target
+pub target_there : (held documents : List Doc) (rs : List ParsedOf) (key : List ℕ) (offset : ℕ) (t : Target) (found : Option Target) → held ≡ documents → AreParsed held rs → found ≡ Some t →
+    (AreParsed held rs → found ≡ target_of held rs key offset) → IsTarget documents key offset t
+target_there held documents rs key offset t found same are is of =
+    let T : List Doc → Type 0 = λ ds. IsTarget ds key offset t in
+    subst T same (record { readings = rs; are_readings = are; here = sym (of are) ∙ is })
+
+-- the documents that are indexed have trees
+pub have_trees : (listed documents : List Doc) (index : Index) → listed ≡ documents → ValidDocumentsAreTrees → ∥ IsValid documents ∥₁ → IsIndexOfProject documents index → HaveTrees listed
+have_trees listed documents index same trees valid i =
+    let H : List Doc → Type 0 = λ ds. HaveTrees ds in
+    subst H (sym same) (record { trees = trees_of i.of_documents.readings; are_trees = trees documents i.of_documents.readings i.of_documents.are_readings valid })
+
+-- the edit that is made fits, and leaves a valid project
+module _ (held documents : List Doc) (is_held : held ≡ documents) (edit : List DocumentEdit) where
+  pub made_fits : (result : Result (List DocumentEdit) Refusal) → IsChecked held edit result → FitDocuments held edit → IfOk result (FitDocuments documents)
+  made_fits (Ok made) checked fit =
+      let F : List Doc → Type 0 = λ ds. FitDocuments ds made in
+      subst F is_held (subst (FitDocuments held) (sym checked.0) fit)
+  made_fits (Err why) checked fit = tt
+
+  pub made_valid : (result : Result (List DocumentEdit) Refusal) → IsChecked held edit result → IfOk result (λ made. ∥ IsValid (after_edit made documents) ∥₁)
+  made_valid (Ok made) checked =
+      let V : List Doc → Type 0 = λ ds. ∥ IsValid (after_edit made ds) ∥₁ in
+      let W : List DocumentEdit → Type 0 = λ es. ∥ IsValid (after_edit es held) ∥₁ in
+      subst V is_held (subst W (sym checked.0) checked.2)
+  made_valid (Err why) checked = tt
 
 module _ (one_list : OneList) (listed documents : List Doc) (same : listed ≡ documents) (index : Index) (i : IsIndexOfProject documents index) (valid : ∥ IsValid documents ∥₁) where
   -- the index, of any reading of the documents
@@ -59,6 +87,9 @@ module _ (one_list : OneList) (listed documents : List Doc) (same : listed ≡ d
   index_of rs are =
       let x : AreExecutables documents (executables rs) = record { readings = rs; are_readings = are; is = refl } in
       subst (λ (ds : List DefinitionOf). IsIndexOf ds index) (one_list documents i.definitions (executables rs) i.of_documents x) i.is_index
+
+  index_listed : IsIndexOfProject listed index
+  index_listed = let I : List Doc → Type 0 = λ ds. IsIndexOfProject ds index in subst I (sym same) i
 
   module _ (t : Target) (new : List ℕ) where
     -- the number of the target's definition is one of the index
@@ -71,7 +102,7 @@ module _ (one_list : OneList) (listed documents : List Doc) (same : listed ≡ d
         inr (name_refused documents w.readings key offset new w.are_readings valid t w.here why (h (executables w.readings) (index_of w.readings w.are_readings) (inside key offset w)))
 
     module _ (trees : ValidDocumentsAreTrees) (sound : RenamesAreSound) (in_order : IsInOrder listed) (utf8 : AreUtf8 listed) (rule : ℕ → Renaming) (is_name : IsNameText new) (may : (n : ℕ) → MayName (rule n) new)
-        (edit : List DocumentEdit) (is : (ts : List (List (Def Span))) → AreTrees listed ts → edit ≡ rename_edits rule 0 new listed ts) where
+        (edit : List DocumentEdit) (is : IsIndexOfProject listed index → (ts : List (List (Def Span))) → AreTrees listed ts → edit ≡ rename_edits rule 0 new listed ts) (held : List Doc) (is_held : held ≡ documents) where
       sound_of : (rs : List ParsedOf) → AreParsed documents rs → IsSound documents rs rule new
       sound_of rs are =
           let O : List Doc → Type 0 = λ ds. IsInOrder ds in
@@ -81,7 +112,7 @@ module _ (one_list : OneList) (listed documents : List Doc) (same : listed ≡ d
       edit_of : (rs : List ParsedOf) → AreParsed documents rs → edit ≡ edits_by rule new documents rs
       edit_of rs are =
           let E : List Doc → Type 0 = λ ds. (ts : List (List (Def Span))) → AreTrees ds ts → edit ≡ rename_edits rule 0 new ds ts in
-          subst E same is (trees_of rs) (trees documents rs are valid)
+          subst E same (is index_listed) (trees_of rs) (trees documents rs are valid)
 
       Rs : List ParsedOf
       Rs = i.of_documents.readings
@@ -90,19 +121,19 @@ module _ (one_list : OneList) (listed documents : List Doc) (same : listed ≡ d
       unfolding Rs
       fit_all = subst (FitDocuments documents) (sym (edit_of Rs i.of_documents.are_readings)) (sound_of Rs i.of_documents.are_readings).fit
 
-      pub fits : FitDocuments listed edit
-      fits = let F : List Doc → Type 0 = λ ds. FitDocuments ds edit in subst F (sym same) fit_all
+      pub fits : FitDocuments held edit
+      fits = let F : List Doc → Type 0 = λ ds. FitDocuments ds edit in subst F (sym is_held) fit_all
 
-      pub stays : find (is_moved listed) edit ≡ None
+      pub stays : find (is_moved held) edit ≡ None
       unfolding Rs
       stays =
           let M : List Doc → Type 0 = λ ds. find (is_moved ds) edit ≡ None in
           let N : List DocumentEdit → Type 0 = λ es. find (is_moved documents) es ≡ None in
-          subst M (sym same) (subst N (sym (edit_of Rs i.of_documents.are_readings)) (sound_of Rs i.of_documents.are_readings).there)
+          subst M (sym is_held) (subst N (sym (edit_of Rs i.of_documents.are_readings)) (sound_of Rs i.of_documents.are_readings).there)
 
-      module _ (changes : (ds : List DefinitionOf) → IsIndexOf ds index → t.definition < length ds → Changes ds t.name.text t.definition t.kind rule) (result : Result (List DocumentEdit) Refusal) (checked : IsChecked listed edit result) where
+      module _ (changes : (ds : List DefinitionOf) → IsIndexOf ds index → t.definition < length ds → Changes ds t.name.text t.definition t.kind rule) (result : Result (List DocumentEdit) Refusal) (checked : IsChecked held edit result) where
         checked_there : IsChecked documents edit result
-        checked_there = let C : List Doc → Type 0 = λ ds. IsChecked ds edit result in subst C same checked
+        checked_there = let C : List Doc → Type 0 = λ ds. IsChecked ds edit result in subst C is_held checked
 
         pub made : ((ds : List DefinitionOf) → IsIndexOf ds index → t.definition < length ds → IsNameRefusal ds t.kind t.name.text t.definition new None) → Answers documents t new result
         made name key offset w =

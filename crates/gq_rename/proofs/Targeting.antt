@@ -42,7 +42,7 @@ found_nowhere documents key offset rs are none =
     let past = no_place (has_key key) documents (sym none) in
     sym (ap (target offset) (read_nowhere key 0 documents rs are past))
 
-as_many : {documents : List Doc} {rs : List ParsedOf} → AreParsed documents rs → length documents ≡ length rs
+pub as_many : {documents : List Doc} {rs : List ParsedOf} → AreParsed documents rs → length documents ≡ length rs
 as_many readings.none = refl
 as_many (readings.more p ps) = let e = as_many ps in omega (arith, e)
 

@@ -14,5 +14,5 @@ pub use gq_mentions::{Target, TargetKind};
 pub use gq_renamed::{is_fragment_name, is_name};
 pub use preparing::{prepare, prepare_by};
 pub use refusal::Refusal;
-pub use renames::{rename, rename_fragment, rename_variable};
+pub use renames::{rename, rename_by, rename_fragment, rename_variable};
 pub use targets::target;

@@ -5,6 +5,7 @@ ghost use Rattle.gq_edit.specs.Edits.{FitDocuments, after_edit};
 ghost use Rattle.gq_index.specs.Indexed.{IsIndexOf, IsIndexOfProject};
 ghost use Rattle.gq_index.specs.Occurrences.{DefinitionOf};
 ghost use Rattle.gq_index.specs.VariableGroups.{VariableGroup};
+ghost use Rattle.gq_known.specs.Known.{IsKnown};
 ghost use Rattle.gq_rules.specs.Validity.{IsValid};
 ghost use Rattle.gq_mentions.specs.declared.target.TargetKind.TheVariants as kind;
 ghost use Rattle.gq_rename.specs.declared.refusal.Refusal.TheVariants as refusal;
@@ -19,6 +20,7 @@ use gq_cut::{fragment_edit, variable_edit};
 use gq_edit::Edit;
 use gq_index::Index;
 use gq_index::laws::documents_have_one_list;
+use gq_known::Known;
 use gq_mentions::Target;
 use gq_rules::Valid;
 use std::alloc::Global;
@@ -27,15 +29,19 @@ use std::alloc::Global;
 pub(crate) fn offer_fragment(
     alloc: Global,
     valid: &Valid,
+    known: Known<'_>,
     index: &Index,
     target: &Target,
     new_name: &str,
 ) -> Result<Edit, Refusal>
-    requires index { IsIndexOfProject valid.now index.now }
+    requires known { ∥ IsKnown known ∥₁ }
+    requires project { known.project.now ≡ valid.now }
+    requires index { ∥ IsIndexOfProject valid.now index.now ∥₁ }
     requires of { target.now.kind ≡ kind.Fragment }
-    ensures answer { (key : List ℕ) (offset : ℕ) → IsTarget valid.now key offset target.now → (result ≡ Err refusal.NoMemory) ⊎ IsRenameAnswer valid.now key offset new_name.now result }
+    ensures answer { IsIndexOfProject valid.now index.now → (key : List ℕ) (offset : ℕ) → IsTarget valid.now key offset target.now →
+        (result ≡ Err refusal.NoMemory) ⊎ IsRenameAnswer valid.now key offset new_name.now result }
     ensures fits { IfOk result (FitDocuments valid.now) }
-    ensures kept { (key : List ℕ) (offset : ℕ) → IsTarget valid.now key offset target.now → IfOk result (KeepsTrees valid.now key offset new_name.now) }
+    ensures kept { IsIndexOfProject valid.now index.now → (key : List ℕ) (offset : ℕ) → IsTarget valid.now key offset target.now → IfOk result (KeepsTrees valid.now key offset new_name.now) }
     ensures valid { IfOk result (λ edit. ∥ IsValid (after_edit edit valid.now) ∥₁) }
 {
     valid_documents_are_trees();
@@ -48,46 +54,54 @@ pub(crate) fn offer_fragment(
         return Err(refusal);
     }
     let edit = fragment_edit(alloc, project, index, old_name, new_name)?;
-    checked(alloc, project, edit)
+    checked(alloc, known, edit)
 }
 
 /// The answer to the rename of a variable that is the target.
 pub(crate) fn offer_variable(
     alloc: Global,
     valid: &Valid,
+    known: Known<'_>,
     index: &Index,
     target: &Target,
     new_name: &str,
 ) -> Result<Edit, Refusal>
-    requires index { IsIndexOfProject valid.now index.now }
+    requires known { ∥ IsKnown known ∥₁ }
+    requires project { known.project.now ≡ valid.now }
+    requires index { ∥ IsIndexOfProject valid.now index.now ∥₁ }
     requires of { target.now.kind ≡ kind.Variable }
-    ensures answer { (key : List ℕ) (offset : ℕ) → IsTarget valid.now key offset target.now → (result ≡ Err refusal.NoMemory) ⊎ IsRenameAnswer valid.now key offset new_name.now result }
+    ensures answer { IsIndexOfProject valid.now index.now → (key : List ℕ) (offset : ℕ) → IsTarget valid.now key offset target.now →
+        (result ≡ Err refusal.NoMemory) ⊎ IsRenameAnswer valid.now key offset new_name.now result }
     ensures fits { IfOk result (FitDocuments valid.now) }
-    ensures kept { (key : List ℕ) (offset : ℕ) → IsTarget valid.now key offset target.now → IfOk result (KeepsTrees valid.now key offset new_name.now) }
+    ensures kept { IsIndexOfProject valid.now index.now → (key : List ℕ) (offset : ℕ) → IsTarget valid.now key offset target.now → IfOk result (KeepsTrees valid.now key offset new_name.now) }
     ensures valid { IfOk result (λ edit. ∥ IsValid (after_edit edit valid.now) ∥₁) }
 {
     let old_name = target.name.text.as_str();
     let group = index.variable_group(alloc, target.definition, old_name)?;
-    offer_group(alloc, valid, index, target, &group, new_name)
+    offer_group(alloc, valid, known, index, target, &group, new_name)
 }
 
 /// The same, with the numbers of the definitions in the variable's group.
 fn offer_group(
     alloc: Global,
     valid: &Valid,
+    known: Known<'_>,
     index: &Index,
     target: &Target,
     group: &[usize],
     new_name: &str,
 ) -> Result<Edit, Refusal>
-    requires index { IsIndexOfProject valid.now index.now }
+    requires known { ∥ IsKnown known ∥₁ }
+    requires project { known.project.now ≡ valid.now }
+    requires index { ∥ IsIndexOfProject valid.now index.now ∥₁ }
     requires of { target.now.kind ≡ kind.Variable }
     requires ascending { IsStrictlyIncreasing group.now }
     requires members { (ds : List DefinitionOf) → IsIndexOf ds index.now → target.now.definition < length ds →
         (n : ℕ) → Contains group.now n ↔ VariableGroup ds target.now.name.text target.now.definition n }
-    ensures answer { (key : List ℕ) (offset : ℕ) → IsTarget valid.now key offset target.now → (result ≡ Err refusal.NoMemory) ⊎ IsRenameAnswer valid.now key offset new_name.now result }
+    ensures answer { IsIndexOfProject valid.now index.now → (key : List ℕ) (offset : ℕ) → IsTarget valid.now key offset target.now →
+        (result ≡ Err refusal.NoMemory) ⊎ IsRenameAnswer valid.now key offset new_name.now result }
     ensures fits { IfOk result (FitDocuments valid.now) }
-    ensures kept { (key : List ℕ) (offset : ℕ) → IsTarget valid.now key offset target.now → IfOk result (KeepsTrees valid.now key offset new_name.now) }
+    ensures kept { IsIndexOfProject valid.now index.now → (key : List ℕ) (offset : ℕ) → IsTarget valid.now key offset target.now → IfOk result (KeepsTrees valid.now key offset new_name.now) }
     ensures valid { IfOk result (λ edit. ∥ IsValid (after_edit edit valid.now) ∥₁) }
 {
     valid_documents_are_trees();
@@ -100,5 +114,5 @@ fn offer_group(
         return Err(refusal);
     }
     let edit = variable_edit(alloc, project, index, group, old_name, new_name)?;
-    checked(alloc, project, edit)
+    checked(alloc, known, edit)
 }

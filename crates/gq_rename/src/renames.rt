@@ -1,9 +1,8 @@
 //! Renames in all documents of a project.
 ghost use Rattle.std.specs.Prelude.{◌≡◌, ◌⊎◌, ℕ, List, Err, IfOk};
-ghost use Rattle.gq_tree.specs.Readings.{readings_view};
-ghost use Rattle.gq_parse.specs.Parsed.{AreParsed};
 ghost use Rattle.gq_edit.specs.Edits.{FitDocuments, after_edit};
 ghost use Rattle.gq_index.specs.Indexed.{IsIndexOfProject};
+ghost use Rattle.gq_known.specs.Known.{IsKnown};
 ghost use Rattle.gq_rules.specs.Validity.{IsValid};
 ghost use Rattle.gq_mentions.specs.declared.target.Target.{Target};
 ghost use Rattle.gq_mentions.specs.declared.target.TargetKind.TheVariants as kind;
@@ -19,10 +18,9 @@ use crate::refusal::Refusal;
 use crate::targets::target_by;
 use gq_edit::Edit;
 use gq_index::Index;
+use gq_known::{Known, Learned};
 use gq_mentions::{Target, TargetKind};
-use gq_parse::read;
 use gq_rules::Valid;
-use gq_tree::Parsed;
 use std::alloc::Global;
 
 /// The edit that gives what the offset means, in bytes of the document of that key, another name: a fragment at its
@@ -46,33 +44,44 @@ pub fn rename(
     ensures responses { IfOk result (KeepsResponses valid.now key.now offset new_name.now) }
     ensures valid { IfOk result (λ edit. ∥ IsValid (after_edit edit valid.now) ∥₁) }
 {
-    renames_keep_responses();
     let project = valid.project();
-    documents_are_texts(project);
-    let readings = read(alloc, project.documents())?;
-    rename_by(alloc, valid, &readings, key, offset, new_name)
+    let learned = Learned::of(alloc, project)?;
+    let index = Index::of_readings(alloc, project.documents(), &learned.readings)?;
+    rename_by(
+        alloc,
+        valid,
+        learned.known(project),
+        &index,
+        key,
+        offset,
+        new_name,
+    )
 }
 
-/// The same of a project whose documents are read so.
-fn rename_by(
+/// The same of a project that is known, and its index. Only the texts that the edit changes are read.
+pub fn rename_by(
     alloc: Global,
     valid: &Valid,
-    readings: &[Parsed],
+    known: Known<'_>,
+    index: &Index,
     key: &str,
     offset: usize,
     new_name: &str,
 ) -> Result<Edit, Refusal>
-    requires { AreParsed valid.now (readings_view readings.now) }
-    ensures answer { (result ≡ Err refusal.NoMemory) ⊎ IsRenameAnswer valid.now key.now offset new_name.now result }
+    requires known { ∥ IsKnown known ∥₁ }
+    requires project { known.project.now ≡ valid.now }
+    requires index { ∥ IsIndexOfProject valid.now index.now ∥₁ }
+    ensures answer { IsKnown known.entry → IsIndexOfProject valid.now index.now → (result ≡ Err refusal.NoMemory) ⊎ IsRenameAnswer valid.now key.now offset new_name.now result }
     ensures fits { IfOk result (FitDocuments valid.now) }
-    ensures kept { IfOk result (KeepsTrees valid.now key.now offset new_name.now) }
+    ensures kept { IsKnown known.entry → IsIndexOfProject valid.now index.now → IfOk result (KeepsTrees valid.now key.now offset new_name.now) }
+    ensures responses { IsKnown known.entry → IsIndexOfProject valid.now index.now → IfOk result (KeepsResponses valid.now key.now offset new_name.now) }
     ensures valid { IfOk result (λ edit. ∥ IsValid (after_edit edit valid.now) ∥₁) }
 {
-    match target_by(alloc, valid.project(), readings, key, offset)? {
-        Some(target) => {
-            let index = Index::of_readings(alloc, readings)?;
-            offer(alloc, valid, &index, &target, new_name)
-        }
+    renames_keep_responses();
+    let project = valid.project();
+    documents_are_texts(project);
+    match target_by(alloc, known.project, known.readings, key, offset)? {
+        Some(target) => offer(alloc, valid, known, index, &target, new_name),
         None => Err(Refusal::NothingHere),
     }
 }
@@ -81,19 +90,23 @@ fn rename_by(
 fn offer(
     alloc: Global,
     valid: &Valid,
+    known: Known<'_>,
     index: &Index,
     target: &Target,
     new_name: &str,
 ) -> Result<Edit, Refusal>
-    requires { IsIndexOfProject valid.now index.now }
-    ensures answer { (key : List ℕ) (offset : ℕ) → IsTarget valid.now key offset target.now → (result ≡ Err refusal.NoMemory) ⊎ IsRenameAnswer valid.now key offset new_name.now result }
+    requires known { ∥ IsKnown known ∥₁ }
+    requires project { known.project.now ≡ valid.now }
+    requires index { ∥ IsIndexOfProject valid.now index.now ∥₁ }
+    ensures answer { IsIndexOfProject valid.now index.now → (key : List ℕ) (offset : ℕ) → IsTarget valid.now key offset target.now →
+        (result ≡ Err refusal.NoMemory) ⊎ IsRenameAnswer valid.now key offset new_name.now result }
     ensures fits { IfOk result (FitDocuments valid.now) }
-    ensures kept { (key : List ℕ) (offset : ℕ) → IsTarget valid.now key offset target.now → IfOk result (KeepsTrees valid.now key offset new_name.now) }
+    ensures kept { IsIndexOfProject valid.now index.now → (key : List ℕ) (offset : ℕ) → IsTarget valid.now key offset target.now → IfOk result (KeepsTrees valid.now key offset new_name.now) }
     ensures valid { IfOk result (λ edit. ∥ IsValid (after_edit edit valid.now) ∥₁) }
 {
     match target.kind {
-        TargetKind::Fragment => offer_fragment(alloc, valid, index, target, new_name),
-        TargetKind::Variable => offer_variable(alloc, valid, index, target, new_name),
+        TargetKind::Fragment => offer_fragment(alloc, valid, known, index, target, new_name),
+        TargetKind::Variable => offer_variable(alloc, valid, known, index, target, new_name),
     }
 }
 

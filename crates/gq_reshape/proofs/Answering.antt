@@ -40,6 +40,10 @@ valid_after documents Refuses IsMade (Ok edits) valid o = ⊎_elim (λ e. absurd
 pub valid_edit : (documents : List Doc) (readings : List ParsedOf) (cut : Cut) (edits : List DocumentEdit) → IsEdit documents readings cut edits → ∥ IsValid (after_edit edits documents) ∥₁
 valid_edit documents readings cut edits h = let V : List DocumentEdit → Type 0 = λ es. ∥ IsValid (after_edit es documents) ∥₁ in subst V (sym h.0) h.1.1
 
+pub valid_after_prop : (documents : List Doc) (result : Result (List DocumentEdit) Refusal) → IsProp (IfOk result (λ edits. ∥ IsValid (after_edit edits documents) ∥₁))
+valid_after_prop documents (Err why) = hlevel
+valid_after_prop documents (Ok edits) = hlevel
+
 -- the same by the refactoring
 pub valid_edit_by : (r : Reshaping) (documents : List Doc) (es : List EntryOf) (readings : List ParsedOf) (ask : RangeAsk) (edits : List DocumentEdit) → IsEditTo r documents es readings ask edits → ∥ IsValid (after_edit edits documents) ∥₁
 valid_edit_by Extract documents es readings ask edits h = valid_edit documents readings (extract_cut h.0) edits h.1

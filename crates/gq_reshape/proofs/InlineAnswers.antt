@@ -12,6 +12,7 @@ use Rattle.gq_project.specs.declared.document.Doc.{Doc}
 use Rattle.gq_edit.specs.declared.edit.DocumentEdit.{DocumentEdit}
 use Rattle.gq_types.specs.Entries.{EntryOf}
 use Rattle.gq_types.specs.Look.{types_view}
+use Rattle.gq_known.specs.Known.{IsKnown}
 use Rattle.gq_types.proofs.Gathered.{found}
 use Rattle.gq_document.specs.Definitions.{FragmentOf, fragments_of}
 use Rattle.gq_document.specs.Selections.{SelectedOf}
@@ -74,31 +75,11 @@ module _ (asked : Asked) (about : IsAbout asked) where
       named : f.name.text ≡ (name_of s.name).text
       named = same_text f.name.text (name_of s.name).text stands.1
 
-      pub home_inside : f.file < length Documents
-      home_inside =
-          let t = fragment_stands Readings f stands.0 in
-          let low = inside (trees_of Readings) f.file t.tree t.is_tree in
-          let a = length-map Readings definitions_read in
-          let b = as_many (are_readings asked about) in
-          omega (arith, low, a, b)
-
-      abbrev pub Home : (home : Doc) × (slice_get Documents f.file ≡ Some home)
-      Home = at_place Documents f.file home_inside
-
       abbrev chosen : SelectedOf
       chosen = record { file = asked.file; parent = of.selected.parent; selection = of.selected.selection }
 
       selects : Selected Readings Types chosen
       selects = selected_asked Types Readings asked.file of.selected (meant_stands is_spread asked.range (sets_of_asked asked) of.selected of.is_meant)
-
-      head_fits : HeadFits asked.document.now.text (spread_head s)
-      head_fits = subst (HeadFits asked.document.now.text) of.is_spread (selection_fits Documents Readings (are_readings asked about) about.utf8 Types chosen selects asked.document.now about.is_document.stands)
-
-      pub directives_fit : DirectivesFit asked.document.now.text 0 Directives
-      directives_fit = head_fits.1
-
-      pub braces_part : (home : Doc) → slice_get Documents f.file ≡ Some home → IsPartOf home.text f.braces
-      braces_part home at = (fragment_fits Documents Readings (are_readings asked about) about.utf8 f stands.0 home at).1
 
       home_executable : SomeExecutable (tree_at Readings f.file)
       home_executable =
@@ -106,16 +87,37 @@ module _ (asked : Asked) (about : IsAbout asked) where
           let some : SomeExecutable t.tree = record { definition = fragment_def f; stands = t.stands; is = tt } in
           subst SomeExecutable (sym (tree_is Readings f.file t.tree t.is_tree)) some
 
-      pub spread_made : NoneIsBoth → (home : Doc) → slice_get Documents f.file ≡ Some home → (goes : Bool) → CanBeMade Documents Readings (inline_at asked.file asked.document.now.text Directives s.span f home.text goes)
-      spread_made apart home at goes =
-          let ranked = (promised apart Documents about.valid Readings (are_readings asked about)).ranked in
-          inline_made Documents Readings asked.file asked.document.now about.is_document.stands (meant_executable Types (tree_at Readings asked.file) is_spread asked.range of.selected of.is_meant) f home at home_executable Directives s.span head_fits.0
-          (fragment_fits Documents Readings (are_readings asked about) about.utf8 f stands.0 home at).0 (fragment_some Documents Readings (are_readings asked about) ranked.0 ranked.1 f stands.0)
-          (λ same. spread_apart Documents Readings (are_readings asked about) ranked.0 ranked.1 f stands.0 Types chosen selects (name_of s.name) Directives s.span of.is_spread named same) goes
+      module _ (known : IsKnown asked.known) where
+        pub home_inside : f.file < length Documents
+        home_inside =
+            let t = fragment_stands Readings f stands.0 in
+            let low = inside (trees_of Readings) f.file t.tree t.is_tree in
+            let a = length-map Readings definitions_read in
+            let b = as_many (are_readings asked about known) in
+            omega (arith, low, a, b)
 
-      pub in_way : (list_any is_in_way Directives || has_directive f.directives) ≡ true → IsOffered Inline asked (Err DirectiveInWay)
-      in_way =
-          offers.in_way Documents Types Readings (ask_of asked) about.valid asked.file asked.document.now about.is_document of.selected of.is_meant (name_of s.name) Directives s.span of.is_spread f of.is_definition Home.0 Home.1
+        abbrev pub Home : (home : Doc) × (slice_get Documents f.file ≡ Some home)
+        Home = at_place Documents f.file home_inside
+
+        head_fits : HeadFits asked.document.now.text (spread_head s)
+        head_fits = subst (HeadFits asked.document.now.text) of.is_spread (selection_fits Documents Readings (are_readings asked about known) about.utf8 Types chosen selects asked.document.now about.is_document.stands)
+
+        pub directives_fit : DirectivesFit asked.document.now.text 0 Directives
+        directives_fit = head_fits.1
+
+        pub braces_part : (home : Doc) → slice_get Documents f.file ≡ Some home → IsPartOf home.text f.braces
+        braces_part home at = (fragment_fits Documents Readings (are_readings asked about known) about.utf8 f stands.0 home at).1
+
+        pub spread_made : NoneIsBoth → (home : Doc) → slice_get Documents f.file ≡ Some home → (goes : Bool) → CanBeMade Documents Readings (inline_at asked.file asked.document.now.text Directives s.span f home.text goes)
+        spread_made apart home at goes =
+            let ranked = (promised apart Documents about.valid Readings (are_readings asked about known)).ranked in
+            inline_made Documents Readings asked.file asked.document.now about.is_document.stands (meant_executable Types (tree_at Readings asked.file) is_spread asked.range of.selected of.is_meant) f home at home_executable Directives s.span head_fits.0
+            (fragment_fits Documents Readings (are_readings asked about known) about.utf8 f stands.0 home at).0 (fragment_some Documents Readings (are_readings asked about known) ranked.0 ranked.1 f stands.0)
+            (λ same. spread_apart Documents Readings (are_readings asked about known) ranked.0 ranked.1 f stands.0 Types chosen selects (name_of s.name) Directives s.span of.is_spread named same) goes
+
+        pub in_way : (list_any is_in_way Directives || has_directive f.directives) ≡ true → IsOffered Inline asked (Err DirectiveInWay)
+        in_way =
+            offers.in_way Documents Types Readings (ask_of asked) about.valid asked.file asked.document.now about.is_document of.selected of.is_meant (name_of s.name) Directives s.span of.is_spread f of.is_definition Home.0 Home.1
 
       pub spread_inlined : IsDirectiveFree Directives f → (home : Doc) → slice_get Documents f.file ≡ Some home → (result : Result (List DocumentEdit) Refusal) →
           IsJudged Documents Readings (inline_at asked.file asked.document.now.text Directives s.span f home.text (is_only_spread Readings (name_of s.name).text)) result → IsOffered Inline asked result

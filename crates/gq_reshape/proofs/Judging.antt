@@ -1,5 +1,5 @@
 -- What the checks of an edit say of its cut.
-use Rattle.std.proofs.Common.{◌≡◌, ℕ, ◌≤◌, List, length, Some, None, Result, Ok, Err, sym, ap, subst, map, find, arith}
+use Rattle.std.proofs.Common.{◌≡◌, ℕ, List, length, Some, None, Result, Ok, Err, sym, ap, subst, map, find, arith}
 use Rattle.std.proofs.lemmas.List.{length-map}
 use Rattle.std.proofs.lemmas.Grind.{not_there}
 use Rattle.gq_text.specs.declared.place.Span.{Span}
@@ -8,7 +8,8 @@ use Rattle.gq_project.specs.declared.document.Doc.{Doc}
 use Rattle.gq_project.specs.Documents.{IsInOrder}
 use Rattle.gq_parse.specs.Derives.{Derives}
 use Rattle.gq_parse.specs.Limits.{PassesLimitAt}
-use Rattle.gq_tree.specs.Readings.{ParsedOf}
+use Rattle.gq_tree.specs.declared.parsed.Parsed.{Parsed}
+use Rattle.gq_tree.specs.Readings.{ParsedOf, parsed_view, readings_view}
 use Rattle.gq_parse.specs.Parsed.{AreParsed}
 use Rattle.gq_edit.specs.declared.edit.DocumentEdit.{DocumentEdit}
 use Rattle.gq_edit.specs.Edits.{FitDocuments, after_edit, is_too_large}
@@ -127,11 +128,11 @@ not_made documents before cut edits TooLarge e h = subst (IsTooLarge documents) 
 not_made documents before cut edits SelfCheck e h = absurd h
 not_made documents before cut edits NoMemory e h = tt
 
--- as many readings before as after
-pub as_many_after : (documents edited : List Doc) (edits : List DocumentEdit) (before after : List ParsedOf) → AreParsed documents before → edited ≡ after_edit edits documents → AreParsed edited after → length before ≤ length after
-as_many_after documents edited edits before after read e read_after =
+-- as many edited documents as readings before
+pub as_many_edited : (documents edited : List Doc) (edits : List DocumentEdit) (before : List Parsed) → AreParsed documents (readings_view before) → edited ≡ after_edit edits documents → length edited ≡ length before
+as_many_edited documents edited edits before read e =
     let a = as_many read in
-    let b = as_many read_after in
+    let b = length-map before parsed_view in
     let c = length-map documents (Rattle.gq_edit.specs.Edits.edited edits) in
     let d = ap length e in
     omega (arith, a, b, c, d)

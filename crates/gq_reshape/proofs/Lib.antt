@@ -36,6 +36,7 @@ pub mod TouchedPlaces
 pub mod Ready
 pub mod TextParts
 pub mod Making
+pub mod Merely
 pub mod Free
 pub mod ExtractAnswers
 pub mod InlineAnswers

@@ -1,5 +1,5 @@
 -- Which edited text passes a limit.
-use Rattle.std.proofs.Common.{◌≡◌, ℕ, zero, suc, ◌+◌, ◌<◌, ◌^◌, Bool, true, false, List, [], ◌∷◌, length, drop, get_or, Option, Some, None, Contains, refl, sym, ap, subst, ◌∙◌, map, find, arith, inl, inr, ⊎_elim}
+use Rattle.std.proofs.Common.{◌≡◌, ℕ, zero, suc, ◌+◌, ◌<◌, ◌^◌, Bool, true, false, List, [], ◌∷◌, length, drop, get_or, slice_get, Option, Some, None, Contains, refl, sym, ap, subst, ◌∙◌, map, find, arith, inl, inr, ⊎_elim}
 use Rattle.std.specs.Prelude.{nat_lt}
 use Rattle.std.specs.Option.{option_map_or}
 use Rattle.std.proofs.lemmas.Bool.Decides.{nat_tests}
@@ -11,8 +11,7 @@ use Rattle.gq_project.specs.declared.document.Doc.{Doc}
 use Rattle.gq_project.specs.Documents.{IsInOrder}
 use Rattle.gq_parse.specs.Derives.{Derives}
 use Rattle.gq_parse.specs.Limits.{PassesLimitAt}
-use Rattle.gq_tree.specs.declared.parsed.Parsed.{Parsed}
-use Rattle.gq_tree.specs.Readings.{ParsedOf, parsed_view, readings_view}
+use Rattle.gq_tree.specs.Readings.{ParsedOf}
 use Rattle.gq_parse.specs.Parsed.{IsParsed, AreParsed}
 use Rattle.gq_parse.specs.Parsed as readings
 use Rattle.gq_types.proofs.Gathered.{nothing_in, cases_cons, found, from_map, to_map}
@@ -30,11 +29,12 @@ pub as_many : {documents : List Doc} {rs : List ParsedOf} → AreParsed document
 as_many readings.none = refl
 as_many (readings.more h hs) = ap suc (as_many hs)
 
-pub reading_at : (documents : List Doc) (rs : List Parsed) → AreParsed documents (readings_view rs) → (i : ℕ) (d : Doc) (r : Parsed) → i < length documents → IsParsed (get_or documents i d).text (parsed_view (get_or rs i r))
-reading_at [] rs p i d r h = absurd (omega (arith, h))
-reading_at (x ∷ documents) [] p i d r h = elim p [ ]
-reading_at (x ∷ documents) (q ∷ rs) (readings.more h hs) zero d r inside = h
-reading_at (x ∷ documents) (q ∷ rs) (readings.more h hs) (suc i) d r inside = reading_at documents rs hs i d r (omega (arith, inside))
+pub reading_at : (documents : List Doc) (rs : List ParsedOf) → AreParsed documents rs → (i : ℕ) (d : Doc) (r : ParsedOf) → i < length documents → d ≡ get_or documents i d → slice_get rs i ≡ Some r → IsParsed d.text r
+reading_at [] rs p i d r inside is at = absurd (omega (arith, inside))
+reading_at (x ∷ documents) [] p i d r inside is at = elim p [ ]
+reading_at (x ∷ documents) (q ∷ rs) (readings.more h hs) zero d r inside is at =
+    let same : q ≡ r = cc in subst (λ (y : Doc). IsParsed y.text r) (sym is) (subst (IsParsed x.text) same h)
+reading_at (x ∷ documents) (q ∷ rs) (readings.more h hs) (suc i) d r inside is at = reading_at documents rs hs i d r (omega (arith, inside)) is at
 
 pub passes_later : (documents : List Doc) (i : ℕ) (d : Doc) → i < length documents → d ≡ get_or documents i d → (PassesSomeLimit d.text → ⊥) → (NonePasses (drop i documents) → NonePasses documents) → NonePasses (drop (i + 1) documents) → NonePasses documents
 passes_later documents i d h is fine so rest =

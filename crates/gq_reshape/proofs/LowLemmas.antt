@@ -1,5 +1,5 @@
 -- What loops over readings and directives come to.
-use Rattle.std.proofs.Common.{◌≡◌, ◌↔◌, ℕ, zero, suc, ◌+◌, ◌-◌, ◌<◌, ◌≤◌, Bool, true, List, [], ◌∷◌, ◌++◌, length, drop, get_or, Option, Some, None, refl, sym, ap, subst, ◌∙◌, map, arith, ◌^◌, find, flat_map, append_assoc, ⊎_elim}
+use Rattle.std.proofs.Common.{◌≡◌, ◌↔◌, ℕ, zero, suc, ◌+◌, ◌-◌, ◌<◌, ◌≤◌, Bool, true, List, [], ◌∷◌, ◌++◌, length, drop, get_or, slice_get, Option, Some, None, refl, sym, ap, subst, ◌∙◌, map, arith, ◌^◌, find, flat_map, append_assoc, ⊎_elim}
 use Rattle.std.specs.Prelude.{slice_range}
 use Rattle.std.specs.List.{enumerate_from}
 use Rattle.std.specs.Option.{option_map, option_or}
@@ -15,7 +15,7 @@ use Rattle.gq_tree.specs.Views.{directive_view}
 use Rattle.gq_parse.specs.Limits.{IsNestedWithin}
 use Rattle.gq_parse.proofs.Nesting.{nested_front}
 use Rattle.gq_tree.specs.declared.parsed.Parsed.{Parsed}
-use Rattle.gq_tree.specs.Readings.{in_document, parsed_view, readings_view}
+use Rattle.gq_tree.specs.Readings.{ParsedOf, in_document, parsed_view, readings_view}
 use Rattle.gq_document.specs.Definitions.{FragmentOf, fragment_in}
 use Rattle.gq_rewritten.specs.Rewrites.{Rewrite}
 use Rattle.gq_law_rewrites.specs.Parts.{DirectivesFit}
@@ -30,42 +30,36 @@ drop_read [] i x h is = absurd (omega (arith, h))
 drop_read (y ∷ ys) zero x h is = ap (λ z. z ∷ ys) (sym is)
 drop_read (y ∷ ys) (suc i) x h is = drop_read ys i x (omega (arith, h)) is
 
--- the readings at one place, and those behind
-module _ (r : Rewrite) (file : ℕ) (before after : List Parsed) (b a : Parsed) (h : file < length before) (few : length before ≤ length after) (b_is : b ≡ get_or before file b) (a_is : a ≡ get_or after file a)
-    (invariant : AreRewrittenFrom r file (readings_view (drop file before)) (readings_view (drop file after)) ↔ AreRewrittenFrom r 0 (readings_view before) (readings_view after)) where
-  Here : Type 0
-  Here = (is_edited r file ≡ true → IsRewrittenAt r file (parsed_view b) (parsed_view a)) × AreRewrittenFrom r (suc file) (readings_view (drop (suc file) before)) (readings_view (drop (suc file) after))
+-- what stands at a place, and what behind it
+drop_at : {X : Type 0} (xs : List X) (i : ℕ) (x : X) → slice_get xs i ≡ Some x → drop i xs ≡ x ∷ drop (suc i) xs
+drop_at [] i x e = absurd (cc)
+drop_at (y ∷ ys) zero x e = let same : y ≡ x = cc in ap (λ z. z ∷ ys) same
+drop_at (y ∷ ys) (suc i) x e = drop_at ys i x e
 
-  here : AreRewrittenFrom r file (readings_view (drop file before)) (readings_view (drop file after)) ≡ Here
+-- the readings at one place, and those behind
+module _ (r : Rewrite) (file : ℕ) (before after : List ParsedOf) (b a : ParsedOf) (b_at : slice_get before file ≡ Some b) (a_at : slice_get after file ≡ Some a)
+    (invariant : AreRewrittenFrom r file (drop file before) (drop file after) ↔ AreRewrittenFrom r 0 before after) where
+  Here : Type 0
+  Here = (is_edited r file ≡ true → IsRewrittenAt r file b a) × AreRewrittenFrom r (suc file) (drop (suc file) before) (drop (suc file) after)
+
+  here : AreRewrittenFrom r file (drop file before) (drop file after) ≡ Here
   unfolding Here
   here =
-      ap (λ (xs : List Parsed). AreRewrittenFrom r file (readings_view xs) (readings_view (drop file after))) (drop_read before file b h b_is)
-      ∙ ap (λ (ys : List Parsed). AreRewrittenFrom r file (readings_view (b ∷ drop (suc file) before)) (readings_view ys)) (drop_read after file a (omega (arith, h, few)) a_is)
+      ap (λ (xs : List ParsedOf). AreRewrittenFrom r file xs (drop file after)) (drop_at before file b b_at)
+      ∙ ap (λ (ys : List ParsedOf). AreRewrittenFrom r file (b ∷ drop (suc file) before) ys) (drop_at after file a a_at)
 
   -- it is not as it should be
-  pub not_here : is_edited r file ≡ true → (IsRewrittenAt r file (parsed_view b) (parsed_view a) → ⊥) → AreRewrittenFrom r 0 (readings_view before) (readings_view after) → ⊥
+  pub not_here : is_edited r file ≡ true → (IsRewrittenAt r file b a → ⊥) → AreRewrittenFrom r 0 before after → ⊥
   unfolding Here
   not_here edited wrong all = wrong ((subst (λ (T : Type 0). T) here (invariant.1 all)).0 edited)
 
   -- it is, or need not be
-  pub behind : (is_edited r file ≡ true → IsRewrittenAt r file (parsed_view b) (parsed_view a)) → AreRewrittenFrom r (file + 1) (readings_view (drop (file + 1) before)) (readings_view (drop (file + 1) after)) ↔ AreRewrittenFrom r 0 (readings_view before) (readings_view after)
+  pub behind : (is_edited r file ≡ true → IsRewrittenAt r file b a) → AreRewrittenFrom r (file + 1) (drop (file + 1) before) (drop (file + 1) after) ↔ AreRewrittenFrom r 0 before after
   unfolding Here
   behind right =
       let more : file + 1 ≡ suc file = omega arith in
-      subst (λ (n : ℕ). AreRewrittenFrom r n (readings_view (drop n before)) (readings_view (drop n after)) ↔ AreRewrittenFrom r 0 (readings_view before) (readings_view after)) (sym more)
+      subst (λ (n : ℕ). AreRewrittenFrom r n (drop n before) (drop n after) ↔ AreRewrittenFrom r 0 before after) (sym more)
       (λ rest. invariant.0 (subst (λ (T : Type 0). T) (sym here) (right, rest)), λ all. (subst (λ (T : Type 0). T) here (invariant.1 all)).1)
-
--- nothing is left
-nothing_left : {X : Type 0} (xs : List X) (n : ℕ) → length xs ≤ n → drop n xs ≡ []
-nothing_left [] zero h = refl
-nothing_left [] (suc n) h = refl
-nothing_left (x ∷ xs) zero h = absurd (omega (arith, h))
-nothing_left (x ∷ xs) (suc n) h = nothing_left xs n (omega (arith, h))
-
-pub all_looked_at : (r : Rewrite) (file : ℕ) (before after : List Parsed) → length before ≤ file → AreRewrittenFrom r file (readings_view (drop file before)) (readings_view (drop file after)) ↔ AreRewrittenFrom r 0 (readings_view before) (readings_view after) → AreRewrittenFrom r 0 (readings_view before) (readings_view after)
-all_looked_at r file before after h invariant =
-    let P : List Parsed → Type 0 = λ xs. AreRewrittenFrom r file (readings_view xs) (readings_view (drop file after)) in
-    invariant.0 (subst P (sym (nothing_left before file h)) tt)
 
 -- the end of the last directive
 last_end : (d : Directive) (ds : List Directive) (last : Directive) → last_directive_end d.span (map directive_view ds) ≡ (get_or (d ∷ ds) (length ds) last).span.end
@@ -135,8 +129,3 @@ bad_passes_nothing text place kind one nothing bad passes =
 pub none_found : (o : Option FragmentIn) → ((f : FragmentIn) → o ≡ Some f → ⊥) → (y : FragmentOf) → option_map fragment_found o ≡ Some y → ⊥
 none_found None never y e = cc
 none_found (Some f) never y e = never f refl
-
-pub get_or_any : {X : Type 0} (xs : List X) (i : ℕ) (d : X) → i < length xs → get_or xs i d ≡ get_or xs i (get_or xs i d)
-get_or_any [] i d h = absurd (omega (arith, h))
-get_or_any (x ∷ xs) zero d h = refl
-get_or_any (x ∷ xs) (suc i) d h = get_or_any xs i d (omega (arith, h))

@@ -10,6 +10,7 @@ use Rattle.gq_edit.specs.declared.edit.DocumentEdit.{DocumentEdit}
 use Rattle.gq_tree.specs.Readings.{ParsedOf, readings_view}
 use Rattle.gq_types.specs.Entries.{EntryOf}
 use Rattle.gq_types.specs.Look.{types_view}
+use Rattle.gq_known.specs.Known.{IsKnown}
 use Rattle.gq_document.specs.Selections.{SelectedOf}
 use Rattle.gq_law_rewrites.specs.Parts.{IsPartOf, HeadFits, between}
 use Rattle.gq_law_rewrites.proofs.Executables.{Selected}
@@ -62,15 +63,16 @@ module _ (asked : Asked) (about : IsAbout asked) where
       selects : Selected Readings Types chosen
       selects = selected_asked Types Readings asked.file of.selected (meant_stands is_inline asked.range (sets_of_asked asked) of.selected of.is_meant)
 
-      head_fits : HeadFits asked.document.now.text (inline_head i)
-      head_fits = subst (HeadFits asked.document.now.text) of.is_inline (selection_fits Documents Readings (are_readings asked about) about.utf8 Types chosen selects asked.document.now about.is_document.stands)
+      module _ (known : IsKnown asked.known) where
+        head_fits : HeadFits asked.document.now.text (inline_head i)
+        head_fits = subst (HeadFits asked.document.now.text) of.is_inline (selection_fits Documents Readings (are_readings asked about known) about.utf8 Types chosen selects asked.document.now about.is_document.stands)
 
-      pub braces_part : IsPartOf asked.document.now.text (between i.set.span)
-      braces_part = head_fits.1
+        pub braces_part : IsPartOf asked.document.now.text (between i.set.span)
+        braces_part = head_fits.1
 
-      pub inline_opened : CanBeMade Documents Readings (remove_at asked.file asked.document.now.text i.span i.set.span)
-      inline_opened =
-          remove_made Documents Readings asked.file asked.document.now about.is_document.stands (meant_executable Types (tree_at Readings asked.file) is_inline asked.range of.selected of.is_meant) i.span i.set.span head_fits.0
+        pub inline_opened : CanBeMade Documents Readings (remove_at asked.file asked.document.now.text i.span i.set.span)
+        inline_opened =
+            remove_made Documents Readings asked.file asked.document.now about.is_document.stands (meant_executable Types (tree_at Readings asked.file) is_inline asked.range of.selected of.is_meant) i.span i.set.span head_fits.0
 
       pub removed : (result : Result (List DocumentEdit) Refusal) → IsJudged Documents Readings (remove_at asked.file asked.document.now.text i.span i.set.span) result → IsOffered Remove asked result
       removed =

@@ -33,8 +33,7 @@ fn tokens_pass_limit(alloc: Global, text: &str) -> Result<bool, NoMemory>
 
 /// Whether the text, which is read so, has too many tokens, or they nest too deep.
 pub(crate) fn passes_limit(alloc: Global, text: &str, reading: &Parsed) -> Result<bool, NoMemory>
-    requires { IsParsed text.now (parsed_view reading.now) }
-    ensures { IfOk result (λ passes. IsTrue passes ↔ PassesSomeLimit text.now) }
+    ensures { IfOk result (λ passes. IsParsed text.now (parsed_view reading.now) → IsTrue passes ↔ PassesSomeLimit text.now) }
 {
     no_tree_past_limits();
     match reading {

@@ -123,7 +123,7 @@ fn extract_run(
 ) -> Result<Edit, Refusal>
     requires about { IsAbout asked }
     requires run { IsRunOn asked place on.now (sels_view run.now) }
-    ensures answer { IsOffered Reshaping.Extract asked.entry result }
+    ensures answer { IsKnown asked.entry.known → IsIndexOfProject asked.entry.valid.now asked.entry.index.now → IsOffered Reshaping.Extract asked.entry result }
     ensures fits { IfOk result (FitDocuments asked.entry.valid.now) }
 {
     one_reading();
@@ -149,7 +149,7 @@ fn extract_run(
 /// The answer to an extract of what the range touches.
 pub(crate) fn extract_range(alloc: Global, asked: Asked<'_>) -> Result<Edit, Refusal>
     requires { IsAbout asked }
-    ensures answer { IsOffered Reshaping.Extract asked.entry result }
+    ensures answer { IsKnown asked.entry.known → IsIndexOfProject asked.entry.valid.now asked.entry.index.now → IsOffered Reshaping.Extract asked.entry result }
     ensures fits { IfOk result (FitDocuments asked.entry.valid.now) }
 {
     one_reading();
@@ -193,12 +193,13 @@ pub fn extract_by(
     key: &str,
     range: Span,
 ) -> Result<Edit, Refusal>
-    requires known { IsKnown known }
+    requires known { ∥ IsKnown known ∥₁ }
     requires project { known.project.now ≡ valid.now }
-    requires index { IsIndexOfProject valid.now index.now }
-    ensures answer { (result ≡ Err refusal.NoMemory) ⊎ IsExtractAnswer valid.now (record { key = key.now; range = range }) result }
+    requires index { ∥ IsIndexOfProject valid.now index.now ∥₁ }
+    ensures answer { IsKnown known.entry → IsIndexOfProject valid.now index.now →
+        (result ≡ Err refusal.NoMemory) ⊎ IsExtractAnswer valid.now (record { key = key.now; range = range }) result }
     ensures fits { IfOk result (FitDocuments valid.now) }
-    ensures responses { IfOk result (KeepsResponses valid.now) }
+    ensures responses { IsKnown known.entry → IsIndexOfProject valid.now index.now → IfOk result (KeepsResponses valid.now) }
     ensures valid { IfOk result (λ edit. ∥ IsValid (after_edit edit valid.now) ∥₁) }
 {
     reshape_by(alloc, Reshaping::Extract, valid, known, index, key, range)

@@ -159,7 +159,7 @@ fn inline_spread(
     requires about { IsAbout asked }
     requires of { IsSpreadOf asked spread.now (fragment_found found.now) }
     requires free { IsDirectiveFree (map directive_view spread.now.directives.items) (fragment_found found.now) }
-    ensures answer { IsOffered Reshaping.Inline asked.entry result }
+    ensures answer { IsKnown asked.entry.known → IsIndexOfProject asked.entry.valid.now asked.entry.index.now → IsOffered Reshaping.Inline asked.entry result }
     ensures fits { IfOk result (FitDocuments asked.entry.valid.now) }
 {
     no_project_is_valid_and_invalid();
@@ -198,7 +198,7 @@ fn as_spread(selection: &Selection) -> &Spread
 /// The answer to an inline of the spread that the range means.
 pub(crate) fn inline_range(alloc: Global, asked: Asked<'_>) -> Result<Edit, Refusal>
     requires { IsAbout asked }
-    ensures answer { IsOffered Reshaping.Inline asked.entry result }
+    ensures answer { IsKnown asked.entry.known → IsIndexOfProject asked.entry.valid.now asked.entry.index.now → IsOffered Reshaping.Inline asked.entry result }
     ensures fits { IfOk result (FitDocuments asked.entry.valid.now) }
 {
     let Some(standing) = meant_in(alloc, asked, SelectionKind::Spread)? else {
@@ -240,12 +240,13 @@ pub fn inline_by(
     key: &str,
     range: Span,
 ) -> Result<Edit, Refusal>
-    requires known { IsKnown known }
+    requires known { ∥ IsKnown known ∥₁ }
     requires project { known.project.now ≡ valid.now }
-    requires index { IsIndexOfProject valid.now index.now }
-    ensures answer { (result ≡ Err refusal.NoMemory) ⊎ IsInlineAnswer valid.now (record { key = key.now; range = range }) result }
+    requires index { ∥ IsIndexOfProject valid.now index.now ∥₁ }
+    ensures answer { IsKnown known.entry → IsIndexOfProject valid.now index.now →
+        (result ≡ Err refusal.NoMemory) ⊎ IsInlineAnswer valid.now (record { key = key.now; range = range }) result }
     ensures fits { IfOk result (FitDocuments valid.now) }
-    ensures responses { IfOk result (KeepsResponses valid.now) }
+    ensures responses { IsKnown known.entry → IsIndexOfProject valid.now index.now → IfOk result (KeepsResponses valid.now) }
     ensures valid { IfOk result (λ edit. ∥ IsValid (after_edit edit valid.now) ∥₁) }
 {
     reshape_by(alloc, Reshaping::Inline, valid, known, index, key, range)

@@ -29,7 +29,7 @@ fn is_free(alloc: Global, index: &Index, number: usize) -> Result<bool, NoMemory
 
 /// The least number from 1 whose name no fragment has.
 pub(crate) fn free_number(alloc: Global, index: &Index) -> Result<usize, NoMemory>
-    requires { (ds : List DefinitionOf) × IsIndexOf ds index.now }
+    requires { ∥ ((ds : List DefinitionOf) × IsIndexOf ds index.now) ∥₁ }
     ensures { IfOk result (λ number. (ds : List DefinitionOf) → IsIndexOf ds index.now → IsLeastFree ds number) }
 {
     // of one number more than there are definitions not all are taken

@@ -1,9 +1,11 @@
 //! Whether edited documents read as they should.
-ghost use Rattle.std.specs.Prelude.{◌≡◌, ◌↔◌, ◌≤◌, length, IfOk, IsTrue};
+ghost use Rattle.std.specs.Prelude.{◌≡◌, ◌↔◌, length, IfOk, IsTrue};
 ghost use Rattle.gq_tree.specs.Readings.{parsed_view, readings_view};
+ghost use Rattle.gq_changed.specs.Changed.{anew_view, mixed};
 ghost use Rattle.gq_rewritten.specs.Views.{rewrite_of};
 ghost use Rattle.gq_reshape.specs.Helping.Rereading.{is_edited, AreReady, AreRewrittenFrom, IsReady, IsRewrittenAt};
 
+use gq_changed::reading_after;
 use gq_rewritten::{Rewrite, reads_as_rewritten};
 use gq_text::NoMemory;
 use gq_tree::Parsed;
@@ -42,19 +44,21 @@ fn is_rewritten(
     reads_as_rewritten(alloc, rewrite, file, before, after)
 }
 
-/// Whether so do all documents in which something may change.
+/// Whether so do all documents in which something may change. This was read anew of them, and they read as before where
+/// nothing was.
 pub(crate) fn are_rewritten(
     alloc: Global,
     rewrite: &Rewrite<'_>,
     before: &[Parsed],
-    after: &[Parsed],
+    anew: &[Option<Parsed>],
 ) -> Result<bool, NoMemory>
-    requires few { length before.now ≤ length after.now }
+    requires count { length anew.now ≡ length before.now }
     requires ready { AreReady (rewrite_of rewrite.now) (readings_view before.now) }
-    ensures { IfOk result (λ yes. IsTrue yes ↔ AreRewrittenFrom (rewrite_of rewrite.now) 0 (readings_view before.now) (readings_view after.now)) }
+    ensures { IfOk result (λ yes. IsTrue yes ↔ AreRewrittenFrom (rewrite_of rewrite.now) 0 (readings_view before.now) (mixed (readings_view before.now) (anew_view anew.now))) }
 {
     for (file, reading) in before.iter().enumerate() {
-        if is_edited(rewrite, file) && !is_rewritten(alloc, rewrite, file, reading, &after[file])? {
+        let after = reading_after(before, anew, file);
+        if is_edited(rewrite, file) && !is_rewritten(alloc, rewrite, file, reading, after)? {
             return Ok(false);
         }
     }

@@ -77,7 +77,7 @@ fn remove_replacements(
 fn open_fragment(alloc: Global, asked: Asked<'_>, inline: &InlineFragment) -> Result<Edit, Refusal>
     requires about { IsAbout asked }
     requires of { IsInlineAsked asked inline.now }
-    ensures answer { IsOffered Reshaping.Remove asked.entry result }
+    ensures answer { IsKnown asked.entry.known → IsIndexOfProject asked.entry.valid.now asked.entry.index.now → IsOffered Reshaping.Remove asked.entry result }
     ensures fits { IfOk result (FitDocuments asked.entry.valid.now) }
 {
     let text = asked.document.text.as_str();
@@ -107,7 +107,7 @@ fn as_inline(selection: &Selection) -> &InlineFragment
 /// The answer to a remove of the inline fragment that the range means.
 pub(crate) fn remove_range(alloc: Global, asked: Asked<'_>) -> Result<Edit, Refusal>
     requires { IsAbout asked }
-    ensures answer { IsOffered Reshaping.Remove asked.entry result }
+    ensures answer { IsKnown asked.entry.known → IsIndexOfProject asked.entry.valid.now asked.entry.index.now → IsOffered Reshaping.Remove asked.entry result }
     ensures fits { IfOk result (FitDocuments asked.entry.valid.now) }
 {
     let Some(standing) = meant_in(alloc, asked, SelectionKind::Inline)? else {
@@ -149,12 +149,13 @@ pub fn remove_redundant_by(
     key: &str,
     range: Span,
 ) -> Result<Edit, Refusal>
-    requires known { IsKnown known }
+    requires known { ∥ IsKnown known ∥₁ }
     requires project { known.project.now ≡ valid.now }
-    requires index { IsIndexOfProject valid.now index.now }
-    ensures answer { (result ≡ Err refusal.NoMemory) ⊎ IsRemoveAnswer valid.now (record { key = key.now; range = range }) result }
+    requires index { ∥ IsIndexOfProject valid.now index.now ∥₁ }
+    ensures answer { IsKnown known.entry → IsIndexOfProject valid.now index.now →
+        (result ≡ Err refusal.NoMemory) ⊎ IsRemoveAnswer valid.now (record { key = key.now; range = range }) result }
     ensures fits { IfOk result (FitDocuments valid.now) }
-    ensures responses { IfOk result (KeepsResponses valid.now) }
+    ensures responses { IsKnown known.entry → IsIndexOfProject valid.now index.now → IfOk result (KeepsResponses valid.now) }
     ensures valid { IfOk result (λ edit. ∥ IsValid (after_edit edit valid.now) ∥₁) }
 {
     reshape_by(alloc, Reshaping::Remove, valid, known, index, key, range)

@@ -39,7 +39,7 @@ pub(crate) enum Reshaping {
 /// The answer to what is asked.
 fn answer(alloc: Global, reshaping: Reshaping, asked: Asked<'_>) -> Result<Edit, Refusal>
     requires { IsAbout asked }
-    ensures answer { IsOffered reshaping asked.entry result }
+    ensures answer { IsKnown asked.entry.known → IsIndexOfProject asked.entry.valid.now asked.entry.index.now → IsOffered reshaping asked.entry result }
     ensures fits { IfOk result (FitDocuments asked.entry.valid.now) }
 {
     match reshaping {
@@ -59,10 +59,11 @@ fn answer_over(
     key: &str,
     range: Span,
 ) -> Result<Edit, Refusal>
-    requires known { IsKnown known }
+    requires known { ∥ IsKnown known ∥₁ }
     requires project { known.project.now ≡ valid.now }
-    requires index { IsIndexOfProject valid.now index.now }
-    ensures answer { IsOfferOver reshaping valid.now (types_view known.entry.types.now) (readings_view known.entry.readings.now) (record { key = key.now; range = range }) result }
+    requires index { ∥ IsIndexOfProject valid.now index.now ∥₁ }
+    ensures answer { IsKnown known.entry → IsIndexOfProject valid.now index.now →
+        IsOfferOver reshaping valid.now (types_view known.entry.types.now) (readings_view known.entry.readings.now) (record { key = key.now; range = range }) result }
     ensures fits { IfOk result (FitDocuments valid.now) }
 {
     let project = valid.project();
@@ -93,12 +94,13 @@ pub(crate) fn reshape_by(
     key: &str,
     range: Span,
 ) -> Result<Edit, Refusal>
-    requires known { IsKnown known }
+    requires known { ∥ IsKnown known ∥₁ }
     requires project { known.project.now ≡ valid.now }
-    requires index { IsIndexOfProject valid.now index.now }
-    ensures answer { (result ≡ Err refusal.NoMemory) ⊎ IsAnswerTo reshaping valid.now (record { key = key.now; range = range }) result }
+    requires index { ∥ IsIndexOfProject valid.now index.now ∥₁ }
+    ensures answer { IsKnown known.entry → IsIndexOfProject valid.now index.now →
+        (result ≡ Err refusal.NoMemory) ⊎ IsAnswerTo reshaping valid.now (record { key = key.now; range = range }) result }
     ensures fits { IfOk result (FitDocuments valid.now) }
-    ensures responses { IfOk result (KeepsResponses valid.now) }
+    ensures responses { IsKnown known.entry → IsIndexOfProject valid.now index.now → IfOk result (KeepsResponses valid.now) }
     ensures valid { IfOk result (λ edit. ∥ IsValid (after_edit edit valid.now) ∥₁) }
 {
     refactorings_keep_responses();
@@ -121,7 +123,7 @@ pub(crate) fn reshape(
 {
     let project = valid.project();
     let learned = Learned::of(alloc, project)?;
-    let index = Index::of_readings(alloc, &learned.readings)?;
+    let index = Index::of_readings(alloc, project.documents(), &learned.readings)?;
     let known = learned.known(project);
     reshape_by(alloc, reshaping, valid, known, &index, key, range)
 }

@@ -26,14 +26,15 @@ use Rattle.gq_reshape.specs.Extract.{HasNoObject, run_at}
 use Rattle.gq_reshape.specs.Inline.{has_directive, is_in_way}
 use Rattle.gq_reshape.specs.Remove.{says_nothing}
 
--- The documents are texts of a valid project, which is known and indexed, and the document is the one of that key.
+-- The documents are texts of a valid project, which is known and indexed, and the document is the one of that key. What is known and the index
+-- are kept from ask to ask; so that an ask can be made of what is kept, they are merely so here, and premises where an answer is told.
 pub record IsAbout (asked : Asked) : Type 0 where
   pub valid : ∥ IsValid asked.valid.now ∥₁
   pub in_order : IsInOrder asked.valid.now
   pub utf8 : AreUtf8 asked.valid.now
-  pub is_known : IsKnown asked.known
+  pub is_known : ∥ IsKnown asked.known ∥₁
   pub is_project : asked.known.project.now ≡ asked.valid.now
-  pub is_index : IsIndexOfProject asked.valid.now asked.index.now
+  pub is_index : ∥ IsIndexOfProject asked.valid.now asked.index.now ∥₁
   pub is_document : IsAskedOf asked.valid.now asked.key.now asked.file asked.document.now
 
 abbrev pub ask_of : Asked → RangeAsk

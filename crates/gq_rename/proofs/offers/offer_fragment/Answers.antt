@@ -1,33 +1,82 @@
 use Rattle.std.proofs.Common.{Some, None, refl}
+use Rattle.std.proofs.Math.Logic.{∥∥₁_elim, ∥∥₁_map}
 use Rattle.gq_renamed.specs.Renamings.{fragment_called}
 use Rattle.gq_mentions.specs.declared.target.TargetKind.TheVariants as kind
-use Rattle.gq_rename.proofs.Offering.{refused, made, kept, fragment_changes, refusal_of}
+use Rattle.gq_rename.proofs.Offering.{refused, have_trees, fits, stays, made, made_fits, made_valid, kept, fragment_changes, refusal_of}
+use Rattle.gq_rename.proofs.Propositions.{FitDocuments-prop, none_there}
 use Rattle.gq_rename.proofs.offers.offer_fragment.Goals as goal
 
 pub returns-in-Some-clause-answer : goal.returns-in-Some-clause-answer
-returns-in-Some-clause-answer c =
+returns-in-Some-clause-answer c i =
     let t = c.args.target.now in
     let new = c.args.new_name.now in
     let old = c.as_str-old_name.result.now in
-    refused c.documents_have_one_list.ensures c.project-project.result.now c.args.valid.now c.project-project.ensures.same c.args.index.now c.requires.index c.project-project.ensures.valid t new c.in-Some.refusal
-    (λ ds is inside. refusal_of ds t kind.Fragment old new (Some c.in-Some.refusal) c.requires.of c.as_str-old_name.ensures (c.in-Some.ensures.refusal ds t.definition is))
+    refused c.documents_have_one_list.ensures c.project-project.result.now c.args.valid.now c.project-project.ensures.same c.args.index.now i c.project-project.ensures.valid t new c.in-Some.refusal
+    (λ ds is inside.
+    refusal_of ds t kind.Fragment old new (Some c.in-Some.refusal) c.requires.of c.as_str-old_name.ensures
+    (c.in-Some.ensures.refusal ds t.definition is))
+
+pub fragment_edit-requires-clause-trees : goal.fragment_edit-requires-clause-trees
+fragment_edit-requires-clause-trees c =
+    ∥∥₁_map c.requires.index
+    (have_trees c.project-project.result.now c.args.valid.now c.args.index.now c.project-project.ensures.same c.valid_documents_are_trees.ensures c.project-project.ensures.valid)
+
+pub checked-requires-clause-fit : goal.checked-requires-clause-fit
+checked-requires-clause-fit c =
+    let t = c.args.target.now in
+    let new = c.args.new_name.now in
+    let old = c.as_str-old_name.result.now in
+    let named = c.in_default.ensures.named refl in
+    ∥∥₁_elim c.requires.index (FitDocuments-prop c.args.known.project.now c.in_ok-edit.edit)
+    (λ i.
+    fits c.documents_have_one_list.ensures c.project-project.result.now c.args.valid.now c.project-project.ensures.same c.args.index.now i c.project-project.ensures.valid t new c.valid_documents_are_trees.ensures c.renames_are_sound.ensures
+    c.documents_are_texts.ensures.in_order c.documents_are_texts.ensures.utf8 (λ n. fragment_called old) named.is_name (λ n text marked. named.not_on) c.in_ok-edit.edit c.in_ok-edit.ensures c.args.known.project.now c.requires.project)
+
+pub checked-requires-clause-there : goal.checked-requires-clause-there
+checked-requires-clause-there c =
+    let t = c.args.target.now in
+    let new = c.args.new_name.now in
+    let old = c.as_str-old_name.result.now in
+    let named = c.in_default.ensures.named refl in
+    none_there _ c.requires.index
+    (λ i.
+    stays c.documents_have_one_list.ensures c.project-project.result.now c.args.valid.now c.project-project.ensures.same c.args.index.now i c.project-project.ensures.valid t new c.valid_documents_are_trees.ensures c.renames_are_sound.ensures
+    c.documents_are_texts.ensures.in_order c.documents_are_texts.ensures.utf8 (λ n. fragment_called old) named.is_name (λ n text marked. named.not_on) c.in_ok-edit.edit c.in_ok-edit.ensures c.args.known.project.now c.requires.project)
 
 pub returns-clause-answer : goal.returns-clause-answer
-returns-clause-answer c =
+returns-clause-answer c i =
     let t = c.args.target.now in
     let new = c.args.new_name.now in
     let old = c.as_str-old_name.result.now in
     let named = c.in_default.ensures.named refl in
-    made c.documents_have_one_list.ensures c.project-project.result.now c.args.valid.now c.project-project.ensures.same c.args.index.now c.requires.index c.project-project.ensures.valid t new c.valid_documents_are_trees.ensures c.renames_are_sound.ensures
-    c.documents_are_texts.ensures.in_order c.documents_are_texts.ensures.utf8 (λ n. fragment_called old) named.is_name (λ n text marked. named.not_on) c.in_ok-edit.edit c.in_ok-edit.ensures
+    made c.documents_have_one_list.ensures c.project-project.result.now c.args.valid.now c.project-project.ensures.same c.args.index.now i c.project-project.ensures.valid t new c.valid_documents_are_trees.ensures c.renames_are_sound.ensures
+    c.documents_are_texts.ensures.in_order c.documents_are_texts.ensures.utf8 (λ n. fragment_called old) named.is_name (λ n text marked. named.not_on) c.in_ok-edit.edit c.in_ok-edit.ensures c.args.known.project.now c.requires.project
     (λ ds is inside. fragment_changes ds t old c.requires.of c.as_str-old_name.ensures) c.checked.result c.checked.ensures
-    (λ ds is inside. refusal_of ds t kind.Fragment old new None c.requires.of c.as_str-old_name.ensures (c.in_default.ensures.refusal ds t.definition is))
+    (λ ds is inside.
+    refusal_of ds t kind.Fragment old new None c.requires.of c.as_str-old_name.ensures
+    (c.in_default.ensures.refusal ds t.definition is))
 
-pub returns-clause-kept : goal.returns-clause-kept
-returns-clause-kept c =
+pub returns-clause-fits : goal.returns-clause-fits
+returns-clause-fits c =
     let t = c.args.target.now in
+    let new = c.args.new_name.now in
     let old = c.as_str-old_name.result.now in
     let named = c.in_default.ensures.named refl in
-    kept c.documents_have_one_list.ensures c.project-project.result.now c.args.valid.now c.project-project.ensures.same c.args.index.now c.requires.index c.project-project.ensures.valid t c.args.new_name.now c.valid_documents_are_trees.ensures
-    c.renames_are_sound.ensures c.documents_are_texts.ensures.in_order c.documents_are_texts.ensures.utf8 (λ n. fragment_called old) named.is_name (λ n text marked. named.not_on) c.in_ok-edit.edit c.in_ok-edit.ensures
+    made_fits c.args.known.project.now c.args.valid.now c.requires.project c.in_ok-edit.edit c.checked.result c.checked.ensures
+    (∥∥₁_elim c.requires.index (FitDocuments-prop c.args.known.project.now c.in_ok-edit.edit)
+    (λ i.
+    fits c.documents_have_one_list.ensures c.project-project.result.now c.args.valid.now c.project-project.ensures.same c.args.index.now i c.project-project.ensures.valid t new c.valid_documents_are_trees.ensures c.renames_are_sound.ensures
+    c.documents_are_texts.ensures.in_order c.documents_are_texts.ensures.utf8 (λ n. fragment_called old) named.is_name (λ n text marked. named.not_on) c.in_ok-edit.edit c.in_ok-edit.ensures c.args.known.project.now c.requires.project))
+
+pub returns-clause-kept : goal.returns-clause-kept
+returns-clause-kept c i =
+    let t = c.args.target.now in
+    let new = c.args.new_name.now in
+    let old = c.as_str-old_name.result.now in
+    let named = c.in_default.ensures.named refl in
+    kept c.documents_have_one_list.ensures c.project-project.result.now c.args.valid.now c.project-project.ensures.same c.args.index.now i c.project-project.ensures.valid t new c.valid_documents_are_trees.ensures c.renames_are_sound.ensures
+    c.documents_are_texts.ensures.in_order c.documents_are_texts.ensures.utf8 (λ n. fragment_called old) named.is_name (λ n text marked. named.not_on) c.in_ok-edit.edit c.in_ok-edit.ensures c.args.known.project.now c.requires.project
     (λ ds is inside. fragment_changes ds t old c.requires.of c.as_str-old_name.ensures) c.checked.result c.checked.ensures
+
+pub returns-clause-valid : goal.returns-clause-valid
+returns-clause-valid c = made_valid c.args.known.project.now c.args.valid.now c.requires.project c.in_ok-edit.edit c.checked.result c.checked.ensures

@@ -11,11 +11,11 @@ use Rattle.gq_reshape.proofs.ExtractAnswers.{is_run, untouched, without_run, wit
 use Rattle.gq_reshape.proofs.extracting.extract_range.Goals as goal
 
 pub returns-in_default-clause-answer : goal.returns-in_default-clause-answer
-returns-in_default-clause-answer c =
+returns-in_default-clause-answer c known index =
     untouched c.args.asked c.requires c.one_reading.ensures c.as_str.result.now c.as_str.ensures (subst (IsTouchedPlace c.as_str.result.now c.args.asked.range) c.in_default.is c.in_ok-place.ensures)
 
 pub returns-in_default-find_run-clause-answer : goal.returns-in_default-find_run-clause-answer
-returns-in_default-find_run-clause-answer c =
+returns-in_default-find_run-clause-answer c known index =
     let a = c.args.asked in
     let T : List ℕ → Type 0 = λ text. Touches text a.range c.in-Some.place in
     let touches = subst T c.as_str.ensures (subst (IsTouchedPlace c.as_str.result.now a.range) c.in-Some.is c.in_ok-place.ensures) in
@@ -34,7 +34,7 @@ extract_run-requires-clause-run c =
     (subst (λ o. IsPossibleParent (types_view a.known.types.now) (text_of run.parent) (text_of o)) c.in-Some-2.is c.in_ok-on.ensures)
 
 pub returns-clause-answer : goal.returns-clause-answer
-returns-clause-answer c =
+returns-clause-answer c known index =
     let a = c.args.asked in
     let run = c.in-Some-find_run.run' in
     let T : List ℕ → Type 0 = λ text. Touches text a.range c.in-Some.place in

@@ -17,12 +17,12 @@ as_spread-spread-requires c =
     meant_is is_spread a.range (sets_of_asked a) (standing_view c.in-Some.standing) (c.in_ok-standing.ensures ∙ ap (option_map standing_view) c.in-Some.is)
 
 pub returns-in_default-clause-answer : goal.returns-in_default-clause-answer
-returns-in_default-clause-answer c =
+returns-in_default-clause-answer c known index =
     let a = c.args.asked in
     none_meant a c.requires (c.in_ok-standing.ensures ∙ ap (option_map standing_view) c.in_default.is)
 
 pub returns-in_default-fragment_called-clause-answer : goal.returns-in_default-fragment_called-clause-answer
-returns-in_default-fragment_called-clause-answer c =
+returns-in_default-fragment_called-clause-answer c known index =
     let a = c.args.asked in
     let s = c.as_spread-spread.result.now in
     no_fragment a c.requires s (standing_view c.in-Some.standing)
@@ -43,11 +43,11 @@ pub inline_spread-requires-clause-free : goal.inline_spread-requires-clause-free
 inline_spread-requires-clause-free c = sym c.is_directive_in_way.ensures ∙ c.if-is_directive_in_way.false
 
 pub returns-then-is_directive_in_way-clause-answer : goal.returns-then-is_directive_in_way-clause-answer
-returns-then-is_directive_in_way-clause-answer c =
+returns-then-is_directive_in_way-clause-answer c known index =
     let a = c.args.asked in
     in_way a c.requires c.as_spread-spread.result.now (fragment_found c.in-Some-fragment_called.found) (record {
       selected = standing_view c.in-Some.standing;
       is_meant = c.in_ok-standing.ensures ∙ ap (option_map standing_view) c.in-Some.is;
       is_spread = c.as_spread-spread.ensures;
       is_definition = ap (λ (text : List ℕ). find (λ f. bytes_eq f.name.text text) (fragments_of (readings_view a.known.readings.now))) (sym c.as_str.ensures) ∙ sym c.in-Some-fragment_called.ensures;
-    }) (sym c.is_directive_in_way.ensures ∙ c.if-is_directive_in_way.true)
+    }) known (sym c.is_directive_in_way.ensures ∙ c.if-is_directive_in_way.true)

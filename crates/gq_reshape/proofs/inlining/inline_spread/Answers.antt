@@ -1,5 +1,7 @@
 use Rattle.std.proofs.Common.{rules, ◌≡◌, ◌∙◌, ◌<◌, ℕ, Bool, List, [], Option, Some, slice_get, length, map, ap, sym, subst}
 use Rattle.std.specs.Option.{option_map}
+use Rattle.std.proofs.Props.{props}
+use Rattle.std.proofs.Math.Logic.{∥∥₁_elim, ∥∥₁_map}
 use Rattle.gq_tree.specs.Readings.{readings_view}
 use Rattle.gq_tree.specs.declared.tree.Selection.{Selection}
 use Rattle.gq_tree.specs.Plain.{erase_all}
@@ -14,26 +16,33 @@ use Rattle.gq_reshape.specs.Helping.Making.{CanBeMade}
 use Rattle.gq_reshape.specs.declared.placed.PlacedReplacement.{PlacedReplacement}
 use Rattle.gq_reshape.proofs.Indexing.{index_is}
 use Rattle.gq_reshape.proofs.InlineAnswers.{Home, home_inside, directives_fit, braces_part, spread_made, spread_inlined}
+use Rattle.gq_reshape.proofs.Merely.{directives_prop, part_prop}
 use Rattle.gq_reshape.proofs.Quiet.{slice_is}
 use Rattle.gq_reshape.proofs.inlining.inline_spread.Goals as goal
 
 pub bounds-documents-found : goal.bounds-documents-found
 bounds-documents-found c =
-    subst (λ (ds : List Doc). c.args.found.now.file < length ds) (sym (c.documents.ensures.all ∙ c.project-project.ensures.same)) (home_inside c.args.asked c.requires.about c.args.spread.now (fragment_found c.args.found.now) c.requires.of)
+    let inside_prop : IsProp (c.args.found.now.file < length c.args.asked.valid.now) = hlevel props in
+    subst (λ (ds : List Doc). c.args.found.now.file < length ds) (sym (c.documents.ensures.all ∙ c.project-project.ensures.same))
+    (∥∥₁_elim c.requires.about.is_known inside_prop (λ known. home_inside c.args.asked c.requires.about c.args.spread.now (fragment_found c.args.found.now) c.requires.of known))
 
 pub offset_bounds-documents-found : goal.offset_bounds-documents-found
 offset_bounds-documents-found c = let below : c.args.found.now.file < length c.documents.result.now = bounds-documents-found c in search rules
 
 pub inline_replacements-requires-clause-directives : goal.inline_replacements-requires-clause-directives
-inline_replacements-requires-clause-directives c = rw c.as_str-text.ensures (directives_fit c.args.asked c.requires.about c.args.spread.now (fragment_found c.args.found.now) c.requires.of)
+inline_replacements-requires-clause-directives c =
+    let a = c.args.asked in
+    let ds = map directive_view c.args.spread.now.directives.items in
+    rw c.as_str-text.ensures (∥∥₁_elim c.requires.about.is_known (directives_prop a.document.now.text 0 ds) (λ known. directives_fit a c.requires.about c.args.spread.now (fragment_found c.args.found.now) c.requires.of known))
 
 pub inline_replacements-requires-clause-braces : goal.inline_replacements-requires-clause-braces
 inline_replacements-requires-clause-braces c =
     let f = fragment_found c.args.found.now in
-    let home = Home c.args.asked c.requires.about c.args.spread.now f c.requires.of in
+    ∥∥₁_elim c.requires.about.is_known (part_prop c.as_str-home.result.now f.braces) (λ known.
+    let home = Home c.args.asked c.requires.about c.args.spread.now f c.requires.of known in
     let listed : slice_get c.documents.result.now f.file ≡ Some home.0 = ap (λ (ds : List Doc). slice_get ds f.file) (c.documents.ensures.all ∙ c.project-project.ensures.same) ∙ home.1 in
     let text : c.as_str-home.result.now ≡ home.0.text = c.as_str-home.ensures ∙ ap (λ (d : Doc). d.text) (slice_is c.documents.result.now f.file home.0 c.index-documents-found.result listed) in
-    rw text (braces_part c.args.asked c.requires.about c.args.spread.now f c.requires.of home.0 home.1)
+    rw text (braces_part c.args.asked c.requires.about c.args.spread.now f c.requires.of known home.0 home.1))
 
 pub checked_edit-requires-clause-made : goal.checked_edit-requires-clause-made
 checked_edit-requires-clause-made c =
@@ -42,7 +51,8 @@ checked_edit-requires-clause-made c =
     let ds = map directive_view c.args.spread.now.directives.items in
     let place = c.args.spread.now.span in
     let goes = c.is_only_spread-goes.result in
-    let home = Home a c.requires.about c.args.spread.now f c.requires.of in
+    ∥∥₁_map c.requires.about.is_known (λ known.
+    let home = Home a c.requires.about c.args.spread.now f c.requires.of known in
     let listed : slice_get c.documents.result.now f.file ≡ Some home.0 = ap (λ (ds : List Doc). slice_get ds f.file) (c.documents.ensures.all ∙ c.project-project.ensures.same) ∙ home.1 in
     let text : c.as_str-home.result.now ≡ home.0.text = c.as_str-home.ensures ∙ ap (λ (d : Doc). d.text) (slice_is c.documents.result.now f.file home.0 c.index-documents-found.result listed) in
     let on = f.on.text in
@@ -52,16 +62,16 @@ checked_edit-requires-clause-made c =
     c.deref-2.ensures.value ∙ c.in_ok-replacements.ensures ∙ ap (λ text. inline_replacements a.file text ds place f c.as_str-home.result.now goes) c.as_str-text.ensures ∙ ap (λ text. inline_replacements a.file a.document.now.text ds place f text goes) text in
     let M : List PlacedReplacement → Rewrite → Type 0 = λ ps r. CanBeMade a.valid.now (readings_view a.known.readings.now) (record { replacements = ps; rewrite = r }) in
     subst (λ (ps : List PlacedReplacement). M ps (made c.as_str-2.result.now c.deref.result.now (option_map dropped_of c.dropped.result))) (sym replacements)
-    (subst (M (inline_replacements a.file a.document.now.text ds place f home.0.text goes)) (sym rewrite) (spread_made a c.requires.about c.args.spread.now f c.requires.of c.no_project_is_valid_and_invalid.ensures home.0 home.1 goes))
+    (subst (M (inline_replacements a.file a.document.now.text ds place f home.0.text goes)) (sym rewrite) (spread_made a c.requires.about c.args.spread.now f c.requires.of known c.no_project_is_valid_and_invalid.ensures home.0 home.1 goes)))
 
 pub returns-clause-answer : goal.returns-clause-answer
-returns-clause-answer c =
+returns-clause-answer c known index =
     let a = c.args.asked in
     let f = fragment_found c.args.found.now in
     let ds = map directive_view c.args.spread.now.directives.items in
     let place = c.args.spread.now.span in
     let goes = c.is_only_spread-goes.result in
-    let home = Home a c.requires.about c.args.spread.now f c.requires.of in
+    let home = Home a c.requires.about c.args.spread.now f c.requires.of known in
     let listed : slice_get c.documents.result.now f.file ≡ Some home.0 = ap (λ (ds : List Doc). slice_get ds f.file) (c.documents.ensures.all ∙ c.project-project.ensures.same) ∙ home.1 in
     let text : c.as_str-home.result.now ≡ home.0.text = c.as_str-home.ensures ∙ ap (λ (d : Doc). d.text) (slice_is c.documents.result.now f.file home.0 c.index-documents-found.result listed) in
     let on = f.on.text in
@@ -70,8 +80,8 @@ returns-clause-answer c =
     let replacements : c.deref-2.result.now ≡ inline_replacements a.file a.document.now.text ds place f home.0.text goes =
     c.deref-2.ensures.value ∙ c.in_ok-replacements.ensures ∙ ap (λ text. inline_replacements a.file text ds place f c.as_str-home.result.now goes) c.as_str-text.ensures ∙ ap (λ text. inline_replacements a.file a.document.now.text ds place f text goes) text in
     let J : List PlacedReplacement → Rewrite → Type 0 = λ ps r. IsJudged a.valid.now (readings_view a.known.readings.now) (record { replacements = ps; rewrite = r }) c.checked_edit.result in
-    let only : goes ≡ is_only_spread (readings_view a.known.readings.now) (name_of c.args.spread.now.name).text = c.is_only_spread-goes.ensures (readings_view a.known.readings.now) (index_is a c.requires.about c.documents_have_one_list.ensures) ∙ ap (is_only_spread (readings_view a.known.readings.now)) c.as_str.ensures in
+    let only : goes ≡ is_only_spread (readings_view a.known.readings.now) (name_of c.args.spread.now.name).text = c.is_only_spread-goes.ensures (readings_view a.known.readings.now) (index_is a c.requires.about known c.documents_have_one_list.ensures index) ∙ ap (is_only_spread (readings_view a.known.readings.now)) c.as_str.ensures in
     let G : Bool → Type 0 = λ b. IsJudged a.valid.now (readings_view a.known.readings.now) (inline_at a.file a.document.now.text ds place f home.0.text b) c.checked_edit.result in
     spread_inlined a c.requires.about c.args.spread.now f c.requires.of c.requires.free home.0 home.1 c.checked_edit.result
     (subst G only (subst (J (inline_replacements a.file a.document.now.text ds place f home.0.text goes)) rewrite
-    (subst (λ (ps : List PlacedReplacement). J ps (made c.as_str-2.result.now c.deref.result.now (option_map dropped_of c.dropped.result))) replacements c.checked_edit.ensures.judged)))
+    (subst (λ (ps : List PlacedReplacement). J ps (made c.as_str-2.result.now c.deref.result.now (option_map dropped_of c.dropped.result))) replacements (c.checked_edit.ensures.judged known))))

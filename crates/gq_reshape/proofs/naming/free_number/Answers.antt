@@ -1,4 +1,5 @@
 use Rattle.std.proofs.Common.{◌≡◌, ◌∙◌, ◌+◌, List, length, ap, arith}
+use Rattle.std.proofs.Math.Logic.{∥∥₁_elim}
 use Rattle.gq_index.specs.declared.occurrence.Occurrence.{Occurrence}
 use Rattle.gq_reshape.proofs.Free.{one_is_free, places_count}
 use Rattle.gq_reshape.proofs.naming.free_number.Goals as goal
@@ -12,8 +13,9 @@ returns-then-branch c ds is = record {
 
 pub unreachable-requires : goal.unreachable-requires
 unreachable-requires c =
-    let ds = c.requires.0 in
-    let count : length c.places.result.now ≡ length ds = ap (λ (os : List Occurrence). length os) (c.places.ensures ds c.requires.1) ∙ places_count ds in
     let few = c.places.type_inv.1 in
     let past = c.loop-before-test.false in
-    one_is_free ds (length c.places.result.now + 1) (omega (arith, count)) (omega (arith, few)) (λ m some low. c.loop-before.invariant ds c.requires.1 m some (omega (arith, past, low)))
+    ∥∥₁_elim c.requires (λ x y. absurd x) (λ indexed.
+    let ds = indexed.0 in
+    let count : length c.places.result.now ≡ length ds = ap (λ (os : List Occurrence). length os) (c.places.ensures ds indexed.1) ∙ places_count ds in
+    one_is_free ds (length c.places.result.now + 1) (omega (arith, count)) (omega (arith, few)) (λ m some low. c.loop-before.invariant ds indexed.1 m some (omega (arith, past, low))))

@@ -13,7 +13,7 @@ as_inline-inline-requires c =
     meant_is is_inline a.range (sets_of_asked a) (standing_view c.in-Some.standing) (c.in_ok-standing.ensures ∙ ap (option_map standing_view) c.in-Some.is)
 
 pub returns-in_default-clause-answer : goal.returns-in_default-clause-answer
-returns-in_default-clause-answer c =
+returns-in_default-clause-answer c known index =
     let a = c.args.asked in
     none_meant a c.requires (c.in_ok-standing.ensures ∙ ap (option_map standing_view) c.in_default.is)
 
@@ -28,7 +28,7 @@ open_fragment-requires-clause-of c =
     }
 
 pub returns-then-not-says_nothing-clause-answer : goal.returns-then-not-says_nothing-clause-answer
-returns-then-not-says_nothing-clause-answer c =
+returns-then-not-says_nothing-clause-answer c known index =
     let a = c.args.asked in
     says_something a c.requires c.as_inline-inline.result.now (standing_view c.in-Some.standing)
     (c.in_ok-standing.ensures ∙ ap (option_map standing_view) c.in-Some.is) c.as_inline-inline.ensures

@@ -28,6 +28,6 @@ answer-requires c =
     }
 
 pub returns-in_default-clause-answer : goal.returns-in_default-clause-answer
-returns-in_default-clause-answer c =
+returns-in_default-clause-answer c known index =
     no_document c.args.reshaping c.args.valid.now (types_view c.args.known.types.now) (readings_view c.args.known.readings.now) (record { key = c.args.key.now; range = c.args.range }) c.project-project.ensures.valid
     (ap (position (has_key c.args.key.now)) (sym c.project-project.ensures.same) ∙ sym c.in_default.ensures)
