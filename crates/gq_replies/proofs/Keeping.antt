@@ -16,6 +16,10 @@ pub by_index : (Tells Indexed : List Doc → Type 0) (K : Type 0) (project there
 by_index Tells Indexed K project there documents same stays known indexed tells =
     ∥∥₁_elim known ∥∥₁_prop (λ k. ∥∥₁_map indexed (λ i. subst Tells (same ∙ stays) (tells k (subst Indexed (sym same) i))))
 
+-- where both are known
+pub by_both : {K I T : Type 0} → ∥ K ∥₁ → ∥ I ∥₁ → (K → I → T) → ∥ T ∥₁
+by_both known indexed tells = ∥∥₁_elim known ∥∥₁_prop (λ k. ∥∥₁_map indexed (λ i. tells k i))
+
 -- the message that tells what is found, or the refusal where memory was refused
 pub replied : {T E : Type 0} (Tells : Outgoing → Type 0) (id : Id) (make : T → Outgoing) (found : Result T E) (result : Result Outgoing E) → IfOk found (λ told. IfOk result (λ response. response ≡ make told))
     → IfErr found (λ why. IfOk result (λ response. response ≡ refused id NoMemory)) → IfOk found (λ told. ∥ Tells (make told) ∥₁) → IfOk result (λ response. ∥ (response ≡ refused id NoMemory) ⊎ Tells response ∥₁)

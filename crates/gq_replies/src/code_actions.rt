@@ -1,25 +1,24 @@
 //! Code actions: the refactorings of selections that a range of a document can have (LSP 3.17, "Code Action Request").
-ghost use Rattle.std.specs.Prelude.{◌≡◌, ◌⊎◌, ◌||◌, true, false, nat_eq, slice_get, Err, IfOk, IfSome, OnOk};
+ghost use Rattle.std.specs.Prelude.{◌≡◌, ◌||◌, true, false, nat_eq, slice_get, None, IfOk, IfSome, OnOk};
 ghost use Rattle.std.specs.List.{list_any, starts_with};
 ghost use Rattle.std.specs.Option.{option_map_or};
 ghost use Rattle.gq_edit.specs.Edits.{FitDocuments, after_edit};
 ghost use Rattle.gq_edit.specs.Workspace.{AreTexts};
 ghost use Rattle.gq_rules.specs.Validity.{IsValid};
 ghost use Rattle.gq_rename.specs.declared.refusal.Refusal.TheVariants as refusal;
-ghost use Rattle.gq_reshape.specs.Responses.{KeepsResponses};
 ghost use Rattle.gq_rpc.specs.declared.messages.CodeActionKind.TheVariants as action;
 ghost use Rattle.gq_rpc.specs.declared.messages.Id.{Id};
 ghost use Rattle.gq_rpc.specs.declared.messages.Outgoing.TheVariants as outgoing;
 ghost use Rattle.gq_replies.specs.CodeActions as spec;
 ghost use Rattle.gq_replies.specs.Answers.{span_at};
-ghost use Rattle.gq_replies.specs.Helping.Results.{IsEditIfAny, AddsGiven};
+ghost use Rattle.gq_replies.specs.Helping.Results.{AddsGiven, IsAnswerKept, IsEditIfAny};
 ghost use Rattle.gq_replies.specs.Helping.Studying.{IsStudied};
 
 use crate::offsets::span_at;
 use gq_edit::{Edit, to_positions};
 use gq_index::Index;
 use gq_kept::Kept;
-use gq_known::{Known, Learned};
+use gq_known::Known;
 use gq_rename::Refusal;
 use gq_rename::checking::documents_are_texts;
 use gq_reshape::laws::{edits_lead_back, edits_name_documents_at_their_versions};
@@ -103,10 +102,9 @@ fn refactoring(
     range: Span,
 ) -> Result<Edit, Refusal>
     requires { IsStudied studied.now }
-    ensures answer { (result ≡ Err refusal.NoMemory) ⊎ spec.IsRefactoring kind studied.now.valid.now (record { key = key.now; range = range }) result }
+    ensures answer { ∥ IsAnswerKept kind studied.now.valid.now (record { key = key.now; range = range }) result ∥₁ }
     ensures fits { IfOk result (FitDocuments studied.now.valid.now) }
     ensures valid { IfOk result (λ edit. ∥ IsValid (after_edit edit studied.now.valid.now) ∥₁) }
-    ensures responses { IfOk result (KeepsResponses studied.now.valid.now) }
 {
     let Studied {
         valid,
@@ -129,7 +127,7 @@ fn edit_if_any(
     range: Span,
 ) -> Result<Option<Edit>, NoMemory>
     requires { IsStudied studied.now }
-    ensures edit { IfOk result (λ edit. IsEditIfAny kind studied.now.valid.now (record { key = key.now; range = range }) edit) }
+    ensures edit { IfOk result (λ edit. ∥ IsEditIfAny kind studied.now.valid.now (record { key = key.now; range = range }) edit ∥₁) }
     ensures fits { IfOk result (λ edit. IfSome edit (FitDocuments studied.now.valid.now)) }
 {
     edits_name_documents_at_their_versions();
@@ -138,8 +136,18 @@ fn edit_if_any(
     documents_are_texts(project);
     match refactoring(alloc, studied, kind, key, range) {
         Ok(edit) => Ok(Some(edit)),
-        Err(Refusal::NoMemory) => Err(NoMemory),
-        Err(_) => Ok(None),
+        Err(why) => no_edit(why),
+    }
+}
+
+/// No edit, where a refactoring is refused, or want of memory.
+fn no_edit(why: Refusal) -> Result<Option<Edit>, NoMemory>
+    ensures none { IfOk result (λ edit. edit ≡ None) }
+    ensures other { OnOk result (why ≡ refusal.NoMemory → ⊥) }
+{
+    match why {
+        Refusal::NoMemory => Err(NoMemory),
+        _ => Ok(None),
     }
 }
 
@@ -155,7 +163,7 @@ fn put_action(
 ) -> Result<(), NoMemory>
     requires studied { IsStudied studied.now }
     requires texts { AreTexts studied.now.valid.now }
-    ensures { OnOk result (AddsGiven encoding studied.now.valid.now (record { key = params.now.key; range = range }) params.now.only kind actions.old actions.new) }
+    ensures { OnOk result (∥ AddsGiven encoding studied.now.valid.now (record { key = params.now.key; range = range }) params.now.only kind actions.old actions.new ∥₁) }
 {
     if !is_asked_for(&params.only, kind) {
         return Ok(());
@@ -180,7 +188,7 @@ fn actions_over(
 ) -> Result<Items<CodeAction>, NoMemory>
     requires studied { IsStudied studied.now }
     requires texts { AreTexts studied.now.valid.now }
-    ensures { IfOk result (λ actions. (id : Id) → spec.TellsCodeActions encoding studied.now.valid.now id params.now range (outgoing.CodeActions id actions)) }
+    ensures { IfOk result (λ actions. (id : Id) → ∥ spec.TellsCodeActions encoding studied.now.valid.now id params.now range (outgoing.CodeActions id actions) ∥₁) }
 {
     let mut actions = Items::new(alloc);
     put_action(
@@ -213,31 +221,9 @@ fn actions_over(
     Ok(actions)
 }
 
-/// The actions in a valid project, which is read and indexed once for them all.
-fn actions_in(
-    alloc: Global,
-    encoding: PositionEncoding,
-    valid: &Valid,
-    params: &CodeActionParams,
-    range: Span,
-) -> Result<Items<CodeAction>, NoMemory>
-    requires { AreTexts valid.now }
-    ensures { IfOk result (λ actions. (id : Id) → spec.TellsCodeActions encoding valid.now id params.now range (outgoing.CodeActions id actions)) }
-{
-    let project = valid.project();
-    let learned = Learned::of(alloc, project)?;
-    let index = Index::of_readings(alloc, &learned.readings)?;
-    let studied = Studied {
-        valid,
-        known: learned.known(project),
-        index: &index,
-    };
-    let actions = actions_over(alloc, encoding, &studied, params, range)?;
-    Ok(actions)
-}
-
-/// The actions that are asked for, where it is known whether the project is valid. One that is not has none.
-fn actions_judged(
+/// The actions that are asked for, where it is known whether the project is valid, and where it is the index is made. One
+/// that is not valid has none.
+fn actions_studied(
     alloc: Global,
     encoding: PositionEncoding,
     kept: &Kept,
@@ -245,16 +231,25 @@ fn actions_judged(
 ) -> Result<Items<CodeAction>, NoMemory>
     requires texts { AreTexts kept.now.documents }
     requires judged { kept.now.is_judged ≡ true }
+    requires indexed { ∥ IsValid kept.now.documents ∥₁ → kept.now.is_indexed ≡ true }
     ensures { IfOk result (λ actions. (id : Id)
         → ∥ spec.TellsCodeActions encoding kept.now.documents id params.now (span_at encoding kept.now.documents params.now.key params.now.range) (outgoing.CodeActions id actions) ∥₁) }
 {
     // its documents are read, whatever they are
-    let _known = kept.known();
+    let known = kept.known();
     let range = span_at(encoding, kept.project(), params.key.as_str(), params.range);
-    match kept.valid() {
-        Some(valid) => actions_in(alloc, encoding, valid, params, range),
-        None => Ok(Items::new(alloc)),
-    }
+    let Some(valid) = kept.valid() else {
+        return Ok(Items::new(alloc));
+    };
+    // it is valid
+    let _project = valid.project();
+    let studied = Studied {
+        valid,
+        known,
+        index: kept.index(),
+    };
+    let actions = actions_over(alloc, encoding, &studied, params, range)?;
+    Ok(actions)
 }
 
 /// The actions that are asked for, by what is kept. Where none are, nothing is found out for them.
@@ -272,7 +267,7 @@ pub(crate) fn ask_code_actions(
     if !is_any_asked_for(&params.only) {
         return Ok(Items::new(alloc));
     }
-    kept.judge(alloc)?;
-    let actions = actions_judged(alloc, encoding, kept, params)?;
+    kept.study(alloc)?;
+    let actions = actions_studied(alloc, encoding, kept, params)?;
     Ok(actions)
 }

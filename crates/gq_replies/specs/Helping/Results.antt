@@ -1,5 +1,5 @@
 -- What refactorings come to, before they are told. Only contracts of private functions speak of it.
-use Rattle.std.specs.Prelude.{◌≡◌, ◌⊎◌, ◌++◌, ℕ, List, Option, Some, None, Result, Ok, Err}
+use Rattle.std.specs.Prelude.{◌≡◌, ◌⊎◌, ◌++◌, ℕ, List, Option, Some, None, Result, Ok, Err, IfOk}
 use Rattle.gq_text.specs.declared.place.PositionEncoding.{PositionEncoding}
 use Rattle.gq_project.specs.declared.document.Doc.{Doc}
 use Rattle.gq_edit.specs.declared.edit.DocumentEdit.{DocumentEdit}
@@ -37,6 +37,10 @@ IsRenameResult encoding documents params offset (Err why) = (why ≡ NoMemory) �
 -- the response tells that, or that memory was refused
 abbrev pub IsRenamed : PositionEncoding → List Doc → Id → RenameParams → Outgoing → Type 0
 IsRenamed encoding documents id params response = (response ≡ refused id NoMemory) ⊎ TellsRename encoding documents id params (offset_at encoding documents params.key params.position) response
+
+-- the answer to a refactoring of a kind, or want of memory; and an edit keeps the responses
+abbrev pub IsAnswerKept : CodeActionKind → List Doc → RangeAsk → Result (List DocumentEdit) Refusal → Type 0
+IsAnswerKept kind documents ask result = ((result ≡ Err NoMemory) ⊎ IsRefactoring kind documents ask result) × IfOk result (reshapes.KeepsResponses documents)
 
 -- the edit of the refactoring of a kind
 pub record IsEditOf (kind : CodeActionKind) (documents : List Doc) (ask : RangeAsk) (edit : List DocumentEdit) : Type 0 where

@@ -6,6 +6,6 @@ use Rattle.gq_replies.specs.declared.code_actions.Studied.{Studied}
 
 -- what is known is of this project, and the index too
 pub record IsStudied (studied : Studied) : Type 0 where
-  pub known : IsKnown studied.known
+  pub known : ∥ IsKnown studied.known ∥₁
   pub project : studied.known.project.now ≡ studied.valid.now
-  pub index : IsIndexOfProject studied.valid.now studied.index.now
+  pub index : ∥ IsIndexOfProject studied.valid.now studied.index.now ∥₁

@@ -13,10 +13,10 @@ returns-then-not-is_any_asked_for-clause-told c =
     let range = span_at c.args.encoding c.args.kept.now.documents c.args.params.now.key c.args.params.now.range in
     rw c.new.ensures (λ id. ∣ tells_unasked c.args.encoding c.args.kept.now.documents c.args.params.now range (sym c.is_any_asked_for.ensures ∙ c.if-not-is_any_asked_for.true) id ∣₁)
 
-pub actions_judged-requires-clause-texts : goal.actions_judged-requires-clause-texts
-actions_judged-requires-clause-texts c = subst AreTexts (sym (ap (λ (k : KeptOf). k.documents) c.in_ok-judge.ensures.ok)) c.requires
+pub actions_studied-requires-clause-texts : goal.actions_studied-requires-clause-texts
+actions_studied-requires-clause-texts c = subst AreTexts (sym c.in_ok-study.ensures.documents) c.requires
 
 pub returns-clause-told : goal.returns-clause-told
 returns-clause-told c = λ id.
     subst (λ (ds : List Doc). ∥ TellsCodeActions c.args.encoding ds id c.args.params.now (span_at c.args.encoding ds c.args.params.now.key c.args.params.now.range) (outgoing.CodeActions id c.in_ok-actions.actions) ∥₁)
-    (ap (λ (k : KeptOf). k.documents) c.in_ok-judge.ensures.ok) (c.in_ok-actions.ensures id)
+    c.in_ok-study.ensures.documents (c.in_ok-actions.ensures id)

@@ -6,12 +6,12 @@ use Rattle.gq_kept.specs.KeptOf.{KeptOf}
 use Rattle.gq_replies.specs.Helping.Results.{IsRenameResult}
 use Rattle.gq_replies.proofs.renames.rename_at.Goals as goal
 
-pub returns-in_err-judge-clause-renamed : goal.returns-in_err-judge-clause-renamed
-returns-in_err-judge-clause-renamed c = let told = err_from_is_err_and c.from_residual.result c.from_residual.ensures.1 in rw told.1 (∣ inl told.2 ∣₁)
+pub returns-in_err-study-clause-renamed : goal.returns-in_err-study-clause-renamed
+returns-in_err-study-clause-renamed c = let told = err_from_is_err_and c.from_residual.result c.from_residual.ensures.1 in rw told.1 (∣ inl told.2 ∣₁)
 
-pub rename_judged-requires-clause-texts : goal.rename_judged-requires-clause-texts
-rename_judged-requires-clause-texts c = subst AreTexts (sym (ap (λ (k : KeptOf). k.documents) c.in_ok-judge.ensures.ok)) c.requires
+pub rename_studied-requires-clause-texts : goal.rename_studied-requires-clause-texts
+rename_studied-requires-clause-texts c = subst AreTexts (sym c.in_ok-study.ensures.documents) c.requires
 
 pub returns-clause-renamed : goal.returns-clause-renamed
 returns-clause-renamed c =
-    subst (λ (ds : List Doc). ∥ IsRenameResult c.args.encoding ds c.args.params.now c.args.offset c.rename_judged.result ∥₁) (ap (λ (k : KeptOf). k.documents) c.in_ok-judge.ensures.ok) c.rename_judged.ensures
+    subst (λ (ds : List Doc). ∥ IsRenameResult c.args.encoding ds c.args.params.now c.args.offset c.rename_studied.result ∥₁) c.in_ok-study.ensures.documents c.rename_studied.ensures
