@@ -264,9 +264,20 @@ fn judge_line(
     }
 }
 
-/// Judges the lists of a file: `workers N` begins one.
-pub fn judge_events(rt: &HostRuntime, name: &str, text: &str) -> Result<Judged, NoAnswer> {
-    let mut play = Play::new(rt.alloc(), 0);
+/// Begins a list: a new desk with so many workers.
+fn begin(alloc: Global, play: &mut Play, workers: &str) -> Result<(), NoAnswer> {
+    let workers = workers.parse::<u8>()?;
+    *play = Play::new(alloc, workers);
+    Ok(())
+}
+
+/// Judges the lines of a file, and answers how many lists it has and how many lines are not as wanted.
+fn judge_lines(
+    rt: &HostRuntime,
+    name: &str,
+    text: &str,
+    play: &mut Play,
+) -> Result<Judged, NoAnswer> {
     let mut judged = Judged { lists: 0, wrong: 0 };
     for (number, line) in text.lines().enumerate() {
         if line.is_empty() || line.starts_with('#') {
@@ -276,11 +287,11 @@ pub fn judge_events(rt: &HostRuntime, name: &str, text: &str) -> Result<Judged, 
         let is_right = match line.strip_prefix("workers ") {
             Some(workers) => {
                 let is_right = play.left().is_none();
-                play = Play::new(rt.alloc(), workers.parse::<u8>()?);
+                begin(rt.alloc(), play, workers)?;
                 judged.lists = judged.lists.saturating_add(1);
                 is_right
             }
-            None => judge_line(rt, place, &mut play, line)?,
+            None => judge_line(rt, place, play, line)?,
         };
         if !is_right {
             judged.wrong = judged.wrong.saturating_add(1);
@@ -289,5 +300,12 @@ pub fn judge_events(rt: &HostRuntime, name: &str, text: &str) -> Result<Judged, 
     if play.left().is_some() {
         judged.wrong = judged.wrong.saturating_add(1);
     }
+    Ok(judged)
+}
+
+/// Judges the lists of a file: `workers N` begins one.
+pub fn judge_events(rt: &HostRuntime, name: &str, text: &str) -> Result<Judged, NoAnswer> {
+    let mut play = Play::new(rt.alloc(), 0);
+    let judged = judge_lines(rt, name, text, &mut play)?;
     Ok(judged)
 }
