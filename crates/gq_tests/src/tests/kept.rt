@@ -1,8 +1,9 @@
 //! What is kept of a project while its files change, beside what is found anew.
 use crate::tests::versions::file;
 use gq_fault::Code;
+use gq_index::Index;
 use gq_kept::Kept;
-use gq_project::Project;
+use gq_project::{Doc, Project};
 use gq_rules::{Report, Valid, validate};
 use gq_text::NoMemory;
 use std::alloc::Global;
@@ -65,14 +66,64 @@ const TEXTS: [&str; 17] = [
     "mutation{x} subscription{x}",
 ];
 
+/// The key of the document that the change of that number is of.
+fn key_of(number: usize) -> &'static str {
+    KEYS[(number % 4 + number / 5 % 4) % 4]
+}
+
+/// The document that comes, or comes in place of another, in the change of that number.
+fn document_of(alloc: Global, number: usize) -> Result<Doc, NoMemory> {
+    let text = TEXTS[(number % 17 * 7 + number / 4 % 17) % 17];
+    file(alloc, key_of(number), text)
+}
+
 /// Makes the change of that number: a document goes in each ninth, else one comes, or comes in place of another.
 fn change(alloc: Global, kept: &mut Kept, number: usize) -> Result<(), NoMemory> {
-    let key = KEYS[(number % 4 + number / 5 % 4) % 4];
     if number % 9 == 8 {
-        return kept.drop_file(alloc, key);
+        return kept.drop_file(alloc, key_of(number));
     }
-    let text = TEXTS[(number % 17 * 7 + number / 4 % 17) % 17];
-    kept.replace_file(alloc, file(alloc, key, text)?)
+    kept.replace_file(alloc, document_of(alloc, number)?)
+}
+
+/// The same in a project and in its index.
+fn change_both(
+    alloc: Global,
+    project: &mut Project,
+    index: &mut Index,
+    number: usize,
+) -> Result<(), NoMemory> {
+    if number % 9 == 8 {
+        let _ = project.take(key_of(number));
+        return index.drop_file(alloc, key_of(number));
+    }
+    let document = document_of(alloc, number)?;
+    index.replace_file(alloc, &document)?;
+    project.put(document)
+}
+
+/// Whether two indexes tell the same of fragments.
+fn are_fragments_alike(index: &Index, anew: &Index) -> bool {
+    for name in ["F", "G", "H"] {
+        if index.definitions(name) != anew.definitions(name)
+            || index.spreads(name) != anew.spreads(name)
+            || index.occurrences(name) != anew.occurrences(name)
+        {
+            return false;
+        }
+    }
+    index.places() == anew.places()
+}
+
+/// Whether two indexes tell the same of variables.
+fn are_variables_alike(index: &Index, anew: &Index) -> bool {
+    for number in 0..anew.places().len() {
+        if index.variable_uses(number, "a") != anew.variable_uses(number, "a")
+            || index.variable_definitions(number, "a") != anew.variable_definitions(number, "a")
+        {
+            return false;
+        }
+    }
+    true
 }
 
 /// Whether what is kept tells what is found anew.
@@ -91,6 +142,24 @@ fn a_thousand_changes_tell_what_is_found_anew(rt: HostRuntime) -> Result<(), Fai
     for number in 0..1000 {
         change(alloc, &mut kept, number)?;
         assert!(rt; is_as_anew(alloc, &mut kept)?);
+    }
+    Ok(())
+}
+
+/// Whether the index tells what one tells that is made anew.
+fn is_as_made_anew(alloc: Global, project: &Project, index: &Index) -> Result<bool, NoMemory> {
+    let anew = Index::of(alloc, project)?;
+    Ok(are_fragments_alike(index, &anew) && are_variables_alike(index, &anew))
+}
+
+#[test]
+fn an_index_is_mended_to_what_is_made_anew(rt: HostRuntime) -> Result<(), Fail> {
+    let alloc = rt.alloc();
+    let mut project = Project::new(alloc);
+    let mut index = Index::of(alloc, &project)?;
+    for number in 0..1000 {
+        change_both(alloc, &mut project, &mut index, number)?;
+        assert!(rt; is_as_made_anew(alloc, &project, &index)?);
     }
     Ok(())
 }
