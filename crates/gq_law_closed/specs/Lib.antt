@@ -1,0 +1,3 @@
+pub mod RestsOnNames
+pub mod Closed
+pub mod Laws
