@@ -1,8 +1,7 @@
 -- What stands in some of the files, and what spreads reach there.
-use Rattle.std.proofs.Common.{◌≡◌, ◌⊎◌, ⊎_elim, ℕ, Bool, true, false, List, [], ◌∷◌, Contains, filter, refl, sym, ap, ◌∙◌, subst, arith}
+use Rattle.std.proofs.Common.{◌≡◌, ⊎_elim, ℕ, true, List, [], ◌∷◌, Contains, sym, arith}
 use Rattle.std.proofs.lemmas.Bool.Decides.{nat_tests}
-use Rattle.std.specs.Prelude.{nat_eq, ◌||◌}
-use Rattle.std.specs.List.{list_any}
+use Rattle.std.specs.Prelude.{nat_eq}
 use Rattle.gq_text.specs.declared.place.Span.{Span}
 use Rattle.gq_tree.specs.Plain.{Sels}
 use Rattle.gq_types.proofs.Gathered.{nothing_in, first, later, cases_cons, or_cases, or_left, or_right, from_filter, to_filter}
@@ -12,10 +11,10 @@ use Rattle.gq_document.specs.Reaches.{IsSpreadIn, Reaches, at_once, through}
 use Rattle.gq_law_closed.specs.Closed.{is_among, within, IsClosed}
 
 same_number : (a b : ℕ) → nat_eq a b ≡ true → a ≡ b
-same_number a b e = grind (e, nat_tests)
+same_number a b e = grind (arith, e, nat_tests)
 
 is_same : (a b : ℕ) → a ≡ b → nat_eq a b ≡ true
-is_same a b e = grind (e, nat_tests)
+is_same a b e = grind (arith, e, nat_tests)
 
 pub from_among : (files : List ℕ) (n : ℕ) → is_among files n ≡ true → Contains files n
 from_among [] n e = absurd (cc)

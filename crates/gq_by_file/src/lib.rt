@@ -1,0 +1,12 @@
+//! What is told of a project by its files and by closed sets of them, kept until one of these changes.
+#![tactic(auto)]
+
+pub mod across;
+mod by_names;
+pub mod covers;
+mod links;
+mod marks;
+pub mod names;
+mod part;
+
+pub use across::Across;

@@ -1,0 +1,95 @@
+//! The names of fragments in each file: of those that it defines, and of those that are spread in it.
+ghost use Rattle.std.specs.Prelude.{◌≡◌, ◌++◌, IfOk, OnOk, flat_map, map};
+ghost use Rattle.gq_tree.specs.Names.{names_at, spread_names};
+ghost use Rattle.gq_tree.specs.Readings.{parsed_view, readings_view};
+ghost use Rattle.gq_tree.specs.Views.{def_view, sels_view};
+ghost use Rattle.gq_law_closed.specs.Laws.{spreads_in};
+ghost use Rattle.gq_by_file.specs.Names.{AreNames, AreNamesIn, fragment_names_in, texts_of};
+
+use gq_text::{NoMemory, SmallText};
+use gq_tree::{Definition, Name, Parsed, Selection, spread_names};
+use std::alloc::Global;
+
+/// The names of the fragments that are spread in a file, and of those that it defines, each as often as it stands there.
+#[derive(Drop)]
+pub struct FileNames {
+    pub spreads: Vec<SmallText>,
+    pub fragments: Vec<SmallText>,
+}
+
+impl FileNames {
+    /// The names in a document as it is read; one without a tree has none.
+    pub fn of(alloc: Global, reading: &Parsed) -> Result<FileNames, NoMemory>
+        ensures { IfOk result (AreNamesIn (parsed_view reading.now)) }
+    {
+        let mut names = FileNames {
+            spreads: Vec::new(alloc),
+            fragments: Vec::new(alloc),
+        };
+        match reading {
+            Parsed::Tree(document) => names.put_all(alloc, &document.definitions)?,
+            Parsed::Syntax { .. } => {}
+            Parsed::Limit { .. } => {}
+        }
+        Ok(names)
+    }
+
+    fn put_all(&mut self, alloc: Global, definitions: &[Definition]) -> Result<(), NoMemory>
+        ensures spreads { OnOk result (self.new.spreads.items ≡ self.old.spreads.items ++ texts_of (flat_map spreads_in (map def_view definitions.now))) }
+        ensures fragments { OnOk result (self.new.fragments.items ≡ self.old.fragments.items ++ texts_of (flat_map fragment_names_in (map def_view definitions.now))) }
+    {
+        for definition in definitions {
+            self.put(alloc, definition)?;
+        }
+        Ok(())
+    }
+
+    fn put(&mut self, alloc: Global, definition: &Definition) -> Result<(), NoMemory>
+        ensures spreads { OnOk result (self.new.spreads.items ≡ self.old.spreads.items ++ texts_of (spreads_in (def_view definition.now))) }
+        ensures fragments { OnOk result (self.new.fragments.items ≡ self.old.fragments.items ++ texts_of (fragment_names_in (def_view definition.now))) }
+    {
+        match definition {
+            Definition::Operation(operation) => {
+                put_spreads(alloc, &operation.set.items, &mut self.spreads)
+            }
+            Definition::Fragment(fragment) => {
+                let name = SmallText::from_str(alloc, fragment.name.text.as_str())?;
+                self.fragments.push(name)?;
+                put_spreads(alloc, &fragment.set.items, &mut self.spreads)
+            }
+            Definition::TypeSystem(_) => Ok(()),
+        }
+    }
+}
+
+/// Puts the names of the spreads that stand in the selections behind the others.
+fn put_spreads(
+    alloc: Global,
+    selections: &[Selection],
+    texts: &mut Vec<SmallText>,
+) -> Result<(), NoMemory>
+    ensures { OnOk result (texts.new.items ≡ texts.old.items ++ texts_of (spread_names (sels_view selections.now))) }
+{
+    put_texts(alloc, &spread_names(alloc, selections)?, texts)
+}
+
+/// Puts these names behind the others.
+fn put_texts(alloc: Global, names: &[&Name], texts: &mut Vec<SmallText>) -> Result<(), NoMemory>
+    ensures { OnOk result (texts.new.items ≡ texts.old.items ++ texts_of (names_at names.now)) }
+{
+    for name in names {
+        texts.push(SmallText::from_str(alloc, name.text.as_str())?)?;
+    }
+    Ok(())
+}
+
+/// The names in each of the documents.
+pub fn names_of_all(alloc: Global, readings: &[Parsed]) -> Result<Vec<FileNames>, NoMemory>
+    ensures { IfOk result (λ all. AreNames (readings_view readings.now) all.items) }
+{
+    let mut all = Vec::with_capacity(alloc, readings.len())?;
+    for reading in readings {
+        all.push(FileNames::of(alloc, reading)?)?;
+    }
+    Ok(all)
+}
