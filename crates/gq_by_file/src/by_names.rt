@@ -55,17 +55,17 @@ fn spread_list(alloc: Global, names: &[FileNames]) -> Result<NameList, NoMemory>
 {
     let mut spread = NameList::new(alloc);
     for one in names {
-        put_spreads(&one.spreads, &mut spread)?;
+        put_names(&one.spreads, &mut spread)?;
     }
     Ok(spread)
 }
 
 /// Puts these names behind the others.
-fn put_spreads(spreads: &[SmallText], spread: &mut NameList) -> Result<(), NoMemory>
-    ensures { OnOk result (spread.new ≡ spread.old ++ spreads.now) }
+pub(crate) fn put_names(names: &[SmallText], all: &mut NameList) -> Result<(), NoMemory>
+    ensures { OnOk result (all.new ≡ all.old ++ names.now) }
 {
-    for name in spreads {
-        let _ = spread.push(name.as_str())?;
+    for name in names {
+        let _ = all.push(name.as_str())?;
     }
     Ok(())
 }

@@ -20,29 +20,25 @@ use Rattle.gq_index.specs.declared.index.Index.{Index}
 use Rattle.gq_index.specs.Indexed.{IsIndexOfProject}
 use Rattle.gq_known.specs.Known.{AreKnown}
 use Rattle.gq_rules.specs.Validity.{IsReportOf, IsValid}
+use Rattle.gq_kept.specs.declared.by_file.ByFile.{ByFile}
 use Rattle.gq_kept.specs.declared.typed.Typed.{Typed}
 use Rattle.gq_kept.specs.Helping.Facts.{AreKept}
-use Rattle.gq_kept.specs.Helping.Own.{AreOwn}
-use Rattle.gq_kept.specs.Helping.Own as owning
+use Rattle.gq_kept.specs.Helping.ByFile.{AreByFile}
 use Rattle.gq_kept.specs.Helping.TypesOf.{AreTypesOf, IsOneTypeSystem, types_defined}
 use Rattle.gq_index.proofs.Parallel.{as_many}
 use Rattle.gq_kept.proofs.KnownLemmas.{types_known, replaced, inserted, removed}
-use Rattle.gq_kept.proofs.OwnLemmas.{Own}
 use Rattle.gq_kept.proofs.TypesLemmas.{system_inserted, system_removed}
 
 -- with no index
-kept_by : (documents : List Doc) (readings : List Parsed) (typed : Typed) (own : Own) → ∥ AreKnown documents readings (types_view typed.types) typed.has_schema × AreOwn (types_view typed.types) (readings_view readings) own ∥₁ →
-    AreKept documents readings typed own None
-kept_by documents readings typed own both = record { known = ∥∥₁_map both (λ b. b.0); owned = ∥∥₁_map both (λ b. b.1); indexed = ∣ tt ∣₁ }
+kept_by : (documents : List Doc) (readings : List Parsed) (typed : Typed) (found : ByFile) → ∥ AreKnown documents readings (types_view typed.types) typed.has_schema × AreByFile (types_view typed.types) (readings_view readings) found ∥₁ →
+    AreKept documents readings typed found None
+kept_by documents readings typed found both = record { known = ∥∥₁_map both (λ b. b.0); owned = ∥∥₁_map both (λ b. b.1); indexed = ∣ tt ∣₁ }
 
-pub kept_first : (documents told : List Doc) (readings : List Parsed) (typed : Typed) (own : Own) → told ≡ documents → own ≡ [] → AreKnown documents readings (types_view typed.types) typed.has_schema → AreKept told readings typed own None
-kept_first documents told readings typed own same nothing known =
-    let at_first : AreKept documents readings typed [] None = kept_by documents readings typed [] ∣ (known, nothing_owned) ∣₁ in
-    let D : List Doc → Type 0 = λ ds. AreKept ds readings typed [] None in
-    subst (λ (os : Own). AreKept told readings typed os None) (sym nothing) (subst D (sym same) at_first)
-  where
-    nothing_owned : AreOwn (types_view typed.types) (readings_view readings) []
-    nothing_owned = owning.none
+pub kept_first : (documents told : List Doc) (readings : List Parsed) (typed : Typed) (found : ByFile) → told ≡ documents → ((es : List EntryOf) (rs : List ParsedOf) → AreByFile es rs found) →
+    AreKnown documents readings (types_view typed.types) typed.has_schema → AreKept told readings typed found None
+kept_first documents told readings typed found same nothing known =
+    let D : List Doc → Type 0 = λ ds. AreKept ds readings typed found None in
+    subst D (sym same) (kept_by documents readings typed found ∣ (known, nothing (types_view typed.types) (readings_view readings)) ∣₁)
 
 pub not_none : {A P : Type 0} (o : Option A) → is_some o ≡ false → IfNone o P → P
 not_none None e p = p
@@ -58,12 +54,12 @@ systems before after old made changes was is stays e =
     let D : List EntryOf → List EntryOf → Type 0 = λ es us. AreOneTypeSystem es us in
     subst (λ (es : List EntryOf). D es (types_view made.types)) (sym was.is_type_system) (subst (λ (us : List EntryOf). D (built_in ++ entries_of before) us) (sym is.is_type_system) (stays e))
 
-module _ (documents : List Doc) (readings : List Parsed) (typed : Typed) (own : Own) (index : Option Index) (kept : AreKept documents readings typed own index) where
+module _ (documents : List Doc) (readings : List Parsed) (typed : Typed) (found : ByFile) (index : Option Index) (kept : AreKept documents readings typed found index) where
   -- as many readings as documents
   pub kept_count : length documents ≡ length readings
   kept_count = ∥∥₁_elim kept.known (ℕ_set _ _) (λ known. as_many known.are_readings ∙ length-map readings parsed_view)
 
-  pub kept_indexed : (made : Index) → (AreParsed documents (readings_view readings) → IsIndexOfProject documents made) → AreKept documents readings typed own (Some made)
+  pub kept_indexed : (made : Index) → (AreParsed documents (readings_view readings) → IsIndexOfProject documents made) → AreKept documents readings typed found (Some made)
   kept_indexed made of = record {
     known = kept.known;
     owned = kept.owned;
@@ -71,7 +67,7 @@ module _ (documents : List Doc) (readings : List Parsed) (typed : Typed) (own : 
   }
 
   -- more is known of the files each by itself
-  pub kept_owned : (others : Own) → (AreOwn (types_view typed.types) (readings_view readings) own → AreOwn (types_view typed.types) (readings_view readings) others) → AreKept documents readings typed others index
+  pub kept_owned : (others : ByFile) → (AreByFile (types_view typed.types) (readings_view readings) found → AreByFile (types_view typed.types) (readings_view readings) others) → AreKept documents readings typed others index
   kept_owned others goes_on = record { known = kept.known; owned = ∥∥₁_map kept.owned goes_on; indexed = kept.indexed }
 
   -- the documents as they are told of and lent, and the readings as they are given
@@ -88,44 +84,44 @@ module _ (documents : List Doc) (readings : List Parsed) (typed : Typed) (own : 
     parsed_given : AreParsed documents (readings_view readings) → AreParsed lent (readings_view given)
     parsed_given are = rw (is_lent, is_given) are
 
-    pub kept_replaced : (at : ℕ) (doc : Doc) (reading : Parsed) (made : Typed) (left : Own) (changes : Bool) → IsPlaceOf (λ d. d.key) doc.key told at → IsParsed doc.text (parsed_view reading)
+    pub kept_replaced : (at : ℕ) (doc : Doc) (reading : Parsed) (made : Typed) (left : ByFile) (changes : Bool) → IsPlaceOf (λ d. d.key) doc.key told at → IsParsed doc.text (parsed_view reading)
         → (AreParsed lent (readings_view given) → AreTypesOf (readings_view given) typed → AreTypesOf (set (readings_view given) at (parsed_view reading)) made)
         → (changes ≡ false → IsOneTypeSystem (readings_view given) (set (readings_view given) at (parsed_view reading)))
-        → ((es us : List EntryOf) (rs : List ParsedOf) (r : ParsedOf) → (changes ≡ false → AreOneTypeSystem es us) → AreOwn es rs own → AreOwn us (set rs at r) left)
+        → ((es us : List EntryOf) (rs : List ParsedOf) → (changes ≡ false → AreOneTypeSystem es us) → AreByFile es rs found → AreByFile us (set rs at (parsed_view reading)) left)
         → AreKept (with_doc documents doc) (set readings at reading) made left None
     kept_replaced at doc reading made left changes place parsed types stays forgets =
         kept_by _ _ _ left (both_known kept.known kept.owned (λ known owned.
         let was : AreTypesOf (readings_view given) typed = rw is_given (types_known documents readings typed known) in
         let are : AreTypesOf (set (readings_view given) at (parsed_view reading)) made = types (parsed_given known.are_readings) was in
         let one = systems (readings_view given) (set (readings_view given) at (parsed_view reading)) typed made changes was are stays in
-        let there : AreOwn (types_view made.types) (set (readings_view readings) at (parsed_view reading)) left = forgets (types_view typed.types) (types_view made.types) (readings_view readings) (parsed_view reading) one owned in
+        let there : AreByFile (types_view made.types) (set (readings_view readings) at (parsed_view reading)) left = forgets (types_view typed.types) (types_view made.types) (readings_view readings) one owned in
         (replaced documents readings typed known at doc reading made (rw is_told place) parsed (rw (← is_given) are), rw map-set there)))
 
-    pub kept_inserted : (at : ℕ) (doc : Doc) (reading : Parsed) (made : Typed) (left : Own) (changes : Bool) → IsGapFor (λ d. d.key) doc.key told at → IsParsed doc.text (parsed_view reading)
+    pub kept_inserted : (at : ℕ) (doc : Doc) (reading : Parsed) (made : Typed) (left : ByFile) (changes : Bool) → IsGapFor (λ d. d.key) doc.key told at → IsParsed doc.text (parsed_view reading)
         → (AreParsed lent (readings_view given) → AreTypesOf (insert (readings_view given) at (parsed_view reading)) made)
         → (changes ≡ false → types_defined (parsed_view reading) ≡ [])
-        → ((es us : List EntryOf) (rs : List ParsedOf) (r : ParsedOf) → (changes ≡ false → AreOneTypeSystem es us) → AreOwn es rs own → AreOwn us (insert rs at r) left)
+        → ((es us : List EntryOf) (rs : List ParsedOf) (r : ParsedOf) → (changes ≡ false → AreOneTypeSystem es us) → AreByFile es rs found → AreByFile us (insert rs at r) left)
         → AreKept (with_doc documents doc) (insert readings at reading) made left None
     kept_inserted at doc reading made left changes gap parsed types defines opens =
         kept_by _ _ _ left (both_known kept.known kept.owned (λ known owned.
         let was : AreTypesOf (readings_view given) typed = rw is_given (types_known documents readings typed known) in
         let are : AreTypesOf (insert (readings_view given) at (parsed_view reading)) made = types (parsed_given known.are_readings) in
         let one = systems (readings_view given) (insert (readings_view given) at (parsed_view reading)) typed made changes was are (λ e. system_inserted (readings_view given) at (parsed_view reading) (defines e)) in
-        let there : AreOwn (types_view made.types) (insert (readings_view readings) at (parsed_view reading)) left = opens (types_view typed.types) (types_view made.types) (readings_view readings) (parsed_view reading) one owned in
+        let there : AreByFile (types_view made.types) (insert (readings_view readings) at (parsed_view reading)) left = opens (types_view typed.types) (types_view made.types) (readings_view readings) (parsed_view reading) one owned in
         let same : readings_view (insert readings at reading) ≡ insert (readings_view readings) at (parsed_view reading) = simp (map-append, take-map, drop-map) in
         (inserted documents readings typed known at doc reading made (rw is_told gap) parsed (rw (← is_given) are), rw same there)))
 
-    pub kept_removed : (at : ℕ) (key : List ℕ) (made : Typed) (left : Own) (changes : Bool) → IsPlaceOf (λ d. d.key) key told at
+    pub kept_removed : (at : ℕ) (key : List ℕ) (made : Typed) (left : ByFile) (changes : Bool) → IsPlaceOf (λ d. d.key) key told at
         → (AreParsed lent (readings_view given) → AreTypesOf (remove (readings_view given) at) made)
         → (changes ≡ false → get_or (map types_defined (readings_view given)) at [] ≡ [])
-        → ((es us : List EntryOf) (rs : List ParsedOf) → (changes ≡ false → AreOneTypeSystem es us) → AreOwn es rs own → AreOwn us (remove rs at) left)
+        → ((es us : List EntryOf) (rs : List ParsedOf) → (changes ≡ false → AreOneTypeSystem es us) → AreByFile es rs found → AreByFile us (remove rs at) left)
         → AreKept (without documents key) (remove readings at) made left None
     kept_removed at key made left changes place types defines closes =
         kept_by _ _ _ left (both_known kept.known kept.owned (λ known owned.
         let was : AreTypesOf (readings_view given) typed = rw is_given (types_known documents readings typed known) in
         let are : AreTypesOf (remove (readings_view given) at) made = types (parsed_given known.are_readings) in
         let one = systems (readings_view given) (remove (readings_view given) at) typed made changes was are (λ e. system_removed (readings_view given) at (defines e)) in
-        let there : AreOwn (types_view made.types) (remove (readings_view readings) at) left = closes (types_view typed.types) (types_view made.types) (readings_view readings) one owned in
+        let there : AreByFile (types_view made.types) (remove (readings_view readings) at) left = closes (types_view typed.types) (types_view made.types) (readings_view readings) one owned in
         let same : readings_view (remove readings at) ≡ remove (readings_view readings) at = simp (map-append, take-map, drop-map) in
         (removed documents readings typed known at key made (rw is_told place) (rw (← is_given) are), rw same there)))
 

@@ -5,38 +5,29 @@ ghost use Rattle.gq_fault.specs.declared.fault.Fault.{Fault};
 ghost use Rattle.gq_known.specs.Known.{IsKnown};
 ghost use Rattle.gq_rules.specs.Faults.{IsFaultOf, IsToldFirst};
 ghost use Rattle.gq_rules.specs.Validity.{IsInvalid, IsReportOf, IsValid};
-ghost use Rattle.gq_kept.specs.Helping.Own.{AreOwnOver};
+ghost use Rattle.gq_kept.specs.Helping.ByFile.{AreByFileOver};
 
-use crate::own::own_faults;
-use gq_document::{Definitions, Executable};
+use crate::by_file::ByFile;
 use gq_fault::{Fault, found_at, put_in_order};
 use gq_known::Known;
 use gq_law_files::laws::faults_are_told_by_files;
-use gq_rules::{Report, first_faults, found_across};
-use gq_text::{Items, NoMemory};
+use gq_rules::{Report, first_faults};
+use gq_text::NoMemory;
 use std::alloc::Global;
 
 /// The faults of a project of which nothing is told first: those of each file by itself, and those that rest on several.
 fn faults_by_files(
     alloc: Global,
     known: Known<'_>,
-    own: &mut Vec<Option<Items<Fault>>>,
+    found: &mut ByFile,
 ) -> Result<Vec<Fault>, NoMemory>
-    ensures own { AreOwnOver known.entry.types.now known.entry.readings.now own.old.items → AreOwnOver known.entry.types.now known.entry.readings.now own.new.items }
-    ensures faults { IfOk result (λ faults. IsKnown known.entry → AreOwnOver known.entry.types.now known.entry.readings.now own.old.items
+    ensures kept { AreByFileOver known.entry.types.now known.entry.readings.now found.old → AreByFileOver known.entry.types.now known.entry.readings.now found.new }
+    ensures faults { IfOk result (λ faults. IsKnown known.entry → AreByFileOver known.entry.types.now known.entry.readings.now found.old
         → ((fault : Fault) → IsToldFirst (readings_view known.entry.readings.now) fault → ⊥)
         → (fault : Fault) → Contains faults.items fault ↔ IsFaultOf (readings_view known.entry.readings.now) fault) }
 {
     faults_are_told_by_files();
-    let mut all = own_faults(alloc, known.types, known.readings, own)?;
-    let definitions = Definitions::of(alloc, known.readings)?;
-    let executable = Executable {
-        types: known.types,
-        operations: &definitions.operations,
-        fragments: &definitions.fragments,
-    };
-    let mut across = found_across(alloc, &executable)?;
-    all.append(&mut across)?;
+    let all = found.found(alloc, known.types, known.readings)?;
     Ok(all)
 }
 
@@ -44,35 +35,35 @@ fn faults_by_files(
 fn faults(
     alloc: Global,
     known: Known<'_>,
-    own: &mut Vec<Option<Items<Fault>>>,
+    found: &mut ByFile,
 ) -> Result<Vec<Fault>, NoMemory>
-    ensures own { AreOwnOver known.entry.types.now known.entry.readings.now own.old.items → AreOwnOver known.entry.types.now known.entry.readings.now own.new.items }
-    ensures faults { IfOk result (λ faults. IsKnown known.entry → AreOwnOver known.entry.types.now known.entry.readings.now own.old.items
+    ensures kept { AreByFileOver known.entry.types.now known.entry.readings.now found.old → AreByFileOver known.entry.types.now known.entry.readings.now found.new }
+    ensures faults { IfOk result (λ faults. IsKnown known.entry → AreByFileOver known.entry.types.now known.entry.readings.now found.old
         → (fault : Fault) → Contains faults.items fault ↔ IsFaultOf (readings_view known.entry.readings.now) fault) }
 {
     let first = first_faults(alloc, known)?;
     if !first.is_empty() {
         return Ok(first);
     }
-    faults_by_files(alloc, known, own)
+    faults_by_files(alloc, known, found)
 }
 
 /// What is told of the project, if something is. What rests on a file alone is only looked for where it is not known.
 pub(crate) fn report_if_any(
     alloc: Global,
     known: Known<'_>,
-    own: &mut Vec<Option<Items<Fault>>>,
+    found: &mut ByFile,
 ) -> Result<Option<Report>, NoMemory>
-    ensures own { AreOwnOver known.entry.types.now known.entry.readings.now own.old.items → AreOwnOver known.entry.types.now known.entry.readings.now own.new.items }
-    ensures valid { IfOk result (λ report. IsKnown known.entry → AreOwnOver known.entry.types.now known.entry.readings.now own.old.items → IfNone report (IsValid known.entry.project.now)) }
-    ensures invalid { IfOk result (λ report. IsKnown known.entry → AreOwnOver known.entry.types.now known.entry.readings.now own.old.items
+    ensures kept { AreByFileOver known.entry.types.now known.entry.readings.now found.old → AreByFileOver known.entry.types.now known.entry.readings.now found.new }
+    ensures valid { IfOk result (λ report. IsKnown known.entry → AreByFileOver known.entry.types.now known.entry.readings.now found.old → IfNone report (IsValid known.entry.project.now)) }
+    ensures invalid { IfOk result (λ report. IsKnown known.entry → AreByFileOver known.entry.types.now known.entry.readings.now found.old
         → IfSome report (λ r. IsReportOf known.entry.project.now r.found.items × IsInvalid known.entry.project.now)) }
 {
-    let mut faults = faults(alloc, known, own)?;
+    let mut faults = faults(alloc, known, found)?;
     if faults.is_empty() {
         return Ok(None);
     }
     put_in_order(&mut faults);
-    let found = found_at(alloc, &faults, known.project.documents())?;
-    Ok(Some(Report { found }))
+    let told = found_at(alloc, &faults, known.project.documents())?;
+    Ok(Some(Report { found: told }))
 }

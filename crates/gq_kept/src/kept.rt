@@ -10,12 +10,11 @@ ghost use Rattle.gq_known.specs.Known.{IsKnown};
 ghost use Rattle.gq_rules.specs.Validity.{IsInvalid, IsReportOf, IsValid};
 ghost use Rattle.gq_kept.specs.Helping.Gone.{AreGone, AreDropped, IsPut, ArePut};
 
+use crate::by_file::ByFile;
 use crate::judged::Judged;
 use crate::judging::report_if_any;
-use crate::own::{close_room, forget_at, make_room};
 use crate::places::place_or_gap;
 use crate::typed::{Typed, defines_types_at, retype, typed_less, typed_more};
-use gq_fault::Fault;
 use gq_index::Index;
 use gq_known::learned::defines_types;
 use gq_known::{Known, Learned};
@@ -23,7 +22,7 @@ use gq_parse::reader::read_text;
 use gq_project::{Doc, Project};
 use gq_rules::laws::no_project_is_valid_and_invalid;
 use gq_rules::{Report, Valid};
-use gq_text::{Items, NoMemory, OwnedText};
+use gq_text::{NoMemory, OwnedText};
 use gq_tree::Parsed;
 use std::alloc::Global;
 use std::marker::Model;
@@ -37,8 +36,8 @@ pub struct Kept {
     /// What the documents read as, one for each, in their order.
     readings: Vec<Parsed>,
     typed: Typed,
-    /// What rests on each document and the type system alone, where it was looked for.
-    own: Vec<Option<Items<Fault>>>,
+    /// What is known of the faults of documents, each by itself and together.
+    found: ByFile,
     index: Option<Index>,
 }
 
@@ -52,7 +51,7 @@ impl Model for Kept {
 
     ghost view = { λ k. record { documents = k.judged.documents; is_indexed = is_some k.index; is_judged = k.judged.is_judged } };
 
-    ghost invariant = { λ k. AreKept k.judged.documents k.readings.items k.typed k.own.items k.index };
+    ghost invariant = { λ k. AreKept k.judged.documents k.readings.items k.typed k.found k.index };
 }
 
 impl Kept {
@@ -70,7 +69,7 @@ impl Kept {
             judged: Judged::unjudged(copy),
             readings,
             typed: Typed { types, has_schema },
-            own: Vec::new(alloc),
+            found: ByFile::new(alloc),
             index: None,
         })
     }
@@ -141,8 +140,8 @@ impl Kept {
             &mut self.typed,
         )?;
         self.judged.put(alloc, doc)?;
+        self.found.replace(alloc, at, &reading, changes_types);
         write_over(&mut self.readings, at, reading);
-        forget_at(&mut self.own, at, changes_types);
         forget(&mut self.index);
         Ok(())
     }
@@ -180,7 +179,7 @@ impl Kept {
         ) {
             Ok(()) => {
                 settle(&mut self.typed, made);
-                make_room(&mut self.own, at, changes_types);
+                self.found.make_room(at, changes_types);
                 forget(&mut self.index);
                 Ok(())
             }
@@ -212,7 +211,7 @@ impl Kept {
         self.judged.take(alloc, key);
         take_out(&mut self.readings, at);
         settle(&mut self.typed, made);
-        close_room(&mut self.own, at, changes_types);
+        self.found.close_room(at, changes_types);
         forget(&mut self.index);
         Ok(())
     }
@@ -295,7 +294,7 @@ impl Kept {
             types: &self.typed.types,
             has_schema: self.typed.has_schema,
         };
-        report_if_any(alloc, known, &mut self.own)
+        report_if_any(alloc, known, &mut self.found)
     }
 
     /// The report on the project, which is then judged.

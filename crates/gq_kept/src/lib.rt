@@ -1,6 +1,7 @@
 //! What is known of a project, kept from question to question, and mended where a file changes.
 #![tactic(auto)]
 
+mod by_file;
 mod judged;
 mod judging;
 pub mod kept;

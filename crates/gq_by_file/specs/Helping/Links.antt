@@ -5,7 +5,7 @@ use Rattle.std.specs.declared.vec.Vec.{Vec}
 use Rattle.std.specs.declared.alloc.Global.{Global}
 use Rattle.gq_names.specs.UnderNames.{UnderNames, items_under, one_if}
 use Rattle.gq_types.specs.Entries.{Text}
-use Rattle.gq_graph.specs.Reach.{row, InRange}
+use Rattle.gq_graph.specs.Reach.{row}
 use Rattle.gq_document.specs.Definitions.{OperationOf, FragmentOf}
 use Rattle.gq_document.specs.Executable.{ExecutableOf}
 use Rattle.gq_document.specs.Reaches.{IsSpreadIn}

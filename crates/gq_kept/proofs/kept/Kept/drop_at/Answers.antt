@@ -19,5 +19,5 @@ take_out-requires c = given_in_range _ _ _ _ _ c.self.invariant c.args.self.now.
 pub invariant_of-self : goal.invariant_of-self
 invariant_of-self c =
     rw (ap (λ (j : JudgedOf). j.documents) c.take.ensures, c.take_out.ensures, c.settle.ensures, c.forget.ensures)
-    (kept_removed _ _ _ _ _ c.self.invariant c.args.self.now.documents c.documents-documents.result.now c.deref-2.result.now (ap (λ (k : KeptOf). k.documents) c.self.view_is) (c.documents-documents.ensures.all ∙ c.project.ensures) c.deref-2.ensures.value c.args.at c.args.key.now c.in_ok-made.made c.close_room.new.own.items c.defines_types_at-changes_types.result
+    (kept_removed _ _ _ _ _ c.self.invariant c.args.self.now.documents c.documents-documents.result.now c.deref-2.result.now (ap (λ (k : KeptOf). k.documents) c.self.view_is) (c.documents-documents.ensures.all ∙ c.project.ensures) c.deref-2.ensures.value c.args.at c.args.key.now c.in_ok-made.made c.close_room.new.self c.defines_types_at-changes_types.result
     c.requires c.in_ok-made.ensures (rw (c.deref-2.ensures.value, ← c.deref.ensures.value) c.defines_types_at-changes_types.ensures) c.close_room.ensures)

@@ -8,7 +8,7 @@ use Rattle.gq_kept.proofs.KeptLemmas.{both_known, kept_owned}
 use Rattle.gq_kept.proofs.kept.Kept.told.Goals as goal
 
 pub invariant_of-self : goal.invariant_of-self
-invariant_of-self c = kept_owned _ _ _ _ _ c.self.invariant c.report_if_any.new.own.items (λ owned. rw (← c.deref.ensures.value) (c.report_if_any.ensures.own (rw c.deref.ensures.value owned)))
+invariant_of-self c = kept_owned _ _ _ _ _ c.self.invariant c.report_if_any.new.found (λ owned. rw (← c.deref.ensures.value) (c.report_if_any.ensures.kept (rw c.deref.ensures.value owned)))
 
 pub returns-clause-valid : goal.returns-clause-valid
 returns-clause-valid c =

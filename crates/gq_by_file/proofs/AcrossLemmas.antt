@@ -1,0 +1,90 @@
+-- What rests on several files: what covers come to, and what stays of them where a file is replaced.
+use Rattle.std.proofs.Common.{◌≡◌, ◌↔◌, ◌⊎◌, ⊎_elim, inl, inr, ℕ, zero, suc, ◌+◌, ◌<◌, Bool, true, false, List, [], ◌∷◌, ◌++◌, Some, All, Contains, filter, map, flat_map, set, slice_get, slice_index_or, length, refl, sym, ap, ◌∙◌, subst, arith}
+use Rattle.std.specs.Prelude.{not}
+use Rattle.std.specs.List.{list_any}
+use Rattle.std.specs.Str.{bytes_eq}
+use Rattle.std.specs.declared.vec.Vec.{Vec}
+use Rattle.std.specs.declared.alloc.Global.{Global}
+use Rattle.std.proofs.lemmas.List.Elements.{Contains-append_left, Contains-append_right, Contains-append_cases}
+use Rattle.gq_fault.specs.declared.fault.Fault.{Fault}
+use Rattle.gq_tree.specs.Readings.{ParsedOf, in_document}
+use Rattle.gq_types.specs.Entries.{Text, EntryOf}
+use Rattle.gq_types.proofs.Gathered.{nothing_in, first, later, cases_cons, from_filter, from_flat, to_flat, not_true}
+use Rattle.gq_document.specs.Definitions.{FragmentOf, fragment_in}
+use Rattle.gq_document.specs.Executable.{ExecutableOf}
+use Rattle.gq_rules.specs.Files.{together, IsFaultAcross}
+use Rattle.gq_law_files.specs.Laws.{AreOneTypeSystem, NumbersOfEntriesAreUnseen}
+use Rattle.gq_law_closed.specs.Closed.{within, IsClosed}
+use Rattle.gq_law_closed.specs.RestsOnNames.{IsFaultByNames, IsFaultBySpreads}
+use Rattle.gq_law_closed.specs.Laws.{AreNotSpread, ClosedSetsStay, FaultsAcrossAreByNamesOrSpreads, FaultsAreOfClosedSets, FaultsOfClosedSetsAreFaults, OtherFilesAreUnseen}
+use Rattle.gq_by_file.specs.declared.covers.Cover.{Cover}
+use Rattle.gq_by_file.specs.Across.{IsCover, AreCovers}
+use Rattle.gq_by_file.specs.Helping.Covers.{IsCovered}
+use Rattle.gq_by_file.specs.Helping.Links.{AreLinks}
+use Rattle.gq_by_file.proofs.CoverLemmas.{none_of}
+
+-- names and covers come to all that rests on several files
+module _ (parted : FaultsAcrossAreByNamesOrSpreads) (caused : FaultsAreOfClosedSets) (sound : FaultsOfClosedSetsAreFaults) (x : ExecutableOf) (rows : List (Vec ℕ Global)) (links : AreLinks x rows)
+    (covers : List Cover) (are : AreCovers x covers) (all : (n : ℕ) → n < length rows → IsCovered covers n) (named : List Fault) (by_names : (f : Fault) → Contains named f ↔ IsFaultByNames x f) where
+  abbrev told : List Fault
+  told = flat_map (λ (c : Cover). c.faults.items) covers
+
+  of_covers : (f : Fault) → Contains told f → IsFaultBySpreads x f
+  of_covers f c =
+      let t = from_flat (λ (c : Cover). c.faults.items) covers f c in
+      let cover = are t.0 t.1 in
+      (sound x t.0.files.items cover.closed f ((cover.exact f).0 t.2)).1
+
+  in_covers : (f : Fault) → IsFaultBySpreads x f → Contains told f
+  in_covers f h =
+      let t = caused x f h in
+      let c = all t.0 (links.in_range t.0 t.1) in
+      let cover = are c.0 c.1 in
+      to_flat (λ (c : Cover). c.faults.items) covers c.0 f c.1 ((cover.exact f).1 (t.2 c.0.files.items cover.closed c.2))
+
+  pub all_across : (f : Fault) → Contains (named ++ told) f ↔ IsFaultAcross x f
+  all_across f = (
+    (λ c. (parted x f).1 (⊎_elim (λ l. inl ((by_names f).0 l)) (λ r. inr (of_covers f r)) (Contains-append_cases named told f c))),
+    (λ h. ⊎_elim (λ n. Contains-append_left named told f ((by_names f).1 n)) (λ s. Contains-append_right named told f (in_covers f s)) ((parted x f).0 h)),
+  )
+
+-- the files in which the type system is defined are unseen
+module _ (unseen : NumbersOfEntriesAreUnseen) (es us : List EntryOf) (one : AreOneTypeSystem es us) (rs : List ParsedOf) where
+  cover_over : (c : Cover) → IsCover (together es rs) c → IsCover (together us rs) c
+  cover_over c is = record {
+    closed = record { of_operations = is.closed.of_operations; of_fragments = is.closed.of_fragments };
+    exact = λ f.
+        let w = within c.files.items (together es rs) in
+        let u = unseen es us one w.operations w.fragments f in (
+          (λ h. let t = (is.exact f).0 h in (t.0, t.1, u.0 t.2)),
+          (λ h. (is.exact f).1 (h.0, h.1, u.1 h.2)),
+        );
+  }
+
+  pub covers_over : (covers : List Cover) → AreCovers (together es rs) covers → AreCovers (together us rs) covers
+  covers_over covers are c stands = cover_over c (are c stands)
+
+-- a file is replaced
+module _ (stays : ClosedSetsStay) (others : OtherFilesAreUnseen) (es : List EntryOf) (rs : List ParsedOf) (at : ℕ) (r : ParsedOf) where
+  cover_stays : (c : Cover) → (Contains c.files.items at → ⊥) → AreNotSpread rs c.files.items r → IsCover (together es rs) c → IsCover (together es (set rs at r)) c
+  cover_stays c outside none is = record {
+    closed = stays es rs at r c.files.items outside none is.closed;
+    exact = λ f. subst (λ (z : ExecutableOf). Contains c.faults.items f ↔ IsFaultBySpreads z f) (sym (others es rs at r c.files.items outside)) (is.exact f);
+  }
+
+  pub covers_stay : (marks : List Bool) (covers : List Cover) → slice_index_or marks at false ≡ true →
+      ((n : ℕ) → slice_index_or marks n false ≡ false → AreNotSpread rs (n ∷ []) r) →
+      AreCovers (together es rs) covers → AreCovers (together es (set rs at r)) (filter (λ (c : Cover). not (list_any (λ n. slice_index_or marks n false) c.files.items)) covers)
+  covers_stay marks covers here none are c stands =
+      let t = from_filter (λ (c : Cover). not (list_any (λ n. slice_index_or marks n false) c.files.items)) covers c stands in
+      let clean : list_any (λ n. slice_index_or marks n false) c.files.items ≡ false = not_true (list_any (λ n. slice_index_or marks n false) c.files.items) t.1 in
+      cover_stays c (λ h. none_of (λ n. slice_index_or marks n false) c.files.items at clean h here)
+      (λ n q inside. none n (unmarked n (none_of (λ n. slice_index_or marks n false) c.files.items n clean inside)) n q (first n n [] refl))
+      (are c t.0)
+    where
+      unmarked : (n : ℕ) → (slice_index_or marks n false ≡ true → ⊥) → slice_index_or marks n false ≡ false
+      unmarked n h = by (slice_index_or marks n false) refl
+        where
+          by : (b : Bool) → slice_index_or marks n false ≡ b → slice_index_or marks n false ≡ false
+          by true e = absurd (h e)
+          by false e = e

@@ -1,0 +1,117 @@
+-- Covers of files: what is added to them, what stays, and that each file stands in one.
+use Rattle.std.proofs.Common.{◌≡◌, ◌↔◌, ◌⊎◌, ⊎_elim, inl, inr, ℕ, zero, suc, ◌+◌, ◌<◌, Bool, true, false, List, [], ◌∷◌, ◌++◌, All, Contains, slice_index_or, length, refl, sym, ap, ◌∙◌, subst, arith}
+use Rattle.std.specs.Prelude.{◌||◌, not}
+use Rattle.std.specs.List.{list_any}
+use Rattle.std.specs.declared.vec.Vec.{Vec}
+use Rattle.std.specs.declared.alloc.Global.{Global}
+use Rattle.std.proofs.lemmas.List.Elements.{Contains-append_left, Contains-append_right, Contains-append_cases}
+use Rattle.gq_fault.specs.declared.fault.Fault.{Fault}
+use Rattle.gq_graph.specs.Reach.{Reach, row}
+use Rattle.gq_types.proofs.Gathered.{nothing_in, first, later, only, cases_cons, or_cases, or_left, or_right}
+use Rattle.gq_document.specs.Executable.{ExecutableOf}
+use Rattle.gq_law_closed.specs.Closed.{is_among, within, IsClosed, StandsInFile}
+use Rattle.gq_law_closed.specs.RestsOnNames.{IsFaultBySpreads}
+use Rattle.gq_law_closed.specs.Laws.{FaultsOfClosedSetsAreFaults, FaultsStayInLargerSets}
+use Rattle.gq_law_closed.proofs.Within.{from_among, to_among}
+use Rattle.gq_by_file.specs.declared.covers.Cover.{Cover}
+use Rattle.gq_by_file.specs.Across.{IsCover, AreCovers}
+use Rattle.gq_by_file.specs.Helping.Covers.{AreFaulty, IsCovered, LeadsInto, unmarked_from}
+use Rattle.gq_by_file.specs.Helping.Links.{AreLinks}
+use Rattle.gq_by_file.proofs.LinkLemmas.{closed_by_links}
+
+-- tests of lists
+pub any_of : {X : Type 0} (p : X → Bool) (xs : List X) (x : X) → Contains xs x → p x ≡ true → list_any p xs ≡ true
+any_of p [] x c e = nothing_in x c
+any_of {X} p (y ∷ ys) x c e = ⊎_elim (λ s. or_left (p y) (list_any p ys) (subst (λ (z : X). p z ≡ true) (sym s) e)) (λ d. or_right (p y) (list_any p ys) (any_of p ys x d e)) (cases_cons y x ys c)
+
+pub some_of : {X : Type 0} (p : X → Bool) (xs : List X) → list_any p xs ≡ true → (x : X) × Contains xs x × (p x ≡ true)
+some_of p [] e = absurd (cc)
+some_of p (y ∷ ys) e = ⊎_elim (λ h. (y, first y y ys refl, h)) (λ h. let t = some_of p ys h in (t.0, later y t.0 ys t.1, t.2)) (or_cases (p y) (list_any p ys) e)
+
+pub none_of : {X : Type 0} (p : X → Bool) (xs : List X) (x : X) → list_any p xs ≡ false → Contains xs x → p x ≡ true → ⊥
+none_of p xs x e c h = let t : list_any p xs ≡ true = any_of p xs x c h in absurd (cc)
+
+-- each of some numbers
+pub each_of : (P : ℕ → Type 0) (ns : List ℕ) (n : ℕ) → All P ns → Contains ns n → P n
+each_of P ns n all c = subst P c.2 (all c.0 c.1)
+
+-- one more cover
+pub covers_more : (x : ExecutableOf) (covers : List Cover) (c : Cover) → AreCovers x covers → IsCover x c → AreCovers x (covers ++ c ∷ [])
+covers_more x covers c are is d stands = ⊎_elim (λ l. are d l) (λ r. subst (λ (z : Cover). IsCover x z) (sym (only c d r)) is) (Contains-append_cases covers (c ∷ []) d stands)
+
+pub covered_before : (covers more : List Cover) (n : ℕ) → IsCovered covers n → IsCovered (covers ++ more) n
+covered_before covers more n h = (h.0, Contains-append_left covers more h.0 h.1, h.2)
+
+pub covered_last : (covers : List Cover) (c : Cover) (n : ℕ) → Contains c.files.items n → IsCovered (covers ++ c ∷ []) n
+covered_last covers c n h = (c, Contains-append_right covers (c ∷ []) c (first c c [] refl), h)
+
+module _ (x : ExecutableOf) (rows : List (Vec ℕ Global)) (links : AreLinks x rows) (starts files : List ℕ)
+    (sound : All (λ n. Reach starts (row rows) n) files) (complete : (n : ℕ) → Reach starts (row rows) n → Contains files n) where
+  -- what is reached is a closed set
+  pub reached_closed : IsClosed files x
+  reached_closed = closed_by_links x rows starts files links sound complete
+
+  -- in which, where it is clean, nothing is told
+  pub clean_cover : (stay : FaultsStayInLargerSets) (all : List ℕ) (faulty : List Bool) → AreFaulty x all faulty → LeadsInto rows starts all →
+      list_any (λ n. slice_index_or faulty n false) files ≡ false → (c : Cover) → c.files.items ≡ files → c.faults.items ≡ [] → IsCover x c
+  clean_cover stay all faulty are leads none c is empty = record {
+    closed = subst (λ (fs : List ℕ). IsClosed fs x) (sym is) reached_closed;
+    exact = λ f. (
+        (λ s. nothing_in f (subst (λ (fs : List Fault). Contains fs f) empty s)),
+        (λ h. absurd (refused f (subst (λ (fs : List ℕ). IsFaultBySpreads (within fs x) f) is h))),
+    );
+  }
+    where
+      into : (n : ℕ) → Contains files n → Contains all n
+      into n s = leads n (each_of (Reach starts (row rows)) files n sound s)
+
+      refused : (f : Fault) → IsFaultBySpreads (within files x) f → ⊥
+      refused f h =
+          let t = stay x files all into reached_closed f h in
+          none_of (λ n. slice_index_or faulty n false) files f.file none t.0 (are f t.1)
+
+  -- the set itself
+  pub whole_cover : (c : Cover) → c.files.items ≡ files → ((f : Fault) → Contains c.faults.items f ↔ IsFaultBySpreads (within files x) f) → IsCover x c
+  whole_cover c is exact = record {
+    closed = subst (λ (fs : List ℕ). IsClosed fs x) (sym is) reached_closed;
+    exact = λ f. subst (λ (fs : List ℕ). Contains c.faults.items f ↔ IsFaultBySpreads (within fs x) f) (sym is) (exact f);
+  }
+
+  -- the marks of its faults
+  pub faulty_marks : (law : FaultsOfClosedSetsAreFaults) (count : ℕ) (faults : List Fault) (marks : List Bool) → ((n : ℕ) → Contains files n → n < count) →
+      ((f : Fault) → Contains faults f ↔ IsFaultBySpreads (within files x) f) → ((f : Fault) → Contains faults f → f.file < count → slice_index_or marks f.file false ≡ true) → AreFaulty x files marks
+  faulty_marks law count faults marks range exact marked f h =
+      let t = law x files reached_closed f h in
+      marked f ((exact f).1 h) (range f.file t.0)
+
+-- ---- files without a mark
+
+pub unmarked_there : (k : ℕ) (marks : List Bool) (n : ℕ) → n < length marks → slice_index_or marks n false ≡ false → Contains (unmarked_from k marks) (k + n)
+unmarked_there k [] n h e = absurd (omega (arith, h))
+unmarked_there k (true ∷ marks) zero h e = absurd (cc)
+unmarked_there k (false ∷ marks) zero h e = first k (k + 0) (unmarked_from (k + 1) marks) (omega arith)
+unmarked_there k (true ∷ marks) (suc n) h e =
+    let number : k + 1 + n ≡ k + suc n = omega arith in
+    subst (λ z. Contains (unmarked_from (k + 1) marks) z) number (unmarked_there (k + 1) marks n (omega (arith, h)) e)
+unmarked_there k (false ∷ marks) (suc n) h e =
+    let number : k + 1 + n ≡ k + suc n = omega arith in
+    later k (k + suc n) (unmarked_from (k + 1) marks) (subst (λ z. Contains (unmarked_from (k + 1) marks) z) number (unmarked_there (k + 1) marks n (omega (arith, h)) e))
+
+unmarked_below : (k : ℕ) (marks : List Bool) (n : ℕ) → Contains (unmarked_from k marks) n → n < k + length marks
+unmarked_below k [] n c = nothing_in n c
+unmarked_below k (true ∷ marks) n c = let h = unmarked_below (k + 1) marks n c in omega (arith, h)
+unmarked_below k (false ∷ marks) n c = ⊎_elim (λ (e : k ≡ n). omega (arith, e)) (λ d. let h = unmarked_below (k + 1) marks n d in omega (arith, h)) (cases_cons k n (unmarked_from (k + 1) marks) c)
+
+pub unmarked_range : (marks : List Bool) (count : ℕ) → length marks ≡ count → All (λ n. n < count) (unmarked_from 0 marks)
+unmarked_range marks count e = λ i h. let b = unmarked_below 0 marks _ (i, h, refl) in omega (arith, b, e)
+
+-- each file is covered, or has no mark
+module _ (covers : List Cover) (marks : List Bool) (is : (n : ℕ) → n < length marks → slice_index_or marks n false ≡ list_any (λ (c : Cover). is_among c.files.items n) covers) where
+  pub covered_or_open : (n : ℕ) → n < length marks → IsCovered covers n ⊎ Contains (unmarked_from 0 marks) n
+  covered_or_open n h = by (slice_index_or marks n false) refl
+    where
+      by : (b : Bool) → slice_index_or marks n false ≡ b → IsCovered covers n ⊎ Contains (unmarked_from 0 marks) n
+      by true e =
+          let t = some_of (λ (c : Cover). is_among c.files.items n) covers (sym (is n h) ∙ e) in
+          inl (t.0, t.1, from_among t.0.files.items n t.2)
+      by false e = let number : 0 + n ≡ n = omega arith in inr (subst (λ z. Contains (unmarked_from 0 marks) z) number (unmarked_there 0 marks n h e))

@@ -1,0 +1,4 @@
+pub mod NameLemmas
+pub mod LinkLemmas
+pub mod CoverLemmas
+pub mod AcrossLemmas

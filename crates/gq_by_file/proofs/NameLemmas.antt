@@ -1,0 +1,47 @@
+-- The names of fragments in each file: one file by its number, one file more, and one replaced.
+use Rattle.std.proofs.Common.{◌≡◌, ℕ, zero, suc, ◌+◌, ◌<◌, List, [], ◌∷◌, ◌++◌, Some, get_or, slice_get, slice_set, length, take, refl, sym, ap, ◌∙◌, subst}
+use Rattle.std.proofs.lemmas.List.{map-append, take_more}
+use Rattle.std.proofs.lemmas.Option.{none-some, same_Some}
+use Rattle.gq_tree.specs.Readings.{ParsedOf, parsed_view, readings_view}
+use Rattle.gq_tree.specs.declared.parsed.Parsed.{Parsed}
+use Rattle.gq_by_file.specs.Names.{AreNames, AreNamesIn, none, more}
+use Rattle.gq_by_file.specs.declared.names.FileNames.{FileNames}
+
+pub names_count : {rs : List ParsedOf} {names : List FileNames} → AreNames rs names → length names ≡ length rs
+names_count none = refl
+names_count (more h hs) = ap suc (names_count hs)
+
+-- another file in the place of one
+pub names_set : (at : ℕ) (r : ParsedOf) (one : FileNames) {rs : List ParsedOf} {names : List FileNames} → AreNamesIn r one → AreNames rs names → AreNames (slice_set rs at r) (slice_set names at one)
+names_set at r one is none = none
+names_set zero r one is (more h hs) = more is hs
+names_set (suc at) r one is (more h hs) = more h (names_set at r one is hs)
+
+-- one file more at the end
+pub names_push : (r : ParsedOf) (one : FileNames) {rs : List ParsedOf} {names : List FileNames} → AreNamesIn r one → AreNames rs names → AreNames (rs ++ r ∷ []) (names ++ one ∷ [])
+names_push r one is none = more is none
+names_push r one is (more h hs) = more h (names_push r one is hs)
+
+pub names_next : (readings : List Parsed) (i : ℕ) (reading : Parsed) (old new : List FileNames) (one : FileNames) → i < length readings → reading ≡ get_or readings i reading → AreNamesIn (parsed_view reading) one →
+    AreNames (readings_view (take i readings)) old → new ≡ old ++ one ∷ [] → AreNames (readings_view (take (i + 1) readings)) new
+names_next readings i reading old new one below at is are more_is =
+    let longer : take (i + 1) readings ≡ take i readings ++ reading ∷ [] = take_more readings i reading below ∙ ap (λ z. take i readings ++ z ∷ []) (sym at) in
+    let same : readings_view (take (i + 1) readings) ≡ readings_view (take i readings) ++ parsed_view reading ∷ [] = ap readings_view longer ∙ map-append parsed_view (take i readings) (reading ∷ []) in
+    subst (λ (rs : List ParsedOf). AreNames rs new) (sym same) (subst (λ (names : List FileNames). AreNames (readings_view (take i readings) ++ parsed_view reading ∷ []) names) (sym more_is) (names_push (parsed_view reading) one is are))
+
+-- the file of a number, and its names
+pub names_at : {rs : List ParsedOf} {names : List FileNames} (n : ℕ) (r : ParsedOf) (one : FileNames) → slice_get rs n ≡ Some r → slice_get names n ≡ Some one → AreNames rs names → AreNamesIn r one
+names_at n r one read there none = absurd (none-some r read)
+names_at zero r one read there (more {r = q} {one = other} h hs) =
+    subst (λ (z : ParsedOf). AreNamesIn z one) (same_Some q r read) (subst (λ (z : FileNames). AreNamesIn q z) (same_Some other one there) h)
+names_at (suc n) r one read there (more h hs) = names_at n r one read there hs
+
+pub names_there : {rs : List ParsedOf} {names : List FileNames} (n : ℕ) (r : ParsedOf) → slice_get rs n ≡ Some r → AreNames rs names → (one : FileNames) × (slice_get names n ≡ Some one) × AreNamesIn r one
+names_there n r read none = absurd (none-some r read)
+names_there zero r read (more {r = q} {one = one} h hs) = (one, refl, subst (λ (z : ParsedOf). AreNamesIn z one) (same_Some q r read) h)
+names_there (suc n) r read (more h hs) = names_there n r read hs
+
+pub reading_there : {rs : List ParsedOf} {names : List FileNames} (n : ℕ) (one : FileNames) → slice_get names n ≡ Some one → AreNames rs names → (r : ParsedOf) × (slice_get rs n ≡ Some r) × AreNamesIn r one
+reading_there n one there none = absurd (none-some one there)
+reading_there zero one there (more {r = r} {one = other} h hs) = (r, refl, subst (λ (z : FileNames). AreNamesIn r z) (same_Some other one there) h)
+reading_there (suc n) one there (more h hs) = reading_there n one there hs

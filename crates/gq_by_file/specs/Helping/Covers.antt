@@ -1,0 +1,35 @@
+-- Covers of files, as they are made.
+use Rattle.std.specs.Prelude.{◌≡◌, ◌+◌, ℕ, Bool, true, false, List, [], ◌∷◌, Contains, slice_index_or, if◌then◌else◌}
+use Rattle.std.specs.List.{list_any}
+use Rattle.std.specs.Str.{bytes_eq}
+use Rattle.std.specs.declared.vec.Vec.{Vec}
+use Rattle.std.specs.declared.alloc.Global.{Global}
+use Rattle.gq_graph.specs.Reach.{Reach, row}
+use Rattle.gq_fault.specs.declared.fault.Fault.{Fault}
+use Rattle.gq_types.specs.Entries.{Text}
+use Rattle.gq_document.specs.Executable.{ExecutableOf}
+use Rattle.gq_law_closed.specs.Closed.{within}
+use Rattle.gq_law_closed.specs.RestsOnNames.{IsFaultBySpreads}
+use Rattle.gq_by_file.specs.declared.covers.Cover.{Cover}
+
+-- the file stands in one of the covers
+abbrev pub IsCovered : List Cover → ℕ → Type 0
+IsCovered covers n = (c : Cover) × Contains covers c × Contains c.files.items n
+
+-- the places without a mark, the first of which has the given number
+abbrev pub unmarked_from : ℕ → List Bool → List ℕ
+unmarked_from k [] = []
+unmarked_from k (true ∷ marks) = unmarked_from (k + 1) marks
+unmarked_from k (false ∷ marks) = k ∷ unmarked_from (k + 1) marks
+
+-- each fault of those files stands in a marked one
+abbrev pub AreFaulty : ExecutableOf → List ℕ → List Bool → Type 0
+AreFaulty x files marks = (f : Fault) → IsFaultBySpreads (within files x) f → slice_index_or marks f.file false ≡ true
+
+-- all that the starts lead to is among those
+abbrev pub LeadsInto : List (Vec ℕ Global) → List ℕ → List ℕ → Type 0
+LeadsInto rows starts all = (n : ℕ) → Reach starts (row rows) n → Contains all n
+
+-- one of the second texts is one of the first
+abbrev pub has_one_of : List Text → List Text → Bool
+has_one_of defined texts = list_any (λ text. list_any (bytes_eq text) defined) texts

@@ -1,0 +1,181 @@
+//! What rests on several files, kept by closed sets of them.
+ghost use Rattle.std.specs.Prelude.{◌≡◌, ◌↔◌, ◌<◌, false, true, List, Contains, IfOk, length, map, slice_set};
+ghost use Rattle.gq_fault.specs.declared.fault.Fault.{Fault};
+ghost use Rattle.gq_tree.specs.Readings.{ParsedOf, parsed_view, readings_view};
+ghost use Rattle.gq_types.specs.Entries.{EntryOf};
+ghost use Rattle.gq_types.specs.Look.{types_view};
+ghost use Rattle.gq_document.specs.Executable.{executable_view};
+ghost use Rattle.gq_rules.specs.Files.{together, IsFaultAcross};
+ghost use Rattle.gq_law_files.specs.Laws.{AreOneTypeSystem};
+ghost use Rattle.gq_by_file.specs.Across.{AreAcross, AreCovers};
+ghost use Rattle.gq_by_file.specs.Names.{AreNames, AreNamesIn};
+ghost use Rattle.gq_by_file.specs.Helping.Covers.{has_one_of};
+
+use crate::by_names::{found_by_names, put_names};
+use crate::covers::{Cover, cover_rest, keep_unmarked, put_faults};
+use crate::links::links;
+use crate::names::{FileNames, names_of_all};
+use gq_document::{Definitions, Executable};
+use gq_fault::Fault;
+use gq_law_closed::laws::{
+    closed_sets_stay, faults_across_are_by_names_or_spreads, faults_are_of_closed_sets,
+    faults_of_closed_sets_are_faults, other_files_are_unseen,
+};
+use gq_law_files::laws::numbers_of_entries_are_unseen;
+use gq_names::NameList;
+use gq_text::{NoMemory, SmallText};
+use gq_tree::Parsed;
+use gq_types::Types;
+use std::alloc::Global;
+
+/// What is known of files together: the names in each, and closed sets of them with what is told of each set by itself. It
+/// grows where it is asked, and what a change of a file may touch is forgotten.
+#[derive(Drop)]
+pub struct Across {
+    /// The names in each file, or none at all.
+    pub names: Vec<FileNames>,
+    pub covers: Vec<Cover>,
+}
+
+/// What rests on several files, where the names in each are given.
+fn found_over(
+    alloc: Global,
+    executable: &Executable<'_>,
+    names: &[FileNames],
+    covers: &mut Vec<Cover>,
+) -> Result<Vec<Fault>, NoMemory>
+    ensures kept { (es : List EntryOf) (rs : List ParsedOf) → executable_view executable.now ≡ together es rs → AreNames rs names.now → AreCovers (together es rs) covers.old.items
+        → AreCovers (together es rs) covers.new.items }
+    ensures faults { IfOk result (λ faults. (es : List EntryOf) (rs : List ParsedOf) → executable_view executable.now ≡ together es rs → AreNames rs names.now → AreCovers (together es rs) covers.old.items
+        → (fault : Fault) → Contains faults.items fault ↔ IsFaultAcross (together es rs) fault) }
+{
+    faults_across_are_by_names_or_spreads();
+    faults_are_of_closed_sets();
+    faults_of_closed_sets_are_faults();
+    let rows = links(alloc, names)?;
+    cover_rest(alloc, executable, &rows, covers)?;
+    let mut faults = found_by_names(alloc, executable, names)?;
+    put_faults(covers, &mut faults)?;
+    Ok(faults)
+}
+
+/// The same of operations and fragments as they are read.
+fn found_in_readings(
+    alloc: Global,
+    types: &Types,
+    readings: &[Parsed],
+    names: &[FileNames],
+    covers: &mut Vec<Cover>,
+) -> Result<Vec<Fault>, NoMemory>
+    ensures kept { AreNames (readings_view readings.now) names.now → AreCovers (together (types_view types.now) (readings_view readings.now)) covers.old.items
+        → AreCovers (together (types_view types.now) (readings_view readings.now)) covers.new.items }
+    ensures faults { IfOk result (λ faults. AreNames (readings_view readings.now) names.now → AreCovers (together (types_view types.now) (readings_view readings.now)) covers.old.items
+        → (fault : Fault) → Contains faults.items fault ↔ IsFaultAcross (together (types_view types.now) (readings_view readings.now)) fault) }
+{
+    let definitions = Definitions::of(alloc, readings)?;
+    let executable = Executable {
+        types,
+        operations: &definitions.operations,
+        fragments: &definitions.fragments,
+    };
+    let faults = found_over(alloc, &executable, names, covers)?;
+    Ok(faults)
+}
+
+/// Whether one of these names is one of those.
+fn has_one_of(spreads: &[SmallText], defined: &NameList) -> bool
+    ensures { result ≡ has_one_of defined.now spreads.now }
+{
+    spreads.iter().any(|name| defined.contains(name.as_str()))
+}
+
+/// A mark at each file in which one of these fragments is spread.
+fn spreading(
+    alloc: Global,
+    names: &[FileNames],
+    fragments: &[SmallText],
+) -> Result<Vec<bool>, NoMemory>
+    ensures { IfOk result (λ marks. marks.items ≡ map (λ one. has_one_of fragments.now one.spreads.items) names.now) }
+{
+    let mut defined = NameList::new(alloc);
+    put_names(fragments, &mut defined)?;
+    let mut marks = Vec::with_capacity(alloc, names.len())?;
+    for one in names {
+        marks.push(has_one_of(&one.spreads, &defined))?;
+    }
+    Ok(marks)
+}
+
+impl Across {
+    /// Nothing is known.
+    pub fn new(alloc: Global) -> Across
+        ensures { (es : List EntryOf) (rs : List ParsedOf) → AreAcross es rs result }
+    {
+        Across {
+            names: Vec::new(alloc),
+            covers: Vec::new(alloc),
+        }
+    }
+
+    /// What the rules tell of operations and fragments, over a type system, that does not rest on one document alone. What is
+    /// known is not looked for, and what is found is known from then on.
+    pub fn found(
+        &mut self,
+        alloc: Global,
+        types: &Types,
+        readings: &[Parsed],
+    ) -> Result<Vec<Fault>, NoMemory>
+        ensures kept { AreAcross (types_view types.now) (readings_view readings.now) self.old → AreAcross (types_view types.now) (readings_view readings.now) self.new }
+        ensures faults { IfOk result (λ faults. AreAcross (types_view types.now) (readings_view readings.now) self.old
+            → (fault : Fault) → Contains faults.items fault ↔ IsFaultAcross (together (types_view types.now) (readings_view readings.now)) fault) }
+    {
+        if self.names.is_empty() {
+            self.names = names_of_all(alloc, readings)?;
+        }
+        found_in_readings(alloc, types, readings, &self.names, &mut self.covers)
+    }
+
+    /// Nothing is known any more.
+    pub fn forget(&mut self)
+        ensures { (es : List EntryOf) (rs : List ParsedOf) → AreAcross es rs self.new }
+    {
+        self.names.clear();
+        self.covers.clear();
+    }
+
+    /// What is known stays where the file at that place is replaced, but of the closed sets with this file, and of those in which
+    /// a fragment of the new one is spread; where that changes the type system, of no closed set.
+    pub fn replace(&mut self, alloc: Global, at: usize, reading: &Parsed, changes_types: bool)
+        ensures { (es us : List EntryOf) (rs : List ParsedOf) → (changes_types ≡ false → AreOneTypeSystem es us)
+            → AreAcross es rs self.old → AreAcross us (slice_set rs at (parsed_view reading.now)) self.new }
+    {
+        numbers_of_entries_are_unseen();
+        if changes_types {
+            self.covers.clear();
+        }
+        match FileNames::of(alloc, reading) {
+            Ok(names) => self.replace_names(alloc, at, names),
+            Err(NoMemory) => self.forget(),
+        }
+    }
+
+    /// The same where the names in the new file are given.
+    fn replace_names(&mut self, alloc: Global, at: usize, names: FileNames)
+        ensures { (es : List EntryOf) (rs : List ParsedOf) (r : ParsedOf) → AreNamesIn r names → AreAcross es rs self.old → AreAcross es (slice_set rs at r) self.new }
+    {
+        closed_sets_stay();
+        other_files_are_unseen();
+        if at >= self.names.len() {
+            self.forget();
+            return;
+        }
+        match spreading(alloc, &self.names, &names.fragments) {
+            Ok(mut marks) => {
+                marks[at] = true;
+                keep_unmarked(&mut self.covers, &marks);
+                self.names[at] = names;
+            }
+            Err(NoMemory) => self.forget(),
+        }
+    }
+}

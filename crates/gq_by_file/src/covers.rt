@@ -1,0 +1,170 @@
+//! Closed sets of files, each with what is told of it by itself.
+ghost use Rattle.std.specs.Prelude.{◌≡◌, ◌<◌, ◌++◌, ◌∷◌, [], ◌||◌, ℕ, true, false, List, All, Contains, IfOk, OnOk, filter, flat_map, length, not, slice_index_or};
+ghost use Rattle.std.specs.List.{list_any};
+ghost use Rattle.gq_fault.specs.declared.fault.Fault.{Fault};
+ghost use Rattle.gq_graph.specs.Reach.{InRange};
+ghost use Rattle.gq_document.specs.Executable.{ExecutableOf, executable_view};
+ghost use Rattle.gq_law_closed.specs.Closed.{is_among};
+ghost use Rattle.gq_by_file.specs.Across.{AreCovers};
+ghost use Rattle.gq_by_file.specs.Helping.Covers.{AreFaulty, IsCovered, LeadsInto, unmarked_from};
+ghost use Rattle.gq_by_file.specs.Helping.Links.{AreLinks};
+
+use crate::marks::{has_marked, is_marked, mark, marked};
+use crate::part::found_within;
+use gq_document::Executable;
+use gq_fault::Fault;
+use gq_graph::reach_rows;
+use gq_law_closed::laws::{faults_of_closed_sets_are_faults, faults_stay_in_larger_sets};
+use gq_text::NoMemory;
+use std::alloc::Global;
+
+/// A set of files that no spread leads out of, and all that is told of these by themselves and rests on spreads.
+#[derive(Drop)]
+pub struct Cover {
+    /// The numbers of the files.
+    pub files: Vec<usize>,
+    pub faults: Vec<Fault>,
+}
+
+/// Marks the files that stand in one of the covers.
+fn mark_covers(marks: &mut Vec<bool>, covers: &[Cover])
+    ensures count { length marks.new.items ≡ length marks.old.items }
+    ensures marked { (n : ℕ) → n < length marks.old.items → slice_index_or marks.new.items n false ≡ (slice_index_or marks.old.items n false || list_any (λ c. is_among c.files.items n) covers.now) }
+{
+    for cover in covers {
+        mark(marks, &cover.files);
+    }
+}
+
+/// The places without a mark.
+fn unmarked(alloc: Global, marks: &[bool]) -> Result<Vec<usize>, NoMemory>
+    ensures { IfOk result (λ places. places.items ≡ unmarked_from 0 marks.now) }
+{
+    let mut places = Vec::new(alloc);
+    for (place, mark) in marks.iter().enumerate() {
+        if !*mark {
+            places.push(place)?;
+        }
+    }
+    Ok(places)
+}
+
+/// Marks at the files in which these faults stand.
+fn faulty_files(alloc: Global, count: usize, faults: &[Fault]) -> Result<Vec<bool>, NoMemory>
+    ensures { IfOk result (λ marks. (fault : Fault) → Contains faults.now fault → fault.file < count → slice_index_or marks.items fault.file false ≡ true) }
+{
+    let mut files = Vec::with_capacity(alloc, faults.len())?;
+    for fault in faults {
+        files.push(fault.file)?;
+    }
+    marked(alloc, count, &files)
+}
+
+/// Adds the closed set of what the file leads to, if the file is not marked and in none of those stands a fault; its files
+/// are marked then. The marks of files with faults are those of a larger set.
+fn cover_if_clean(
+    alloc: Global,
+    rows: &[Vec<usize>],
+    file: usize,
+    faulty: &[bool],
+    marks: &mut Vec<bool>,
+    covers: &mut Vec<Cover>,
+) -> Result<(), NoMemory>
+    requires rows { InRange rows.now }
+    requires range { file < length rows.now }
+    ensures { (x : ExecutableOf) (all : List ℕ) → AreLinks x rows.now → AreFaulty x all faulty.now → LeadsInto rows.now (file ∷ []) all → AreCovers x covers.old.items → AreCovers x covers.new.items }
+{
+    faults_stay_in_larger_sets();
+    if is_marked(marks, file) {
+        return Ok(());
+    }
+    let files = reach_rows(alloc, rows, &[file])?;
+    if has_marked(faulty, &files) {
+        return Ok(());
+    }
+    mark(marks, &files);
+    covers.push(Cover {
+        files,
+        faults: Vec::new(alloc),
+    })
+}
+
+/// So of each of these files.
+fn cover_clean(
+    alloc: Global,
+    rows: &[Vec<usize>],
+    open: &[usize],
+    faulty: &[bool],
+    marks: &mut Vec<bool>,
+    covers: &mut Vec<Cover>,
+) -> Result<(), NoMemory>
+    requires rows { InRange rows.now }
+    requires range { All (λ n. n < length rows.now) open.now }
+    ensures { (x : ExecutableOf) (all : List ℕ) → AreLinks x rows.now → AreFaulty x all faulty.now → LeadsInto rows.now open.now all → AreCovers x covers.old.items → AreCovers x covers.new.items }
+{
+    for file in open {
+        cover_if_clean(alloc, rows, *file, faulty, marks, covers)?;
+    }
+    Ok(())
+}
+
+/// Adds covers of the files that stand in none, which are these: one of all that they lead to, and one of each of them where
+/// nothing is told.
+fn cover_open(
+    alloc: Global,
+    executable: &Executable<'_>,
+    rows: &[Vec<usize>],
+    open: &[usize],
+    marks: &mut Vec<bool>,
+    covers: &mut Vec<Cover>,
+) -> Result<(), NoMemory>
+    requires rows { InRange rows.now }
+    requires range { All (λ n. n < length rows.now) open.now }
+    ensures kept { AreLinks (executable_view executable.now) rows.now → AreCovers (executable_view executable.now) covers.old.items → AreCovers (executable_view executable.now) covers.new.items }
+    ensures old { (n : ℕ) → IsCovered covers.old.items n → IsCovered covers.new.items n }
+    ensures open { OnOk result ((n : ℕ) → Contains open.now n → IsCovered covers.new.items n) }
+{
+    faults_of_closed_sets_are_faults();
+    let files = reach_rows(alloc, rows, open)?;
+    let faults = found_within(alloc, executable, rows.len(), &files)?;
+    let faulty = faulty_files(alloc, rows.len(), &faults)?;
+    cover_clean(alloc, rows, open, &faulty, marks, covers)?;
+    covers.push(Cover { files, faults })
+}
+
+/// Adds covers until each file stands in one.
+pub(crate) fn cover_rest(
+    alloc: Global,
+    executable: &Executable<'_>,
+    rows: &[Vec<usize>],
+    covers: &mut Vec<Cover>,
+) -> Result<(), NoMemory>
+    requires rows { InRange rows.now }
+    ensures kept { AreLinks (executable_view executable.now) rows.now → AreCovers (executable_view executable.now) covers.old.items → AreCovers (executable_view executable.now) covers.new.items }
+    ensures all { OnOk result ((n : ℕ) → n < length rows.now → IsCovered covers.new.items n) }
+{
+    let mut marks = vec![in alloc; false; rows.len()]?;
+    mark_covers(&mut marks, covers);
+    let open = unmarked(alloc, &marks)?;
+    if open.is_empty() {
+        return Ok(());
+    }
+    cover_open(alloc, executable, rows, &open, &mut marks, covers)
+}
+
+/// Puts what is told of the covers behind the others.
+pub(crate) fn put_faults(covers: &[Cover], all: &mut Vec<Fault>) -> Result<(), NoMemory>
+    ensures { OnOk result (all.new.items ≡ all.old.items ++ flat_map (λ c. c.faults.items) covers.now) }
+{
+    for cover in covers {
+        all.extend_from_slice(&cover.faults)?;
+    }
+    Ok(())
+}
+
+/// Keeps the covers of which no file is marked.
+pub(crate) fn keep_unmarked(covers: &mut Vec<Cover>, marks: &[bool])
+    ensures { covers.new.items ≡ filter (λ c. not (list_any (λ n. slice_index_or marks.now n false) c.files.items)) covers.old.items }
+{
+    covers.retain(|cover| !has_marked(marks, &cover.files));
+}

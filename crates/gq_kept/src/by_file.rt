@@ -1,0 +1,84 @@
+//! The faults of files each by itself, and of files together, kept until one of them or the type system changes.
+ghost use Rattle.std.specs.Prelude.{◌≡◌, ◌↔◌, ◌⊎◌, false, Contains, List, IfOk, remove, slice_set};
+ghost use Rattle.std.specs.List.{insert};
+ghost use Rattle.gq_tree.specs.Readings.{ParsedOf, parsed_view, readings_view};
+ghost use Rattle.gq_types.specs.Entries.{EntryOf};
+ghost use Rattle.gq_types.specs.Look.{types_view};
+ghost use Rattle.gq_fault.specs.declared.fault.Fault.{Fault};
+ghost use Rattle.gq_rules.specs.Files.{together, IsFaultAcross, IsOfItsFile};
+ghost use Rattle.gq_law_files.specs.Laws.{AreOneTypeSystem};
+ghost use Rattle.gq_kept.specs.Helping.ByFile.{AreByFile, AreByFileOver};
+
+use crate::own::{close_room, forget_at, make_room, own_faults};
+use gq_by_file::Across;
+use gq_fault::Fault;
+use gq_text::{Items, NoMemory};
+use gq_tree::Parsed;
+use gq_types::Types;
+use std::alloc::Global;
+
+/// What is known of the faults of files.
+#[derive(Drop)]
+pub(crate) struct ByFile {
+    /// What rests on each file and the type system alone, where it was looked for.
+    pub(crate) own: Vec<Option<Items<Fault>>>,
+    /// What rests on several files.
+    pub(crate) across: Across,
+}
+
+impl ByFile {
+    /// Nothing is known.
+    pub(crate) fn new(alloc: Global) -> ByFile
+        ensures { (es : List EntryOf) (rs : List ParsedOf) → AreByFile es rs result }
+    {
+        ByFile {
+            own: Vec::new(alloc),
+            across: Across::new(alloc),
+        }
+    }
+
+    /// What is told of the files each by itself, and of them together. What is not known is looked for, and known from then on.
+    pub(crate) fn found(
+        &mut self,
+        alloc: Global,
+        types: &Types,
+        readings: &[Parsed],
+    ) -> Result<Vec<Fault>, NoMemory>
+        ensures kept { AreByFileOver types.now readings.now self.old → AreByFileOver types.now readings.now self.new }
+        ensures faults { IfOk result (λ faults. AreByFileOver types.now readings.now self.old
+            → (fault : Fault) → Contains faults.items fault ↔ (IsOfItsFile (types_view types.now) (readings_view readings.now) fault ⊎ IsFaultAcross (together (types_view types.now) (readings_view readings.now)) fault)) }
+    {
+        let mut all = own_faults(alloc, types, readings, &mut self.own)?;
+        let mut across = self.across.found(alloc, types, readings)?;
+        all.append(&mut across)?;
+        Ok(all)
+    }
+
+    /// What is known of the other files stays where the file at that place is replaced; where that changes the type system,
+    /// nothing is known any more.
+    pub(crate) fn replace(&mut self, alloc: Global, at: usize, reading: &Parsed, changes_types: bool)
+        ensures { (es us : List EntryOf) (rs : List ParsedOf) → (changes_types ≡ false → AreOneTypeSystem es us)
+            → AreByFile es rs self.old → AreByFile us (slice_set rs at (parsed_view reading.now)) self.new }
+    {
+        forget_at(&mut self.own, at, changes_types);
+        self.across.replace(alloc, at, reading, changes_types);
+    }
+
+    /// What is known of each other file stays where a file is put in at that place.
+    pub(crate) fn make_room(&mut self, at: usize, changes_types: bool)
+        ensures { (es us : List EntryOf) (rs : List ParsedOf) (r : ParsedOf) → (changes_types ≡ false → AreOneTypeSystem es us)
+            → AreByFile es rs self.old → AreByFile us (insert rs at r) self.new }
+    {
+        make_room(&mut self.own, at, changes_types);
+        self.across.forget();
+    }
+
+    /// The same where the file at that place is taken out.
+    pub(crate) fn close_room(&mut self, at: usize, changes_types: bool)
+        ensures { (es us : List EntryOf) (rs : List ParsedOf) → (changes_types ≡ false → AreOneTypeSystem es us)
+            → AreByFile es rs self.old → AreByFile us (remove rs at) self.new }
+    {
+        close_room(&mut self.own, at, changes_types);
+        self.across.forget();
+    }
+}
