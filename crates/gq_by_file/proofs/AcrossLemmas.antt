@@ -10,15 +10,18 @@ use Rattle.gq_fault.specs.declared.fault.Fault.{Fault}
 use Rattle.gq_tree.specs.Readings.{ParsedOf, in_document}
 use Rattle.gq_types.specs.Entries.{Text, EntryOf}
 use Rattle.gq_types.proofs.Gathered.{nothing_in, first, later, cases_cons, from_filter, from_flat, to_flat, not_true}
-use Rattle.gq_document.specs.Definitions.{FragmentOf, fragment_in}
+use Rattle.gq_document.specs.Definitions.{OperationOf, FragmentOf}
 use Rattle.gq_document.specs.Executable.{ExecutableOf}
 use Rattle.gq_rules.specs.Files.{together, IsFaultAcross}
 use Rattle.gq_law_files.specs.Laws.{AreOneTypeSystem, NumbersOfEntriesAreUnseen}
 use Rattle.gq_law_closed.specs.Closed.{within, IsClosed}
 use Rattle.gq_law_closed.specs.RestsOnNames.{IsFaultByNames, IsFaultBySpreads}
 use Rattle.gq_law_closed.specs.Laws.{AreNotSpread, ClosedSetsStay, FaultsAcrossAreByNamesOrSpreads, FaultsAreOfClosedSets, FaultsOfClosedSetsAreFaults, OtherFilesAreUnseen}
+use Rattle.gq_by_file.specs.declared.across.Across.{Across}
 use Rattle.gq_by_file.specs.declared.covers.Cover.{Cover}
-use Rattle.gq_by_file.specs.Across.{IsCover, AreCovers}
+use Rattle.gq_by_file.specs.declared.names.FileNames.{FileNames}
+use Rattle.gq_by_file.specs.Across.{IsCover, AreCovers, AreAcross}
+use Rattle.gq_by_file.specs.Names.{AreNames}
 use Rattle.gq_by_file.specs.Helping.Covers.{IsCovered}
 use Rattle.gq_by_file.specs.Helping.Links.{AreLinks}
 use Rattle.gq_by_file.proofs.CoverLemmas.{none_of}
@@ -88,3 +91,30 @@ module _ (stays : ClosedSetsStay) (others : OtherFilesAreUnseen) (es : List Entr
           by : (b : Bool) → slice_index_or marks n false ≡ b → slice_index_or marks n false ≡ false
           by true e = absurd (h e)
           by false e = e
+
+-- what is known of an executable that is the same
+pub kept_over : (x y : ExecutableOf) → x ≡ y → (rows given : List (Vec ℕ Global)) → given ≡ rows → (old new : List Cover) → AreLinks y rows →
+    (AreLinks x given → AreCovers x old → AreCovers x new) → AreCovers y old → AreCovers y new
+kept_over x y is rows given same old new links goes are =
+    subst (λ (z : ExecutableOf). AreCovers z new) is
+    (goes (subst (λ (z : ExecutableOf). AreLinks z given) (sym is) (subst (λ (vs : List (Vec ℕ Global)). AreLinks y vs) (sym same) links)) (subst (λ (z : ExecutableOf). AreCovers z old) (sym is) are))
+
+abbrev parts : List EntryOf → List OperationOf → List FragmentOf → ExecutableOf
+parts es os gs = record { entries = es; operations = os; fragments = gs }
+
+pub same_parts : (es : List EntryOf) (os ps : List OperationOf) (gs hs : List FragmentOf) → os ≡ ps → gs ≡ hs → parts es os gs ≡ parts es ps hs
+same_parts es os ps gs hs a b = ap (λ (z : List OperationOf). parts es z gs) a ∙ ap (λ (z : List FragmentOf). parts es ps z) b
+
+-- where no covers are left, the type system may be another one
+pub across_cleared : (es us : List EntryOf) (rs : List ParsedOf) (a b : Across) → b.names ≡ a.names → b.covers.items ≡ [] → AreAcross es rs a → AreAcross us rs b
+across_cleared es us rs a b same none are = record {
+  names = subst (λ (v : Vec FileNames Global). (v.items ≡ []) ⊎ AreNames rs v.items) (sym same) are.names;
+  covers = subst (λ (cs : List Cover). AreCovers (together us rs) cs) (sym none) (λ c s. nothing_in c s);
+}
+
+pub across_over : (unseen : NumbersOfEntriesAreUnseen) (es us : List EntryOf) → AreOneTypeSystem es us → (rs : List ParsedOf) (a : Across) → AreAcross es rs a → AreAcross us rs a
+across_over unseen es us one rs a are = record { names = are.names; covers = covers_over unseen es us one rs a.covers.items are.covers }
+
+-- where there are names, they are those of the files
+pub names_known : (rs : List ParsedOf) (names : List FileNames) → (length names ≡ 0 → ⊥) → (names ≡ []) ⊎ AreNames rs names → AreNames rs names
+names_known rs names some either = ⊎_elim (λ e. absurd (some (ap (λ (ns : List FileNames). length ns) e))) (λ n. n) either

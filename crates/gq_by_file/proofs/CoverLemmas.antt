@@ -1,10 +1,11 @@
 -- Covers of files: what is added to them, what stays, and that each file stands in one.
-use Rattle.std.proofs.Common.{◌≡◌, ◌↔◌, ◌⊎◌, ⊎_elim, inl, inr, ℕ, zero, suc, ◌+◌, ◌<◌, Bool, true, false, List, [], ◌∷◌, ◌++◌, All, Contains, slice_index_or, length, refl, sym, ap, ◌∙◌, subst, arith}
+use Rattle.std.proofs.Common.{◌≡◌, ◌↔◌, ◌⊎◌, ⊎_elim, inl, inr, ℕ, zero, suc, ◌+◌, ◌<◌, Bool, true, false, List, [], ◌∷◌, ◌++◌, ◌≤◌, All, Contains, slice_index_or, get_or, append-nil, drop, length, map, replicate, refl, sym, ap, ◌∙◌, subst, arith}
 use Rattle.std.specs.Prelude.{◌||◌, not}
 use Rattle.std.specs.List.{list_any}
 use Rattle.std.specs.declared.vec.Vec.{Vec}
 use Rattle.std.specs.declared.alloc.Global.{Global}
-use Rattle.std.proofs.lemmas.List.Elements.{Contains-append_left, Contains-append_right, Contains-append_cases}
+use Rattle.std.proofs.lemmas.List.Elements.{All-contains, All-contains_itself, Contains-append_left, Contains-append_right, Contains-append_cases}
+use Rattle.std.proofs.lemmas.List.Elements.{All-weaker}
 use Rattle.gq_fault.specs.declared.fault.Fault.{Fault}
 use Rattle.gq_graph.specs.Reach.{Reach, row}
 use Rattle.gq_types.proofs.Gathered.{nothing_in, first, later, only, cases_cons, or_cases, or_left, or_right}
@@ -17,7 +18,7 @@ use Rattle.gq_by_file.specs.declared.covers.Cover.{Cover}
 use Rattle.gq_by_file.specs.Across.{IsCover, AreCovers}
 use Rattle.gq_by_file.specs.Helping.Covers.{AreFaulty, IsCovered, LeadsInto, unmarked_from}
 use Rattle.gq_by_file.specs.Helping.Links.{AreLinks}
-use Rattle.gq_by_file.proofs.LinkLemmas.{closed_by_links}
+use Rattle.gq_by_file.proofs.LinkLemmas.{closed_by_links, reach_more}
 
 -- tests of lists
 pub any_of : {X : Type 0} (p : X → Bool) (xs : List X) (x : X) → Contains xs x → p x ≡ true → list_any p xs ≡ true
@@ -33,7 +34,11 @@ none_of p xs x e c h = let t : list_any p xs ≡ true = any_of p xs x c h in abs
 
 -- each of some numbers
 pub each_of : (P : ℕ → Type 0) (ns : List ℕ) (n : ℕ) → All P ns → Contains ns n → P n
-each_of P ns n all c = subst P c.2 (all c.0 c.1)
+each_of P ns n all c = All-contains P ns n all c
+
+-- what one of the starts leads to
+pub leads_one : (rows : List (Vec ℕ Global)) (starts all : List ℕ) (n : ℕ) → Contains starts n → LeadsInto rows starts all → LeadsInto rows (n ∷ []) all
+leads_one rows starts all n c leads m h = leads m (reach_more rows (n ∷ []) starts (λ k d. subst (λ z. Contains starts z) (sym (only n k d)) c) m h)
 
 -- one more cover
 pub covers_more : (x : ExecutableOf) (covers : List Cover) (c : Cover) → AreCovers x covers → IsCover x c → AreCovers x (covers ++ c ∷ [])
@@ -57,8 +62,8 @@ module _ (x : ExecutableOf) (rows : List (Vec ℕ Global)) (links : AreLinks x r
   clean_cover stay all faulty are leads none c is empty = record {
     closed = subst (λ (fs : List ℕ). IsClosed fs x) (sym is) reached_closed;
     exact = λ f. (
-        (λ s. nothing_in f (subst (λ (fs : List Fault). Contains fs f) empty s)),
-        (λ h. absurd (refused f (subst (λ (fs : List ℕ). IsFaultBySpreads (within fs x) f) is h))),
+      (λ s. nothing_in f (subst (λ (fs : List Fault). Contains fs f) empty s)),
+      (λ h. absurd (refused f (subst (λ (fs : List ℕ). IsFaultBySpreads (within fs x) f) is h))),
     );
   }
     where
@@ -84,6 +89,47 @@ module _ (x : ExecutableOf) (rows : List (Vec ℕ Global)) (links : AreLinks x r
       let t = law x files reached_closed f h in
       marked f ((exact f).1 h) (range f.file t.0)
 
+  -- the same where lists are lent
+  pub their_faulty : (law : FaultsOfClosedSetsAreFaults) (count : ℕ) (faults : List Fault) (marks : List Bool) → All (λ n. n < count) files →
+      (given : List ℕ) → given ≡ files → ((f : Fault) → Contains faults f ↔ IsFaultBySpreads (within given x) f) →
+      (lent : List Fault) → lent ≡ faults → ((f : Fault) → Contains lent f → f.file < count → slice_index_or marks f.file false ≡ true) →
+      (used : List Bool) → used ≡ marks → AreFaulty x files used
+  their_faulty law count faults marks range given is exact lent same marked used are =
+      subst (λ (ms : List Bool). AreFaulty x files ms) (sym are)
+      (faulty_marks law count faults marks (λ n c. each_of (λ k. k < count) files n range c) (λ f. subst (λ (fs : List ℕ). Contains faults f ↔ IsFaultBySpreads (within fs x) f) is (exact f))
+      (λ f c. marked f (subst (λ (fs : List Fault). Contains fs f) (sym same) c)))
+
+  pub their_cover : (c : Cover) → c.files.items ≡ files → (given : List ℕ) → given ≡ files → ((f : Fault) → Contains c.faults.items f ↔ IsFaultBySpreads (within given x) f) → IsCover x c
+  their_cover c of given is exact = whole_cover c of (λ f. subst (λ (fs : List ℕ). Contains c.faults.items f ↔ IsFaultBySpreads (within fs x) f) is (exact f))
+
+-- an item of a list, and a list that is walked to its end
+pub item_in : (ns : List ℕ) (i : ℕ) → i < length ns → Contains ns (get_or ns i 0)
+item_in [] i h = absurd (omega (arith, h))
+item_in (n ∷ ns) zero h = first n n ns refl
+item_in (n ∷ ns) (suc i) h = later n (get_or ns i 0) ns (item_in ns i (omega (arith, h)))
+
+pub walked : {X Y : Type 0} (g : X → Y) (made : List Y) (xs : List X) (i : ℕ) → length xs ≤ i → made ++ map g (drop i xs) ≡ map g xs → made ≡ map g xs
+walked {X} g made xs i h e = sym (append-nil made) ∙ ap (λ (rest : List X). made ++ map g rest) (sym (nothing_left xs i h)) ∙ e
+  where
+    nothing_left : (xs : List X) (i : ℕ) → length xs ≤ i → drop i xs ≡ []
+    nothing_left [] zero h = refl
+    nothing_left [] (suc i) h = refl
+    nothing_left (x ∷ xs) zero h = absurd (omega (arith, h))
+    nothing_left (x ∷ xs) (suc i) h = nothing_left xs i (omega (arith, h))
+
+-- no mark at first
+pub no_mark : (n k : ℕ) → slice_index_or (replicate n false) k false ≡ false
+no_mark zero k = refl
+no_mark (suc n) zero = refl
+no_mark (suc n) (suc k) = no_mark n k
+
+pub marked_alone : (count : ℕ) (before after : List Bool) (covers : List Cover) → before ≡ replicate count false → length after ≡ length before →
+    ((n : ℕ) → n < length before → slice_index_or after n false ≡ (slice_index_or before n false || list_any (λ (c : Cover). is_among c.files.items n) covers)) →
+    (n : ℕ) → n < length after → slice_index_or after n false ≡ list_any (λ (c : Cover). is_among c.files.items n) covers
+marked_alone count before after covers none same marked n h =
+    let bare : slice_index_or before n false ≡ false = ap (λ (ms : List Bool). slice_index_or ms n false) none ∙ no_mark count n in
+    marked n (omega (arith, h, same)) ∙ ap (λ b. b || list_any (λ (c : Cover). is_among c.files.items n) covers) bare
+
 -- ---- files without a mark
 
 pub unmarked_there : (k : ℕ) (marks : List Bool) (n : ℕ) → n < length marks → slice_index_or marks n false ≡ false → Contains (unmarked_from k marks) (k + n)
@@ -103,7 +149,7 @@ unmarked_below k (true ∷ marks) n c = let h = unmarked_below (k + 1) marks n c
 unmarked_below k (false ∷ marks) n c = ⊎_elim (λ (e : k ≡ n). omega (arith, e)) (λ d. let h = unmarked_below (k + 1) marks n d in omega (arith, h)) (cases_cons k n (unmarked_from (k + 1) marks) c)
 
 pub unmarked_range : (marks : List Bool) (count : ℕ) → length marks ≡ count → All (λ n. n < count) (unmarked_from 0 marks)
-unmarked_range marks count e = λ i h. let b = unmarked_below 0 marks _ (i, h, refl) in omega (arith, b, e)
+unmarked_range marks count e = All-weaker (Contains (unmarked_from 0 marks)) (λ n. n < count) (λ n c. let b = unmarked_below 0 marks n c in omega (arith, b, e)) (unmarked_from 0 marks) (All-contains_itself (unmarked_from 0 marks))
 
 -- each file is covered, or has no mark
 module _ (covers : List Cover) (marks : List Bool) (is : (n : ℕ) → n < length marks → slice_index_or marks n false ≡ list_any (λ (c : Cover). is_among c.files.items n) covers) where

@@ -56,7 +56,7 @@ from_named k text (f ∷ fs) n c = ⊎_elim
     (λ b. from_named k text fs n b)
     (Contains-append_cases (one_if (bytes_eq text f) k) (named_in k text fs) n c)
 
-same_bytes : (a b : Text) → a ≡ b → bytes_eq a b ≡ true
+pub same_bytes : (a b : Text) → a ≡ b → bytes_eq a b ≡ true
 same_bytes a b e = subst (λ (u : Text). bytes_eq a u ≡ true) e (nat_list_eq_equiv.refl a)
 
 to_named : (k : ℕ) (text : Text) (fs : List Text) → Contains fs text → Contains (named_in k text fs) k
@@ -122,7 +122,7 @@ fragment_name n (operation kind name variables directives set braces place) g c 
 fragment_name n (fragment name on directives set braces place) g c = first name g.name [] (ap (λ (z : FragmentOf). z.name) (sym (only _ g c)))
 fragment_name n (type_system definition) g c = nothing_in g c
 
-text_in : (ns : List (NameOf Span)) (name : NameOf Span) → Contains ns name → Contains (texts_of ns) name.text
+pub text_in : (ns : List (NameOf Span)) (name : NameOf Span) → Contains ns name → Contains (texts_of ns) name.text
 text_in ns name c = to_map (λ (z : NameOf Span). z.text) ns name c
 
 spread_of_operation : (n : ℕ) (r : ParsedOf) (o : OperationOf) (name : NameOf Span) → Contains (in_document operation_in n r) o → Contains (spread_names o.set) name → Contains (texts_of (spreads_read r)) name.text
@@ -135,7 +135,7 @@ spread_of_fragment n r g name c s =
     let p = from_flat (fragment_in n) (definitions_read r) g c in
     text_in (spreads_read r) name (to_flat spreads_in (definitions_read r) p.0 name p.1 (subst (λ (ns : List (NameOf Span)). Contains ns name) (sym (fragment_spreads n p.0 g p.2)) s))
 
-name_of_fragment : (n : ℕ) (r : ParsedOf) (g : FragmentOf) → Contains (in_document fragment_in n r) g → Contains (texts_of (fragments_read r)) g.name.text
+pub name_of_fragment : (n : ℕ) (r : ParsedOf) (g : FragmentOf) → Contains (in_document fragment_in n r) g → Contains (texts_of (fragments_read r)) g.name.text
 name_of_fragment n r g c =
     let p = from_flat (fragment_in n) (definitions_read r) g c in
     text_in (fragments_read r) g.name (to_flat fragment_names_in (definitions_read r) p.0 g.name p.1 (fragment_name n p.0 g p.2))

@@ -90,6 +90,21 @@ fn has_one_of(spreads: &[SmallText], defined: &NameList) -> bool
 }
 
 /// A mark at each file in which one of these fragments is spread.
+fn spreading_by(
+    alloc: Global,
+    names: &[FileNames],
+    defined: &NameList,
+) -> Result<Vec<bool>, NoMemory>
+    ensures { IfOk result (λ marks. marks.items ≡ map (λ one. has_one_of defined.now one.spreads.items) names.now) }
+{
+    let mut marks = Vec::with_capacity(alloc, names.len())?;
+    for one in names {
+        marks.push(has_one_of(&one.spreads, defined))?;
+    }
+    Ok(marks)
+}
+
+/// The same where their names are given.
 fn spreading(
     alloc: Global,
     names: &[FileNames],
@@ -99,11 +114,7 @@ fn spreading(
 {
     let mut defined = NameList::new(alloc);
     put_names(fragments, &mut defined)?;
-    let mut marks = Vec::with_capacity(alloc, names.len())?;
-    for one in names {
-        marks.push(has_one_of(&one.spreads, &defined))?;
-    }
-    Ok(marks)
+    spreading_by(alloc, names, &defined)
 }
 
 impl Across {

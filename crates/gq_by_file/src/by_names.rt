@@ -1,8 +1,8 @@
 //! What is told of the names of operations and fragments in all files (GraphQL, October 2021, sections 5.2.1.1, 5.2.2.1,
 //! 5.5.1.1 and 5.5.1.4).
-ghost use Rattle.std.specs.Prelude.{◌≡◌, ◌++◌, ◌↔◌, [], Contains, IfOk, OnOk, flat_map, map};
+ghost use Rattle.std.specs.Prelude.{◌≡◌, ◌++◌, ◌↔◌, [], Contains, IfOk, OnOk, flat_map};
 ghost use Rattle.gq_fault.specs.declared.fault.Fault.{Fault};
-ghost use Rattle.gq_document.specs.Definitions.{fragment_view, fragments_view};
+ghost use Rattle.gq_document.specs.Definitions.{fragments_view};
 ghost use Rattle.gq_document.specs.Executable.{executable_view};
 ghost use Rattle.gq_fragments.specs.Helping.FragmentPlaces.{repeated_names};
 ghost use Rattle.gq_law_closed.specs.RestsOnNames.{IsFaultByNames};

@@ -72,7 +72,8 @@ fn cover_if_clean(
 ) -> Result<(), NoMemory>
     requires rows { InRange rows.now }
     requires range { file < length rows.now }
-    ensures { (x : ExecutableOf) (all : List ℕ) → AreLinks x rows.now → AreFaulty x all faulty.now → LeadsInto rows.now (file ∷ []) all → AreCovers x covers.old.items → AreCovers x covers.new.items }
+    ensures kept { (x : ExecutableOf) (all : List ℕ) → AreLinks x rows.now → AreFaulty x all faulty.now → LeadsInto rows.now (file ∷ []) all → AreCovers x covers.old.items → AreCovers x covers.new.items }
+    ensures old { (n : ℕ) → IsCovered covers.old.items n → IsCovered covers.new.items n }
 {
     faults_stay_in_larger_sets();
     if is_marked(marks, file) {
@@ -86,23 +87,25 @@ fn cover_if_clean(
     covers.push(Cover {
         files,
         faults: Vec::new(alloc),
-    })
+    })?;
+    Ok(())
 }
 
 /// So of each of these files.
 fn cover_clean(
     alloc: Global,
     rows: &[Vec<usize>],
-    open: &[usize],
+    rest: &[usize],
     faulty: &[bool],
     marks: &mut Vec<bool>,
     covers: &mut Vec<Cover>,
 ) -> Result<(), NoMemory>
     requires rows { InRange rows.now }
-    requires range { All (λ n. n < length rows.now) open.now }
-    ensures { (x : ExecutableOf) (all : List ℕ) → AreLinks x rows.now → AreFaulty x all faulty.now → LeadsInto rows.now open.now all → AreCovers x covers.old.items → AreCovers x covers.new.items }
+    requires range { All (λ n. n < length rows.now) rest.now }
+    ensures kept { (x : ExecutableOf) (all : List ℕ) → AreLinks x rows.now → AreFaulty x all faulty.now → LeadsInto rows.now rest.now all → AreCovers x covers.old.items → AreCovers x covers.new.items }
+    ensures old { (n : ℕ) → IsCovered covers.old.items n → IsCovered covers.new.items n }
 {
-    for file in open {
+    for file in rest {
         cover_if_clean(alloc, rows, *file, faulty, marks, covers)?;
     }
     Ok(())
@@ -110,26 +113,27 @@ fn cover_clean(
 
 /// Adds covers of the files that stand in none, which are these: one of all that they lead to, and one of each of them where
 /// nothing is told.
-fn cover_open(
+fn cover_these(
     alloc: Global,
     executable: &Executable<'_>,
     rows: &[Vec<usize>],
-    open: &[usize],
+    rest: &[usize],
     marks: &mut Vec<bool>,
     covers: &mut Vec<Cover>,
 ) -> Result<(), NoMemory>
     requires rows { InRange rows.now }
-    requires range { All (λ n. n < length rows.now) open.now }
+    requires range { All (λ n. n < length rows.now) rest.now }
     ensures kept { AreLinks (executable_view executable.now) rows.now → AreCovers (executable_view executable.now) covers.old.items → AreCovers (executable_view executable.now) covers.new.items }
     ensures old { (n : ℕ) → IsCovered covers.old.items n → IsCovered covers.new.items n }
-    ensures open { OnOk result ((n : ℕ) → Contains open.now n → IsCovered covers.new.items n) }
+    ensures rest { OnOk result ((n : ℕ) → Contains rest.now n → IsCovered covers.new.items n) }
 {
     faults_of_closed_sets_are_faults();
-    let files = reach_rows(alloc, rows, open)?;
+    let files = reach_rows(alloc, rows, rest)?;
     let faults = found_within(alloc, executable, rows.len(), &files)?;
     let faulty = faulty_files(alloc, rows.len(), &faults)?;
-    cover_clean(alloc, rows, open, &faulty, marks, covers)?;
-    covers.push(Cover { files, faults })
+    cover_clean(alloc, rows, rest, &faulty, marks, covers)?;
+    covers.push(Cover { files, faults })?;
+    Ok(())
 }
 
 /// Adds covers until each file stands in one.
@@ -145,11 +149,11 @@ pub(crate) fn cover_rest(
 {
     let mut marks = vec![in alloc; false; rows.len()]?;
     mark_covers(&mut marks, covers);
-    let open = unmarked(alloc, &marks)?;
-    if open.is_empty() {
+    let rest = unmarked(alloc, &marks)?;
+    if rest.is_empty() {
         return Ok(());
     }
-    cover_open(alloc, executable, rows, &open, &mut marks, covers)
+    cover_these(alloc, executable, rows, &rest, &mut marks, covers)
 }
 
 /// Puts what is told of the covers behind the others.

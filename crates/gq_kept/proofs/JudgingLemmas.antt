@@ -17,20 +17,16 @@ use Rattle.gq_rules.specs.Project.{type_system_of, executable_of}
 use Rattle.gq_rules.specs.Validity.{IsReportOf, IsValid, IsInvalid}
 use Rattle.gq_law_files.specs.Laws.{FaultsAreToldByFiles, IsToldByFiles}
 use Rattle.gq_law_files.specs.Laws as files
-use Rattle.gq_kept.proofs.OwnLemmas.{from_append, to_append_left, to_append_right}
 
-module _ (by_files : FaultsAreToldByFiles) (rs : List ParsedOf) (none : (fault : Fault) → IsToldFirst rs fault → ⊥) (own across : List Fault)
-    (own_are : (f : Fault) → Contains own f ↔ IsOfItsFile (type_system_of rs) rs f) (across_are : (f : Fault) → Contains across f ↔ IsFaultAcross (executable_of rs) f) where
-  pub told_by_files : (f : Fault) → Contains (own ++ across) f ↔ IsFaultOf rs f
-  told_by_files f = (
-    (λ c. (by_files rs f).1 (⊎_elim (λ o. files.of_file none ((own_are f).0 o)) (λ a. files.across none ((across_are f).0 a)) (from_append own across f c))),
-    (λ h. back ((by_files rs f).0 h)),
-  )
+module _ (by_files : FaultsAreToldByFiles) (rs : List ParsedOf) (none : (fault : Fault) → IsToldFirst rs fault → ⊥) (all : List Fault)
+    (all_are : (f : Fault) → Contains all f ↔ (IsOfItsFile (type_system_of rs) rs f ⊎ IsFaultAcross (executable_of rs) f)) where
+  pub told_by_files : (f : Fault) → Contains all f ↔ IsFaultOf rs f
+  told_by_files f = ((λ c. (by_files rs f).1 (⊎_elim (λ o. files.of_file none o) (λ a. files.across none a) ((all_are f).0 c))), (λ h. back ((by_files rs f).0 h)))
     where
-      back : IsToldByFiles rs f → Contains (own ++ across) f
+      back : IsToldByFiles rs f → Contains all f
       back (files.first h) = absurd (none f h)
-      back (files.of_file others h) = to_append_left own across f ((own_are f).1 h)
-      back (files.across others h) = to_append_right own across f ((across_are f).1 h)
+      back (files.of_file others h) = (all_are f).1 (inl h)
+      back (files.across others h) = (all_are f).1 (inr h)
 
 -- where something is told first, that is all
 pub first_alone : (rs : List ParsedOf) (found : List Fault) → (found ≡ [] → ⊥) → ((f : Fault) → Contains found f ↔ IsToldFirst rs f) → (f : Fault) → Contains found f ↔ IsFaultOf rs f

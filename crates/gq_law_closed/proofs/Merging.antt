@@ -79,9 +79,10 @@ module _ (files : List ℕ) (x : ExecutableOf) where
 
   fault_from : {purpose : Purpose} {f : Fault} → IsFaultFor there purpose f → Contains files f.file × IsFaultFor x purpose f
   fault_from {purpose} {f} h =
-      let t = meet_from h.meet in
-      (subst (λ (z : Fault). Contains files z.file) (sym h.is) t.0,
-       record { first = h.first; later = h.later; meet = t.1; differ = h.differ; is_no_later = h.is_no_later; is = h.is })
+      let t = meet_from h.meet in (
+        subst (λ (z : Fault). Contains files z.file) (sym h.is) t.0,
+        record { first = h.first; later = h.later; meet = t.1; differ = h.differ; is_no_later = h.is_no_later; is = h.is },
+      )
 
   -- from the project to the files
   module _ (closed : IsClosed files x) where
@@ -113,37 +114,49 @@ module _ (x : ExecutableOf) where
   stands_to (sets.of_operation {o = o} c) = (o.file, of_operation c refl, λ files closed k. (sets.of_operation (operation_to files x o c k), (k, closed.of_operations o c k)))
   stands_to (sets.of_fragment {f = f} c) = (f.file, of_fragment c refl, λ files closed k. (sets.of_fragment (fragment_to files x f c k), (k, closed.of_fragments f c k)))
   stands_to (sets.of_field h i) =
-      let t = stands_to h in
-      (t.0, t.1, λ files closed k.
-        let s = t.2 files closed k in
-        let u = in_set_to files x closed s.1 i in
-        (sets.of_field s.0 u.0, u.1))
+      let t = stands_to h in (
+        t.0,
+        t.1,
+        λ files closed k.
+            let s = t.2 files closed k in
+            let u = in_set_to files x closed s.1 i in
+            (sets.of_field s.0 u.0, u.1),
+      )
 
   meet_to : {purpose : Purpose} {a b : FieldAt} → Meet x purpose a b → HoldsFromFile (λ files. Meet (within files x) purpose a b × IsKeptBelow files x a × IsKeptBelow files x b)
   meet_to (together s h) =
-      let t = stands_to s in
-      (t.0, t.1, λ files closed k.
-        let u = t.2 files closed k in
-        let v = one_key_to files x closed u.1 u.1 h in
-        (together u.0 v.0, v.1, v.2))
+      let t = stands_to s in (
+        t.0,
+        t.1,
+        λ files closed k.
+            let u = t.2 files closed k in
+            let v = one_key_to files x closed u.1 u.1 h in
+            (together u.0 v.0, v.1, v.2),
+      )
   meet_to (deeper m l h) =
-      let t = meet_to m in
-      (t.0, t.1, λ files closed k.
-        let u = t.2 files closed k in
-        let v = one_key_to files x closed u.1 u.2 h in
-        (deeper u.0 l v.0, v.1, v.2))
+      let t = meet_to m in (
+        t.0,
+        t.1,
+        λ files closed k.
+            let u = t.2 files closed k in
+            let v = one_key_to files x closed u.1 u.2 h in
+            (deeper u.0 l v.0, v.1, v.2),
+      )
 
   fault_to : {purpose : Purpose} {f : Fault} → IsFaultFor x purpose f → HoldsFromFile (λ files. IsFaultFor (within files x) purpose f)
   fault_to h =
-      let t = meet_to h.meet in
-      (t.0, t.1, λ files closed k. record {
-        first = h.first;
-        later = h.later;
-        meet = (t.2 files closed k).0;
-        differ = h.differ;
-        is_no_later = h.is_no_later;
-        is = h.is;
-      })
+      let t = meet_to h.meet in (
+        t.0,
+        t.1,
+        λ files closed k. record {
+          first = h.first;
+          later = h.later;
+          meet = (t.2 files closed k).0;
+          differ = h.differ;
+          is_no_later = h.is_no_later;
+          is = h.is;
+        },
+      )
 
 pub merging_sound : (files : List ℕ) (x : ExecutableOf) → IsClosed files x → (f : Fault) → IsMergingFault (within files x) f → Contains files f.file × IsMergingFault x f
 merging_sound files x closed f (of_shapes h) = let t = fault_from files x h in (t.0, of_shapes t.1)
