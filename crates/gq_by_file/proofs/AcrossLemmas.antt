@@ -1,20 +1,19 @@
 -- What rests on several files: what covers come to, and what stays of them where a file is replaced.
-use Rattle.std.proofs.Common.{◌≡◌, ◌↔◌, ◌⊎◌, ⊎_elim, inl, inr, ℕ, zero, suc, ◌+◌, ◌<◌, Bool, true, false, List, [], ◌∷◌, ◌++◌, Some, All, Contains, filter, map, flat_map, set, slice_get, slice_index_or, length, refl, sym, ap, ◌∙◌, subst, arith}
+use Rattle.std.proofs.Common.{◌≡◌, ◌↔◌, ◌⊎◌, ⊎_elim, inl, inr, ℕ, ◌<◌, Bool, true, false, List, [], ◌∷◌, ◌++◌, Contains, filter, flat_map, set, slice_index_or, length, refl, sym, ap, ◌∙◌, subst}
 use Rattle.std.specs.Prelude.{not}
 use Rattle.std.specs.List.{list_any}
-use Rattle.std.specs.Str.{bytes_eq}
 use Rattle.std.specs.declared.vec.Vec.{Vec}
 use Rattle.std.specs.declared.alloc.Global.{Global}
 use Rattle.std.proofs.lemmas.List.Elements.{Contains-append_left, Contains-append_right, Contains-append_cases}
 use Rattle.gq_fault.specs.declared.fault.Fault.{Fault}
-use Rattle.gq_tree.specs.Readings.{ParsedOf, in_document}
-use Rattle.gq_types.specs.Entries.{Text, EntryOf}
-use Rattle.gq_types.proofs.Gathered.{nothing_in, first, later, cases_cons, from_filter, from_flat, to_flat, not_true}
+use Rattle.gq_tree.specs.Readings.{ParsedOf}
+use Rattle.gq_types.specs.Entries.{EntryOf}
+use Rattle.gq_types.proofs.Gathered.{nothing_in, first, from_filter, from_flat, to_flat, not_true}
 use Rattle.gq_document.specs.Definitions.{OperationOf, FragmentOf}
 use Rattle.gq_document.specs.Executable.{ExecutableOf}
 use Rattle.gq_rules.specs.Files.{together, IsFaultAcross}
 use Rattle.gq_law_files.specs.Laws.{AreOneTypeSystem, NumbersOfEntriesAreUnseen}
-use Rattle.gq_law_closed.specs.Closed.{within, IsClosed}
+use Rattle.gq_law_closed.specs.Closed.{within}
 use Rattle.gq_law_closed.specs.RestsOnNames.{IsFaultByNames, IsFaultBySpreads}
 use Rattle.gq_law_closed.specs.Laws.{AreNotSpread, ClosedSetsStay, FaultsAcrossAreByNamesOrSpreads, FaultsAreOfClosedSets, FaultsOfClosedSetsAreFaults, OtherFilesAreUnseen}
 use Rattle.gq_by_file.specs.declared.across.Across.{Across}

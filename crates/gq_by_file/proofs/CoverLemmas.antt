@@ -1,6 +1,6 @@
 -- Covers of files: what is added to them, what stays, and that each file stands in one.
 use Rattle.std.proofs.Common.{◌≡◌, ◌↔◌, ◌⊎◌, ⊎_elim, inl, inr, ℕ, zero, suc, ◌+◌, ◌<◌, Bool, true, false, List, [], ◌∷◌, ◌++◌, ◌≤◌, All, Contains, slice_index_or, get_or, append-nil, drop, length, map, replicate, refl, sym, ap, ◌∙◌, subst, arith}
-use Rattle.std.specs.Prelude.{◌||◌, not}
+use Rattle.std.specs.Prelude.{◌||◌}
 use Rattle.std.specs.List.{list_any}
 use Rattle.std.specs.declared.vec.Vec.{Vec}
 use Rattle.std.specs.declared.alloc.Global.{Global}
@@ -10,10 +10,10 @@ use Rattle.gq_fault.specs.declared.fault.Fault.{Fault}
 use Rattle.gq_graph.specs.Reach.{Reach, row}
 use Rattle.gq_types.proofs.Gathered.{nothing_in, first, later, only, cases_cons, or_cases, or_left, or_right}
 use Rattle.gq_document.specs.Executable.{ExecutableOf}
-use Rattle.gq_law_closed.specs.Closed.{is_among, within, IsClosed, StandsInFile}
+use Rattle.gq_law_closed.specs.Closed.{is_among, within, IsClosed}
 use Rattle.gq_law_closed.specs.RestsOnNames.{IsFaultBySpreads}
 use Rattle.gq_law_closed.specs.Laws.{FaultsOfClosedSetsAreFaults, FaultsStayInLargerSets}
-use Rattle.gq_law_closed.proofs.Within.{from_among, to_among}
+use Rattle.gq_law_closed.proofs.Within.{from_among}
 use Rattle.gq_by_file.specs.declared.covers.Cover.{Cover}
 use Rattle.gq_by_file.specs.Across.{IsCover, AreCovers}
 use Rattle.gq_by_file.specs.Helping.Covers.{AreFaulty, IsCovered, LeadsInto, unmarked_from}

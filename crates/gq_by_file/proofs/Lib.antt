@@ -5,3 +5,4 @@ pub mod AcrossLemmas
 pub mod SpreadingLemmas
 pub mod PartLemmas
 pub mod ByNamesLemmas
+pub mod AloneLemmas

@@ -2,15 +2,12 @@
 use Rattle.std.proofs.Common.{◌≡◌, ℕ, zero, suc, Bool, true, false, List, [], ◌∷◌, Some, Contains, map, set, slice_get, slice_index_or, ◌<◌, length, refl, sym, ap, ◌∙◌, subst, arith}
 use Rattle.std.specs.List.{list_any}
 use Rattle.std.specs.Str.{bytes_eq}
-use Rattle.gq_text.specs.declared.place.Span.{Span}
-use Rattle.gq_tree.specs.Plain.{NameOf}
-use Rattle.gq_tree.specs.Readings.{ParsedOf, in_document}
+use Rattle.gq_tree.specs.Readings.{ParsedOf}
 use Rattle.gq_types.specs.Entries.{Text}
 use Rattle.gq_types.proofs.Gathered.{only}
-use Rattle.gq_document.specs.Definitions.{FragmentOf, fragment_in}
 use Rattle.gq_law_closed.specs.Laws.{AreNotSpread, spreads_read}
 use Rattle.gq_by_file.specs.declared.names.FileNames.{FileNames}
-use Rattle.gq_by_file.specs.Names.{AreNames, AreNamesIn, texts_of, fragments_read}
+use Rattle.gq_by_file.specs.Names.{AreNames, AreNamesIn}
 use Rattle.gq_by_file.specs.Helping.Covers.{has_one_of}
 use Rattle.gq_by_file.proofs.CoverLemmas.{any_of}
 use Rattle.gq_by_file.proofs.LinkLemmas.{name_of_fragment, same_bytes, text_in}

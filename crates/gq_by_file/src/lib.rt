@@ -2,6 +2,7 @@
 #![tactic(auto)]
 
 pub mod across;
+mod alone;
 mod by_names;
 pub mod covers;
 mod links;
@@ -10,3 +11,4 @@ pub mod names;
 mod part;
 
 pub use across::Across;
+pub use alone::found_alone;

@@ -1,5 +1,5 @@
 -- What is told of a project by its files is what is told of it.
-use Rattle.std.proofs.Common.{◌≡◌, ◌↔◌, ⊎_elim, List, [], ◌∷◌, ◌++◌, Contains, refl, sym, subst}
+use Rattle.std.proofs.Common.{◌≡◌, ◌↔◌, ◌⊎◌, ⊎_elim, inl, inr, List, [], ◌∷◌, Contains, refl, sym, subst}
 use Rattle.std.specs.List.Sorted.{IsStrictlySortedBy}
 use Rattle.gq_project.specs.declared.document.Doc.{Doc}
 use Rattle.gq_tree.specs.Readings.{ParsedOf}

@@ -56,7 +56,13 @@ impl ByFile {
 
     /// What is known of the other files stays where the file at that place is replaced; where that changes the type system,
     /// nothing is known any more.
-    pub(crate) fn replace(&mut self, alloc: Global, at: usize, reading: &Parsed, changes_types: bool)
+    pub(crate) fn replace(
+        &mut self,
+        alloc: Global,
+        at: usize,
+        reading: &Parsed,
+        changes_types: bool,
+    )
         ensures { (es us : List EntryOf) (rs : List ParsedOf) → (changes_types ≡ false → AreOneTypeSystem es us)
             → AreByFile es rs self.old → AreByFile us (slice_set rs at (parsed_view reading.now)) self.new }
     {

@@ -32,11 +32,7 @@ fn faults_by_files(
 }
 
 /// The faults of a project, in no order.
-fn faults(
-    alloc: Global,
-    known: Known<'_>,
-    found: &mut ByFile,
-) -> Result<Vec<Fault>, NoMemory>
+fn faults(alloc: Global, known: Known<'_>, found: &mut ByFile) -> Result<Vec<Fault>, NoMemory>
     ensures kept { AreByFileOver known.entry.types.now known.entry.readings.now found.old → AreByFileOver known.entry.types.now known.entry.readings.now found.new }
     ensures faults { IfOk result (λ faults. IsKnown known.entry → AreByFileOver known.entry.types.now known.entry.readings.now found.old
         → (fault : Fault) → Contains faults.items fault ↔ IsFaultOf (readings_view known.entry.readings.now) fault) }

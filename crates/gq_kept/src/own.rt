@@ -9,9 +9,9 @@ ghost use Rattle.gq_rules.specs.Files.{in_file, IsOfItsFile};
 ghost use Rattle.gq_law_files.specs.Laws.{AreOneTypeSystem};
 ghost use Rattle.gq_kept.specs.Helping.Own.{AreOwn, AreOwnOver, IsFoundAt, IsFoundOwn, IsOwn, own_in};
 
+use gq_by_file::found_alone;
 use gq_fault::Fault;
 use gq_law_files::laws::{numbers_of_entries_are_unseen, numbers_of_files_are_unseen};
-use gq_rules::found_in;
 use gq_text::{Items, NoMemory};
 use gq_tree::Parsed;
 use gq_types::Types;
@@ -30,7 +30,7 @@ fn find_in(
     if own.is_some() {
         return Ok(());
     }
-    let faults = found_in(alloc, types, reading)?;
+    let faults = found_alone(alloc, types, reading)?;
     *own = Some(Items::from_vec(faults));
     Ok(())
 }

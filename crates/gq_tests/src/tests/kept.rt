@@ -163,3 +163,47 @@ fn an_index_is_mended_to_what_is_made_anew(rt: HostRuntime) -> Result<(), Fail> 
     }
     Ok(())
 }
+
+/// Operations and fragments that spread each other from file to file: with cycles, unknown and unused fragments, variables that
+/// are not defined, not used or not allowed, fields that do not merge, names that stand twice, and one text without a tree.
+const OPERATIONS: [&str; 16] = [
+    "{...F}",
+    "query A($a:Int){f(a:$a)...F}",
+    "query B($a:Int){x...G}",
+    "fragment F on Query{x}",
+    "fragment F on Query{f(a:$a)...G}",
+    "fragment G on Query{x:f}",
+    "fragment G on Query{q{...H}}",
+    "fragment H on Query{f(a:$a)}",
+    "fragment H on Query{...F}",
+    "query C($a:String){x ...G}",
+    "query D{...H q{...G}}",
+    "{",
+    "",
+    "query A{x} fragment F on Query{x:q{x}}",
+    "query E($a:Int){...F...G...H}",
+    "fragment K on T{y}",
+];
+
+/// Replaces a file of operations by the text of that number, seldom drops one.
+fn change_operations(alloc: Global, kept: &mut Kept, number: usize) -> Result<(), NoMemory> {
+    let key = KEYS[(number % 4 * 3 + number / 7) % 4];
+    if number % 41 == 40 {
+        return kept.drop_file(alloc, key);
+    }
+    let text = OPERATIONS[(number % 16 * 5 + number / 16 * 3) % 16];
+    kept.replace_file(alloc, file(alloc, key, text)?)
+}
+
+#[test]
+fn a_thousand_changes_of_operations_tell_what_is_found_anew(rt: HostRuntime) -> Result<(), Fail> {
+    let alloc = rt.alloc();
+    let mut kept = Kept::of(alloc, &Project::new(alloc))?;
+    let schema = "type Query{x:Int f(a:Int):Int q:Query} type T{y:Int}";
+    kept.replace_file(alloc, file(alloc, "s", schema)?)?;
+    for number in 0..1000 {
+        change_operations(alloc, &mut kept, number)?;
+        assert!(rt; is_as_anew(alloc, &mut kept)?);
+    }
+    Ok(())
+}

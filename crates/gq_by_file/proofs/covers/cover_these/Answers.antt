@@ -1,5 +1,5 @@
 -- The set of all that the files lead to has these, and what is told of it.
-use Rattle.std.proofs.Common.{refl, sym, ◌∙◌}
+use Rattle.std.proofs.Common.{refl}
 use Rattle.gq_document.specs.Executable.{executable_view}
 use Rattle.gq_by_file.proofs.CoverLemmas.{covered_before, covered_last, covers_more, their_cover, their_faulty}
 use Rattle.gq_by_file.proofs.LinkLemmas.{starts_reached}

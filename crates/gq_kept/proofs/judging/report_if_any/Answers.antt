@@ -17,7 +17,7 @@ returns-clause-invalid c known owned =
     let documents : List Doc = c.args.known.project.now in
     let rs = readings_view c.args.known.readings.now in
     let exact = c.in_ok-faults.ensures.faults known owned in (
-      told_in_order documents rs known.are_readings c.in_ok-faults.faults.items exact c.put_in_order.new.faults.items c.put_in_order.ensures.sorted c.put_in_order.ensures.same c.in_ok-found.found.items
-          (c.in_ok-found.ensures ∙ ap (λ (ds : List Doc). told ds c.deref.result.now) c.documents.ensures.all ∙ ap (told documents) c.deref.ensures.value),
+      told_in_order documents rs known.are_readings c.in_ok-faults.faults.items exact c.put_in_order.new.faults.items c.put_in_order.ensures.sorted c.put_in_order.ensures.same c.in_ok-told.told.items
+          (c.in_ok-told.ensures ∙ ap (λ (ds : List Doc). told ds c.deref.result.now) c.documents.ensures.all ∙ ap (told documents) c.deref.ensures.value),
       something_told documents rs known.are_readings c.in_ok-faults.faults.items exact (λ e. let l = ap length e in grind (arith, nat_tests)),
     )

@@ -1,5 +1,5 @@
 -- The covers stay over another type system of the same definitions, and where names cannot be had nothing is known.
-use Rattle.std.proofs.Common.{List, refl, set, subst, sym}
+use Rattle.std.proofs.Common.{refl, set, subst, sym}
 use Rattle.gq_tree.specs.Readings.{parsed_view}
 use Rattle.gq_by_file.specs.declared.across.Across.{Across}
 use Rattle.gq_by_file.specs.Across.{AreAcross}

@@ -1,5 +1,5 @@
 -- The covers without the file in which no new fragment is spread stay.
-use Rattle.std.proofs.Common.{◌≡◌, ◌≤◌, ◌<◌, ⊎_elim, inr, true, false, List, Bool, [], filter, map, set, slice_index_or, ap, length, refl, sym, ◌∙◌, subst, arith}
+use Rattle.std.proofs.Common.{◌≡◌, ◌<◌, ⊎_elim, inr, true, false, List, Bool, filter, map, set, slice_index_or, ap, length, sym, ◌∙◌, subst, arith}
 use Rattle.std.specs.Prelude.{not}
 use Rattle.std.specs.List.{list_any}
 use Rattle.std.proofs.lemmas.Bool.Decides.{nat_tests}
