@@ -1,10 +1,9 @@
 -- What is told of a project by its files is what is told of it.
-use Rattle.std.proofs.Common.{◌≡◌, ◌↔◌, ◌⊎◌, ⊎_elim, inl, inr, List, [], ◌∷◌, Contains, refl, sym, subst}
+use Rattle.std.proofs.Common.{◌≡◌, ◌↔◌, ◌⊎◌, ⊎_elim, inl, inr, List, [], ◌∷◌, Contains, refl, subst}
 use Rattle.std.specs.List.Sorted.{IsStrictlySortedBy}
 use Rattle.gq_project.specs.declared.document.Doc.{Doc}
 use Rattle.gq_tree.specs.Readings.{ParsedOf}
 use Rattle.gq_parse.specs.Parsed.{AreParsed}
-use Rattle.gq_types.specs.Entries.{EntryOf}
 use Rattle.gq_types.proofs.Gathered.{nothing_in, first}
 use Rattle.gq_fault.specs.declared.fault.Fault.{Fault}
 use Rattle.gq_fault.specs.declared.found.Found.{Found}

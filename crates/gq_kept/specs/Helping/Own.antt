@@ -1,5 +1,5 @@
 -- The faults of each file that rest on it and the type system alone, as far as they are known.
-use Rattle.std.specs.Prelude.{◌≡◌, ◌↔◌, ℕ, true, false, List, [], ◌∷◌, Option, Some, None, Contains, map, slice_get}
+use Rattle.std.specs.Prelude.{◌≡◌, ◌↔◌, ℕ, List, [], ◌∷◌, Option, Some, None, Contains, map, slice_get}
 use Rattle.gq_tree.specs.Readings.{ParsedOf, readings_view}
 use Rattle.gq_tree.specs.declared.parsed.Parsed.{Parsed}
 use Rattle.gq_types.specs.Entries.{EntryOf}

@@ -1,5 +1,4 @@
 -- What defines no types defines nothing of the type system.
-use Rattle.std.proofs.Common.{◌∙◌}
 use Rattle.gq_kept.proofs.TypesLemmas.{nothing_at}
 use Rattle.gq_kept.proofs.typed.defines_types_at.Goals as goal
 

@@ -1,5 +1,5 @@
 -- What is told of the files each by itself, and behind it what rests on several.
-use Rattle.std.proofs.Common.{◌≡◌, ◌↔◌, ◌⊎◌, ⊎_elim, inl, inr, List, ◌++◌, Contains, subst, sym}
+use Rattle.std.proofs.Common.{◌↔◌, ◌⊎◌, ⊎_elim, inl, inr, List, ◌++◌, Contains, subst, sym}
 use Rattle.gq_tree.specs.Readings.{ParsedOf, readings_view}
 use Rattle.gq_types.specs.Entries.{EntryOf}
 use Rattle.gq_types.specs.Look.{types_view}
