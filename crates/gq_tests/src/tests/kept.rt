@@ -25,21 +25,26 @@ fn are_unknown_fragments(report: &Report, key: &str, places: &[usize]) -> bool {
     true
 }
 
+/// Whether a fragment that goes, comes back and is dropped makes its spreads unknown, and known again.
+fn is_unknown_while_it_is_gone(alloc: Global, kept: &mut Kept) -> Result<bool, NoMemory> {
+    kept.replace_file(alloc, file(alloc, "s", "type Query{x:Int}")?)?;
+    kept.replace_file(alloc, file(alloc, "q", "{...F ...F}")?)?;
+    kept.replace_file(alloc, file(alloc, "f", "fragment F on Query{x}")?)?;
+    let first = kept.report(alloc)?.found.is_empty();
+    kept.replace_file(alloc, file(alloc, "f", "")?)?;
+    let gone = are_unknown_fragments(&kept.report(alloc)?, "q", &[4, 9]);
+    kept.drop_file(alloc, "f")?;
+    let dropped = are_unknown_fragments(&kept.report(alloc)?, "q", &[4, 9]);
+    kept.replace_file(alloc, file(alloc, "f", "fragment F on Query{x}")?)?;
+    let last = kept.report(alloc)?.found.is_empty();
+    Ok(first && gone && dropped && last && kept.valid().is_some())
+}
+
 #[test]
 fn a_fragment_goes_and_comes_back(rt: HostRuntime) -> Result<(), Fail> {
     let alloc = rt.alloc();
     let mut kept = Kept::of(alloc, &Project::new(alloc))?;
-    kept.replace_file(alloc, file(alloc, "s", "type Query{x:Int}")?)?;
-    kept.replace_file(alloc, file(alloc, "q", "{...F ...F}")?)?;
-    kept.replace_file(alloc, file(alloc, "f", "fragment F on Query{x}")?)?;
-    assert!(rt; kept.report(alloc)?.found.is_empty());
-    kept.replace_file(alloc, file(alloc, "f", "")?)?;
-    assert!(rt; are_unknown_fragments(&kept.report(alloc)?, "q", &[4, 9]));
-    kept.drop_file(alloc, "f")?;
-    assert!(rt; are_unknown_fragments(&kept.report(alloc)?, "q", &[4, 9]));
-    kept.replace_file(alloc, file(alloc, "f", "fragment F on Query{x}")?)?;
-    assert!(rt; kept.report(alloc)?.found.is_empty());
-    assert!(rt; kept.valid().is_some());
+    assert!(rt; is_unknown_while_it_is_gone(alloc, &mut kept)?);
     Ok(())
 }
 
@@ -135,14 +140,22 @@ fn is_as_anew(alloc: Global, kept: &mut Kept) -> Result<bool, NoMemory> {
     Ok(report.found == anew.found && kept.valid().is_some() == is_valid)
 }
 
+/// Whether what is kept tells after each of a thousand changes what is found anew.
+fn is_as_anew_after_each(alloc: Global, kept: &mut Kept) -> Result<bool, NoMemory> {
+    for number in 0..1000 {
+        change(alloc, kept, number)?;
+        if !is_as_anew(alloc, kept)? {
+            return Ok(false);
+        }
+    }
+    Ok(true)
+}
+
 #[test]
 fn a_thousand_changes_tell_what_is_found_anew(rt: HostRuntime) -> Result<(), Fail> {
     let alloc = rt.alloc();
     let mut kept = Kept::of(alloc, &Project::new(alloc))?;
-    for number in 0..1000 {
-        change(alloc, &mut kept, number)?;
-        assert!(rt; is_as_anew(alloc, &mut kept)?);
-    }
+    assert!(rt; is_as_anew_after_each(alloc, &mut kept)?);
     Ok(())
 }
 
@@ -195,15 +208,23 @@ fn change_operations(alloc: Global, kept: &mut Kept, number: usize) -> Result<()
     kept.replace_file(alloc, file(alloc, key, text)?)
 }
 
+/// The same of a thousand changes of operations over one schema.
+fn is_as_anew_over_a_schema(alloc: Global, kept: &mut Kept) -> Result<bool, NoMemory> {
+    let schema = "type Query{x:Int f(a:Int):Int q:Query} type T{y:Int}";
+    kept.replace_file(alloc, file(alloc, "s", schema)?)?;
+    for number in 0..1000 {
+        change_operations(alloc, kept, number)?;
+        if !is_as_anew(alloc, kept)? {
+            return Ok(false);
+        }
+    }
+    Ok(true)
+}
+
 #[test]
 fn a_thousand_changes_of_operations_tell_what_is_found_anew(rt: HostRuntime) -> Result<(), Fail> {
     let alloc = rt.alloc();
     let mut kept = Kept::of(alloc, &Project::new(alloc))?;
-    let schema = "type Query{x:Int f(a:Int):Int q:Query} type T{y:Int}";
-    kept.replace_file(alloc, file(alloc, "s", schema)?)?;
-    for number in 0..1000 {
-        change_operations(alloc, &mut kept, number)?;
-        assert!(rt; is_as_anew(alloc, &mut kept)?);
-    }
+    assert!(rt; is_as_anew_over_a_schema(alloc, &mut kept)?);
     Ok(())
 }
