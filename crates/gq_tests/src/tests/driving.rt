@@ -1,5 +1,6 @@
 //! Lists of events that drive a desk with workers: what is written, and what is handed on.
-ghost use Rattle.std.specs.Prelude.{◌≡◌, true, IsErrOf};
+ghost use Rattle.std.specs.Prelude.{◌≡◌, [], true, IsErrOf};
+ghost use Rattle.gq_desk.specs.Standing.{StandsFor};
 ghost use Rattle.gq_edit.specs.Workspace.{AreTexts};
 
 use gq_desk::laws::{new_desks_stand_for_none, numbers_stay_low};
@@ -128,7 +129,35 @@ fn drive_new(alloc: Global, events: Vec<Event>, room: usize) -> Result<Driven, F
     })
 }
 
-/// The same, where the desk is driven over the first events, which end as is told, and then over the others.
+/// What driving a new desk comes to over the first events, which end as is told, and then over the others.
+fn drive_both(
+    alloc: Global,
+    desk: &mut Desk,
+    first: Vec<Event>,
+    others: Vec<Event>,
+    room: usize,
+) -> Result<(Result<u8, DriveFault>, Driven), Fail>
+    requires { StandsFor 2 [] desk.old }
+{
+    numbers_stay_low();
+    let mut first = first.into_iter();
+    let mut hands = note_up_to(alloc, room);
+    let mut sink = Flagged::new(Vec::new(alloc));
+    let early = drive(alloc, desk, &mut first, &mut hands, &mut sink);
+    if sink.failed {
+        return Err("the sink has failed".into());
+    }
+    let mut others = others.into_iter();
+    let ended = drive(alloc, desk, &mut others, &mut hands, &mut sink);
+    let driven = Driven {
+        written: String::from_utf8(sink.inner)?,
+        told: hands.told,
+        ended,
+    };
+    Ok((early, driven))
+}
+
+/// The same of a desk with two workers, where the hands have room for so many.
 fn drive_twice(
     alloc: Global,
     first: Vec<Event>,
@@ -136,23 +165,8 @@ fn drive_twice(
     room: usize,
 ) -> Result<(Result<u8, DriveFault>, Driven), Fail> {
     new_desks_stand_for_none();
-    numbers_stay_low();
     let mut desk = Desk::new(alloc, 2);
-    let mut first = first.into_iter();
-    let mut hands = note_up_to(alloc, room);
-    let mut sink = Flagged::new(Vec::new(alloc));
-    let early = drive(alloc, &mut desk, &mut first, &mut hands, &mut sink);
-    if sink.failed {
-        return Err("the sink has failed".into());
-    }
-    let mut others = others.into_iter();
-    let ended = drive(alloc, &mut desk, &mut others, &mut hands, &mut sink);
-    let driven = Driven {
-        written: String::from_utf8(sink.inner)?,
-        told: hands.told,
-        ended,
-    };
-    Ok((early, driven))
+    drive_both(alloc, &mut desk, first, others, room)
 }
 
 fn message(alloc: Global, body: &str) -> Result<Event, Fail> {
