@@ -2,7 +2,7 @@
 ghost use Rattle.gq_parse.specs.Parsed.{IsParsed, AreParsed};
 ghost use Rattle.std.specs.Prelude.{◌≤◌, IfOk, length};
 ghost use Rattle.std.specs.Thread.{IsSync};
-ghost use Rattle.gq_tree.specs.Readings.{parsed_view, readings_view};
+ghost use Rattle.gq_tree.specs.Readings.{parsed_view, unshared_view};
 
 use crate::{Fault, parse};
 use gq_project::Doc;
@@ -13,7 +13,7 @@ use std::thread::{Threads, join};
 
 /// The readings of these documents, one for each, in their order.
 pub fn read(alloc: Global, documents: &[Doc]) -> Result<Vec<Parsed>, NoMemory>
-    ensures { IfOk result (λ readings. AreParsed documents.now (readings_view readings.items)) }
+    ensures { IfOk result (λ readings. AreParsed documents.now (unshared_view readings.items)) }
 {
     let mut readings = Vec::new(alloc);
     for document in documents {
@@ -31,7 +31,7 @@ pub fn read_by_threads<R: Threads + Sync>(
     alloc: Global,
     documents: &[Doc],
 ) -> Result<Vec<Parsed>, NoMemory>
-    ensures { IfOk result (λ readings. AreParsed documents.now (readings_view readings.items)) }
+    ensures { IfOk result (λ readings. AreParsed documents.now (unshared_view readings.items)) }
 {
     read_halves(rt, alloc, documents, HALVINGS)
 }
@@ -68,7 +68,7 @@ fn read_halves<R: Threads + Sync>(
     documents: &[Doc],
     halvings: usize,
 ) -> Result<Vec<Parsed>, NoMemory>
-    ensures { IfOk result (λ readings. AreParsed documents.now (readings_view readings.items)) }
+    ensures { IfOk result (λ readings. AreParsed documents.now (unshared_view readings.items)) }
 {
     if halvings == 0 || documents.len() < 2 {
         return read(alloc, documents);
@@ -77,11 +77,11 @@ fn read_halves<R: Threads + Sync>(
     let (front, back) = documents.split_at(middle_of(documents));
     let read_front = || -> Result<Vec<Parsed>, NoMemory>
         requires { IsSync R.row }
-        ensures { IfOk result (λ readings. AreParsed front.entry.now (readings_view readings.items)) }
+        ensures { IfOk result (λ readings. AreParsed front.entry.now (unshared_view readings.items)) }
     { read_halves(rt, alloc, front, left) };
     let read_back = || -> Result<Vec<Parsed>, NoMemory>
         requires { IsSync R.row }
-        ensures { IfOk result (λ readings. AreParsed back.entry.now (readings_view readings.items)) }
+        ensures { IfOk result (λ readings. AreParsed back.entry.now (unshared_view readings.items)) }
     { read_halves(rt, alloc, back, left) };
     let (front, back) = join(rt, read_front, read_back);
     let mut readings = front?;

@@ -202,3 +202,15 @@ Document-field_send = search (sendable, crosses, Definition-send) depth 12
 
 pub Parsed-send : IsSend ReadingType.the_row
 Parsed-send = search (sendable, crosses, Document-field_send) depth 12
+
+Definition-field_sync : IsSync (DefinitionType.the_field).row
+Definition-field_sync = search (sendable, crosses, Operation-field_sync, Fragment-field_sync, TypeSystemDefinition-field_sync) depth 12
+
+Definition-sync : IsSync DefinitionType.the_row
+Definition-sync = search (sendable, crosses, Definition-field_sync) depth 12
+
+Document-field_sync : IsSync (DocumentType.the_field).row
+Document-field_sync = search (sendable, crosses, Definition-sync) depth 12
+
+pub Parsed-sync : IsSync ReadingType.the_row
+Parsed-sync = search (sendable, crosses, Document-field_sync) depth 12

@@ -11,7 +11,7 @@ pub mod types;
 pub mod value;
 
 pub use names::{fragment_names, spread_names};
-pub use parsed::Parsed;
+pub use parsed::{Parsed, share, share_all};
 pub use same::are_same_arguments;
 pub use tree::{
     Definition, Document, Field, Fragment, InlineFragment, Name, Operation, OperationKind,

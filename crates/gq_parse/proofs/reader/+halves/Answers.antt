@@ -1,6 +1,6 @@
 use Rattle.std.proofs.Common.{◌≡◌, ◌∙◌, ◌++◌, List, subst, sym, ap, drop, IfOk}
 use Rattle.std.proofs.lemmas.List.{map-append, take-append-drop}
-use Rattle.gq_tree.specs.Readings.{ParsedOf, parsed_view, readings_view}
+use Rattle.gq_tree.specs.Readings.{ParsedOf, parsed_view, unshared_view}
 use Rattle.gq_parse.specs.Parsed.{AreParsed}
 use Rattle.gq_parse.proofs.ReadingLemmas.{both_read}
 use denote.Param.Send.{sendable}
@@ -19,7 +19,7 @@ returns g t c =
     ∙ ap (λ xs. xs ++ drop c.middle_of.result c.args.documents.now) (sym c.split_at.ensures.front) ∙ ap (λ xs. front ++ xs) (sym c.split_at.ensures.back) in
     let first = c.in_ok-readings.readings.items in
     let second = c.in_ok-back.field-0.items in
-    subst (λ (xs : List ParsedOf). AreParsed c.args.documents.now xs) (sym (ap readings_view c.in_ok-append.ensures.items ∙ map-append parsed_view first second))
-    (both_read c.args.documents.now front back (readings_view first) (readings_view second) cut
-    (subst (λ r. IfOk r (λ readings. AreParsed front (readings_view readings.items))) c.in_ok-readings.was c.join-front.ensures.first)
-    (subst (λ r. IfOk r (λ readings. AreParsed back (readings_view readings.items))) c.in_ok-back.was c.join-front.ensures.second))
+    subst (λ (xs : List ParsedOf). AreParsed c.args.documents.now xs) (sym (ap unshared_view c.in_ok-append.ensures.items ∙ map-append parsed_view first second))
+    (both_read c.args.documents.now front back (unshared_view first) (unshared_view second) cut
+    (subst (λ r. IfOk r (λ readings. AreParsed front (unshared_view readings.items))) c.in_ok-readings.was c.join-front.ensures.first)
+    (subst (λ r. IfOk r (λ readings. AreParsed back (unshared_view readings.items))) c.in_ok-back.was c.join-front.ensures.second))
