@@ -27,6 +27,7 @@ use gq_text::{NoMemory, SmallText};
 use gq_tree::Parsed;
 use gq_types::Types;
 use std::alloc::Global;
+use std::sync::Arc;
 
 /// What is known of files together: the names in each, and closed sets of them with what is told of each set by itself. It
 /// grows where it is asked, and what a change of a file may touch is forgotten.
@@ -63,7 +64,7 @@ fn found_over(
 fn found_in_readings(
     alloc: Global,
     types: &Types,
-    readings: &[Parsed],
+    readings: &[Arc<Parsed>],
     names: &[FileNames],
     covers: &mut Vec<Cover>,
 ) -> Result<Vec<Fault>, NoMemory>
@@ -134,7 +135,7 @@ impl Across {
         &mut self,
         alloc: Global,
         types: &Types,
-        readings: &[Parsed],
+        readings: &[Arc<Parsed>],
     ) -> Result<Vec<Fault>, NoMemory>
         ensures kept { AreAcross (types_view types.now) (readings_view readings.now) self.old → AreAcross (types_view types.now) (readings_view readings.now) self.new }
         ensures faults { IfOk result (λ faults. AreAcross (types_view types.now) (readings_view readings.now) self.old

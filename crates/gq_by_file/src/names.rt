@@ -9,6 +9,7 @@ ghost use Rattle.gq_by_file.specs.Names.{AreNames, AreNamesIn, fragment_names_in
 use gq_text::{NoMemory, SmallText};
 use gq_tree::{Definition, Name, Parsed, Selection, spread_names};
 use std::alloc::Global;
+use std::sync::Arc;
 
 /// The names of the fragments that are spread in a file, and of those that it defines, each as often as it stands there.
 #[derive(Drop)]
@@ -84,7 +85,7 @@ fn put_texts(alloc: Global, names: &[&Name], texts: &mut Vec<SmallText>) -> Resu
 }
 
 /// The names in each of the documents.
-pub fn names_of_all(alloc: Global, readings: &[Parsed]) -> Result<Vec<FileNames>, NoMemory>
+pub fn names_of_all(alloc: Global, readings: &[Arc<Parsed>]) -> Result<Vec<FileNames>, NoMemory>
     ensures { IfOk result (λ all. AreNames (readings_view readings.now) all.items) }
 {
     let mut all = Vec::with_capacity(alloc, readings.len())?;

@@ -10,11 +10,12 @@ use gq_text::NoMemory;
 use gq_tree::Parsed;
 use std::alloc::Global;
 use std::slice;
+use std::sync::Arc;
 
 /// The operations and fragments of the documents, each kind in the order of documents and places.
 pub(crate) fn definitions_after<'a>(
     alloc: Global,
-    before: &'a [Parsed],
+    before: &'a [Arc<Parsed>],
     anew: &'a [Option<Parsed>],
 ) -> Result<Definitions<'a>, NoMemory>
     requires { length anew.now ≡ length before.now }

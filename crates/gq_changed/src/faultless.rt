@@ -12,6 +12,7 @@ use gq_text::NoMemory;
 use gq_tree::Parsed;
 use gq_types::Types;
 use std::alloc::Global;
+use std::sync::Arc;
 
 /// Whether each document that was read anew has a tree in which no rule that rests on one document is broken.
 pub(crate) fn are_faultless(
@@ -60,7 +61,7 @@ fn is_faultless(alloc: Global, types: &Types, reading: &Parsed) -> Result<bool, 
 pub(crate) fn are_faultless_together(
     alloc: Global,
     types: &Types,
-    before: &[Parsed],
+    before: &[Arc<Parsed>],
     anew: &[Option<Parsed>],
 ) -> Result<bool, NoMemory>
     requires { length anew.now ≡ length before.now }

@@ -12,6 +12,7 @@ use gq_project::Doc;
 use gq_text::NoMemory;
 use gq_tree::Parsed;
 use std::alloc::Global;
+use std::sync::Arc;
 
 /// What those of the documents read as whose texts are others than those of the project's documents at the same places.
 /// Nothing is read for the others.
@@ -61,7 +62,7 @@ fn has_text(document: Option<&Doc>, text: &str) -> bool
 
 /// What the document at that place reads as: what was read anew, or else what stood there.
 pub fn reading_after<'a>(
-    before: &'a [Parsed],
+    before: &'a [Arc<Parsed>],
     anew: &'a [Option<Parsed>],
     place: usize,
 ) -> &'a Parsed

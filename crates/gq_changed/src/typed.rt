@@ -6,10 +6,11 @@ ghost use Rattle.gq_changed.specs.Helping.Typed.{DefinesNoTypes, KeepTypes};
 
 use gq_known::learned::defines_types;
 use gq_tree::Parsed;
+use std::sync::Arc;
 
 /// Whether a definition of the type system stands in a document that was read anew, or stood there before. Where documents
 /// are gone, one may have.
-pub(crate) fn may_change_types(before: &[Parsed], anew: &[Option<Parsed>]) -> bool
+pub(crate) fn may_change_types(before: &[Arc<Parsed>], anew: &[Option<Parsed>]) -> bool
     ensures { result ≡ false → KeepTypes (readings_view before.now) (anew_view anew.now) }
 {
     if before.len() != anew.len() {

@@ -11,6 +11,7 @@ use gq_parse::laws::one_tree;
 use gq_text::{NoMemory, OwnedText};
 use gq_tree::{Definition, Document, Parsed};
 use std::alloc::Global;
+use std::sync::Arc;
 
 fn put_name(
     alloc: Global,
@@ -50,7 +51,7 @@ fn put_names_in(alloc: Global, reading: &Parsed, names: &mut Vec<OwnedText>) -> 
 }
 
 /// The names of the fragments of documents that read so.
-pub(crate) fn fragment_names(alloc: Global, readings: &[Parsed]) -> Result<Vec<OwnedText>, NoMemory>
+pub(crate) fn fragment_names(alloc: Global, readings: &[Arc<Parsed>]) -> Result<Vec<OwnedText>, NoMemory>
     ensures { IfOk result (λ names. (documents : List Doc) → AreParsed documents (readings_view readings.now) → (label : List ℕ) → Contains names.items label ↔ IsFragmentName documents label) }
 {
     one_tree();

@@ -1,6 +1,7 @@
 pub mod Definitions
 pub mod Selections
 pub mod Reaches
+pub mod ReadBy
 pub mod Views
 pub mod Executable
 pub mod FieldSets

@@ -2,10 +2,12 @@
 ghost use Rattle.std.specs.Prelude.{◌≡◌, ◌++◌, IfOk, OnOk, flat_map, map};
 ghost use Rattle.gq_tree.specs.Views.{def_view};
 ghost use Rattle.gq_types.specs.Entries.{entries_view};
-ghost use Rattle.gq_tree.specs.Readings.{in_document, parsed_view, readings_view};
+ghost use Rattle.gq_tree.specs.Readings.{in_document, parsed_view, unshared_view};
+ghost use Rattle.gq_document.specs.ReadBy.{read_by};
 ghost use Rattle.gq_document.specs.Definitions.{operation_in, fragment_in, entry_in, operations_of, fragments_of, entries_of, operations_view, fragments_view};
 ghost use Rattle.gq_document.specs.Helping.Parts.{without_type_system, executable_part};
 
+use crate::as_parsed::AsParsed;
 use gq_text::NoMemory;
 use gq_tree::{Definition, Document, Fragment, Operation, Parsed};
 use gq_types::Entry;
@@ -37,16 +39,16 @@ pub struct Definitions<'a> {
 
 impl<'a> Definitions<'a> {
     /// The operations and fragments of documents as they are read; a document without a tree has none.
-    pub fn of(alloc: Global, readings: &'a [Parsed]) -> Result<Definitions<'a>, NoMemory>
-        ensures operations { IfOk result (λ all. operations_view all.operations.items ≡ operations_of (readings_view readings.now)) }
-        ensures fragments { IfOk result (λ all. fragments_view all.fragments.items ≡ fragments_of (readings_view readings.now)) }
+    pub fn of<R: AsParsed>(alloc: Global, readings: &'a [R]) -> Result<Definitions<'a>, NoMemory>
+        ensures operations { IfOk result (λ all. operations_view all.operations.items ≡ operations_of (read_by R.as_parsed readings.now)) }
+        ensures fragments { IfOk result (λ all. fragments_view all.fragments.items ≡ fragments_of (read_by R.as_parsed readings.now)) }
     {
         let mut all = Definitions {
             operations: Vec::new(alloc),
             fragments: Vec::new(alloc),
         };
         for (file, reading) in readings.iter().enumerate() {
-            all.put_reading(file, reading)?;
+            all.put_reading(file, reading.as_parsed())?;
         }
         Ok(all)
     }
@@ -136,9 +138,9 @@ pub fn take_entries(
     alloc: Global,
     readings: Vec<Parsed>,
 ) -> Result<(Vec<Entry>, Vec<Parsed>), NoMemory>
-    ensures entries { IfOk result (λ taken. entries_view taken.0.items ≡ entries_of (readings_view readings.items)) }
-    ensures operations { IfOk result (λ taken. operations_of (readings_view taken.1.items) ≡ operations_of (readings_view readings.items)) }
-    ensures fragments { IfOk result (λ taken. fragments_of (readings_view taken.1.items) ≡ fragments_of (readings_view readings.items)) }
+    ensures entries { IfOk result (λ taken. entries_view taken.0.items ≡ entries_of (unshared_view readings.items)) }
+    ensures operations { IfOk result (λ taken. operations_of (unshared_view taken.1.items) ≡ operations_of (unshared_view readings.items)) }
+    ensures fragments { IfOk result (λ taken. fragments_of (unshared_view taken.1.items) ≡ fragments_of (unshared_view readings.items)) }
 {
     let mut entries = Vec::new(alloc);
     let mut left = Vec::with_capacity(alloc, readings.len())?;

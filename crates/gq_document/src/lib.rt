@@ -1,6 +1,7 @@
 //! The definitions of a project's documents, and the selections of its operations and fragments.
 #![tactic(auto)]
 
+pub mod as_parsed;
 pub mod definitions;
 pub mod executable;
 pub mod fields;
@@ -8,6 +9,7 @@ pub mod laws;
 pub mod selections;
 pub mod sets;
 
+pub use as_parsed::AsParsed;
 pub use definitions::{Definitions, FragmentEntry, OperationEntry, take_entries};
 pub use executable::Executable;
 pub use fields::{SelectedField, field_on, is_composite_named, selected_field};

@@ -3,7 +3,7 @@ ghost use Rattle.std.specs.Prelude.{◌≡◌, IfOk, IfErr};
 ghost use Rattle.std.specs.Option.{option_map};
 ghost use Rattle.gq_types.specs.Look.{types_view, text_of};
 ghost use Rattle.gq_table.specs.Views.{entries_view, rows_view};
-ghost use Rattle.gq_tree.specs.Readings.{readings_view};
+ghost use Rattle.gq_tree.specs.Readings.{unshared_view};
 ghost use Rattle.gq_document.specs.Definitions.{operation_view, operations_of, fragments_of, operations_view, fragments_view};
 ghost use Rattle.gq_document.specs.Executable.{executable_view};
 ghost use Rattle.gq_rules.specs.Project.{defined_in};
@@ -55,8 +55,8 @@ fn by_readings(
     table: &Table,
     raw: &[Entry],
 ) -> Result<Response, NoMemory>
-    requires { ranked_in (operations_of (readings_view readings.now)) (fragments_of (readings_view readings.now)) (text_of name) }
-    ensures { IfOk result (λ response. IsResponse (defined_in entries.items (readings_view readings.now)) (rows_view table.now) (text_of name.entry) (entries_view raw.now) (response_view response)) }
+    requires { ranked_in (operations_of (unshared_view readings.now)) (fragments_of (unshared_view readings.now)) (text_of name) }
+    ensures { IfOk result (λ response. IsResponse (defined_in entries.items (unshared_view readings.now)) (rows_view table.now) (text_of name.entry) (entries_view raw.now) (response_view response)) }
 {
     let types = Types::of(alloc, entries)?;
     let definitions = Definitions::of(alloc, readings)?;
@@ -124,7 +124,7 @@ fn coerced_by_readings(
     name: Option<&str>,
     raw: &[Entry],
 ) -> Result<Option<Vec<Entry>>, NoMemory>
-    ensures { IfOk result (λ found. option_map (λ es. entries_view es.items) found ≡ coerced_in (defined_in entries.items (readings_view readings.now)) (text_of name.entry) (entries_view raw.now)) }
+    ensures { IfOk result (λ found. option_map (λ es. entries_view es.items) found ≡ coerced_in (defined_in entries.items (unshared_view readings.now)) (text_of name.entry) (entries_view raw.now)) }
 {
     let types = Types::of(alloc, entries)?;
     let definitions = Definitions::of(alloc, readings)?;

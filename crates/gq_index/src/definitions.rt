@@ -9,6 +9,7 @@ ghost use Rattle.gq_index.specs.Views.{definitions_view};
 use gq_text::{NoMemory, Span};
 use gq_tree::{Definition, Name, Parsed, TypeSystemDefinition, spread_names};
 use std::alloc::Global;
+use std::sync::Arc;
 
 /// An operation or a fragment, and the document that it stands in.
 #[derive(Clone, Copy)]
@@ -21,7 +22,7 @@ pub struct Executable<'a> {
 /// The operations and fragments of the documents, in their order.
 pub fn executables<'a>(
     alloc: Global,
-    readings: &'a [Parsed],
+    readings: &'a [Arc<Parsed>],
 ) -> Result<Vec<Executable<'a>>, NoMemory>
     ensures { IfOk result (λ all. definitions_view all.items ≡ executables (readings_view readings.now)) }
 {

@@ -16,6 +16,7 @@ use gq_text::{NoMemory, OwnedText};
 use gq_tree::Parsed;
 use std::alloc::Global;
 use std::marker::Model;
+use std::sync::Arc;
 
 /// What an index keeps of a document.
 #[derive(Drop)]
@@ -57,7 +58,7 @@ impl Files {
     pub(crate) fn of(
         alloc: Global,
         documents: &[Doc],
-        readings: &[Parsed],
+        readings: &[Arc<Parsed>],
     ) -> Result<Files, NoMemory>
         ensures { IfOk result (λ files. AreParsed documents.now (readings_view readings.now) → AreFilesOf documents.now (readings_view readings.now) files) }
     {

@@ -22,6 +22,7 @@ use gq_project::{Doc, Project};
 use gq_text::NoMemory;
 use gq_tree::Parsed;
 use std::alloc::Global;
+use std::sync::Arc;
 
 /// The places of the variables of a part.
 fn variables_of(alloc: Global, part: &Part) -> Result<Variables, NoMemory>
@@ -97,7 +98,7 @@ impl Index {
         ensures { IfOk result (λ index. IsIndexOfProject project.now index) }
     {
         let documents = project.documents();
-        let readings = read(alloc, documents)?;
+        let readings = read_shared(alloc, documents)?;
         let index = Index::of_readings(alloc, documents, &readings)?;
         Ok(index)
     }
@@ -106,7 +107,7 @@ impl Index {
     pub fn of_readings(
         alloc: Global,
         documents: &[Doc],
-        readings: &[Parsed],
+        readings: &[Arc<Parsed>],
     ) -> Result<Index, NoMemory>
         ensures { IfOk result (λ index. AreParsed documents.now (readings_view readings.now) → IsIndexOfProject documents.now index) }
     {

@@ -1,8 +1,7 @@
 -- What is known of a project: what its documents read as, and their type system.
 use Rattle.std.specs.Prelude.{◌≡◌, ◌++◌, true, false, List, Bool}
 use Rattle.gq_project.specs.declared.document.Doc.{Doc}
-use Rattle.gq_tree.specs.Readings.{readings_view}
-use Rattle.gq_tree.specs.declared.parsed.Parsed.{Parsed}
+use Rattle.gq_tree.specs.Readings.{SharedParsed, readings_view}
 use Rattle.gq_parse.specs.Parsed.{AreParsed}
 use Rattle.gq_types.specs.BuiltIn.{built_in}
 use Rattle.gq_types.specs.Entries.{EntryOf}
@@ -13,7 +12,7 @@ use Rattle.gq_known.specs.declared.known.Known.{Known}
 use Rattle.gq_known.specs.declared.learned.Learned.{Learned}
 
 -- The documents read so, this is their type system, and the flag tells whether no rule of it is broken (section 3).
-pub record AreKnown (documents : List Doc) (readings : List Parsed) (es : List EntryOf) (has_schema : Bool) : Type 0 where
+pub record AreKnown (documents : List Doc) (readings : List SharedParsed) (es : List EntryOf) (has_schema : Bool) : Type 0 where
   pub are_readings : AreParsed documents (readings_view readings)
   pub is_type_system : es ≡ built_in ++ entries_of (readings_view readings)
   pub sound : has_schema ≡ true → HasNoFault es

@@ -1,6 +1,6 @@
 //! What is learned of a project by reading it.
 ghost use Rattle.std.specs.Prelude.{◌≡◌, ◌++◌, false, [], ℕ, IfOk, flat_map, map};
-ghost use Rattle.gq_tree.specs.Readings.{in_document, parsed_view, readings_view};
+ghost use Rattle.gq_tree.specs.Readings.{in_document, parsed_view, readings_view, unshared_view};
 ghost use Rattle.gq_tree.specs.Views.{def_view};
 ghost use Rattle.gq_parse.specs.Parsed.{AreParsed, IsParsed};
 ghost use Rattle.gq_types.specs.BuiltIn.{built_in};
@@ -11,7 +11,7 @@ ghost use Rattle.gq_known.specs.Known.{IsKnown, IsLearned};
 use crate::known::Known;
 use gq_document::take_entries;
 use gq_parse::laws::one_tree;
-use gq_parse::read;
+use gq_parse::read_shared;
 use gq_parse::reader::read_text;
 use gq_project::{Doc, Project};
 use gq_text::NoMemory;
@@ -19,11 +19,12 @@ use gq_tree::{Definition, Document, Parsed};
 use gq_type_system::schema_faults;
 use gq_types::Types;
 use std::alloc::Global;
+use std::sync::Arc;
 
 /// What a project's documents read as, and their type system.
 #[derive(Drop)]
 pub struct Learned {
-    pub readings: Vec<Parsed>,
+    pub readings: Vec<Arc<Parsed>>,
     pub types: Types,
     pub has_schema: bool,
 }
@@ -34,7 +35,7 @@ impl Learned {
         ensures { IfOk result (IsLearned project.now) }
     {
         let documents = project.documents();
-        let readings = read(alloc, documents)?;
+        let readings = read_shared(alloc, documents)?;
         let types = type_system(alloc, documents, &readings)?;
         let has_schema = schema_faults(alloc, &types)?.is_empty();
         Ok(Learned {
@@ -110,9 +111,9 @@ fn types_in(alloc: Global, text: &str, reading: &Parsed) -> Result<Parsed, NoMem
 fn types_read(
     alloc: Global,
     documents: &[Doc],
-    readings: &[Parsed],
+    readings: &[Arc<Parsed>],
 ) -> Result<Vec<Parsed>, NoMemory>
-    ensures { IfOk result (λ again. AreParsed documents.now (readings_view readings.now) → entries_of (readings_view again.items) ≡ entries_of (readings_view readings.now)) }
+    ensures { IfOk result (λ again. AreParsed documents.now (readings_view readings.now) → entries_of (unshared_view again.items) ≡ entries_of (readings_view readings.now)) }
 {
     let mut all = Vec::with_capacity(alloc, readings.len())?;
     for (document, reading) in documents.iter().zip(readings) {
@@ -123,7 +124,7 @@ fn types_read(
 
 /// The type system of documents that are read so. A document that defines types is read once more, since a type system
 /// owns its definitions.
-pub fn type_system(alloc: Global, documents: &[Doc], readings: &[Parsed]) -> Result<Types, NoMemory>
+pub fn type_system(alloc: Global, documents: &[Doc], readings: &[Arc<Parsed>]) -> Result<Types, NoMemory>
     ensures { IfOk result (λ types. AreParsed documents.now (readings_view readings.now) → types_view types ≡ built_in ++ entries_of (readings_view readings.now)) }
 {
     let again = types_read(alloc, documents, readings)?;

@@ -7,3 +7,4 @@ pub mod Prefix
 pub mod Faults
 pub mod Helping
 pub mod Parsed
+pub mod Piece

@@ -15,6 +15,7 @@ mod moves;
 mod names;
 pub mod parser;
 mod phrases;
+pub mod piece;
 pub mod reader;
 mod schema_definitions;
 mod selections;
@@ -33,7 +34,8 @@ pub use gq_tree::{
     EnumValueDefinition, Field, FieldDefinition, FieldsAndInterfaces, Fragment, InlineFragment,
     InputValueDefinition, Literal, Name, ObjectField, Operation, OperationKind, Parsed,
     RootOperationType, SchemaDefinition, Selection, SelectionSet, Spread, TypeBody, TypeDefinition,
-    TypeRef, TypeSystemDefinition, Value, Variable, VariableDefinition,
+    TypeRef, TypeSystemDefinition, Value, Variable, VariableDefinition, share, share_all,
 };
 pub use parser::parse;
-pub use reader::{read, read_by_threads};
+pub use piece::Piece;
+pub use reader::{read, read_by_threads, read_shared};

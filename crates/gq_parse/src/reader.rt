@@ -2,13 +2,14 @@
 ghost use Rattle.gq_parse.specs.Parsed.{IsParsed, AreParsed};
 ghost use Rattle.std.specs.Prelude.{◌≤◌, IfOk, length};
 ghost use Rattle.std.specs.Thread.{IsSync};
-ghost use Rattle.gq_tree.specs.Readings.{parsed_view, unshared_view};
+ghost use Rattle.gq_tree.specs.Readings.{parsed_view, readings_view, unshared_view};
 
 use crate::{Fault, parse};
 use gq_project::Doc;
 use gq_text::NoMemory;
-use gq_tree::Parsed;
+use gq_tree::{Parsed, share_all};
 use std::alloc::Global;
+use std::sync::Arc;
 use std::thread::{Threads, join};
 
 /// The readings of these documents, one for each, in their order.
@@ -20,6 +21,15 @@ pub fn read(alloc: Global, documents: &[Doc]) -> Result<Vec<Parsed>, NoMemory>
         readings.push(read_text(alloc, document.text.as_str())?)?;
     }
     Ok(readings)
+}
+
+/// The same, where each reading may have several owners.
+pub fn read_shared(alloc: Global, documents: &[Doc]) -> Result<Vec<Arc<Parsed>>, NoMemory>
+    ensures { IfOk result (λ readings. AreParsed documents.now (readings_view readings.items)) }
+{
+    let readings = read(alloc, documents)?;
+    let shared = share_all(alloc, readings)?;
+    Ok(shared)
 }
 
 /// How often the documents are halved for threads.

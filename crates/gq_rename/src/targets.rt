@@ -11,12 +11,13 @@ ghost use Rattle.gq_rename.specs.Asks.{IsTarget, target_of};
 use crate::laws::offsets_mean_one_target;
 use gq_index::executables;
 use gq_mentions::{Target, target_in};
-use gq_parse::read;
+use gq_parse::read_shared;
 use gq_project::Project;
 use gq_rules::Valid;
 use gq_text::NoMemory;
 use gq_tree::Parsed;
 use std::alloc::Global;
+use std::sync::Arc;
 
 /// What a rename at the offset, in bytes, of the document of that key is of: the fragment's name or the variable whose
 /// span holds the offset, else the one whose span ends there. There is none where the project has no such document.
@@ -30,7 +31,7 @@ pub fn target(
 {
     offsets_mean_one_target();
     let project = valid.project();
-    let readings = read(alloc, project.documents())?;
+    let readings = read_shared(alloc, project.documents())?;
     let found = target_by(alloc, project, &readings, key, offset)?;
     Ok(found)
 }
@@ -39,7 +40,7 @@ pub fn target(
 pub(crate) fn target_by(
     alloc: Global,
     project: &Project,
-    readings: &[Parsed],
+    readings: &[Arc<Parsed>],
     key: &str,
     offset: usize,
 ) -> Result<Option<Target>, NoMemory>
@@ -54,7 +55,7 @@ pub(crate) fn target_by(
 /// The target of an offset in the document of that number.
 fn target_at(
     alloc: Global,
-    readings: &[Parsed],
+    readings: &[Arc<Parsed>],
     file: usize,
     offset: usize,
 ) -> Result<Option<Target>, NoMemory>
@@ -88,7 +89,7 @@ fn target_read(
 }
 
 /// How many executable definitions these documents have.
-fn count_executables(alloc: Global, readings: &[Parsed]) -> Result<usize, NoMemory>
+fn count_executables(alloc: Global, readings: &[Arc<Parsed>]) -> Result<usize, NoMemory>
     ensures { IfOk result (λ count. (count ≡ length (executables (readings_view readings.now))) × (count < 2 ^ 63)) }
 {
     let all = executables(alloc, readings)?;

@@ -32,12 +32,13 @@ use gq_rules::laws::no_project_is_valid_and_invalid;
 use gq_text::NoMemory;
 use gq_tree::Parsed;
 use std::alloc::Global;
+use std::sync::Arc;
 
 /// Whether one of the documents passes a limit. This was read anew of them, and they read as before where nothing was.
 fn one_passes_limit(
     alloc: Global,
     documents: &[Doc],
-    before: &[Parsed],
+    before: &[Arc<Parsed>],
     anew: &[Option<Parsed>],
 ) -> Result<bool, NoMemory>
     requires documents { length documents.now ≡ length before.now }
@@ -129,7 +130,7 @@ fn judged(
 /// rewritten trees.
 fn why_not(
     alloc: Global,
-    before: &[Parsed],
+    before: &[Arc<Parsed>],
     documents: &[Doc],
     anew: &[Option<Parsed>],
     rewrite: &Rewrite<'_>,

@@ -8,6 +8,7 @@ ghost use Rattle.gq_document.specs.Definitions.{fragments_of, fragment_in};
 ghost use Rattle.gq_reshape.specs.Helping.Fragments.{fragment_found};
 
 use gq_tree::{Definition, Fragment, Parsed};
+use std::sync::Arc;
 
 /// A fragment, and the number of its document.
 #[derive(Clone, Copy)]
@@ -61,7 +62,7 @@ fn fragment_read<'a>(file: usize, reading: &'a Parsed, name: &str) -> Option<Fra
 }
 
 /// The first fragment of that name in the documents.
-pub(crate) fn fragment_called<'a>(readings: &'a [Parsed], name: &str) -> Option<FragmentIn<'a>>
+pub(crate) fn fragment_called<'a>(readings: &'a [Arc<Parsed>], name: &str) -> Option<FragmentIn<'a>>
     ensures { option_map fragment_found result ≡ find (λ f. bytes_eq f.name.text name.now) (fragments_of (readings_view readings.now)) }
 {
     for (file, reading) in readings.iter().enumerate() {

@@ -10,6 +10,7 @@ use gq_rewritten::{Rewrite, reads_as_rewritten};
 use gq_text::NoMemory;
 use gq_tree::Parsed;
 use std::alloc::Global;
+use std::sync::Arc;
 
 /// Whether something may change in the document of that number.
 fn is_edited(rewrite: &Rewrite<'_>, file: usize) -> bool
@@ -49,7 +50,7 @@ fn is_rewritten(
 pub(crate) fn are_rewritten(
     alloc: Global,
     rewrite: &Rewrite<'_>,
-    before: &[Parsed],
+    before: &[Arc<Parsed>],
     anew: &[Option<Parsed>],
 ) -> Result<bool, NoMemory>
     requires count { length anew.now ≡ length before.now }

@@ -1,7 +1,8 @@
 //! What is told of documents: first of their texts and of the type system, and where that is nothing, of the rules.
 ghost use Rattle.std.specs.Prelude.{◌≡◌, ◌↔◌, ◌++◌, Contains, IfOk};
 ghost use Rattle.std.specs.List.Sorted.{IsStrictlySortedBy};
-ghost use Rattle.gq_tree.specs.Readings.{readings_view};
+ghost use Rattle.gq_tree.specs.Readings.{unshared_view};
+ghost use Rattle.gq_document.specs.ReadBy.{read_by};
 ghost use Rattle.gq_fault.specs.declared.fault.Fault.{Fault};
 ghost use Rattle.gq_fault.specs.Order.{fault_cmp};
 ghost use Rattle.gq_rules.specs.Helping.AllFaults.{AreFaultsOf};
@@ -13,7 +14,7 @@ use crate::giving_back::give_back;
 use crate::unread::add_unread;
 use crate::wrong::add_wrong;
 use crate::wrong_by_threads::add_wrong_by_threads;
-use gq_document::take_entries;
+use gq_document::{AsParsed, take_entries};
 use gq_fault::{Fault, put_in_order};
 use gq_parse::{read, read_by_threads};
 use gq_project::Doc;
@@ -46,7 +47,7 @@ pub(crate) fn demanded_by_threads<R: Threads + Sync>(
 
 /// The faults of what is told of documents that are read so, in no order.
 fn all_faults(alloc: Global, readings: Vec<Parsed>) -> Result<Vec<Fault>, NoMemory>
-    ensures { IfOk result (λ faults. (fault : Fault) → Contains faults.items fault ↔ IsFaultOf (readings_view readings.items) fault) }
+    ensures { IfOk result (λ faults. (fault : Fault) → Contains faults.items fault ↔ IsFaultOf (unshared_view readings.items) fault) }
 {
     let mut faults = faults_of_texts(alloc, &readings)?;
     let (entries, readings) = take_entries(alloc, readings)?;
@@ -60,7 +61,7 @@ fn all_faults_by_threads<R: Threads + Sync>(
     alloc: Global,
     readings: Vec<Parsed>,
 ) -> Result<Vec<Fault>, NoMemory>
-    ensures { IfOk result (λ faults. (fault : Fault) → Contains faults.items fault ↔ IsFaultOf (readings_view readings.items) fault) }
+    ensures { IfOk result (λ faults. (fault : Fault) → Contains faults.items fault ↔ IsFaultOf (unshared_view readings.items) fault) }
 {
     let mut faults = faults_of_texts(alloc, &readings)?;
     let (entries, readings) = take_entries(alloc, readings)?;
@@ -70,8 +71,8 @@ fn all_faults_by_threads<R: Threads + Sync>(
 }
 
 /// The faults of documents without a tree, and of those with definitions of both sorts.
-pub(crate) fn faults_of_texts(alloc: Global, readings: &[Parsed]) -> Result<Vec<Fault>, NoMemory>
-    ensures { IfOk result (λ faults. faults.items ≡ each_from unread_at 0 (readings_view readings.now) ++ each_from mixed_at 0 (readings_view readings.now)) }
+pub(crate) fn faults_of_texts<R: AsParsed>(alloc: Global, readings: &[R]) -> Result<Vec<Fault>, NoMemory>
+    ensures { IfOk result (λ faults. faults.items ≡ each_from unread_at 0 (read_by R.as_parsed readings.now) ++ each_from mixed_at 0 (read_by R.as_parsed readings.now)) }
 {
     let mut faults = Vec::new(alloc);
     add_unread(readings, &mut faults)?;

@@ -2,12 +2,14 @@
 ghost use Rattle.std.specs.Prelude.{◌≡◌, ◌++◌, OnOk, map};
 ghost use Rattle.std.specs.Option.{option_map};
 ghost use Rattle.std.specs.List.{list_any};
-ghost use Rattle.gq_tree.specs.Readings.{parsed_view, readings_view};
+ghost use Rattle.gq_tree.specs.Readings.{parsed_view};
+ghost use Rattle.gq_document.specs.ReadBy.{read_by};
 ghost use Rattle.gq_tree.specs.Views.{def_view, type_system_view};
 ghost use Rattle.gq_type_system.specs.DefinedTwice.{definition_place};
 ghost use Rattle.gq_rules.specs.ExecutableDefinitions.{is_executable, first_of_type_system};
 ghost use Rattle.gq_rules.specs.Helping.Places.{mixed_in, mixed_at, each_from};
 
+use gq_document::AsParsed;
 use gq_fault::{Code, Fault};
 use gq_text::{NoMemory, Span};
 use gq_tree::{Definition, Parsed, TypeSystemDefinition};
@@ -78,11 +80,11 @@ fn add_mixed_at(file: usize, reading: &Parsed, faults: &mut Vec<Fault>) -> Resul
 }
 
 /// The faults of the documents with definitions of both sorts (section 5.1.1).
-pub fn add_mixed(readings: &[Parsed], faults: &mut Vec<Fault>) -> Result<(), NoMemory>
-    ensures { OnOk result (faults.new.items ≡ faults.old.items ++ each_from mixed_at 0 (readings_view readings.now)) }
+pub fn add_mixed<R: AsParsed>(readings: &[R], faults: &mut Vec<Fault>) -> Result<(), NoMemory>
+    ensures { OnOk result (faults.new.items ≡ faults.old.items ++ each_from mixed_at 0 (read_by R.as_parsed readings.now)) }
 {
     for file in 0..readings.len() {
-        add_mixed_at(file, &readings[file], faults)?;
+        add_mixed_at(file, readings[file].as_parsed(), faults)?;
     }
     Ok(())
 }

@@ -1,6 +1,6 @@
 //! What is wrong with a type system and, where nothing is, with the operations and fragments over it.
 ghost use Rattle.std.specs.Prelude.{[], IfOk, OnOk};
-ghost use Rattle.gq_tree.specs.Readings.{readings_view};
+ghost use Rattle.gq_tree.specs.Readings.{unshared_view};
 ghost use Rattle.gq_document.specs.Executable.{executable_view};
 ghost use Rattle.gq_rules.specs.Project.{defined_in};
 ghost use Rattle.gq_rules.specs.Helping.Wrongs.{PutsWrong};
@@ -22,7 +22,7 @@ pub fn add_wrong(
     readings: &[Parsed],
     faults: &mut Vec<Fault>,
 ) -> Result<(), NoMemory>
-    ensures { OnOk result (PutsWrong (defined_in entries.items (readings_view readings.now)) faults.old.items faults.new.items) }
+    ensures { OnOk result (PutsWrong (defined_in entries.items (unshared_view readings.now)) faults.old.items faults.new.items) }
 {
     let types = Types::of(alloc, entries)?;
     let definitions = Definitions::of(alloc, readings)?;

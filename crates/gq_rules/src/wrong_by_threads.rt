@@ -1,7 +1,7 @@
 //! What is wrong with a type system and, where nothing is, with the operations and fragments over it, looked for by four threads.
 ghost use Rattle.std.specs.Prelude.{[], IfOk, OnOk};
 ghost use Rattle.std.specs.Thread.{IsSync};
-ghost use Rattle.gq_tree.specs.Readings.{readings_view};
+ghost use Rattle.gq_tree.specs.Readings.{unshared_view};
 ghost use Rattle.gq_document.specs.Executable.{executable_view};
 ghost use Rattle.gq_fields.specs.FieldFaults.{IsFieldFault};
 ghost use Rattle.gq_fault.specs.Adds.{AddsExactly};
@@ -38,7 +38,7 @@ pub fn add_wrong_by_threads<R: Threads + Sync>(
     readings: &[Parsed],
     faults: &mut Vec<Fault>,
 ) -> Result<(), NoMemory>
-    ensures { OnOk result (PutsWrong (defined_in entries.items (readings_view readings.now)) faults.old.items faults.new.items) }
+    ensures { OnOk result (PutsWrong (defined_in entries.items (unshared_view readings.now)) faults.old.items faults.new.items) }
 {
     let types = Types::of(alloc, entries)?;
     let definitions = Definitions::of(alloc, readings)?;

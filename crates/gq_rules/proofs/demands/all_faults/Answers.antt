@@ -1,5 +1,5 @@
 use Rattle.std.proofs.Common.{subst, ap, ◌∙◌, ◌++◌}
-use Rattle.gq_tree.specs.Readings.{readings_view}
+use Rattle.gq_tree.specs.Readings.{unshared_view}
 use Rattle.gq_types.specs.BuiltIn.{built_in}
 use Rattle.gq_rules.specs.Helping.Places.{unread_at, mixed_at, each_from}
 use Rattle.gq_rules.specs.Project.{defined_in}
@@ -9,11 +9,11 @@ use Rattle.gq_rules.proofs.demands.all_faults.Goals as goal
 
 pub returns : goal.returns
 returns c =
-    let readings = readings_view c.args.readings.items in
+    let readings = unshared_view c.args.readings.items in
     let taken = c.in_ok-entries in
     all_are readings
-    (defined_in taken.entries.items (readings_view taken.readings.items))
+    (defined_in taken.entries.items (unshared_view taken.readings.items))
     (executable_is readings _ _ _ (ap (λ es. built_in ++ es) taken.ensures.entries) taken.ensures.operations taken.ensures.fragments)
     c.in_ok-faults.faults.items c.add_wrong.new.faults.items
-    (c.in_ok-faults.ensures ∙ ap (λ rs. each_from unread_at 0 (readings_view rs) ++ each_from mixed_at 0 (readings_view rs)) c.deref.ensures.value)
-    (subst (λ rs. PutsWrong (defined_in taken.entries.items (readings_view rs)) c.in_ok-faults.faults.items c.add_wrong.new.faults.items) c.deref-2.ensures.value c.in_ok-add_wrong.ensures)
+    (c.in_ok-faults.ensures ∙ ap (λ rs. each_from unread_at 0 (unshared_view rs) ++ each_from mixed_at 0 (unshared_view rs)) c.deref.ensures.value)
+    (subst (λ rs. PutsWrong (defined_in taken.entries.items (unshared_view rs)) c.in_ok-faults.faults.items c.add_wrong.new.faults.items) c.deref-2.ensures.value c.in_ok-add_wrong.ensures)

@@ -1,9 +1,9 @@
-use Rattle.gq_tree.specs.Readings.{readings_view}
+use Rattle.gq_tree.specs.Readings.{unshared_view}
 use Rattle.gq_rules.proofs.demands.demanded_by_threads.Goals as goal
 
 pub returns : goal.returns
 returns g c = record {
-  readings = (readings_view c.in_ok-readings.readings.items);
+  readings = (unshared_view c.in_ok-readings.readings.items);
   are_readings = c.in_ok-readings.ensures;
   sorted = c.in_order.ensures.sorted;
   exact = λ fault.

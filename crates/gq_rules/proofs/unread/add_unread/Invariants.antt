@@ -1,7 +1,7 @@
 use Rattle.std.proofs.Common.{◌≡◌, ◌++◌, drop}
-use Rattle.gq_tree.specs.Readings.{readings_view}
+use Rattle.gq_document.specs.ReadBy.{read_by}
 use Rattle.gq_rules.specs.Helping.Places.{unread_at, each_from}
 use Rattle.gq_rules.proofs.unread.add_unread.Given as goal
 
 abbrev pub invariant-loop-file : goal.invariant-loop-file
-invariant-loop-file l = l.faults.items ++ each_from unread_at l.file (readings_view (drop l.file l.readings)) ≡ l.initial.faults.items ++ each_from unread_at 0 (readings_view l.readings)
+invariant-loop-file g l = l.faults.items ++ each_from unread_at l.file (read_by g.R.AsParsed.as_parsed (drop l.file l.readings)) ≡ l.initial.faults.items ++ each_from unread_at 0 (read_by g.R.AsParsed.as_parsed l.readings)

@@ -2,7 +2,7 @@ use Rattle.std.proofs.Common.{ap, subst, ◌∙◌, ◌++◌, length, arith}
 use Rattle.std.proofs.lemmas.List.{nil_from_length}
 use Rattle.std.proofs.lemmas.Bool.Decides.{nat_tests}
 use Rattle.std.proofs.lemmas.Result.{err_from_is_err_and}
-use Rattle.gq_tree.specs.Readings.{readings_view}
+use Rattle.gq_tree.specs.Readings.{unshared_view}
 use Rattle.gq_fault.specs.Tells.{told}
 use Rattle.gq_parse.specs.Parsed.{AreParsed}
 use Rattle.gq_types.specs.Look.{types_view}
@@ -19,8 +19,8 @@ returns-then-is_empty-clause-valid c = none_found (types_view c.in_ok-types.type
 
 pub returns-clause-faults : goal.returns-clause-faults
 returns-clause-faults c =
-    faults_found c.args.project.now (readings_view c.in_ok-readings.readings.items) (types_view c.in_ok-types.types) c.in_ok-faults.faults.items c.in_ok-found_at.field-0.items
-    (subst (λ ds. AreParsed ds (readings_view c.in_ok-readings.readings.items)) c.documents.ensures.all c.in_ok-readings.ensures)
+    faults_found c.args.project.now (unshared_view c.in_ok-readings.readings.items) (types_view c.in_ok-types.types) c.in_ok-faults.faults.items c.in_ok-found_at.field-0.items
+    (subst (λ ds. AreParsed ds (unshared_view c.in_ok-readings.readings.items)) c.documents.ensures.all c.in_ok-readings.ensures)
     (c.in_ok-types.ensures ∙ ap (λ es. built_in ++ es) c.in_ok-entries.ensures.entries)
     c.in_ok-faults.ensures.sorted c.in_ok-faults.ensures.exact
     (c.in_ok-found_at.ensures ∙ ap (λ ds. told ds c.deref.result.now) c.documents-2.ensures.all ∙ ap (λ xs. told c.args.project.now xs) c.deref.ensures.value)
