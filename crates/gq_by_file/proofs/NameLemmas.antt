@@ -2,8 +2,7 @@
 use Rattle.std.proofs.Common.{◌≡◌, ℕ, zero, suc, ◌+◌, ◌<◌, List, [], ◌∷◌, ◌++◌, Some, get_or, slice_get, slice_set, length, take, refl, sym, ap, ◌∙◌, subst}
 use Rattle.std.proofs.lemmas.List.{map-append, take_more}
 use Rattle.std.proofs.lemmas.Option.{none-some, same_Some}
-use Rattle.gq_tree.specs.Readings.{ParsedOf, parsed_view, readings_view}
-use Rattle.gq_tree.specs.declared.parsed.Parsed.{Parsed}
+use Rattle.gq_tree.specs.Readings.{ParsedOf, SharedParsed, shared_view, readings_view}
 use Rattle.gq_by_file.specs.Names.{AreNames, AreNamesIn, none, more}
 use Rattle.gq_by_file.specs.declared.names.FileNames.{FileNames}
 
@@ -22,12 +21,12 @@ pub names_push : (r : ParsedOf) (one : FileNames) {rs : List ParsedOf} {names : 
 names_push r one is none = more is none
 names_push r one is (more h hs) = more h (names_push r one is hs)
 
-pub names_next : (readings : List Parsed) (i : ℕ) (reading : Parsed) (old new : List FileNames) (one : FileNames) → i < length readings → reading ≡ get_or readings i reading → AreNamesIn (parsed_view reading) one →
+pub names_next : (readings : List SharedParsed) (i : ℕ) (reading : SharedParsed) (old new : List FileNames) (one : FileNames) → i < length readings → reading ≡ get_or readings i reading → AreNamesIn (shared_view reading) one →
     AreNames (readings_view (take i readings)) old → new ≡ old ++ one ∷ [] → AreNames (readings_view (take (i + 1) readings)) new
 names_next readings i reading old new one below at is are more_is =
     let longer : take (i + 1) readings ≡ take i readings ++ reading ∷ [] = take_more readings i reading below ∙ ap (λ z. take i readings ++ z ∷ []) (sym at) in
-    let same : readings_view (take (i + 1) readings) ≡ readings_view (take i readings) ++ parsed_view reading ∷ [] = ap readings_view longer ∙ map-append parsed_view (take i readings) (reading ∷ []) in
-    subst (λ (rs : List ParsedOf). AreNames rs new) (sym same) (subst (λ (names : List FileNames). AreNames (readings_view (take i readings) ++ parsed_view reading ∷ []) names) (sym more_is) (names_push (parsed_view reading) one is are))
+    let same : readings_view (take (i + 1) readings) ≡ readings_view (take i readings) ++ shared_view reading ∷ [] = ap readings_view longer ∙ map-append shared_view (take i readings) (reading ∷ []) in
+    subst (λ (rs : List ParsedOf). AreNames rs new) (sym same) (subst (λ (names : List FileNames). AreNames (readings_view (take i readings) ++ shared_view reading ∷ []) names) (sym more_is) (names_push (shared_view reading) one is are))
 
 -- the file of a number, and its names
 pub names_at : {rs : List ParsedOf} {names : List FileNames} (n : ℕ) (r : ParsedOf) (one : FileNames) → slice_get rs n ≡ Some r → slice_get names n ≡ Some one → AreNames rs names → AreNamesIn r one

@@ -4,7 +4,7 @@ use Rattle.std.specs.Option.{option_map}
 use Rattle.std.proofs.lemmas.List.{length-map}
 use Rattle.std.proofs.lemmas.Option.{same_Some, slice_get-map}
 use Rattle.gq_tree.specs.declared.parsed.Parsed.{Parsed}
-use Rattle.gq_tree.specs.Readings.{ParsedOf, parsed_view, readings_view}
+use Rattle.gq_tree.specs.Readings.{ParsedOf, SharedParsed, parsed_view, shared_view, readings_view}
 use Rattle.gq_changed.specs.Changed.{mixed, anew_view}
 
 -- it was read anew, or stood there
@@ -35,8 +35,8 @@ mixed_kept (q ∷ rs) (one ∷ anew) (suc k) r none e = mixed_kept rs anew k r n
 pub view_at : (anew : List (Option Parsed)) (k : ℕ) (one : Option Parsed) → slice_get anew k ≡ Some one → slice_get (anew_view anew) k ≡ Some (option_map parsed_view one)
 view_at anew k one e = slice_get-map (option_map parsed_view) anew k ∙ ap (option_map (option_map parsed_view)) e
 
-pub reading_at : (rs : List Parsed) (k : ℕ) (r : Parsed) → slice_get rs k ≡ Some r → slice_get (readings_view rs) k ≡ Some (parsed_view r)
-reading_at rs k r e = slice_get-map parsed_view rs k ∙ ap (option_map parsed_view) e
+pub reading_at : (rs : List SharedParsed) (k : ℕ) (r : SharedParsed) → slice_get rs k ≡ Some r → slice_get (readings_view rs) k ≡ Some (shared_view r)
+reading_at rs k r e = slice_get-map shared_view rs k ∙ ap (option_map shared_view) e
 
 -- no more documents than there were
 pub length_mixed : (rs : List ParsedOf) (anew : List (Option ParsedOf)) → length (mixed rs anew) ≤ length rs
@@ -44,5 +44,5 @@ length_mixed [] anew = omega arith
 length_mixed (q ∷ rs) [] = omega arith
 length_mixed (q ∷ rs) (one ∷ anew) = let rest = length_mixed rs anew in omega arith
 
-pub count_viewed : (rs : List Parsed) (anew : List (Option Parsed)) → length anew ≡ length rs → length (anew_view anew) ≡ length (readings_view rs)
-count_viewed rs anew count = length-map anew (option_map parsed_view) ∙ count ∙ sym (length-map rs parsed_view)
+pub count_viewed : (rs : List SharedParsed) (anew : List (Option Parsed)) → length anew ≡ length rs → length (anew_view anew) ≡ length (readings_view rs)
+count_viewed rs anew count = length-map anew (option_map parsed_view) ∙ count ∙ sym (length-map rs shared_view)

@@ -9,8 +9,7 @@ use Rattle.std.specs.Ordering.{nat_cmp}
 use Rattle.gq_text.specs.declared.place.Span.{Span}
 use Rattle.gq_lex.specs.Tokens.{Lexeme, Reads}
 use Rattle.gq_tree.specs.Plain.{Def}
-use Rattle.gq_tree.specs.Readings.{ParsedOf, readings_view, parsed_view}
-use Rattle.gq_tree.specs.declared.parsed.Parsed.{Parsed}
+use Rattle.gq_tree.specs.Readings.{ParsedOf, SharedParsed, readings_view, shared_view}
 use Rattle.gq_project.specs.declared.document.Doc.{Doc}
 use Rattle.gq_project.specs.Documents.{has_key}
 use Rattle.gq_parse.specs.Derives.{Derives}
@@ -37,7 +36,7 @@ abbrev Sorted : List Completion → Type 0
 Sorted items = IsStrictlySortedBy (λ (a b : Completion). slice_cmp nat_cmp a.label b.label) items
 
 -- fields by what is known of documents
-module _ (documents : List Doc) (readings : List Parsed) (es : List EntryOf) (has_schema : Bool) (tree : List (Def Span)) (p i : ℕ) where
+module _ (documents : List Doc) (readings : List SharedParsed) (es : List EntryOf) (has_schema : Bool) (tree : List (Def Span)) (p i : ℕ) where
   own_type_system : AreKnown documents readings es has_schema → IsTypeSystemOf documents es
   own_type_system known = record { readings = readings_view readings; are_readings = known.are_readings; is = known.is_type_system }
 
@@ -145,15 +144,15 @@ no_place documents key i absent items e =
     subst (λ xs. AreCompletions documents key i xs) (sym e) (none_at documents key i (find_through (has_key key) documents ∙ ap (option_and_then (λ n. slice_get documents n)) absent))
 
 -- what completes the document of some number
-module _ (documents : List Doc) (readings : List Parsed) (es : List EntryOf) (has_schema : Bool) (i k : ℕ) (items : List Completion) where
-  pub at_number : (here : Doc) (one : Parsed) (text : Text) → text ≡ here.text → slice_get documents k ≡ Some here → slice_get readings k ≡ Some one →
-      (AreKnown documents readings es has_schema → IsParsed text (parsed_view one) → AreCompleted documents text i items) →
+module _ (documents : List Doc) (readings : List SharedParsed) (es : List EntryOf) (has_schema : Bool) (i k : ℕ) (items : List Completion) where
+  pub at_number : (here : Doc) (one : SharedParsed) (text : Text) → text ≡ here.text → slice_get documents k ≡ Some here → slice_get readings k ≡ Some one →
+      (AreKnown documents readings es has_schema → IsParsed text (shared_view one) → AreCompleted documents text i items) →
       AreKnown documents readings es has_schema → (document : Doc) → slice_get documents k ≡ Some document → AreCompleted documents document.text i items
   at_number here one text e stands reads are known document found =
       let both : ◌≡◌ {A = Option Doc} (Some here) (Some document) = sym stands ∙ found in
       let same : here ≡ document = cc in
-      let read = reading_at documents (readings_view readings) known.are_readings k here (parsed_view one) stands (slice_get-map parsed_view readings k ∙ ap (option_map parsed_view) reads) in
-      subst (λ t. AreCompleted documents t i items) (e ∙ ap (λ (d : Doc). d.text) same) (are known (subst (λ t. IsParsed t (parsed_view one)) (sym e) read))
+      let read = reading_at documents (readings_view readings) known.are_readings k here (shared_view one) stands (slice_get-map shared_view readings k ∙ ap (option_map shared_view) reads) in
+      subst (λ t. AreCompleted documents t i items) (e ∙ ap (λ (d : Doc). d.text) same) (are known (subst (λ t. IsParsed t (shared_view one)) (sym e) read))
 
   pub no_document : slice_get documents k ≡ None → (document : Doc) → slice_get documents k ≡ Some document → AreCompleted documents document.text i items
   no_document absent document found =
@@ -161,7 +160,7 @@ module _ (documents : List Doc) (readings : List Parsed) (es : List EntryOf) (ha
       absurd (cc)
 
   pub no_reading : slice_get readings k ≡ None → AreKnown documents readings es has_schema → (document : Doc) → slice_get documents k ≡ Some document → AreCompleted documents document.text i items
-  no_reading absent known document found = absurd (no_reading_at documents (readings_view readings) known.are_readings k document found (slice_get-map parsed_view readings k ∙ ap (option_map parsed_view) absent))
+  no_reading absent known document found = absurd (no_reading_at documents (readings_view readings) known.are_readings k document found (slice_get-map shared_view readings k ∙ ap (option_map shared_view) absent))
 
 -- two facts of one result
 pub both : {T E : Type 0} (r : Result T E) (P Q : T → Type 0) → IfOk r P → IfOk r Q → IfOk r (λ x. P x × Q x)

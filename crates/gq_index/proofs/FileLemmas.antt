@@ -3,8 +3,7 @@ use Rattle.std.proofs.Common.{◌≡◌, ℕ, ◌+◌, ◌-◌, ◌<◌, List, [
 use Rattle.std.specs.List.{insert, remove, zip}
 use Rattle.std.proofs.lemmas.List.{map-append, set_split, take_all}
 use Rattle.gq_project.specs.declared.document.Doc.{Doc}
-use Rattle.gq_tree.specs.declared.parsed.Parsed.{Parsed}
-use Rattle.gq_tree.specs.Readings.{parsed_view, readings_view}
+use Rattle.gq_tree.specs.Readings.{SharedParsed, shared_view, readings_view}
 use Rattle.gq_parse.specs.Parsed.{AreParsed}
 use Rattle.gq_parse.specs.Parsed as parsed
 use Rattle.gq_index.specs.declared.files.File.{File}
@@ -12,42 +11,42 @@ use Rattle.gq_index.specs.Indexed.{AreFilesOf}
 use Rattle.gq_index.specs.Parts.{PartOf, parts_in}
 use Rattle.gq_index.specs.Views.{parts_kept}
 
-abbrev key_in : Doc × Parsed → List ℕ
+abbrev key_in : Doc × SharedParsed → List ℕ
 key_in p = p.0.key
 
-abbrev parts_read : Doc × Parsed → List PartOf
-parts_read p = parts_in (parsed_view p.1)
+abbrev parts_read : Doc × SharedParsed → List PartOf
+parts_read p = parts_in (shared_view p.1)
 
 abbrev key_kept : File → List ℕ
 key_kept file = file.key
 
 -- documents and what they read as, and what is kept of them
-pub record AreKept (ps : List (Doc × Parsed)) (files : List File) : Type 0 where
+pub record AreKept (ps : List (Doc × SharedParsed)) (files : List File) : Type 0 where
   pub keyed : map (λ f. f.key) files ≡ map (λ p. p.0.key) ps
-  pub parted : map parts_kept files ≡ map (λ p. parts_in (parsed_view p.1)) ps
+  pub parted : map parts_kept files ≡ map (λ p. parts_in (shared_view p.1)) ps
 
 pub kept_none : AreKept [] []
 kept_none = record { keyed = refl; parted = refl }
 
-pub kept_more : (ps : List (Doc × Parsed)) (files : List File) (p : Doc × Parsed) (file : File) → file.key ≡ p.0.key → parts_kept file ≡ parts_in (parsed_view p.1) → AreKept ps files → AreKept (ps ++ p ∷ []) (files ++ file ∷ [])
+pub kept_more : (ps : List (Doc × SharedParsed)) (files : List File) (p : Doc × SharedParsed) (file : File) → file.key ≡ p.0.key → parts_kept file ≡ parts_in (shared_view p.1) → AreKept ps files → AreKept (ps ++ p ∷ []) (files ++ file ∷ [])
 kept_more ps files p file key parts are = record {
   keyed = map-append key_kept files (file ∷ []) ∙ ap (λ (ks : List (List ℕ)). ks ++ file.key ∷ []) are.keyed ∙ ap (λ (k : List ℕ). map key_in ps ++ k ∷ []) key ∙ sym (map-append key_in ps (p ∷ []));
   parted = map-append parts_kept files (file ∷ []) ∙ ap (λ (l : List (List PartOf)). l ++ parts_kept file ∷ []) are.parted ∙ ap (λ (l : List PartOf). map parts_read ps ++ l ∷ []) parts ∙ sym (map-append parts_read ps (p ∷ []));
 }
 
-keys_listed : (documents : List Doc) (readings : List Parsed) → AreParsed documents (readings_view readings) → map key_in (zip documents readings) ≡ map (λ d. d.key) documents
+keys_listed : (documents : List Doc) (readings : List SharedParsed) → AreParsed documents (readings_view readings) → map key_in (zip documents readings) ≡ map (λ d. d.key) documents
 keys_listed [] [] are = refl
 keys_listed [] (r ∷ readings) are = elim are [ ]
 keys_listed (d ∷ documents) [] are = elim are [ ]
 keys_listed (d ∷ documents) (r ∷ readings) (parsed.more is rest) = ap (λ (ks : List (List ℕ)). d.key ∷ ks) (keys_listed documents readings rest)
 
-parts_listed : (documents : List Doc) (readings : List Parsed) → AreParsed documents (readings_view readings) → map parts_read (zip documents readings) ≡ map parts_in (readings_view readings)
+parts_listed : (documents : List Doc) (readings : List SharedParsed) → AreParsed documents (readings_view readings) → map parts_read (zip documents readings) ≡ map parts_in (readings_view readings)
 parts_listed [] [] are = refl
 parts_listed [] (r ∷ readings) are = elim are [ ]
 parts_listed (d ∷ documents) [] are = elim are [ ]
-parts_listed (d ∷ documents) (r ∷ readings) (parsed.more is rest) = ap (λ (l : List (List PartOf)). parts_in (parsed_view r) ∷ l) (parts_listed documents readings rest)
+parts_listed (d ∷ documents) (r ∷ readings) (parsed.more is rest) = ap (λ (l : List (List PartOf)). parts_in (shared_view r) ∷ l) (parts_listed documents readings rest)
 
-pub kept_all : (documents : List Doc) (readings : List Parsed) (files : List File) → AreKept (zip documents readings) files → AreParsed documents (readings_view readings) → AreFilesOf documents (readings_view readings) files
+pub kept_all : (documents : List Doc) (readings : List SharedParsed) (files : List File) → AreKept (zip documents readings) files → AreParsed documents (readings_view readings) → AreFilesOf documents (readings_view readings) files
 kept_all documents readings files kept are = record {
   keyed = kept.keyed ∙ keys_listed documents readings are;
   parted = kept.parted ∙ parts_listed documents readings are;

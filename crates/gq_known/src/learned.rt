@@ -124,7 +124,11 @@ fn types_read(
 
 /// The type system of documents that are read so. A document that defines types is read once more, since a type system
 /// owns its definitions.
-pub fn type_system(alloc: Global, documents: &[Doc], readings: &[Arc<Parsed>]) -> Result<Types, NoMemory>
+pub fn type_system(
+    alloc: Global,
+    documents: &[Doc],
+    readings: &[Arc<Parsed>],
+) -> Result<Types, NoMemory>
     ensures { IfOk result (λ types. AreParsed documents.now (readings_view readings.now) → types_view types ≡ built_in ++ entries_of (readings_view readings.now)) }
 {
     let again = types_read(alloc, documents, readings)?;

@@ -1,8 +1,7 @@
 -- What is known of documents, and their index.
 use Rattle.std.proofs.Common.{◌≡◌, List, subst, sym}
 use Rattle.gq_project.specs.declared.document.Doc.{Doc}
-use Rattle.gq_tree.specs.declared.parsed.Parsed.{Parsed}
-use Rattle.gq_tree.specs.Readings.{ParsedOf, readings_view}
+use Rattle.gq_tree.specs.Readings.{ParsedOf, SharedParsed, readings_view}
 use Rattle.gq_parse.specs.Parsed.{AreParsed}
 use Rattle.gq_index.specs.declared.index.Index.{Index}
 use Rattle.gq_index.specs.Indexed.{IsIndexOf, IsIndexOfProject}
@@ -21,8 +20,8 @@ own_index known index ds one same is of =
     subst (λ (l : List DefinitionOf). IsIndexOf l index) (one known.project.now of.definitions ds of.of_documents own) of.is_index
 
 -- and that of the documents, listed, is the project's
-pub index_of_known : (known : Known) (index : Index) (listed : List Doc) (readings : List Parsed) → listed ≡ known.project.now → known.readings.now ≡ readings
+pub index_of_known : (known : Known) (index : Index) (listed : List Doc) (readings : List SharedParsed) → listed ≡ known.project.now → known.readings.now ≡ readings
     → (AreParsed listed (readings_view readings) → IsIndexOfProject listed index) → IsKnown known → IsIndexOfProject known.project.now index
 index_of_known known index listed readings all same of is =
-    let are : AreParsed known.project.now (readings_view readings) = subst (λ (l : List Parsed). AreParsed known.project.now (readings_view l)) same is.are_readings in
+    let are : AreParsed known.project.now (readings_view readings) = subst (λ (l : List SharedParsed). AreParsed known.project.now (readings_view l)) same is.are_readings in
     subst (λ (ds : List Doc). IsIndexOfProject ds index) all (of (subst (λ (ds : List Doc). AreParsed ds (readings_view readings)) (sym all) are))

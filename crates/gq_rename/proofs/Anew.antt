@@ -5,7 +5,7 @@ use Rattle.std.proofs.Math.Logic.{∥∥₁_elim, ∥∥₁_map}
 use Rattle.std.proofs.Math.Nat.{ℕ_set}
 use Rattle.gq_project.specs.declared.document.Doc.{Doc}
 use Rattle.gq_tree.specs.declared.parsed.Parsed.{Parsed}
-use Rattle.gq_tree.specs.Readings.{parsed_view, readings_view}
+use Rattle.gq_tree.specs.Readings.{SharedParsed, shared_view, readings_view}
 use Rattle.gq_parse.specs.Parsed.{AreParsed}
 use Rattle.gq_edit.specs.declared.edit.DocumentEdit.{DocumentEdit}
 use Rattle.gq_edit.specs.Edits.{after_edit, edited}
@@ -23,7 +23,7 @@ as_many_left known after listed edits is_known same is =
     ap length same
     ∙ ap length is
     ∙ length-map known.project.now (edited edits)
-    ∙ ∥∥₁_elim is_known (ℕ_set _ _) (λ k. as_many k.are_readings ∙ length-map known.readings.now parsed_view)
+    ∙ ∥∥₁_elim is_known (ℕ_set _ _) (λ k. as_many k.are_readings ∙ length-map known.readings.now shared_view)
 
 -- what they read as, by what was read anew
 pub parsed_left : (known : Known) (after listed : List Doc) (anew items : List (Option Parsed)) → ∥ IsKnown known ∥₁ → listed ≡ after → items ≡ anew →
@@ -34,9 +34,9 @@ parsed_left known after listed anew items is_known same is read =
     ∥∥₁_map is_known (λ k. subst A same (subst B (sym is) (read k)))
 
 -- an index of what documents read as is one of them
-pub index_read : (told held documents : List Doc) (readings listed : List Parsed) (index : Index) → told ≡ held → held ≡ documents → listed ≡ readings → AreParsed held (readings_view readings) →
+pub index_read : (told held documents : List Doc) (readings listed : List SharedParsed) (index : Index) → told ≡ held → held ≡ documents → listed ≡ readings → AreParsed held (readings_view readings) →
     (AreParsed told (readings_view listed) → IsIndexOfProject told index) → IsIndexOfProject documents index
 index_read told held documents readings listed index tells same given are makes =
     let I : List Doc → Type 0 = λ ds. IsIndexOfProject ds index in
     let T : List Doc → Type 0 = λ ds. AreParsed ds (readings_view listed) in
-    subst I (tells ∙ same) (makes (subst T (sym tells) (subst (λ (rs : List Parsed). AreParsed held (readings_view rs)) (sym given) are)))
+    subst I (tells ∙ same) (makes (subst T (sym tells) (subst (λ (rs : List SharedParsed). AreParsed held (readings_view rs)) (sym given) are)))

@@ -11,8 +11,7 @@ use Rattle.gq_project.specs.Documents.{has_key}
 use Rattle.gq_parse.specs.Parsed.{AreParsed}
 use Rattle.gq_parse.specs.Parsed as readings
 use Rattle.gq_tree.specs.Readings as reading
-use Rattle.gq_tree.specs.Readings.{ParsedOf, definitions_read, parsed_view, readings_view}
-use Rattle.gq_tree.specs.declared.parsed.Parsed.{Parsed}
+use Rattle.gq_tree.specs.Readings.{ParsedOf, SharedParsed, definitions_read, shared_view, readings_view}
 use Rattle.gq_index.specs.Occurrences.{executables}
 use Rattle.gq_mentions.specs.declared.target.Target.{Target}
 use Rattle.gq_mentions.specs.Renameables.{renameables}
@@ -70,19 +69,19 @@ found_there documents key offset rs file found are at of =
     ∙ ap (target offset) (sym (read_at key file 0 0 documents rs one are place here))
 
 -- what is found of one reading of some, by its place
-pub found_at : (rs : List Parsed) (file offset first : ℕ) (read : Parsed) (found : Option Target) → file < length rs → read ≡ get_or rs file read → first ≡ length (executables (readings_view (take file rs))) →
-    found ≡ target offset (renameables first (definitions_read (parsed_view read))) → (r : ParsedOf) → slice_get (readings_view rs) file ≡ Some r → found ≡ target offset (renameables (length (executables (take file (readings_view rs)))) (definitions_read r))
+pub found_at : (rs : List SharedParsed) (file offset first : ℕ) (read : SharedParsed) (found : Option Target) → file < length rs → read ≡ get_or rs file read → first ≡ length (executables (readings_view (take file rs))) →
+    found ≡ target offset (renameables first (definitions_read (shared_view read))) → (r : ParsedOf) → slice_get (readings_view rs) file ≡ Some r → found ≡ target offset (renameables (length (executables (take file (readings_view rs)))) (definitions_read r))
 found_at rs file offset first read found within is count of r at =
     let here : slice_get rs file ≡ Some read = slice_get_read rs (length rs) file read refl within is in
-    let viewed : slice_get (readings_view rs) file ≡ Some (parsed_view read) = slice_get-map parsed_view rs file ∙ ap (option_map parsed_view) here in
-    let same : parsed_view read ≡ r = cc in
+    let viewed : slice_get (readings_view rs) file ≡ Some (shared_view read) = slice_get-map shared_view rs file ∙ ap (option_map shared_view) here in
+    let same : shared_view read ≡ r = cc in
     of
-    ∙ ap (λ (n : ℕ). target offset (renameables n (definitions_read (parsed_view read)))) (count ∙ ap (λ (l : List ParsedOf). length (executables l)) (sym (take-map parsed_view file rs)))
+    ∙ ap (λ (n : ℕ). target offset (renameables n (definitions_read (shared_view read)))) (count ∙ ap (λ (l : List ParsedOf). length (executables l)) (sym (take-map shared_view file rs)))
     ∙ ap (λ (x : ParsedOf). target offset (renameables (length (executables (take file (readings_view rs)))) (definitions_read x))) same
 
-pub nothing_at : (rs : List Parsed) (file : ℕ) → length rs ≤ file → (r : ParsedOf) → slice_get (readings_view rs) file ≡ Some r → ⊥
+pub nothing_at : (rs : List SharedParsed) (file : ℕ) → length rs ≤ file → (r : ParsedOf) → slice_get (readings_view rs) file ≡ Some r → ⊥
 nothing_at rs file past r at =
-    let viewed : slice_get (readings_view rs) file ≡ None = slice_get-map parsed_view rs file ∙ ap (option_map parsed_view) (slice_get_past rs file past) in
+    let viewed : slice_get (readings_view rs) file ≡ None = slice_get-map shared_view rs file ∙ ap (option_map shared_view) (slice_get_past rs file past) in
     cc
 
 -- what is prepared of a target that was found

@@ -8,8 +8,7 @@ use Rattle.gq_project.specs.declared.document.Doc.{Doc}
 use Rattle.gq_project.specs.Documents.{IsInOrder}
 use Rattle.gq_parse.specs.Derives.{Derives}
 use Rattle.gq_parse.specs.Limits.{PassesLimitAt}
-use Rattle.gq_tree.specs.declared.parsed.Parsed.{Parsed}
-use Rattle.gq_tree.specs.Readings.{ParsedOf, parsed_view, readings_view}
+use Rattle.gq_tree.specs.Readings.{ParsedOf, SharedParsed, shared_view, readings_view}
 use Rattle.gq_parse.specs.Parsed.{AreParsed}
 use Rattle.gq_edit.specs.declared.edit.DocumentEdit.{DocumentEdit}
 use Rattle.gq_edit.specs.Edits.{FitDocuments, after_edit, is_too_large}
@@ -129,10 +128,10 @@ not_made documents before cut edits SelfCheck e h = absurd h
 not_made documents before cut edits NoMemory e h = tt
 
 -- as many edited documents as readings before
-pub as_many_edited : (documents edited : List Doc) (edits : List DocumentEdit) (before : List Parsed) → AreParsed documents (readings_view before) → edited ≡ after_edit edits documents → length edited ≡ length before
+pub as_many_edited : (documents edited : List Doc) (edits : List DocumentEdit) (before : List SharedParsed) → AreParsed documents (readings_view before) → edited ≡ after_edit edits documents → length edited ≡ length before
 as_many_edited documents edited edits before read e =
     let a = as_many read in
-    let b = length-map before parsed_view in
+    let b = length-map before shared_view in
     let c = length-map documents (Rattle.gq_edit.specs.Edits.edited edits) in
     let d = ap length e in
     omega (arith, a, b, c, d)

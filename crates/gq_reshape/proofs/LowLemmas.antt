@@ -14,8 +14,7 @@ use Rattle.gq_tree.specs.declared.value.Directive.{Directive}
 use Rattle.gq_tree.specs.Views.{directive_view}
 use Rattle.gq_parse.specs.Limits.{IsNestedWithin}
 use Rattle.gq_parse.proofs.Nesting.{nested_front}
-use Rattle.gq_tree.specs.declared.parsed.Parsed.{Parsed}
-use Rattle.gq_tree.specs.Readings.{ParsedOf, in_document, parsed_view, readings_view}
+use Rattle.gq_tree.specs.Readings.{ParsedOf, SharedParsed, in_document, shared_view, readings_view}
 use Rattle.gq_document.specs.Definitions.{FragmentOf, fragment_in}
 use Rattle.gq_rewritten.specs.Rewrites.{Rewrite}
 use Rattle.gq_law_rewrites.specs.Parts.{DirectivesFit}
@@ -91,17 +90,17 @@ all_fit text (d ∷ ds) head last some h =
     subst (λ (n : ℕ). (d.span.start ≤ (get_or (d ∷ ds) n last).span.end) × IsCharBoundary text (get_or (d ∷ ds) n last).span.end) e (last_fits text 0 d ds last h)
 
 -- fragments, document after document
-module _ (p : FragmentOf → Bool) (readings : List Parsed) (i : ℕ) (x : Parsed) (h : i < length readings) (is : x ≡ get_or readings i x) (whole : Option FragmentOf) where
-  abbrev In : ℕ → List Parsed → List FragmentOf
+module _ (p : FragmentOf → Bool) (readings : List SharedParsed) (i : ℕ) (x : SharedParsed) (h : i < length readings) (is : x ≡ get_or readings i x) (whole : Option FragmentOf) where
+  abbrev In : ℕ → List SharedParsed → List FragmentOf
   In k rs = flat_map (λ r. in_document fragment_in r.0 r.1) (enumerate_from k (readings_view rs))
 
-  split : find p (In i (drop i readings)) ≡ option_or (find p (in_document fragment_in i (parsed_view x))) (find p (In (i + 1) (drop (suc i) readings)))
-  split = ap (λ (rs : List Parsed). find p (In i rs)) (drop_read readings i x h is) ∙ find-append p (in_document fragment_in i (parsed_view x)) (In (i + 1) (drop (suc i) readings))
+  split : find p (In i (drop i readings)) ≡ option_or (find p (in_document fragment_in i (shared_view x))) (find p (In (i + 1) (drop (suc i) readings)))
+  split = ap (λ (rs : List SharedParsed). find p (In i rs)) (drop_read readings i x h is) ∙ find-append p (in_document fragment_in i (shared_view x)) (In (i + 1) (drop (suc i) readings))
 
-  pub found_read : (y : FragmentOf) → find p (In i (drop i readings)) ≡ whole → Some y ≡ find p (in_document fragment_in i (parsed_view x)) → Some y ≡ whole
+  pub found_read : (y : FragmentOf) → find p (In i (drop i readings)) ≡ whole → Some y ≡ find p (in_document fragment_in i (shared_view x)) → Some y ≡ whole
   found_read y invariant mine = ap (λ (o : Option FragmentOf). option_or o (find p (In (i + 1) (drop (suc i) readings)))) mine ∙ sym split ∙ invariant
 
-  pub later_read : (o : Option FragmentOf) → find p (In i (drop i readings)) ≡ whole → o ≡ find p (in_document fragment_in i (parsed_view x)) → ((y : FragmentOf) → o ≡ Some y → ⊥) → find p (In (i + 1) (drop (i + 1) readings)) ≡ whole
+  pub later_read : (o : Option FragmentOf) → find p (In i (drop i readings)) ≡ whole → o ≡ find p (in_document fragment_in i (shared_view x)) → ((y : FragmentOf) → o ≡ Some y → ⊥) → find p (In (i + 1) (drop (i + 1) readings)) ≡ whole
   later_read (Some y) invariant mine no_some = absurd (no_some y refl)
   later_read None invariant mine no_some =
       let e : i + 1 ≡ suc i = omega arith in

@@ -71,7 +71,10 @@ fn all_faults_by_threads<R: Threads + Sync>(
 }
 
 /// The faults of documents without a tree, and of those with definitions of both sorts.
-pub(crate) fn faults_of_texts<R: AsParsed>(alloc: Global, readings: &[R]) -> Result<Vec<Fault>, NoMemory>
+pub(crate) fn faults_of_texts<R: AsParsed>(
+    alloc: Global,
+    readings: &[R],
+) -> Result<Vec<Fault>, NoMemory>
     ensures { IfOk result (λ faults. faults.items ≡ each_from unread_at 0 (read_by R.as_parsed readings.now) ++ each_from mixed_at 0 (read_by R.as_parsed readings.now)) }
 {
     let mut faults = Vec::new(alloc);

@@ -3,7 +3,7 @@ use Rattle.std.proofs.lemmas.List.{length-map, length_push}
 use Rattle.std.proofs.lemmas.Option.{slice_get_read}
 use Rattle.gq_project.specs.declared.document.Doc.{Doc}
 use Rattle.gq_tree.specs.declared.parsed.Parsed.{Parsed}
-use Rattle.gq_tree.specs.Readings.{parsed_view, readings_view}
+use Rattle.gq_tree.specs.Readings.{parsed_view, shared_view, readings_view}
 use Rattle.gq_parse.specs.Parsed.{AreParsed, IsParsed}
 use Rattle.gq_known.specs.Known.{IsKnown}
 use Rattle.gq_changed.proofs.Anew.{ReadOver, text_there, read_over_more, parsed_over}
@@ -32,4 +32,4 @@ returns-clause-read c = λ (known : IsKnown c.args.known).
     let documents = c.args.documents.now in
     let before = c.documents-before.result.now in
     parsed_over documents c.loop-place.anew.items (subst (λ (ds : List Doc). AreParsed ds (readings_view c.args.known.readings.now)) (sym c.documents-before.ensures.all) known.are_readings)
-    (c.requires ∙ sym (length-map c.args.known.readings.now parsed_view)) (omega (arith, c.loop-place-test.false)) c.loop-place.invariant.read
+    (c.requires ∙ sym (length-map c.args.known.readings.now shared_view)) (omega (arith, c.loop-place-test.false)) c.loop-place.invariant.read

@@ -5,7 +5,7 @@ use Rattle.std.proofs.lemmas.List.{map-append}
 use Rattle.std.proofs.lemmas.Iterator.{YieldsList-from_slice, YieldsList-from_zip}
 use Rattle.std.proofs.lemmas.Iterator.Consumers.{YieldsList-end}
 use Rattle.gq_project.specs.declared.document.Doc.{Doc}
-use Rattle.gq_tree.specs.declared.parsed.Parsed.{Parsed}
+use Rattle.gq_tree.specs.Readings.{SharedParsed}
 use Rattle.gq_index.specs.declared.files.File.{File}
 use Rattle.gq_index.proofs.FileLemmas.{AreKept, kept_none, kept_more, kept_all}
 use Rattle.gq_index.proofs.files.Files.of.Goals as goal
@@ -19,14 +19,14 @@ loop-document-preserved c =
     let reading = c.in-Some.reading in
     let file = c.in_ok-of.field-0 in
     let before = c.loop-document.yielded in
-    subst (λ (ps : List (Doc × Parsed)). AreKept ps c.push.new.self.items) (sym {A = List (Doc × Parsed)} (map-append deref_pair before ((document, reading) ∷ [])))
+    subst (λ (ps : List (Doc × SharedParsed)). AreKept ps c.push.new.self.items) (sym {A = List (Doc × SharedParsed)} (map-append deref_pair before ((document, reading) ∷ [])))
     (subst (λ (files : List File). AreKept (map deref_pair before ++ (document.now, reading.now) ∷ []) files) (sym {A = List File} c.in_ok-push.ensures.items)
     (kept_more (map deref_pair before) c.loop-document.files.items (document.now, reading.now) file (c.in_ok-of.ensures.key ∙ c.as_str.ensures) c.in_ok-of.ensures.parts c.loop-document.invariant))
 
 pub returns : goal.returns
 returns c =
     let documents : List Doc = c.args.documents.now in
-    let readings : List Parsed = c.args.readings.now in
+    let readings : List SharedParsed = c.args.readings.now in
     let files : List File = c.loop-document.files.items in
     let t = YieldsList-end (YieldsList-from_zip (YieldsList-from_slice documents (cc)) (YieldsList-from_slice readings (cc))) c.loop-document.yielded c.loop-document.document-iterator c.loop-document.yielded_by c.next.result c.next.new.self c.in-None.is c.next.ensures.steps in
-    kept_all documents readings files (subst (λ (ps : List (Doc × Parsed)). AreKept ps files) t.0 c.loop-document.invariant)
+    kept_all documents readings files (subst (λ (ps : List (Doc × SharedParsed)). AreKept ps files) t.0 c.loop-document.invariant)
