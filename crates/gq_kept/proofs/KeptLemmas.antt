@@ -8,8 +8,7 @@ use mathlib.Core.Logic.{∥∥₁_map, ∥∥₁_elim, ∥∥₁_prop}
 use Rattle.gq_project.specs.declared.document.Doc.{Doc}
 use Rattle.gq_project.specs.Documents.{with_doc, without}
 use Rattle.gq_project.specs.Helping.Places.{IsPlaceOf, IsGapFor}
-use Rattle.gq_tree.specs.Readings.{ParsedOf, parsed_view, readings_view}
-use Rattle.gq_tree.specs.declared.parsed.Parsed.{Parsed}
+use Rattle.gq_tree.specs.Readings.{ParsedOf, SharedParsed, shared_view, readings_view}
 use Rattle.gq_parse.specs.Parsed.{IsParsed, AreParsed}
 use Rattle.gq_types.specs.BuiltIn.{built_in}
 use Rattle.gq_types.specs.Entries.{EntryOf}
@@ -30,11 +29,11 @@ use Rattle.gq_kept.proofs.KnownLemmas.{types_known, replaced, inserted, removed}
 use Rattle.gq_kept.proofs.TypesLemmas.{system_inserted, system_removed}
 
 -- with no index
-kept_by : (documents : List Doc) (readings : List Parsed) (typed : Typed) (found : ByFile) → ∥ AreKnown documents readings (types_view typed.types) typed.has_schema × AreByFile (types_view typed.types) (readings_view readings) found ∥₁ →
+kept_by : (documents : List Doc) (readings : List SharedParsed) (typed : Typed) (found : ByFile) → ∥ AreKnown documents readings (types_view typed.types) typed.has_schema × AreByFile (types_view typed.types) (readings_view readings) found ∥₁ →
     AreKept documents readings typed found None
 kept_by documents readings typed found both = record { known = ∥∥₁_map both (λ b. b.0); owned = ∥∥₁_map both (λ b. b.1); indexed = ∣ tt ∣₁ }
 
-pub kept_first : (documents told : List Doc) (readings : List Parsed) (typed : Typed) (found : ByFile) → told ≡ documents → ((es : List EntryOf) (rs : List ParsedOf) → AreByFile es rs found) →
+pub kept_first : (documents told : List Doc) (readings : List SharedParsed) (typed : Typed) (found : ByFile) → told ≡ documents → ((es : List EntryOf) (rs : List ParsedOf) → AreByFile es rs found) →
     AreKnown documents readings (types_view typed.types) typed.has_schema → AreKept told readings typed found None
 kept_first documents told readings typed found same nothing known =
     let D : List Doc → Type 0 = λ ds. AreKept ds readings typed found None in
@@ -54,10 +53,10 @@ systems before after old made changes was is stays e =
     let D : List EntryOf → List EntryOf → Type 0 = λ es us. AreOneTypeSystem es us in
     subst (λ (es : List EntryOf). D es (types_view made.types)) (sym was.is_type_system) (subst (λ (us : List EntryOf). D (built_in ++ entries_of before) us) (sym is.is_type_system) (stays e))
 
-module _ (documents : List Doc) (readings : List Parsed) (typed : Typed) (found : ByFile) (index : Option Index) (kept : AreKept documents readings typed found index) where
+module _ (documents : List Doc) (readings : List SharedParsed) (typed : Typed) (found : ByFile) (index : Option Index) (kept : AreKept documents readings typed found index) where
   -- as many readings as documents
   pub kept_count : length documents ≡ length readings
-  kept_count = ∥∥₁_elim kept.known (ℕ_set _ _) (λ known. as_many known.are_readings ∙ length-map readings parsed_view)
+  kept_count = ∥∥₁_elim kept.known (ℕ_set _ _) (λ known. as_many known.are_readings ∙ length-map readings shared_view)
 
   pub kept_indexed : (made : Index) → (AreParsed documents (readings_view readings) → IsIndexOfProject documents made) → AreKept documents readings typed found (Some made)
   kept_indexed made of = record {
@@ -71,7 +70,7 @@ module _ (documents : List Doc) (readings : List Parsed) (typed : Typed) (found 
   kept_owned others goes_on = record { known = kept.known; owned = ∥∥₁_map kept.owned goes_on; indexed = kept.indexed }
 
   -- the documents as they are told of and lent, and the readings as they are given
-  module _ (told lent : List Doc) (given : List Parsed) (is_told : documents ≡ told) (is_lent : lent ≡ documents) (is_given : given ≡ readings) where
+  module _ (told lent : List Doc) (given : List SharedParsed) (is_told : documents ≡ told) (is_lent : lent ≡ documents) (is_given : given ≡ readings) where
     pub count_given : length lent ≡ length given
     count_given = rw (is_lent, is_given) kept_count
 
@@ -84,32 +83,32 @@ module _ (documents : List Doc) (readings : List Parsed) (typed : Typed) (found 
     parsed_given : AreParsed documents (readings_view readings) → AreParsed lent (readings_view given)
     parsed_given are = rw (is_lent, is_given) are
 
-    pub kept_replaced : (at : ℕ) (doc : Doc) (reading : Parsed) (made : Typed) (left : ByFile) (changes : Bool) → IsPlaceOf (λ d. d.key) doc.key told at → IsParsed doc.text (parsed_view reading)
-        → (AreParsed lent (readings_view given) → AreTypesOf (readings_view given) typed → AreTypesOf (set (readings_view given) at (parsed_view reading)) made)
-        → (changes ≡ false → IsOneTypeSystem (readings_view given) (set (readings_view given) at (parsed_view reading)))
-        → ((es us : List EntryOf) (rs : List ParsedOf) → (changes ≡ false → AreOneTypeSystem es us) → AreByFile es rs found → AreByFile us (set rs at (parsed_view reading)) left)
+    pub kept_replaced : (at : ℕ) (doc : Doc) (reading : SharedParsed) (made : Typed) (left : ByFile) (changes : Bool) → IsPlaceOf (λ d. d.key) doc.key told at → ∥ IsParsed doc.text (shared_view reading) ∥₁
+        → (AreParsed lent (readings_view given) → IsParsed doc.text (shared_view reading) → AreTypesOf (readings_view given) typed → AreTypesOf (set (readings_view given) at (shared_view reading)) made)
+        → (changes ≡ false → IsOneTypeSystem (readings_view given) (set (readings_view given) at (shared_view reading)))
+        → ((es us : List EntryOf) (rs : List ParsedOf) → (changes ≡ false → AreOneTypeSystem es us) → AreByFile es rs found → AreByFile us (set rs at (shared_view reading)) left)
         → AreKept (with_doc documents doc) (set readings at reading) made left None
-    kept_replaced at doc reading made left changes place parsed types stays forgets =
-        kept_by _ _ _ left (both_known kept.known kept.owned (λ known owned.
+    kept_replaced at doc reading made left changes place merely types stays forgets =
+        kept_by _ _ _ left (∥∥₁_elim merely ∥∥₁_prop (λ (parsed : IsParsed doc.text (shared_view reading)). both_known kept.known kept.owned (λ known owned.
         let was : AreTypesOf (readings_view given) typed = rw is_given (types_known documents readings typed known) in
-        let are : AreTypesOf (set (readings_view given) at (parsed_view reading)) made = types (parsed_given known.are_readings) was in
-        let one = systems (readings_view given) (set (readings_view given) at (parsed_view reading)) typed made changes was are stays in
-        let there : AreByFile (types_view made.types) (set (readings_view readings) at (parsed_view reading)) left = forgets (types_view typed.types) (types_view made.types) (readings_view readings) one owned in
-        (replaced documents readings typed known at doc reading made (rw is_told place) parsed (rw (← is_given) are), rw map-set there)))
+        let are : AreTypesOf (set (readings_view given) at (shared_view reading)) made = types (parsed_given known.are_readings) parsed was in
+        let one = systems (readings_view given) (set (readings_view given) at (shared_view reading)) typed made changes was are stays in
+        let there : AreByFile (types_view made.types) (set (readings_view readings) at (shared_view reading)) left = forgets (types_view typed.types) (types_view made.types) (readings_view readings) one owned in
+        (replaced documents readings typed known at doc reading made (rw is_told place) parsed (rw (← is_given) are), rw map-set there))))
 
-    pub kept_inserted : (at : ℕ) (doc : Doc) (reading : Parsed) (made : Typed) (left : ByFile) (changes : Bool) → IsGapFor (λ d. d.key) doc.key told at → IsParsed doc.text (parsed_view reading)
-        → (AreParsed lent (readings_view given) → AreTypesOf (insert (readings_view given) at (parsed_view reading)) made)
-        → (changes ≡ false → types_defined (parsed_view reading) ≡ [])
+    pub kept_inserted : (at : ℕ) (doc : Doc) (reading : SharedParsed) (made : Typed) (left : ByFile) (changes : Bool) → IsGapFor (λ d. d.key) doc.key told at → ∥ IsParsed doc.text (shared_view reading) ∥₁
+        → (AreParsed lent (readings_view given) → IsParsed doc.text (shared_view reading) → AreTypesOf (insert (readings_view given) at (shared_view reading)) made)
+        → (changes ≡ false → types_defined (shared_view reading) ≡ [])
         → ((es us : List EntryOf) (rs : List ParsedOf) (r : ParsedOf) → (changes ≡ false → AreOneTypeSystem es us) → AreByFile es rs found → AreByFile us (insert rs at r) left)
         → AreKept (with_doc documents doc) (insert readings at reading) made left None
-    kept_inserted at doc reading made left changes gap parsed types defines opens =
-        kept_by _ _ _ left (both_known kept.known kept.owned (λ known owned.
+    kept_inserted at doc reading made left changes gap merely types defines opens =
+        kept_by _ _ _ left (∥∥₁_elim merely ∥∥₁_prop (λ (parsed : IsParsed doc.text (shared_view reading)). both_known kept.known kept.owned (λ known owned.
         let was : AreTypesOf (readings_view given) typed = rw is_given (types_known documents readings typed known) in
-        let are : AreTypesOf (insert (readings_view given) at (parsed_view reading)) made = types (parsed_given known.are_readings) in
-        let one = systems (readings_view given) (insert (readings_view given) at (parsed_view reading)) typed made changes was are (λ e. system_inserted (readings_view given) at (parsed_view reading) (defines e)) in
-        let there : AreByFile (types_view made.types) (insert (readings_view readings) at (parsed_view reading)) left = opens (types_view typed.types) (types_view made.types) (readings_view readings) (parsed_view reading) one owned in
-        let same : readings_view (insert readings at reading) ≡ insert (readings_view readings) at (parsed_view reading) = simp (map-append, take-map, drop-map) in
-        (inserted documents readings typed known at doc reading made (rw is_told gap) parsed (rw (← is_given) are), rw same there)))
+        let are : AreTypesOf (insert (readings_view given) at (shared_view reading)) made = types (parsed_given known.are_readings) parsed in
+        let one = systems (readings_view given) (insert (readings_view given) at (shared_view reading)) typed made changes was are (λ e. system_inserted (readings_view given) at (shared_view reading) (defines e)) in
+        let there : AreByFile (types_view made.types) (insert (readings_view readings) at (shared_view reading)) left = opens (types_view typed.types) (types_view made.types) (readings_view readings) (shared_view reading) one owned in
+        let same : readings_view (insert readings at reading) ≡ insert (readings_view readings) at (shared_view reading) = simp (map-append, take-map, drop-map) in
+        (inserted documents readings typed known at doc reading made (rw is_told gap) parsed (rw (← is_given) are), rw same there))))
 
     pub kept_removed : (at : ℕ) (key : List ℕ) (made : Typed) (left : ByFile) (changes : Bool) → IsPlaceOf (λ d. d.key) key told at
         → (AreParsed lent (readings_view given) → AreTypesOf (remove (readings_view given) at) made)

@@ -1,8 +1,7 @@
 -- What is known of files each by itself, where a file is replaced, put in or taken out, and what it comes to.
 use Rattle.std.proofs.Common.{◌≡◌, ◌↔◌, ◌⊎◌, ⊎_elim, inl, inr, ℕ, zero, suc, ◌+◌, ◌<◌, ◌≤◌, List, [], ◌∷◌, ◌++◌, Option, Some, None, Result, Ok, Err, OnOk, OnErr, Contains, get_or, set, slice_get, length, take, map, refl, sym, ap, ◌∙◌, subst, arith}
 use Rattle.std.specs.List.{insert, remove}
-use Rattle.gq_tree.specs.Readings.{ParsedOf, parsed_view, readings_view}
-use Rattle.gq_tree.specs.declared.parsed.Parsed.{Parsed}
+use Rattle.gq_tree.specs.Readings.{ParsedOf, SharedParsed, shared_view, readings_view}
 use Rattle.gq_types.specs.Entries.{EntryOf}
 use Rattle.gq_types.proofs.Gathered.{nothing_in, first, later, cases_cons, from_map, to_map}
 use Rattle.gq_fault.specs.declared.fault.Fault.{Fault}
@@ -119,9 +118,9 @@ module _ (unseen : NumbersOfEntriesAreUnseen) (es us : List EntryOf) (one_system
   own_other (more {r = r} {one = one} q qs) = more (other_file r one q) (own_other qs)
 
 -- one of the readings
-pub reading_there : (readings : List Parsed) (n : ℕ) (r : Parsed) → n < length readings → r ≡ get_or readings n r → slice_get (readings_view readings) n ≡ Some (parsed_view r)
+pub reading_there : (readings : List SharedParsed) (n : ℕ) (r : SharedParsed) → n < length readings → r ≡ get_or readings n r → slice_get (readings_view readings) n ≡ Some (shared_view r)
 reading_there [] n r h e = absurd (omega (arith, h))
-reading_there (x ∷ readings) zero r h e = ap (λ (z : Parsed). Some (parsed_view z)) (sym e)
+reading_there (x ∷ readings) zero r h e = ap (λ (z : SharedParsed). Some (shared_view z)) (sym e)
 reading_there (x ∷ readings) (suc n) r h e = reading_there readings n r (omega (arith, h)) e
 
 -- ---- the faults of all files

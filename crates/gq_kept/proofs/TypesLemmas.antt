@@ -6,8 +6,8 @@ use Rattle.std.proofs.lemmas.List.{map-append, map-set}
 use Rattle.std.proofs.Math.ListN.{get_or-map}
 use Rattle.gq_text.specs.declared.place.Span.{Span}
 use Rattle.gq_tree.specs.Plain.{Def, TypeSystemOf, operation, fragment, type_system}
-use Rattle.gq_tree.specs.Readings.{ParsedOf, definitions_read, in_document, parsed_view, readings_view}
 use Rattle.gq_tree.specs.declared.parsed.Parsed.{Parsed}
+use Rattle.gq_tree.specs.Readings.{ParsedOf, SharedParsed, definitions_read, in_document, parsed_view, shared_view, readings_view, unshared_view}
 use Rattle.gq_types.specs.BuiltIn.{built_in}
 use Rattle.gq_types.specs.Entries.{EntryOf}
 use Rattle.gq_document.specs.Definitions.{entry_in, entries_of}
@@ -56,38 +56,38 @@ same_map {X} {Y} f (y ∷ xs) zero x d e = ap (λ (z : Y). z ∷ map f xs) (sym 
 same_map {X} {Y} f (y ∷ xs) (suc i) x d e = ap (λ (zs : List Y). f y ∷ zs) (same_map f xs i x d e)
 
 -- one that defines nothing is replaced by another one that does not
-pub types_alike : (readings : List Parsed) (at : ℕ) (old new : Parsed) (made : Typed) → old ≡ get_or readings at old → types_defined (parsed_view old) ≡ [] → types_defined (parsed_view new) ≡ []
-    → AreTypesOf (readings_view readings) made → AreTypesOf (set (readings_view readings) at (parsed_view new)) made
+pub types_alike : (readings : List SharedParsed) (at : ℕ) (old new : SharedParsed) (made : Typed) → old ≡ get_or readings at old → types_defined (shared_view old) ≡ [] → types_defined (shared_view new) ≡ []
+    → AreTypesOf (readings_view readings) made → AreTypesOf (set (readings_view readings) at (shared_view new)) made
 types_alike readings at old new made is none none_new are =
-    let there : get_or (readings_view readings) at (parsed_view old) ≡ parsed_view old = get_or-map parsed_view readings at old ∙ ap parsed_view (sym is) in
-    let same : types_defined (get_or (readings_view readings) at (parsed_view old)) ≡ types_defined (parsed_view new) = ap types_defined there ∙ none ∙ sym none_new in
-    same_types (readings_view readings) (set (readings_view readings) at (parsed_view new)) made (sym (same_map types_defined (readings_view readings) at (parsed_view new) (parsed_view old) same)) are
+    let there : get_or (readings_view readings) at (shared_view old) ≡ shared_view old = get_or-map shared_view readings at old ∙ ap shared_view (sym is) in
+    let same : types_defined (get_or (readings_view readings) at (shared_view old)) ≡ types_defined (shared_view new) = ap types_defined there ∙ none ∙ sym none_new in
+    same_types (readings_view readings) (set (readings_view readings) at (shared_view new)) made (sym (same_map types_defined (readings_view readings) at (shared_view new) (shared_view old) same)) are
 
 -- what is read again defines the same, so it does where one is replaced, put in or taken out
-module _ (again readings : List Parsed) (at : ℕ) (made : Typed) (same : map types_defined (readings_view again) ≡ map types_defined (readings_view readings)) where
-  pub types_replaced : (one reading : Parsed) → types_defined (parsed_view one) ≡ types_defined (parsed_view reading) → AreTypesOf (readings_view (set again at one)) made → AreTypesOf (set (readings_view readings) at (parsed_view reading)) made
+module _ (again : List Parsed) (readings : List SharedParsed) (at : ℕ) (made : Typed) (same : map types_defined (unshared_view again) ≡ map types_defined (readings_view readings)) where
+  pub types_replaced : (one : Parsed) (reading : SharedParsed) → types_defined (parsed_view one) ≡ types_defined (shared_view reading) → AreTypesOf (unshared_view (set again at one)) made → AreTypesOf (set (readings_view readings) at (shared_view reading)) made
   types_replaced one reading e are =
-      same_types (readings_view (set again at one)) (set (readings_view readings) at (parsed_view reading)) made
+      same_types (unshared_view (set again at one)) (set (readings_view readings) at (shared_view reading)) made
       (ap (map types_defined) (map-set parsed_view again at one)
-      ∙ map-set types_defined (readings_view again) at (parsed_view one)
+      ∙ map-set types_defined (unshared_view again) at (parsed_view one)
       ∙ ap (λ (ess : List (List EntryOf)). set ess at (types_defined (parsed_view one))) same
       ∙ ap (λ (es : List EntryOf). set (map types_defined (readings_view readings)) at es) e
-      ∙ sym (map-set types_defined (readings_view readings) at (parsed_view reading))) are
+      ∙ sym (map-set types_defined (readings_view readings) at (shared_view reading))) are
 
-  pub types_inserted : (one reading : Parsed) → types_defined (parsed_view one) ≡ types_defined (parsed_view reading) → AreTypesOf (readings_view (insert again at one)) made → AreTypesOf (insert (readings_view readings) at (parsed_view reading)) made
+  pub types_inserted : (one : Parsed) (reading : SharedParsed) → types_defined (parsed_view one) ≡ types_defined (shared_view reading) → AreTypesOf (unshared_view (insert again at one)) made → AreTypesOf (insert (readings_view readings) at (shared_view reading)) made
   types_inserted one reading e are =
-      same_types (readings_view (insert again at one)) (insert (readings_view readings) at (parsed_view reading)) made
+      same_types (unshared_view (insert again at one)) (insert (readings_view readings) at (shared_view reading)) made
       (ap (map types_defined) (map_insert parsed_view again at one)
-      ∙ map_insert types_defined (readings_view again) at (parsed_view one)
+      ∙ map_insert types_defined (unshared_view again) at (parsed_view one)
       ∙ ap (λ (ess : List (List EntryOf)). insert ess at (types_defined (parsed_view one))) same
       ∙ ap (λ (es : List EntryOf). insert (map types_defined (readings_view readings)) at es) e
-      ∙ sym (map_insert types_defined (readings_view readings) at (parsed_view reading))) are
+      ∙ sym (map_insert types_defined (readings_view readings) at (shared_view reading))) are
 
-  pub types_removed : AreTypesOf (readings_view (remove again at)) made → AreTypesOf (remove (readings_view readings) at) made
+  pub types_removed : AreTypesOf (unshared_view (remove again at)) made → AreTypesOf (remove (readings_view readings) at) made
   types_removed are =
-      same_types (readings_view (remove again at)) (remove (readings_view readings) at) made
+      same_types (unshared_view (remove again at)) (remove (readings_view readings) at) made
       (ap (map types_defined) (map_remove parsed_view again at)
-      ∙ map_remove types_defined (readings_view again) at
+      ∙ map_remove types_defined (unshared_view again) at
       ∙ ap (λ (ess : List (List EntryOf)). remove ess at) same
       ∙ sym (map_remove types_defined (readings_view readings) at)) are
 
@@ -137,20 +137,20 @@ system_inserted rs at r none =
     one_system rs (insert rs at r)
     (sym (ap (flat_map (map definition_in)) (map_insert types_defined rs at r ∙ ap (λ (es : List EntryOf). insert (map types_defined rs) at es) none) ∙ flat_insert (map definition_in) refl (map types_defined rs) at))
 
-pub nothing_at : (readings : List Parsed) (at : ℕ) (r : Parsed) → r ≡ get_or readings at r → types_defined (parsed_view r) ≡ [] → get_or (map types_defined (readings_view readings)) at [] ≡ []
+pub nothing_at : (readings : List SharedParsed) (at : ℕ) (r : SharedParsed) → r ≡ get_or readings at r → types_defined (shared_view r) ≡ [] → get_or (map types_defined (readings_view readings)) at [] ≡ []
 nothing_at readings at r is none =
-    let there : get_or (readings_view readings) at (parsed_view r) ≡ parsed_view r = get_or-map parsed_view readings at r ∙ ap parsed_view (sym is) in
-    ap (get_or (map types_defined (readings_view readings)) at) (sym none) ∙ get_or-map types_defined (readings_view readings) at (parsed_view r) ∙ ap types_defined there ∙ none
+    let there : get_or (readings_view readings) at (shared_view r) ≡ shared_view r = get_or-map shared_view readings at r ∙ ap shared_view (sym is) in
+    ap (get_or (map types_defined (readings_view readings)) at) (sym none) ∙ get_or-map types_defined (readings_view readings) at (shared_view r) ∙ ap types_defined there ∙ none
 
 pub system_removed : (rs : List ParsedOf) (at : ℕ) → get_or (map types_defined rs) at [] ≡ [] → IsOneTypeSystem rs (remove rs at)
 system_removed rs at nothing =
     one_system rs (remove rs at)
     (sym (ap (flat_map (map definition_in)) (map_remove types_defined rs at) ∙ flat_remove (map definition_in) refl (map types_defined rs) at nothing))
 
-pub system_replaced : (readings : List Parsed) (at : ℕ) (old new : Parsed) → old ≡ get_or readings at old → types_defined (parsed_view old) ≡ [] → types_defined (parsed_view new) ≡ []
-    → IsOneTypeSystem (readings_view readings) (set (readings_view readings) at (parsed_view new))
+pub system_replaced : (readings : List SharedParsed) (at : ℕ) (old new : SharedParsed) → old ≡ get_or readings at old → types_defined (shared_view old) ≡ [] → types_defined (shared_view new) ≡ []
+    → IsOneTypeSystem (readings_view readings) (set (readings_view readings) at (shared_view new))
 system_replaced readings at old new is none none_new =
-    let there : get_or (readings_view readings) at (parsed_view old) ≡ parsed_view old = get_or-map parsed_view readings at old ∙ ap parsed_view (sym is) in
-    let same : types_defined (get_or (readings_view readings) at (parsed_view old)) ≡ types_defined (parsed_view new) = ap types_defined there ∙ none ∙ sym none_new in
-    one_system (readings_view readings) (set (readings_view readings) at (parsed_view new))
-    (ap (flat_map (map definition_in)) (sym (same_map types_defined (readings_view readings) at (parsed_view new) (parsed_view old) same)))
+    let there : get_or (readings_view readings) at (shared_view old) ≡ shared_view old = get_or-map shared_view readings at old ∙ ap shared_view (sym is) in
+    let same : types_defined (get_or (readings_view readings) at (shared_view old)) ≡ types_defined (shared_view new) = ap types_defined there ∙ none ∙ sym none_new in
+    one_system (readings_view readings) (set (readings_view readings) at (shared_view new))
+    (ap (flat_map (map definition_in)) (sym (same_map types_defined (readings_view readings) at (shared_view new) (shared_view old) same)))

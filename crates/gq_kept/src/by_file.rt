@@ -1,7 +1,7 @@
 //! The faults of files each by itself, and of files together, kept until one of them or the type system changes.
 ghost use Rattle.std.specs.Prelude.{◌≡◌, ◌↔◌, ◌⊎◌, false, Contains, List, IfOk, remove, slice_set};
 ghost use Rattle.std.specs.List.{insert};
-ghost use Rattle.gq_tree.specs.Readings.{ParsedOf, parsed_view, readings_view};
+ghost use Rattle.gq_tree.specs.Readings.{ParsedOf, shared_view, readings_view};
 ghost use Rattle.gq_types.specs.Entries.{EntryOf};
 ghost use Rattle.gq_types.specs.Look.{types_view};
 ghost use Rattle.gq_fault.specs.declared.fault.Fault.{Fault};
@@ -16,6 +16,7 @@ use gq_text::{Items, NoMemory};
 use gq_tree::Parsed;
 use gq_types::Types;
 use std::alloc::Global;
+use std::sync::Arc;
 
 /// What is known of the faults of files.
 #[derive(Drop)]
@@ -42,7 +43,7 @@ impl ByFile {
         &mut self,
         alloc: Global,
         types: &Types,
-        readings: &[Parsed],
+        readings: &[Arc<Parsed>],
     ) -> Result<Vec<Fault>, NoMemory>
         ensures kept { AreByFileOver types.now readings.now self.old → AreByFileOver types.now readings.now self.new }
         ensures faults { IfOk result (λ faults. AreByFileOver types.now readings.now self.old
@@ -60,11 +61,11 @@ impl ByFile {
         &mut self,
         alloc: Global,
         at: usize,
-        reading: &Parsed,
+        reading: &Arc<Parsed>,
         changes_types: bool,
     )
         ensures { (es us : List EntryOf) (rs : List ParsedOf) → (changes_types ≡ false → AreOneTypeSystem es us)
-            → AreByFile es rs self.old → AreByFile us (slice_set rs at (parsed_view reading.now)) self.new }
+            → AreByFile es rs self.old → AreByFile us (slice_set rs at (shared_view reading.now)) self.new }
     {
         forget_at(&mut self.own, at, changes_types);
         self.across.replace(alloc, at, reading, changes_types);

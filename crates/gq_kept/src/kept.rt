@@ -1,7 +1,7 @@
 //! What is known of a project, kept from question to question.
 ghost use Rattle.std.specs.Prelude.{◌≡◌, ◌<◌, ◌≤◌, true, false, Some, None, IfOk, IfSome, IfNone, OnOk, OnErr, find, length, remove, slice_set};
 ghost use Rattle.std.specs.List.{insert};
-ghost use Rattle.gq_tree.specs.Readings.{parsed_view};
+ghost use Rattle.gq_tree.specs.Readings.{shared_view};
 ghost use Rattle.gq_parse.specs.Parsed.{IsParsed};
 ghost use Rattle.gq_project.specs.Documents.{IsInOrder, has_key, with_doc, without};
 ghost use Rattle.gq_project.specs.Helping.Places.{IsPlaceOf, IsGapFor};
@@ -13,12 +13,12 @@ ghost use Rattle.gq_kept.specs.Helping.Gone.{AreGone, AreDropped, IsPut, ArePut}
 use crate::by_file::ByFile;
 use crate::judged::Judged;
 use crate::judging::report_if_any;
+use crate::pieces::{reading_among, reading_by};
 use crate::places::place_or_gap;
-use crate::typed::{Typed, defines_types_at, retype, typed_less, typed_more};
+use crate::typed::{Typed, defines_types_at, has_types, retype, typed_less, typed_more};
 use gq_index::Index;
-use gq_known::learned::defines_types;
 use gq_known::{Known, Learned};
-use gq_parse::reader::read_text;
+use gq_parse::Piece;
 use gq_project::{Doc, Project};
 use gq_rules::laws::no_project_is_valid_and_invalid;
 use gq_rules::{Report, Valid};
@@ -26,6 +26,7 @@ use gq_text::{NoMemory, OwnedText};
 use gq_tree::Parsed;
 use std::alloc::Global;
 use std::marker::Model;
+use std::sync::Arc;
 
 /// A project, what its documents read as, and their type system; its index and its validity too, once they were asked for.
 ///
@@ -34,7 +35,7 @@ use std::marker::Model;
 pub struct Kept {
     judged: Judged,
     /// What the documents read as, one for each, in their order.
-    readings: Vec<Parsed>,
+    readings: Vec<Arc<Parsed>>,
     typed: Typed,
     /// What is known of the faults of documents, each by itself and together.
     found: ByFile,
@@ -104,13 +105,32 @@ impl Kept {
         }
     }
 
-    /// Adds the document, or replaces the one of its key, and reads its text alone. The project is then neither indexed nor
-    /// judged.
-    pub fn replace_file(&mut self, alloc: Global, doc: Doc) -> Result<(), NoMemory>
+    /// Adds the document, or replaces the one of its key, and reads its text alone; where the piece is one of this document,
+    /// with the same key and text, its tree is taken in place of reading. The project is then neither indexed nor judged.
+    pub fn replace_file(
+        &mut self,
+        alloc: Global,
+        doc: Doc,
+        piece: Option<Arc<Piece>>,
+    ) -> Result<(), NoMemory>
         ensures ok { OnOk result (self.new.documents ≡ with_doc self.old.documents doc) }
         ensures err { OnErr result (self.new ≡ self.old) }
     {
-        let reading = read_text(alloc, doc.text.as_str())?;
+        let reading = reading_by(alloc, &doc, piece)?;
+        self.put_read(alloc, doc, reading)
+    }
+
+    /// Adds the document, whose text reads so, or replaces the one of its key.
+    fn put_read(
+        &mut self,
+        alloc: Global,
+        doc: Doc,
+        reading: Arc<Parsed>,
+    ) -> Result<(), NoMemory>
+        requires { ∥ IsParsed doc.text (shared_view reading) ∥₁ }
+        ensures ok { OnOk result (self.new.documents ≡ with_doc self.old.documents doc) }
+        ensures err { OnErr result (self.new ≡ self.old) }
+    {
         match place_or_gap(self.judged.project().documents(), doc.key.as_str()) {
             Ok(at) => self.replace_at(alloc, at, doc, reading),
             Err(at) => self.insert_at(alloc, at, doc, reading),
@@ -123,10 +143,10 @@ impl Kept {
         alloc: Global,
         at: usize,
         doc: Doc,
-        reading: Parsed,
+        reading: Arc<Parsed>,
     ) -> Result<(), NoMemory>
         requires place { IsPlaceOf (λ other. other.key) doc.key self.old.documents at }
-        requires parsed { IsParsed doc.text (parsed_view reading) }
+        requires parsed { ∥ IsParsed doc.text (shared_view reading) ∥₁ }
         ensures ok { OnOk result (self.new.documents ≡ with_doc self.old.documents doc) }
         ensures err { OnErr result (self.new ≡ self.old) }
     {
@@ -152,14 +172,14 @@ impl Kept {
         alloc: Global,
         at: usize,
         doc: Doc,
-        reading: Parsed,
+        reading: Arc<Parsed>,
     ) -> Result<(), NoMemory>
         requires gap { IsGapFor (λ other. other.key) doc.key self.old.documents at }
-        requires parsed { IsParsed doc.text (parsed_view reading) }
+        requires parsed { ∥ IsParsed doc.text (shared_view reading) ∥₁ }
         ensures ok { OnOk result (self.new.documents ≡ with_doc self.old.documents doc) }
         ensures err { OnErr result (self.new ≡ self.old) }
     {
-        let changes_types = defines_types(&reading);
+        let changes_types = has_types(&reading);
         let documents = self.judged.project().documents();
         let made = typed_more(
             alloc,
@@ -217,13 +237,21 @@ impl Kept {
     }
 
     /// Makes the project that of these documents: what is the same is not read again, other documents are replaced by copies,
-    /// and those that are no longer there are dropped. Where memory is refused, some of that is done.
-    pub fn bring_to(&mut self, alloc: Global, project: &Project) -> Result<(), NoMemory>
+    /// and those that are no longer there are dropped. Of a document of which there is a piece among `pieces`, in ascending
+    /// order of keys, the tree is taken; pieces of the texts that are read are added to `parsed`, where there is memory for
+    /// them. Where memory is refused otherwise, some of that is done.
+    pub fn bring_to(
+        &mut self,
+        alloc: Global,
+        project: &Project,
+        pieces: &[Arc<Piece>],
+        parsed: &mut Vec<Arc<Piece>>,
+    ) -> Result<(), NoMemory>
         ensures { OnOk result (self.new.documents ≡ project.now) }
     {
         let gone = gone(alloc, self.project().documents(), project)?;
         self.drop_all(alloc, &gone)?;
-        self.put_all(alloc, project.documents())?;
+        self.put_all(alloc, project.documents(), pieces, parsed)?;
         let _in_order = self.project().documents();
         Ok(())
     }
@@ -239,25 +267,38 @@ impl Kept {
     }
 
     /// Adds copies of these documents, or replaces those of their keys, where they are not the same.
-    fn put_all(&mut self, alloc: Global, documents: &[Doc]) -> Result<(), NoMemory>
+    fn put_all(
+        &mut self,
+        alloc: Global,
+        documents: &[Doc],
+        pieces: &[Arc<Piece>],
+        parsed: &mut Vec<Arc<Piece>>,
+    ) -> Result<(), NoMemory>
         requires { IsInOrder documents.now }
         ensures { OnOk result (ArePut self.old.documents documents.now self.new.documents) }
     {
         for doc in documents {
-            self.put_copy(alloc, doc)?;
+            self.put_copy(alloc, doc, pieces, parsed)?;
         }
         Ok(())
     }
 
     /// Adds a copy of the document, or replaces the one of its key, where that is not the same.
-    fn put_copy(&mut self, alloc: Global, doc: &Doc) -> Result<(), NoMemory>
+    fn put_copy(
+        &mut self,
+        alloc: Global,
+        doc: &Doc,
+        pieces: &[Arc<Piece>],
+        parsed: &mut Vec<Arc<Piece>>,
+    ) -> Result<(), NoMemory>
         ensures { OnOk result (IsPut self.old.documents doc.now self.new.documents) }
     {
         if self.has_same(doc) {
             return Ok(());
         }
+        let reading = reading_among(alloc, doc, pieces, parsed)?;
         let copy = doc.copied(alloc)?;
-        self.replace_file(alloc, copy)?;
+        self.put_read(alloc, copy, reading)?;
         Ok(())
     }
 
@@ -356,10 +397,10 @@ impl Kept {
 fn put_in(
     alloc: Global,
     judged: &mut Judged,
-    readings: &mut Vec<Parsed>,
+    readings: &mut Vec<Arc<Parsed>>,
     at: usize,
     doc: Doc,
-    reading: Parsed,
+    reading: Arc<Parsed>,
 ) -> Result<(), NoMemory>
     requires { at ≤ length readings.old.items }
     ensures document { OnOk result (judged.new ≡ record { documents = with_doc judged.old.documents doc; is_judged = false }) }
@@ -378,7 +419,7 @@ fn put_in(
 }
 
 /// Writes what a document reads as over what is at that place.
-fn write_over(readings: &mut Vec<Parsed>, at: usize, reading: Parsed)
+fn write_over(readings: &mut Vec<Arc<Parsed>>, at: usize, reading: Arc<Parsed>)
     requires { at < length readings.old.items }
     ensures { readings.new.items ≡ slice_set readings.old.items at reading }
 {
@@ -386,7 +427,7 @@ fn write_over(readings: &mut Vec<Parsed>, at: usize, reading: Parsed)
 }
 
 /// Takes out what is at that place.
-fn take_out(readings: &mut Vec<Parsed>, at: usize)
+fn take_out(readings: &mut Vec<Arc<Parsed>>, at: usize)
     requires { at < length readings.old.items }
     ensures { readings.new.items ≡ remove readings.old.items at }
 {

@@ -6,6 +6,7 @@ mod judged;
 mod judging;
 pub mod kept;
 mod own;
+mod pieces;
 mod places;
 mod typed;
 

@@ -1,7 +1,7 @@
 //! The faults of each file that rest on it and the type system alone, kept until one of these changes.
 ghost use Rattle.std.specs.Prelude.{◌≡◌, ◌↔◌, ◌++◌, ◌<◌, ◌≤◌, false, Contains, List, Some, IfOk, OnOk, OnErr, length, map, remove, slice_get, slice_set};
 ghost use Rattle.std.specs.List.{insert};
-ghost use Rattle.gq_tree.specs.Readings.{ParsedOf, parsed_view, readings_view};
+ghost use Rattle.gq_tree.specs.Readings.{ParsedOf, shared_view, readings_view};
 ghost use Rattle.gq_types.specs.Entries.{EntryOf};
 ghost use Rattle.gq_types.specs.Look.{types_view};
 ghost use Rattle.gq_fault.specs.declared.fault.Fault.{Fault};
@@ -16,15 +16,16 @@ use gq_text::{Items, NoMemory};
 use gq_tree::Parsed;
 use gq_types::Types;
 use std::alloc::Global;
+use std::sync::Arc;
 
 /// Finds the own faults of a file, where they are not known.
 fn find_in(
     alloc: Global,
     types: &Types,
-    reading: &Parsed,
+    reading: &Arc<Parsed>,
     own: &mut Option<Items<Fault>>,
 ) -> Result<(), NoMemory>
-    ensures ok { OnOk result (IsOwn (types_view types.now) (parsed_view reading.now) own.old → IsFoundOwn (types_view types.now) (parsed_view reading.now) own.new) }
+    ensures ok { OnOk result (IsOwn (types_view types.now) (shared_view reading.now) own.old → IsFoundOwn (types_view types.now) (shared_view reading.now) own.new) }
     ensures err { OnErr result (own.new ≡ own.old) }
 {
     if own.is_some() {
@@ -73,14 +74,14 @@ fn note(own: &mut Vec<Option<Items<Fault>>>, file: usize) -> Result<(), NoMemory
 fn find_at(
     alloc: Global,
     types: &Types,
-    reading: &Parsed,
+    reading: &Arc<Parsed>,
     own: &mut Vec<Option<Items<Fault>>>,
     file: usize,
 ) -> Result<(), NoMemory>
     requires { file ≤ length own.old.items }
-    ensures own { (rs : List ParsedOf) → slice_get rs file ≡ Some (parsed_view reading.now) → AreOwn (types_view types.now) rs own.old.items → AreOwn (types_view types.now) rs own.new.items }
-    ensures found { OnOk result ((rs : List ParsedOf) → slice_get rs file ≡ Some (parsed_view reading.now) → AreOwn (types_view types.now) rs own.old.items
-        → IsFoundAt (types_view types.now) (parsed_view reading.now) file own.new.items) }
+    ensures own { (rs : List ParsedOf) → slice_get rs file ≡ Some (shared_view reading.now) → AreOwn (types_view types.now) rs own.old.items → AreOwn (types_view types.now) rs own.new.items }
+    ensures found { OnOk result ((rs : List ParsedOf) → slice_get rs file ≡ Some (shared_view reading.now) → AreOwn (types_view types.now) rs own.old.items
+        → IsFoundAt (types_view types.now) (shared_view reading.now) file own.new.items) }
     ensures noted { OnOk result (file < length own.new.items) }
 {
     note(own, file)?;
@@ -91,7 +92,7 @@ fn find_at(
 pub(crate) fn own_faults(
     alloc: Global,
     types: &Types,
-    readings: &[Parsed],
+    readings: &[Arc<Parsed>],
     own: &mut Vec<Option<Items<Fault>>>,
 ) -> Result<Vec<Fault>, NoMemory>
     ensures own { AreOwnOver types.now readings.now own.old.items → AreOwnOver types.now readings.now own.new.items }

@@ -1,7 +1,7 @@
 //! The type system of documents, made anew where one of them changes.
 ghost use Rattle.std.specs.Prelude.{◌≡◌, ◌<◌, ◌≤◌, [], false, ℕ, IfOk, OnOk, OnErr, length, map, remove, slice_index_or, slice_set};
 ghost use Rattle.std.specs.List.{insert};
-ghost use Rattle.gq_tree.specs.Readings.{in_document, parsed_view, readings_view};
+ghost use Rattle.gq_tree.specs.Readings.{parsed_view, shared_view, readings_view, unshared_view};
 ghost use Rattle.gq_parse.specs.Parsed.{AreParsed, IsParsed};
 ghost use Rattle.gq_document.specs.Definitions.{entry_in, entries_of};
 ghost use Rattle.gq_kept.specs.Helping.TypesOf.{AreTypesOf, IsOneTypeSystem, types_defined};
@@ -15,6 +15,7 @@ use gq_tree::{Document, Parsed};
 use gq_type_system::schema_faults;
 use gq_types::Types;
 use std::alloc::Global;
+use std::sync::Arc;
 
 /// A type system, and whether no rule of it is broken.
 #[derive(Drop)]
@@ -25,7 +26,7 @@ pub(crate) struct Typed {
 
 /// The type system of documents that are read so.
 fn made_of(alloc: Global, readings: Vec<Parsed>) -> Result<Typed, NoMemory>
-    ensures { IfOk result (AreTypesOf (readings_view readings.items)) }
+    ensures { IfOk result (AreTypesOf (unshared_view readings.items)) }
 {
     let (entries, _) = take_entries(alloc, readings)?;
     let types = Types::of(alloc, entries)?;
@@ -33,12 +34,19 @@ fn made_of(alloc: Global, readings: Vec<Parsed>) -> Result<Typed, NoMemory>
     Ok(Typed { types, has_schema })
 }
 
+/// Whether a document that is read so has a definition or an extension of the type system.
+pub(crate) fn has_types(reading: &Arc<Parsed>) -> bool
+    ensures { result ≡ false → types_defined (shared_view reading.now) ≡ [] }
+{
+    defines_types(reading)
+}
+
 /// A text that is read so, once more, for its definitions of the type system alone; nothing is read where it has none.
-fn types_in(alloc: Global, text: &str, reading: &Parsed) -> Result<Parsed, NoMemory>
-    ensures { IfOk result (λ again. IsParsed text.now (parsed_view reading.now) → types_defined (parsed_view again) ≡ types_defined (parsed_view reading.now)) }
+fn types_in(alloc: Global, text: &str, reading: &Arc<Parsed>) -> Result<Parsed, NoMemory>
+    ensures { IfOk result (λ again. IsParsed text.now (shared_view reading.now) → types_defined (parsed_view again) ≡ types_defined (shared_view reading.now)) }
 {
     gq_parse::laws::one_tree();
-    if defines_types(reading) {
+    if has_types(reading) {
         let again = read_text(alloc, text)?;
         return Ok(again);
     }
@@ -51,11 +59,11 @@ fn types_in(alloc: Global, text: &str, reading: &Parsed) -> Result<Parsed, NoMem
 fn types_read(
     alloc: Global,
     documents: &[Doc],
-    readings: &[Parsed],
+    readings: &[Arc<Parsed>],
 ) -> Result<Vec<Parsed>, NoMemory>
     requires { length documents.now ≡ length readings.now }
     ensures count { IfOk result (λ again. length again.items ≡ length readings.now) }
-    ensures same { IfOk result (λ again. AreParsed documents.now (readings_view readings.now) → map types_defined (readings_view again.items) ≡ map types_defined (readings_view readings.now)) }
+    ensures same { IfOk result (λ again. AreParsed documents.now (readings_view readings.now) → map types_defined (unshared_view again.items) ≡ map types_defined (readings_view readings.now)) }
 {
     let mut all = Vec::with_capacity(alloc, readings.len())?;
     for (document, reading) in documents.iter().zip(readings) {
@@ -69,20 +77,20 @@ fn types_read(
 pub(crate) fn retype(
     alloc: Global,
     documents: &[Doc],
-    readings: &[Parsed],
+    readings: &[Arc<Parsed>],
     at: usize,
     text: &str,
-    reading: &Parsed,
+    reading: &Arc<Parsed>,
     typed: &mut Typed,
 ) -> Result<bool, NoMemory>
     requires count { length documents.now ≡ length readings.now }
     requires in_range { at < length readings.now }
-    ensures ok { IfOk result (λ changes. AreParsed documents.now (readings_view readings.now) → IsParsed text.now (parsed_view reading.now) →
-        AreTypesOf (readings_view readings.now) typed.old → AreTypesOf (slice_set (readings_view readings.now) at (parsed_view reading.now)) typed.new) }
-    ensures stays { IfOk result (λ changes. changes ≡ false → IsOneTypeSystem (readings_view readings.now) (slice_set (readings_view readings.now) at (parsed_view reading.now))) }
+    ensures ok { IfOk result (λ changes. AreParsed documents.now (readings_view readings.now) → IsParsed text.now (shared_view reading.now) →
+        AreTypesOf (readings_view readings.now) typed.old → AreTypesOf (slice_set (readings_view readings.now) at (shared_view reading.now)) typed.new) }
+    ensures stays { IfOk result (λ changes. changes ≡ false → IsOneTypeSystem (readings_view readings.now) (slice_set (readings_view readings.now) at (shared_view reading.now))) }
     ensures err { OnErr result (typed.new ≡ typed.old) }
 {
-    if !defines_types(reading) && !defines_types(&readings[at]) {
+    if !has_types(reading) && !has_types(&readings[at]) {
         return Ok(false);
     }
     *typed = typed_with(alloc, documents, readings, at, text, reading)?;
@@ -93,15 +101,15 @@ pub(crate) fn retype(
 fn typed_with(
     alloc: Global,
     documents: &[Doc],
-    readings: &[Parsed],
+    readings: &[Arc<Parsed>],
     at: usize,
     text: &str,
-    reading: &Parsed,
+    reading: &Arc<Parsed>,
 ) -> Result<Typed, NoMemory>
     requires count { length documents.now ≡ length readings.now }
     requires in_range { at < length readings.now }
-    ensures { IfOk result (λ made. AreParsed documents.now (readings_view readings.now) → IsParsed text.now (parsed_view reading.now) →
-        AreTypesOf (slice_set (readings_view readings.now) at (parsed_view reading.now)) made) }
+    ensures { IfOk result (λ made. AreParsed documents.now (readings_view readings.now) → IsParsed text.now (shared_view reading.now) →
+        AreTypesOf (slice_set (readings_view readings.now) at (shared_view reading.now)) made) }
 {
     let mut again = types_read(alloc, documents, readings)?;
     let one = types_in(alloc, text, reading)?;
@@ -114,15 +122,15 @@ fn typed_with(
 pub(crate) fn typed_more(
     alloc: Global,
     documents: &[Doc],
-    readings: &[Parsed],
+    readings: &[Arc<Parsed>],
     at: usize,
     text: &str,
-    reading: &Parsed,
+    reading: &Arc<Parsed>,
 ) -> Result<Typed, NoMemory>
     requires count { length documents.now ≡ length readings.now }
     requires in_range { at ≤ length readings.now }
-    ensures { IfOk result (λ made. AreParsed documents.now (readings_view readings.now) → IsParsed text.now (parsed_view reading.now) →
-        AreTypesOf (insert (readings_view readings.now) at (parsed_view reading.now)) made) }
+    ensures { IfOk result (λ made. AreParsed documents.now (readings_view readings.now) → IsParsed text.now (shared_view reading.now) →
+        AreTypesOf (insert (readings_view readings.now) at (shared_view reading.now)) made) }
 {
     let mut again = types_read(alloc, documents, readings)?;
     let one = types_in(alloc, text, reading)?;
@@ -135,7 +143,7 @@ pub(crate) fn typed_more(
 pub(crate) fn typed_less(
     alloc: Global,
     documents: &[Doc],
-    readings: &[Parsed],
+    readings: &[Arc<Parsed>],
     at: usize,
 ) -> Result<Typed, NoMemory>
     requires count { length documents.now ≡ length readings.now }
@@ -149,9 +157,9 @@ pub(crate) fn typed_less(
 }
 
 /// Whether the document at that place defines types.
-pub(crate) fn defines_types_at(readings: &[Parsed], at: usize) -> bool
+pub(crate) fn defines_types_at(readings: &[Arc<Parsed>], at: usize) -> bool
     requires { at < length readings.now }
     ensures { result ≡ false → slice_index_or (map types_defined (readings_view readings.now)) at [] ≡ [] }
 {
-    defines_types(&readings[at])
+    has_types(&readings[at])
 }

@@ -1,7 +1,6 @@
 -- What is known of the faults of files, each by itself and together.
 use Rattle.std.specs.Prelude.{List}
-use Rattle.gq_tree.specs.Readings.{ParsedOf, readings_view}
-use Rattle.gq_tree.specs.declared.parsed.Parsed.{Parsed}
+use Rattle.gq_tree.specs.Readings.{ParsedOf, SharedParsed, readings_view}
 use Rattle.gq_types.specs.Entries.{EntryOf}
 use Rattle.gq_types.specs.Look.{types_view}
 use Rattle.gq_types.specs.declared.entry.Entry.{Entry}
@@ -15,5 +14,5 @@ pub record AreByFile (es : List EntryOf) (rs : List ParsedOf) (b : ByFile) : Typ
   pub across : AreAcross es rs b.across
 
 -- so over the types that are looked up
-abbrev pub AreByFileOver : List Entry → List Parsed → ByFile → Type 0
+abbrev pub AreByFileOver : List Entry → List SharedParsed → ByFile → Type 0
 AreByFileOver types readings b = AreByFile (types_view types) (readings_view readings) b

@@ -1,7 +1,6 @@
 -- The faults of each file that rest on it and the type system alone, as far as they are known.
 use Rattle.std.specs.Prelude.{◌≡◌, ◌↔◌, ℕ, List, [], ◌∷◌, Option, Some, None, Contains, map, slice_get}
-use Rattle.gq_tree.specs.Readings.{ParsedOf, readings_view}
-use Rattle.gq_tree.specs.declared.parsed.Parsed.{Parsed}
+use Rattle.gq_tree.specs.Readings.{ParsedOf, SharedParsed, readings_view}
 use Rattle.gq_types.specs.Entries.{EntryOf}
 use Rattle.gq_types.specs.Look.{types_view}
 use Rattle.gq_types.specs.declared.entry.Entry.{Entry}
@@ -37,5 +36,5 @@ own_in file None = []
 own_in file (Some faults) = map (in_file file) faults
 
 -- so of files that are read so, over the types that are looked up
-abbrev pub AreOwnOver : List Entry → List Parsed → List (Option (List Fault)) → Type 0
+abbrev pub AreOwnOver : List Entry → List SharedParsed → List (Option (List Fault)) → Type 0
 AreOwnOver types readings own = AreOwn (types_view types) (readings_view readings) own

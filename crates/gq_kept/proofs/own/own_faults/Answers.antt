@@ -2,7 +2,7 @@
 use Rattle.std.proofs.Common.{◌≡◌, ◌<◌, ◌≤◌, ◌+◌, List, Some, slice_get, length, subst, sym, arith}
 use Rattle.std.proofs.lemmas.Bool.Decides.{nat_tests}
 use Rattle.std.proofs.lemmas.List.{length-map}
-use Rattle.gq_tree.specs.Readings.{ParsedOf, parsed_view, readings_view}
+use Rattle.gq_tree.specs.Readings.{ParsedOf, shared_view, readings_view}
 use Rattle.gq_types.specs.Entries.{EntryOf}
 use Rattle.gq_types.specs.Look.{types_view}
 use Rattle.gq_fault.specs.declared.fault.Fault.{Fault}
@@ -14,7 +14,7 @@ loop-file-preserved c =
     let es : List EntryOf = types_view c.args.types.now in
     let rs : List ParsedOf = readings_view c.args.readings.now in
     let n = c.loop-file.file in
-    let r : ParsedOf = parsed_view c.index-readings-file.result in
+    let r : ParsedOf = shared_view c.index-readings-file.result in
     let inside : n < length c.args.readings.now = (let t = c.loop-file-test.true in grind (arith, nat_tests)) in
     let there : slice_get rs n ≡ Some r = reading_there c.args.readings.now n c.index-readings-file.result inside c.index-readings-file.is in
     let noted : n < length c.find_at.new.own.items = c.in_ok-find_at.ensures.noted in (
@@ -32,6 +32,6 @@ pub returns-clause-faults : goal.returns-clause-faults
 returns-clause-faults c owned =
     let es : List EntryOf = types_view c.args.types.now in
     let rs : List ParsedOf = readings_view c.args.readings.now in
-    let count : length rs ≡ length c.args.readings.now = length-map c.args.readings.now parsed_view in
+    let count : length rs ≡ length c.args.readings.now = length-map c.args.readings.now shared_view in
     let behind : length c.args.readings.now ≤ c.loop-file.file = (let t = c.loop-file-test.false in grind (arith, nat_tests)) in
     gathered_all es rs c.loop-file.file c.loop-file.all.items (omega (arith, count, behind)) (c.loop-file.invariant.1 owned).1

@@ -3,4 +3,4 @@ use Rattle.gq_kept.proofs.TypesLemmas.{nothing_at}
 use Rattle.gq_kept.proofs.typed.defines_types_at.Goals as goal
 
 pub returns : goal.returns
-returns c e = nothing_at c.args.readings.now c.args.at c.index-readings-at.result c.index-readings-at.is (c.defines_types.ensures e 0)
+returns c e = nothing_at c.args.readings.now c.args.at c.index-readings-at.result c.index-readings-at.is (c.has_types.ensures e)

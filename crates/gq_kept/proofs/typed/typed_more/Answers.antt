@@ -1,7 +1,7 @@
 -- What is read again defines the same.
 use Rattle.std.proofs.Common.{List, subst}
 use Rattle.gq_tree.specs.declared.parsed.Parsed.{Parsed}
-use Rattle.gq_tree.specs.Readings.{readings_view}
+use Rattle.gq_tree.specs.Readings.{unshared_view}
 use Rattle.gq_kept.specs.Helping.TypesOf.{AreTypesOf}
 use Rattle.gq_kept.proofs.TypesLemmas.{types_inserted}
 use Rattle.gq_kept.proofs.typed.typed_more.Goals as goal
@@ -10,4 +10,4 @@ pub returns : goal.returns
 returns c are is =
     let made = c.in_ok-made.made in
     types_inserted c.in_ok-again.again.items c.args.readings.now c.args.at made (c.in_ok-again.ensures.same are) c.in_ok-one.one c.args.reading.now (c.in_ok-one.ensures is)
-    (subst (λ (xs : List Parsed). AreTypesOf (readings_view xs) made) c.in_ok-insert.ensures.items c.in_ok-made.ensures)
+    (subst (λ (xs : List Parsed). AreTypesOf (unshared_view xs) made) c.in_ok-insert.ensures.items c.in_ok-made.ensures)

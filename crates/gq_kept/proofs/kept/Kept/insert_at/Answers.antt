@@ -17,8 +17,8 @@ put_in-requires c = gap_in_range _ _ _ _ _ c.self.invariant c.args.self.now.docu
 pub invariant_of-self : goal.invariant_of-self
 invariant_of-self c =
     rw (ap (λ (j : JudgedOf). j.documents) c.in-Ok.ensures.document, c.in-Ok.ensures.reading, c.settle.ensures, c.forget.ensures)
-    (kept_inserted _ _ _ _ _ c.self.invariant c.args.self.now.documents c.documents-documents.result.now c.deref.result.now (ap (λ (k : KeptOf). k.documents) c.self.view_is) (c.documents-documents.ensures.all ∙ c.project.ensures) c.deref.ensures.value c.args.at c.args.doc c.args.reading c.in_ok-made.made c.make_room.new.self c.defines_types-changes_types.result
-    c.requires.gap c.requires.parsed (λ are. c.in_ok-made.ensures are (rw c.as_str.ensures c.requires.parsed)) (λ e. c.defines_types-changes_types.ensures e 0) c.make_room.ensures)
+    (kept_inserted _ _ _ _ _ c.self.invariant c.args.self.now.documents c.documents-documents.result.now c.deref.result.now (ap (λ (k : KeptOf). k.documents) c.self.view_is) (c.documents-documents.ensures.all ∙ c.project.ensures) c.deref.ensures.value c.args.at c.args.doc c.args.reading c.in_ok-made.made c.make_room.new.self c.has_types-changes_types.result
+    c.requires.gap c.requires.parsed (λ are is. c.in_ok-made.ensures are (rw c.as_str.ensures is)) c.has_types-changes_types.ensures c.make_room.ensures)
 
 pub returns-in-Ok-clause-ok : goal.returns-in-Ok-clause-ok
 returns-in-Ok-clause-ok c = ap (λ (j : JudgedOf). j.documents) c.in-Ok.ensures.document ∙ ap (λ (k : KeptOf). with_doc k.documents c.args.doc) c.self.view_is

@@ -9,4 +9,4 @@ use Rattle.gq_kept.proofs.kept.Kept.put_copy.Goals as goal
 pub returns : goal.returns
 returns c =
     let before : List Doc = c.args.self.now.documents in
-    subst (λ (ds : List Doc). IsPut before c.args.doc.now ds) (sym (c.in_ok-replace_file.ensures.ok ∙ ap (λ (d : Doc). with_doc before d) c.in_ok-copy.ensures)) (put before c.args.doc.now)
+    subst (λ (ds : List Doc). IsPut before c.args.doc.now ds) (sym (c.in_ok-put_read.ensures.ok ∙ ap (λ (d : Doc). with_doc before d) c.in_ok-copy.ensures)) (put before c.args.doc.now)

@@ -22,4 +22,4 @@ pub invariant_of-self-2 : goal.invariant_of-self-2
 invariant_of-self-2 c =
     rw (ap (λ (j : JudgedOf). j.documents) c.in_ok-put.ensures.ok, c.write_over.ensures, c.forget.ensures)
     (kept_replaced _ _ _ _ _ c.self.invariant c.args.self.now.documents c.documents.result.now c.deref.result.now (ap (λ (k : KeptOf). k.documents) c.self.view_is) (c.documents.ensures.all ∙ c.project.ensures) c.deref.ensures.value c.args.at c.args.doc c.args.reading c.retype.new.typed c.replace.new.self c.in_ok-changes_types.changes_types
-    c.requires.place c.requires.parsed (λ are. c.in_ok-changes_types.ensures.ok are (rw c.as_str.ensures c.requires.parsed)) c.in_ok-changes_types.ensures.stays c.replace.ensures)
+    c.requires.place c.requires.parsed (λ are is. c.in_ok-changes_types.ensures.ok are (rw c.as_str.ensures is)) c.in_ok-changes_types.ensures.stays c.replace.ensures)
