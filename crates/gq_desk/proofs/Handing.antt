@@ -2,7 +2,7 @@
 use Rattle.std.proofs.Common.{◌≡◌, ℕ, zero, suc, ◌<◌, ◌≤◌, List, [], ◌∷◌, ◌++◌, length, map, take, drop, ap, sym, refl, ◌∙◌, arith}
 use Rattle.std.proofs.Math.Seq.{take-nil}
 use Rattle.std.proofs.lemmas.List.{length-append, append-nil, append_assoc}
-use Rattle.gq_events.specs.declared.event.Job.{Job}
+use Rattle.gq_events.specs.Jobs.{JobOf}
 use Rattle.gq_events.specs.Rules.{out_max}
 use Rattle.gq_events.specs.Machine.{room_for}
 
@@ -39,12 +39,12 @@ left_full out xs h = ap (λ n. drop n xs) (full out h) ∙ whole xs
     whole (x ∷ xs) = refl
 
 -- the same, at a loop's step
-pub told_on : {Y : Type 0} (f : Job → Y) (done done' whole : List Y) (out out' : List ℕ) (x : Job) (waiting waiting' : List Job) → length out < out_max
+pub told_on : {Y : Type 0} (f : JobOf → Y) (done done' whole : List Y) (out out' : List ℕ) (x : JobOf) (waiting waiting' : List JobOf) → length out < out_max
     → out' ≡ out ++ x.number ∷ [] → waiting ≡ x ∷ waiting' → done' ≡ done ++ f x ∷ [] → done ++ map f (take (room_for out) waiting) ≡ whole → done' ++ map f (take (room_for out') waiting') ≡ whole
 told_on f done done' whole out out' x waiting waiting' h e g k kept =
     rw (k, e) (gone_on f done out x.number x waiting' h ∙ (ap (λ w. done ++ map f (take (room_for out) w)) (sym g) ∙ kept))
 
-pub rest_on : (whole : List Job) (out out' : List ℕ) (x : Job) (waiting waiting' : List Job) → length out < out_max → out' ≡ out ++ x.number ∷ [] → waiting ≡ x ∷ waiting'
+pub rest_on : (whole : List JobOf) (out out' : List ℕ) (x : JobOf) (waiting waiting' : List JobOf) → length out < out_max → out' ≡ out ++ x.number ∷ [] → waiting ≡ x ∷ waiting'
     → drop (room_for out) waiting ≡ whole → drop (room_for out') waiting' ≡ whole
 rest_on whole out out' x waiting waiting' h e g kept = rw e (left_on out x.number x waiting' h ∙ (ap (λ w. drop (room_for out) w) (sym g) ∙ kept))
 

@@ -12,8 +12,7 @@ use Rattle.gq_rpc.specs.declared.messages.ResponseError.TheVariants as error
 use Rattle.gq_events.specs.declared.documents.OpenDocument.{OpenDocument}
 use Rattle.gq_events.specs.declared.event.Answer.{Answer}
 use Rattle.gq_events.specs.declared.event.Answer.TheVariants as answer
-use Rattle.gq_events.specs.declared.event.Done.{Done}
-use Rattle.gq_events.specs.declared.event.Job.{Job}
+use Rattle.gq_events.specs.Jobs.{JobOf, DoneOf}
 use Rattle.gq_events.specs.declared.event.Out.{Out}
 use Rattle.gq_events.specs.declared.event.Task.{Task}
 use Rattle.gq_events.specs.declared.refusals.Denial.{Denial}
@@ -36,26 +35,26 @@ none_pass [] = refl
 none_pass (x ∷ xs) = none_pass xs
 
 -- a change decides all
-pub none_modified : (docs : List Doc) (e : Effect) (c : Change) (pending none : List Job) → e ≡ effect.Changes c → none ≡ [] → none ≡ left docs e pending
+pub none_modified : (docs : List Doc) (e : Effect) (c : Change) (pending none : List JobOf) → e ≡ effect.Changes c → none ≡ [] → none ≡ left docs e pending
 none_modified docs e c pending none is h = rw is (h ∙ sym (none_pass pending))
 
-pub told_modified : (docs : List Doc) (e : Effect) (c : Change) (pending : List Job) (old new : List Out) → e ≡ effect.Changes c → new ≡ old ++ refused_each error.ContentModified pending → new ≡ old ++ verdicts docs e pending
-told_modified docs e c pending old new is told = rw is (told ∙ ap (λ (l : List Job). old ++ refused_each error.ContentModified l) (sym (all_pass pending)))
+pub told_modified : (docs : List Doc) (e : Effect) (c : Change) (pending : List JobOf) (old new : List Out) → e ≡ effect.Changes c → new ≡ old ++ refused_each error.ContentModified pending → new ≡ old ++ verdicts docs e pending
+told_modified docs e c pending old new is told = rw is (told ∙ ap (λ (l : List JobOf). old ++ refused_each error.ContentModified l) (sym (all_pass pending)))
 
 -- and so does a shutdown
-pub none_shut : (docs : List Doc) (e : Effect) (id : Id) (pending none : List Job) → e ≡ effect.ShutsDown id → none ≡ [] → none ≡ left docs e pending
+pub none_shut : (docs : List Doc) (e : Effect) (id : Id) (pending none : List JobOf) → e ≡ effect.ShutsDown id → none ≡ [] → none ≡ left docs e pending
 none_shut docs e id pending none is h = rw is (h ∙ sym (none_pass pending))
 
-pub told_shut : (docs : List Doc) (e : Effect) (id : Id) (pending : List Job) (old new : List Out) → e ≡ effect.ShutsDown id → new ≡ old ++ refused_each (failed (codes "shutdown")) pending → new ≡ old ++ verdicts docs e pending
-told_shut docs e id pending old new is told = rw is (told ∙ ap (λ (l : List Job). old ++ refused_each (failed (codes "shutdown")) l) (sym (all_pass pending)))
+pub told_shut : (docs : List Doc) (e : Effect) (id : Id) (pending : List JobOf) (old new : List Out) → e ≡ effect.ShutsDown id → new ≡ old ++ refused_each (failed (codes "shutdown")) pending → new ≡ old ++ verdicts docs e pending
+told_shut docs e id pending old new is told = rw is (told ∙ ap (λ (l : List JobOf). old ++ refused_each (failed (codes "shutdown")) l) (sym (all_pass pending)))
 
 -- a cancel decides the request of its id
-pub told_cancelled : (docs : List Doc) (e : Effect) (id : Id) (pending : List Job) (old new : List Out) → e ≡ effect.Cancels id → new ≡ old ++ refused_each error.Cancelled (filter (λ job. is_of id job.task) pending) → new ≡ old ++ verdicts docs e pending
+pub told_cancelled : (docs : List Doc) (e : Effect) (id : Id) (pending : List JobOf) (old new : List Out) → e ≡ effect.Cancels id → new ≡ old ++ refused_each error.Cancelled (filter (λ job. is_of id job.task) pending) → new ≡ old ++ verdicts docs e pending
 told_cancelled docs e id pending old new is told = rw is told
 
 -- what neither changes, shuts down, cancels nor finishes anything decides none
-module _ (docs : List Doc) (e : Effect) (pending : List Job) (no_change : (c : Change) → e ≡ effect.Changes c → ⊥) (no_shutdown : (id : Id) → e ≡ effect.ShutsDown id → ⊥) (no_cancel : (id : Id) → e ≡ effect.Cancels id → ⊥) (no_end : (done : Done) → e ≡ effect.Finishes done → ⊥) where
-  undecided : (job : Job) → decides docs e job ≡ false
+module _ (docs : List Doc) (e : Effect) (pending : List JobOf) (no_change : (c : Change) → e ≡ effect.Changes c → ⊥) (no_shutdown : (id : Id) → e ≡ effect.ShutsDown id → ⊥) (no_cancel : (id : Id) → e ≡ effect.Cancels id → ⊥) (no_end : (done : DoneOf) → e ≡ effect.Finishes done → ⊥) where
+  undecided : (job : JobOf) → decides docs e job ≡ false
   undecided job = by_cases e refl
     where
       by_cases : (f : Effect) → e ≡ f → decides docs e job ≡ false
@@ -69,7 +68,7 @@ module _ (docs : List Doc) (e : Effect) (pending : List Job) (no_change : (c : C
       by_cases (effect.Finishes done) is = absurd (no_end done is)
       by_cases (effect.Stops status) is = ap (λ (f : Effect). decides docs f job) is
 
-  none_is_decided : (jobs : List Job) → AllByRecursion (λ job. decides docs e job ≡ false) jobs
+  none_is_decided : (jobs : List JobOf) → AllByRecursion (λ job. decides docs e job ≡ false) jobs
   none_is_decided [] = tt
   none_is_decided (job ∷ jobs) = (undecided job, none_is_decided jobs)
 
@@ -77,7 +76,7 @@ module _ (docs : List Doc) (e : Effect) (pending : List Job) (no_change : (c : C
   others_left = sym (all_stay (decides docs e) pending (none_is_decided pending))
 
   pub others_told : (old : List Out) → old ≡ old ++ verdicts docs e pending
-  others_told old = sym (append-nil old) ∙ ap (λ (l : List Job). old ++ flat_map (verdict e) l) (sym (none_passes (decides docs e) pending (none_is_decided pending)))
+  others_told old = sym (append-nil old) ∙ ap (λ (l : List JobOf). old ++ flat_map (verdict e) l) (sym (none_passes (decides docs e) pending (none_is_decided pending)))
 
 -- a task for which memory was refused fails
 pub told_failed : (task : Task) (a : Answer) (why : ResponseError) (result : Result (Unit {0}) NoMemory) (old new : List Out) → a ≡ answer.NoMemory → why ≡ failed (codes "12 NoMemory") → OnOk result (new ≡ old ++ refused_as task why)
@@ -93,7 +92,7 @@ first_of_both false b h = h
 same_number : (n m : ℕ) → (n == m) ≡ true → m ≡ n
 same_number n m h = grind (arith, nat_tests)
 
-pub of_its_number : (docs : List Doc) (done : Done) (job : Job) → decides docs (effect.Finishes done) job ≡ true → job.number ≡ done.job
+pub of_its_number : (docs : List Doc) (done : DoneOf) (job : JobOf) → decides docs (effect.Finishes done) job ≡ true → job.number ≡ done.job
 of_its_number docs done job h = same_number done.job job.number (first_of_both _ _ h)
 
 -- what a worker made changes nothing but the jobs

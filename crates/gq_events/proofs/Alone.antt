@@ -6,7 +6,7 @@ use Rattle.std.proofs.lemmas.List.{append-nil}
 use Rattle.std.proofs.Math.Seq.{take-nil}
 use Rattle.gq_project.specs.declared.document.Doc.{Doc}
 use Rattle.gq_events.specs.declared.event.Task.{Task}
-use Rattle.gq_events.specs.declared.event.Job.{Job}
+use Rattle.gq_events.specs.Jobs.{JobOf}
 use Rattle.gq_events.specs.declared.event.Answer.TheVariants as answer
 use Rattle.gq_events.specs.declared.event.Task.TheVariants as task
 use Rattle.gq_events.specs.declared.event.Out.{Out}
@@ -61,7 +61,7 @@ handed_none events j handed =
     ap (λ (asked : List Asked). take (out_max - length (filter (is_out events (suc j)) handed)) (filter (is_waiting handed) (pending_of events (suc j) asked))) (asked_none events (suc j))
     ∙ take-nil (out_max - length (filter (is_out events (suc j)) handed))
 
-abbrev outputs_with : List Turn → ℕ → List Asked → List Job → List Out
+abbrev outputs_with : List Turn → ℕ → List Asked → List JobOf → List Out
 outputs_with events j asked jobs =
     flat_map (λ a. verdict (effect_at events j) a.job) (filter (is_decided_at events j) asked)
     ++ own 0 (session_at events j) (denied_at events j asked) (effect_at events j) (changed_at events j)

@@ -17,8 +17,7 @@ use Rattle.gq_rpc.specs.declared.messages.Question.TheVariants as question
 use Rattle.gq_events.specs.declared.documents.OpenDocument.{OpenDocument}
 use Rattle.gq_events.specs.declared.event.Task.{Task}
 use Rattle.gq_events.specs.declared.event.Task.TheVariants as task
-use Rattle.gq_events.specs.declared.event.Job.{Job}
-use Rattle.gq_events.specs.declared.event.Done.{Done}
+use Rattle.gq_events.specs.Jobs.{JobOf, DoneOf}
 use Rattle.gq_events.specs.declared.effect.Effect.{Effect}
 use Rattle.gq_events.specs.declared.effect.Effect.TheVariants as effect
 use Rattle.gq_events.specs.Documents.{docs_of}
@@ -81,7 +80,7 @@ decided_at_first events asked j later = (
 )
 
 -- an event that decides nothing leaves the documents as they are
-unchanged_by : (s : Session) (e : Effect) (document : Option OpenDocument) (job : Job) → decides (docs_of s.documents) e job ≡ false → docs_of (session_after s e document).documents ≡ docs_of s.documents
+unchanged_by : (s : Session) (e : Effect) (document : Option OpenDocument) (job : JobOf) → decides (docs_of s.documents) e job ≡ false → docs_of (session_after s e document).documents ≡ docs_of s.documents
 unchanged_by s effect.Nothing document job h = refl
 unchanged_by s (effect.Begins id d) document job h = refl
 unchanged_by s (effect.Refuses id w) document job h = refl
@@ -230,7 +229,7 @@ task_same task.Check task.Check h = refl
 task_same (task.Ask i a) task.Check h = absurd (cc)
 task_same task.Check (task.Ask j b) h = absurd (cc)
 
-pub answers_are_defined : (events : List Turn) (asked : Asked) (j : ℕ) (done : Done) → IsFirst events asked j → effect_at events j ≡ effect.Finishes done → Answers (docs_at events (suc asked.place)) asked.job.task done.answer
+pub answers_are_defined : (events : List Turn) (asked : Asked) (j : ℕ) (done : DoneOf) → IsFirst events asked j → effect_at events j ≡ effect.Finishes done → Answers (docs_at events (suc asked.place)) asked.job.task done.answer
 answers_are_defined events asked j done first is =
     let decided : decides (docs_at events j) (effect.Finishes done) asked.job ≡ true = subst (λ (e : Effect). decides (docs_at events j) e asked.job ≡ true) is first.decides in
     let parts = and_true (done.job == asked.job.number) _ decided in

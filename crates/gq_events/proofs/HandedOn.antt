@@ -9,7 +9,7 @@ use Rattle.gq_rpc.specs.declared.messages.Outgoing.{Outgoing}
 use Rattle.gq_events.specs.declared.documents.OpenDocument.{OpenDocument}
 use Rattle.gq_events.specs.declared.event.Task.{Task}
 use Rattle.gq_events.specs.declared.event.Task.TheVariants as task
-use Rattle.gq_events.specs.declared.event.Job.{Job}
+use Rattle.gq_events.specs.Jobs.{JobOf}
 use Rattle.gq_events.specs.declared.event.Answer.{Answer}
 use Rattle.gq_events.specs.declared.event.Answer.TheVariants as answer
 use Rattle.gq_events.specs.declared.event.Out.{Out}
@@ -42,7 +42,7 @@ answered_written t (answer.Response message) = refl
 answered_written t (answer.Report messages) = messages_written messages
 answered_written t answer.NoMemory = refused_as_written t _
 
-verdict_written : (e : Effect) (job : Job) → IsWritten (verdict e job)
+verdict_written : (e : Effect) (job : JobOf) → IsWritten (verdict e job)
 verdict_written (effect.Changes c) job = refused_as_written job.task _
 verdict_written (effect.ShutsDown id) job = refused_as_written job.task _
 verdict_written (effect.Cancels id) job = refused_as_written job.task _
@@ -100,7 +100,7 @@ once_written true None a = refl
 once_written true (Some t) a = answered_written t a
 once_written false t a = refl
 
-jobs_handed : (jobs : List Job) → handings (map out.Job jobs) ≡ map Given jobs
+jobs_handed : (jobs : List JobOf) → handings (map out.Job jobs) ≡ map Given jobs
 jobs_handed [] = refl
 jobs_handed (job ∷ jobs) = ap (λ (l : List Handing). Given job ∷ l) (jobs_handed jobs)
 

@@ -22,7 +22,7 @@ use Rattle.gq_replies.specs.Laws.{AnswersRespond}
 use Rattle.gq_events.specs.declared.documents.OpenDocument.{OpenDocument}
 use Rattle.gq_events.specs.declared.event.Task.{Task}
 use Rattle.gq_events.specs.declared.event.Task.TheVariants as task
-use Rattle.gq_events.specs.declared.event.Job.{Job}
+use Rattle.gq_events.specs.Jobs.{JobOf}
 use Rattle.gq_events.specs.declared.event.Answer.{Answer}
 use Rattle.gq_events.specs.declared.event.Answer.TheVariants as answer
 use Rattle.gq_events.specs.declared.event.Event.{Event}
@@ -125,7 +125,7 @@ cond_other false x y h k = k
 failed_other : (why : List ℕ) → IsOther (failed why)
 failed_other why h = cc
 
-question_other : (s : Session) (pending : List Job) (q : Question) → IsOtherIfAny (denial_of_question s pending q)
+question_other : (s : Session) (pending : List JobOf) (q : Question) → IsOtherIfAny (denial_of_question s pending q)
 question_other s pending q =
     cond_other (not (is_open (place_of q).key s.documents)) (Some (denial.Error error.InvalidParams)) _ (λ h. cc)
     (cond_other (is_any_lost s.documents) (Some (denied (codes "document lost"))) _ (failed_other _)
@@ -133,11 +133,11 @@ question_other s pending q =
     (cond_other (wants_code_actions q && not s.code_actions) (Some denial.NoActions) _ tt
     (cond_other (are_too_many pending) (Some (denied (codes "too many pending"))) None (failed_other _) tt))))
 
-ask_other : (s : Session) (pending : List Job) (asked : Option Question) → IsOtherIfAny (denial_of_ask s pending asked)
+ask_other : (s : Session) (pending : List JobOf) (asked : Option Question) → IsOtherIfAny (denial_of_ask s pending asked)
 ask_other s pending None = λ h. cc
 ask_other s pending (Some q) = question_other s pending q
 
-denial_other : (s : Session) (pending : List Job) (e : Effect) → IsOtherIfAny (denied_by s pending e)
+denial_other : (s : Session) (pending : List JobOf) (e : Effect) → IsOtherIfAny (denied_by s pending e)
 denial_other s pending (effect.Asks id asked) = cond_other (list_any (λ job. is_of id job.task) pending) (Some (denial.Error error.InvalidRequest)) _ (λ h. cc) (ask_other s pending asked)
 denial_other s pending effect.Nothing = tt
 denial_other s pending (effect.Begins id capabilities) = tt

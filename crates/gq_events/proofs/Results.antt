@@ -13,7 +13,7 @@ use Rattle.gq_rpc.specs.declared.messages.ResponseError.{ResponseError}
 use Rattle.gq_rpc.specs.declared.messages.ResponseError.TheVariants as error
 use Rattle.gq_rpc.specs.declared.messages.Outgoing.{Outgoing}
 use Rattle.gq_events.specs.declared.documents.OpenDocument.{OpenDocument}
-use Rattle.gq_events.specs.declared.event.Job.{Job}
+use Rattle.gq_events.specs.Jobs.{JobOf}
 use Rattle.gq_events.specs.declared.event.Task.{Task}
 use Rattle.gq_events.specs.declared.event.Task.TheVariants as task
 use Rattle.gq_events.specs.declared.event.Answer.{Answer}
@@ -66,7 +66,7 @@ no_actions_fair s (question.PrepareRename params) h = absurd (cc)
 no_actions_fair s (question.References params) h = absurd (cc)
 no_actions_fair s (question.Rename params) h = absurd (cc)
 
-question_fair : (s : Session) (pending : List Job) (q : Question) → IsFair s (Some q) (denial_of_question s pending q)
+question_fair : (s : Session) (pending : List JobOf) (q : Question) → IsFair s (Some q) (denial_of_question s pending q)
 question_fair s pending q =
     cond_fair s (Some q) (not (is_open (place_of q).key s.documents)) (Some (denial.Error error.InvalidParams)) _ (λ h. tt)
     (cond_fair s (Some q) (is_any_lost s.documents) (Some (denied (codes "document lost"))) _ (λ h. tt)
@@ -74,7 +74,7 @@ question_fair s pending q =
     (cond_fair s (Some q) (wants_code_actions q && not s.code_actions) (Some denial.NoActions) _ (no_actions_fair s q)
     (cond_fair s (Some q) (are_too_many pending) (Some (denied (codes "too many pending"))) None (λ h. tt) tt))))
 
-ask_fair : (s : Session) (pending : List Job) (asked : Option Question) → IsFair s asked (denial_of_ask s pending asked)
+ask_fair : (s : Session) (pending : List JobOf) (asked : Option Question) → IsFair s asked (denial_of_ask s pending asked)
 ask_fair s pending None = tt
 ask_fair s pending (Some q) = question_fair s pending q
 
@@ -89,7 +89,7 @@ IsFairBy s (effect.ShutsDown id) denied = Unit {0}
 IsFairBy s (effect.Finishes done) denied = Unit {0}
 IsFairBy s (effect.Stops status) denied = Unit {0}
 
-denied_fair : (s : Session) (pending : List Job) (e : Effect) → IsFairBy s e (denied_by s pending e)
+denied_fair : (s : Session) (pending : List JobOf) (e : Effect) → IsFairBy s e (denied_by s pending e)
 denied_fair s pending (effect.Asks id asked) = cond_fair s asked (list_any (λ job. is_of id job.task) pending) (Some (denial.Error error.InvalidRequest)) _ (λ h. tt) (ask_fair s pending asked)
 denied_fair s pending effect.Nothing = tt
 denied_fair s pending (effect.Begins id capabilities) = tt

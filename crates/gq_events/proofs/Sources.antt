@@ -9,8 +9,7 @@ use Rattle.gq_events.specs.declared.refusals.Denial.{Denial}
 use Rattle.gq_rpc.specs.declared.messages.ResponseError.TheVariants as error
 use Rattle.gq_events.specs.declared.event.Task.{Task}
 use Rattle.gq_events.specs.declared.event.Task.TheVariants as task
-use Rattle.gq_events.specs.declared.event.Job.{Job}
-use Rattle.gq_events.specs.declared.event.Done.{Done}
+use Rattle.gq_events.specs.Jobs.{JobOf, DoneOf}
 use Rattle.gq_events.specs.declared.documents.OpenDocument.{OpenDocument}
 use Rattle.gq_events.specs.declared.event.Answer.{Answer}
 use Rattle.gq_events.specs.declared.event.Out.{Out}
@@ -70,7 +69,7 @@ pub record IsGiven (events : List Turn) (j : ℕ) (t : Task) (a : Answer) : Type
   pub fits : Answers (docs_at events (suc place)) t a
 
 -- what a worker made of a job leaves the documents as they are
-after_finish : (s : Session) (e : Effect) (document : Option OpenDocument) (done : Done) → e ≡ effect.Finishes done → docs_of (session_after s e document).documents ≡ docs_of s.documents
+after_finish : (s : Session) (e : Effect) (document : Option OpenDocument) (done : DoneOf) → e ≡ effect.Finishes done → docs_of (session_after s e document).documents ≡ docs_of s.documents
 after_finish s e document done is = ap (λ (x : Effect). docs_of (session_after s x document).documents) is
 
 module _ (workers : ℕ) (events : List Turn) (j : ℕ) (P : Out → Type 0)
@@ -79,7 +78,7 @@ module _ (workers : ℕ) (events : List Turn) (j : ℕ) (P : Out → Type 0)
     (of_shutdown : (t : Task) → AllByRecursion P (refused_as t (failed (codes "shutdown"))))
     (of_cancel : (t : Task) → AllByRecursion P (refused_as t error.Cancelled))
     (of_answer : (t : Task) (a : Answer) → IsGiven events j t a → AllByRecursion P (answered t a))
-    (of_job : (job : Job) → P (out.Job job)) where
+    (of_job : (job : JobOf) → P (out.Job job)) where
   abbrev All_hold : List Out → Type 0
   All_hold outs = AllByRecursion P outs
 
@@ -129,7 +128,7 @@ module _ (workers : ℕ) (events : List Turn) (j : ℕ) (P : Out → Type 0)
   of_decided [] h = tt
   of_decided (a ∷ asked) h = by_decision a (filter (is_decided_at events j) asked) (is_decided_at events j a) refl h.0 (of_decided asked h.1)
 
-  of_jobs : (jobs : List Job) → All_hold (map out.Job jobs)
+  of_jobs : (jobs : List JobOf) → All_hold (map out.Job jobs)
   of_jobs [] = tt
   of_jobs (job ∷ jobs) = (of_job job, of_jobs jobs)
 

@@ -19,8 +19,7 @@ use Rattle.gq_events.specs.declared.refusals.Denial.TheVariants as denial
 use Rattle.gq_events.specs.declared.documents.OpenDocument.{OpenDocument}
 use Rattle.gq_events.specs.declared.event.Task.{Task}
 use Rattle.gq_events.specs.declared.event.Task.TheVariants as task
-use Rattle.gq_events.specs.declared.event.Job.{Job}
-use Rattle.gq_events.specs.declared.event.Done.{Done}
+use Rattle.gq_events.specs.Jobs.{JobOf, DoneOf}
 use Rattle.gq_events.specs.declared.event.Answer.{Answer}
 use Rattle.gq_events.specs.declared.event.Out.{Out}
 use Rattle.gq_events.specs.declared.event.Out.TheVariants as out
@@ -75,11 +74,11 @@ ascends_brought : (asked : List Asked) (alone : Bool) (j : ℕ) (t : Option Task
 ascends_brought asked true j t h = nothing_more asked h
 ascends_brought asked false j None h = nothing_more asked h
 ascends_brought asked false j (Some t) h =
-    let new : Job = record { number = length asked + 1; task = t } in
+    let new : JobOf = record { number = length asked + 1; task = t } in
     let one : List Asked = record { place = j; job = new } ∷ [] in
     let longer : suc (length asked + 1) ≡ length (asked ++ one) + 1 = omega (arith, length-append asked one) in
     subst (λ (n : ℕ). Ascends 1 (map (λ a. a.job) (asked ++ one)) n) longer
-    (subst (λ (jobs : List Job). Ascends 1 jobs (suc (length asked + 1))) (sym (map-append (λ a. a.job) asked one)) (ascends_more 1 (map (λ a. a.job) asked) (length asked + 1) new refl h))
+    (subst (λ (jobs : List JobOf). Ascends 1 jobs (suc (length asked + 1))) (sym (map-append (λ a. a.job) asked one)) (ascends_more 1 (map (λ a. a.job) asked) (length asked + 1) new refl h))
 
 all_front : {X : Type 0} (P : X → Type 0) (n : ℕ) (xs : List X) → AllByRecursion P xs → AllByRecursion P (take n xs)
 all_front P zero [] h = tt
@@ -87,15 +86,15 @@ all_front P zero (x ∷ xs) h = tt
 all_front P (suc n) [] h = tt
 all_front P (suc n) (x ∷ xs) h = (h.0, all_front P n xs h.1)
 
-all_handed : (P : ℕ → Type 0) (j : ℕ) (jobs : List Job) → AllByRecursion (λ job. P job.number) jobs → AllByRecursion (λ h. P h.number) (handed_in j jobs)
+all_handed : (P : ℕ → Type 0) (j : ℕ) (jobs : List JobOf) → AllByRecursion (λ job. P job.number) jobs → AllByRecursion (λ h. P h.number) (handed_in j jobs)
 all_handed P j [] h = tt
 all_handed P j (job ∷ jobs) h = (h.0, all_handed P j jobs h.1)
 
-handed_here : (j : ℕ) (jobs : List Job) → AllByRecursion (λ h. h.place ≡ j) (handed_in j jobs)
+handed_here : (j : ℕ) (jobs : List JobOf) → AllByRecursion (λ h. h.place ≡ j) (handed_in j jobs)
 handed_here j [] = tt
 handed_here j (job ∷ jobs) = (refl, handed_here j jobs)
 
-pub handed_numbers : (j : ℕ) (jobs : List Job) → map (λ h. h.number) (handed_in j jobs) ≡ map (λ job. job.number) jobs
+pub handed_numbers : (j : ℕ) (jobs : List JobOf) → map (λ h. h.number) (handed_in j jobs) ≡ map (λ job. job.number) jobs
 handed_numbers j [] = refl
 handed_numbers j (job ∷ jobs) = ap (λ ns. job.number ∷ ns) (handed_numbers j jobs)
 
@@ -107,10 +106,10 @@ ascends_asked : (p : Asked → Bool) (low : ℕ) (asked : List Asked) (high : �
 ascends_asked p low [] high h = h
 ascends_asked p low (a ∷ asked) high h = asked_by (p a) low a (filter p asked) high h.0 (ascends_asked p (suc a.job.number) asked high h.1)
 
-abbrev state : Session → ℕ → List Job → List Job → List ℕ → ℕ → State
+abbrev state : Session → ℕ → List JobOf → List JobOf → List ℕ → ℕ → State
 state session workers pending waiting out next = record { session = session; workers = workers; jobs = record { pending = pending; waiting = waiting; out = out; next = next } }
 
-same_state : (session : Session) (workers : ℕ) {p p' q q' : List Job} {o o' : List ℕ} {n n' : ℕ} → p ≡ p' → q ≡ q' → o ≡ o' → n ≡ n'
+same_state : (session : Session) (workers : ℕ) {p p' q q' : List JobOf} {o o' : List ℕ} {n n' : ℕ} → p ≡ p' → q ≡ q' → o ≡ o' → n ≡ n'
     → state session workers p q o n ≡ state session workers p' q' o' n'
 same_state session workers e f g h = cc
 
@@ -126,16 +125,16 @@ lower_numbers : (low low' : ℕ) (ns : List ℕ) (high : ℕ) → low' ≤ low �
 lower_numbers low low' [] high h a = omega arith
 lower_numbers low low' (n ∷ ns) high h a = (let first : low ≤ n = a.0 in omega arith, a.1)
 
-by_number : (b : Bool) (low : ℕ) (job : Job) (jobs : List Job) (high : ℕ) → low ≤ job.number → AreAscending (suc job.number) (map (λ j. j.number) jobs) high
+by_number : (b : Bool) (low : ℕ) (job : JobOf) (jobs : List JobOf) (high : ℕ) → low ≤ job.number → AreAscending (suc job.number) (map (λ j. j.number) jobs) high
     → AreAscending low (map (λ j. j.number) (cond b (job ∷ jobs) jobs)) high
 by_number true low job jobs high h a = (h, a)
 by_number false low job jobs high h a = lower_numbers (suc job.number) low _ high (omega arith) a
 
-numbers_kept : (p : Job → Bool) (low : ℕ) (jobs : List Job) (high : ℕ) → AreAscending low (map (λ j. j.number) jobs) high → AreAscending low (map (λ j. j.number) (filter p jobs)) high
+numbers_kept : (p : JobOf → Bool) (low : ℕ) (jobs : List JobOf) (high : ℕ) → AreAscending low (map (λ j. j.number) jobs) high → AreAscending low (map (λ j. j.number) (filter p jobs)) high
 numbers_kept p low [] high a = a
 numbers_kept p low (job ∷ jobs) high a = by_number (p job) low job (filter p jobs) high a.0 (numbers_kept p (suc job.number) jobs high a.1)
 
-behind : (p : Job → Bool) (low : ℕ) (front : List ℕ) (jobs : List Job) (high : ℕ) → AreAscending low (front ++ map (λ j. j.number) jobs) high → AreAscending low (front ++ map (λ j. j.number) (filter p jobs)) high
+behind : (p : JobOf → Bool) (low : ℕ) (front : List ℕ) (jobs : List JobOf) (high : ℕ) → AreAscending low (front ++ map (λ j. j.number) jobs) high → AreAscending low (front ++ map (λ j. j.number) (filter p jobs)) high
 behind p low [] jobs high a = numbers_kept p low jobs high a
 behind p low (n ∷ front) jobs high a = (a.0, behind p (suc n) front jobs high a.1)
 
@@ -157,17 +156,17 @@ take_nothing : {X : Type 0} (xs : List X) → take zero xs ≡ []
 take_nothing [] = refl
 take_nothing (x ∷ xs) = refl
 
-nothing_next : (n : ℕ) (waiting : List Job) → (waiting ≡ []) ⊎ (n ≡ 0) → take n waiting ≡ []
+nothing_next : (n : ℕ) (waiting : List JobOf) → (waiting ≡ []) ⊎ (n ≡ 0) → take n waiting ≡ []
 nothing_next n waiting h = elim h as (λ x. take n waiting ≡ []) [ inl none ↦ ap (take n) none ∙ take-nil n | inr full ↦ ap (λ (m : ℕ). take m waiting) full ∙ take_nothing waiting ]
 
-quiet : (alone : Bool) (n : ℕ) (waiting : List Job) → (waiting ≡ []) ⊎ (n ≡ 0) → cond alone [] [] ++ map out.Job (take n (waiting ++ cond alone [] [])) ≡ []
-quiet true n waiting h = ap (λ (l : List Job). map out.Job (take n l)) (append-nil waiting) ∙ ap (map out.Job) (nothing_next n waiting h)
-quiet false n waiting h = ap (λ (l : List Job). map out.Job (take n l)) (append-nil waiting) ∙ ap (map out.Job) (nothing_next n waiting h)
+quiet : (alone : Bool) (n : ℕ) (waiting : List JobOf) → (waiting ≡ []) ⊎ (n ≡ 0) → cond alone [] [] ++ map out.Job (take n (waiting ++ cond alone [] [])) ≡ []
+quiet true n waiting h = ap (λ (l : List JobOf). map out.Job (take n l)) (append-nil waiting) ∙ ap (map out.Job) (nothing_next n waiting h)
+quiet false n waiting h = ap (λ (l : List JobOf). map out.Job (take n l)) (append-nil waiting) ∙ ap (map out.Job) (nothing_next n waiting h)
 
 idle_step : (s : State) (document : Option OpenDocument) (a : Answer) → (s.jobs.waiting ≡ []) ⊎ (room_for s.jobs.out ≡ 0) → writes_effect s effect.Nothing document a ≡ []
 idle_step s document a h =
-    let none : filter (λ (job : Job). false) s.jobs.pending ≡ [] = filter_none s.jobs.pending in
-    let all_wait : filter (λ (job : Job). true) s.jobs.waiting ≡ s.jobs.waiting = filter_all _ s.jobs.waiting (every _ (λ job. refl) s.jobs.waiting) in
+    let none : filter (λ (job : JobOf). false) s.jobs.pending ≡ [] = filter_none s.jobs.pending in
+    let all_wait : filter (λ (job : JobOf). true) s.jobs.waiting ≡ s.jobs.waiting = filter_all _ s.jobs.waiting (every _ (λ job. refl) s.jobs.waiting) in
     let all_out : filter (λ (n : ℕ). true) s.jobs.out ≡ s.jobs.out = filter_all _ s.jobs.out (every _ (λ n. refl) s.jobs.out) in
     rw (none, all_wait, all_out) (quiet (s.workers == 0) (room_for s.jobs.out) s.jobs.waiting h)
 
@@ -178,32 +177,32 @@ handed_bounded : (t : Table) → length t.out ≤ out_max → length (handed_on 
 handed_bounded t h = omega (arith, length-append t.out (map (λ job. job.number) (next_jobs t)), length-map (next_jobs t) (λ job. job.number), length-take (room_for t.out) t.waiting)
 
 -- a task that is taken in has an id of its own
-abbrev OwnIdAmong : List Job → Option Task → Type 0
+abbrev OwnIdAmong : List JobOf → Option Task → Type 0
 OwnIdAmong pending None = Unit {0}
 OwnIdAmong pending (Some t) = AllByRecursion (λ job. Differs job.task t) pending
 
-by_own_id : (b : Bool) (job : Job) (jobs : List Job) → AllByRecursion (λ other. Differs job.task other.task) jobs → HaveOwnIds jobs → HaveOwnIds (cond b (job ∷ jobs) jobs)
+by_own_id : (b : Bool) (job : JobOf) (jobs : List JobOf) → AllByRecursion (λ other. Differs job.task other.task) jobs → HaveOwnIds jobs → HaveOwnIds (cond b (job ∷ jobs) jobs)
 by_own_id true job jobs h k = (h, k)
 by_own_id false job jobs h k = k
 
-own_ids_kept : (p : Job → Bool) (jobs : List Job) → HaveOwnIds jobs → HaveOwnIds (filter p jobs)
+own_ids_kept : (p : JobOf → Bool) (jobs : List JobOf) → HaveOwnIds jobs → HaveOwnIds (filter p jobs)
 own_ids_kept p [] h = tt
 own_ids_kept p (job ∷ jobs) h = by_own_id (p job) job (filter p jobs) (kept (λ other. Differs job.task other.task) p jobs h.0) (own_ids_kept p jobs h.1)
 
-differ_kept : (p : Job → Bool) (t : Option Task) (jobs : List Job) → OwnIdAmong jobs t → OwnIdAmong (filter p jobs) t
+differ_kept : (p : JobOf → Bool) (t : Option Task) (jobs : List JobOf) → OwnIdAmong jobs t → OwnIdAmong (filter p jobs) t
 differ_kept p None jobs h = tt
 differ_kept p (Some t) jobs h = kept (λ job. Differs job.task t) p jobs h
 
-own_id_last : (jobs : List Job) (new : Job) → HaveOwnIds jobs → AllByRecursion (λ job. Differs job.task new.task) jobs → HaveOwnIds (jobs ++ new ∷ [])
+own_id_last : (jobs : List JobOf) (new : JobOf) → HaveOwnIds jobs → AllByRecursion (λ job. Differs job.task new.task) jobs → HaveOwnIds (jobs ++ new ∷ [])
 own_id_last [] new h k = (tt, tt)
 own_id_last (job ∷ jobs) new h k = (both (λ other. Differs job.task other.task) jobs (new ∷ []) h.0 (k.0, tt), own_id_last jobs new h.1 k.1)
 
-own_ids_on : (jobs : List Job) (alone : Bool) (number : ℕ) (t : Option Task) → HaveOwnIds jobs → OwnIdAmong jobs t → HaveOwnIds (jobs ++ cond alone [] (job_for number t))
+own_ids_on : (jobs : List JobOf) (alone : Bool) (number : ℕ) (t : Option Task) → HaveOwnIds jobs → OwnIdAmong jobs t → HaveOwnIds (jobs ++ cond alone [] (job_for number t))
 own_ids_on jobs true number t h k = rw append-nil h
 own_ids_on jobs false number None h k = rw append-nil h
 own_ids_on jobs false number (Some t) h k = own_id_last jobs (record { number = number; task = t }) h k
 
-no_id : (pending : List Job) → AllByRecursion (λ job. Differs job.task task.Check) pending
+no_id : (pending : List JobOf) → AllByRecursion (λ job. Differs job.task task.Check) pending
 no_id [] = tt
 no_id (job ∷ pending) = (nothing job.task, no_id pending)
   where
@@ -225,13 +224,13 @@ other_id : (id : Id) (q : Question) (of : Task) → is_of id of ≡ false → Di
 other_id id q task.Check h = tt
 other_id id q (task.Ask other r) h = other_way other id h
 
-own_id : (id : Id) (q : Question) (pending : List Job) → list_any (λ job. is_of id job.task) pending ≡ false → AllByRecursion (λ job. Differs job.task (task.Ask id q)) pending
+own_id : (id : Id) (q : Question) (pending : List JobOf) → list_any (λ job. is_of id job.task) pending ≡ false → AllByRecursion (λ job. Differs job.task (task.Ask id q)) pending
 own_id id q [] h = tt
 own_id id q (job ∷ pending) h =
     let parts = or_parts (is_of id job.task) (list_any (λ job. is_of id job.task) pending) h in
     (other_id id q job.task parts.0, own_id id q pending parts.1)
 
-if_accepted : (id : Id) (asked : Option Question) (is_pending : Bool) (pending : List Job) (r : Option Denial)
+if_accepted : (id : Id) (asked : Option Question) (is_pending : Bool) (pending : List JobOf) (r : Option Denial)
     → (is_pending ≡ false → (q : Question) → AllByRecursion (λ job. Differs job.task (task.Ask id q)) pending)
     → OwnIdAmong pending (accepted id asked (cond is_pending (Some (denial.Error error.InvalidRequest)) r))
 if_accepted id None b pending r h = tt
@@ -239,11 +238,11 @@ if_accepted id (Some q) true pending r h = tt
 if_accepted id (Some q) false pending None h = h refl q
 if_accepted id (Some q) false pending (Some why) h = tt
 
-if_checked : (b : Bool) (pending : List Job) → OwnIdAmong pending (cond b (Some task.Check) None)
+if_checked : (b : Bool) (pending : List JobOf) → OwnIdAmong pending (cond b (Some task.Check) None)
 if_checked true pending = no_id pending
 if_checked false pending = tt
 
-taken_differs : (s : Session) (pending : List Job) (diagnostics : Bool) (e : Effect) → OwnIdAmong pending (taken diagnostics (denied_by s pending e) e)
+taken_differs : (s : Session) (pending : List JobOf) (diagnostics : Bool) (e : Effect) → OwnIdAmong pending (taken diagnostics (denied_by s pending e) e)
 taken_differs s pending diagnostics (effect.Asks id asked) =
     if_accepted id asked (list_any (λ job. is_of id job.task) pending) pending (denial_of_ask s pending asked) (λ h q. own_id id q pending h)
 taken_differs s pending diagnostics (effect.Changes c) = if_checked diagnostics pending
@@ -274,7 +273,7 @@ module _ (workers : ℕ) (events : List Turn) where
   abbrev new_at : ℕ → List Asked
   new_at j = brings (workers == 0) j (length (asked j) + 1) (taken_at events j (asked j))
 
-  abbrev new_jobs_at : ℕ → List Job
+  abbrev new_jobs_at : ℕ → List JobOf
   new_jobs_at j = cond (workers == 0) [] (job_for (length (asked j) + 1) (taken_at events j (asked j)))
 
   asked_earlier : (j : ℕ) → AllByRecursion (λ a. a.place < j) (asked j)
@@ -315,7 +314,7 @@ module _ (workers : ℕ) (events : List Turn) where
       ∙ (ap (λ jobs. jobs ++ map (λ a. a.job) (new_at j)) (map_filter (λ a. a.job) (λ job. not (decides (docs_at events j) (effect_at events j) job)) (filter (is_pending events j) (asked j)))
       ∙ ap (λ jobs. left (docs_at events j) (effect_at events j) (pending_at workers events j) ++ jobs) (jobs_brought (workers == 0) j _ _)))
 
-  abbrev waits : ℕ → List Job → List Job
+  abbrev waits : ℕ → List JobOf → List JobOf
   waits j jobs = filter (is_waiting (handed j)) jobs
 
   abbrev jobs_now : ℕ → Table
@@ -343,7 +342,7 @@ module _ (workers : ℕ) (events : List Turn) where
   room_step : (j : ℕ) → room_for (still_out (effect_at events j) (jobs_at workers events j).out) ≡ room j
   room_step j = ap (λ n. out_max - n) (ap length (out_step j) ∙ length-map (filter (is_out events (suc j)) (handed j)) (λ h. h.number))
 
-  abbrev queue : ℕ → List Job
+  abbrev queue : ℕ → List JobOf
   queue j = waiting_at workers events j (handed j)
 
   -- what waits then
@@ -500,7 +499,7 @@ module _ (workers : ℕ) (events : List Turn) where
       let nothing : effect_at events j ≡ effect.Nothing = ap (λ (p : Phase). effect_of p s.session.documents turn.event) h in
       sym (outputs_step j) ∙ (ap (λ (e : Effect). writes_effect s e (changed_by s.session e turn.text_refused) turn.answer) nothing ∙ idle_step s None turn.answer (full_or_empty j))
 
-  pub one_is_decided : (j : ℕ) (done : Done) → length (filter (decides (docs_at events j) (effect.Finishes done)) (pending_at workers events j)) ≤ 1
+  pub one_is_decided : (j : ℕ) (done : DoneOf) → length (filter (decides (docs_at events j) (effect.Finishes done)) (pending_at workers events j)) ≤ 1
   one_is_decided j done =
       at_most_one (decides (docs_at events j) (effect.Finishes done)) done.job (λ job h. same_number done.job job.number _ h) 1 (pending_at workers events j) (length (asked j) + 1) (pending_ascend j)
 

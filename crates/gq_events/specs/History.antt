@@ -5,7 +5,7 @@ use Rattle.gq_project.specs.declared.document.Doc.{Doc}
 use Rattle.gq_rpc.specs.declared.messages.Incoming.TheVariants as incoming
 use Rattle.gq_events.specs.declared.documents.OpenDocument.{OpenDocument}
 use Rattle.gq_events.specs.declared.event.Task.{Task}
-use Rattle.gq_events.specs.declared.event.Job.{Job}
+use Rattle.gq_events.specs.Jobs.{JobOf}
 use Rattle.gq_events.specs.declared.event.Answer.TheVariants as answer
 use Rattle.gq_events.specs.declared.event.Event.TheVariants as event
 use Rattle.gq_events.specs.declared.event.Out.{Out}
@@ -52,7 +52,7 @@ is_between test i (suc k) = is_between test i k || (nat_lt i k && test k)
 -- a job, and the place of the event that brought its task
 pub record Asked : Type 0 where
   pub place : ℕ
-  pub job : Job
+  pub job : JobOf
 
 -- the event at place k decides it, if nothing before that did
 abbrev pub may_decide : List Turn → Asked → ℕ → Bool
@@ -66,7 +66,7 @@ is_pending events j asked = not (is_between (may_decide events asked) asked.plac
 abbrev pub is_decided_at : List Turn → ℕ → Asked → Bool
 is_decided_at events j asked = is_pending events j asked && may_decide events asked j
 
-abbrev pub pending_of : List Turn → ℕ → List Asked → List Job
+abbrev pub pending_of : List Turn → ℕ → List Asked → List JobOf
 pending_of events j asked = map (λ a. a.job) (filter (is_pending events j) asked)
 
 -- ---- which jobs there are
@@ -90,7 +90,7 @@ asked_before workers events (suc j) =
     asked_before workers events j
     ++ (if workers == 0 then [] else numbered j (length (asked_before workers events j) + 1) (taken_at events j (asked_before workers events j)))
 
-abbrev pub pending_at : ℕ → List Turn → ℕ → List Job
+abbrev pub pending_at : ℕ → List Turn → ℕ → List JobOf
 pending_at workers events j = pending_of events j (asked_before workers events j)
 
 -- ---- which jobs are handed on
@@ -105,18 +105,18 @@ abbrev pub is_out : List Turn → ℕ → Handed → Bool
 is_out events j handed = not (is_between (λ k. finishes handed.number (effect_at events k)) handed.place j)
 
 -- it was not handed on
-abbrev pub is_waiting : List Handed → Job → Bool
+abbrev pub is_waiting : List Handed → JobOf → Bool
 is_waiting handed job = not (list_any (λ h. h.number == job.number) handed)
 
 -- what waits when the event at place j has come
-abbrev pub waiting_at : ℕ → List Turn → ℕ → List Handed → List Job
+abbrev pub waiting_at : ℕ → List Turn → ℕ → List Handed → List JobOf
 waiting_at workers events j handed = filter (is_waiting handed) (pending_of events (suc j) (asked_before workers events (suc j)))
 
 -- and what is then handed on: the first of these, while fewer jobs are out than may be
-abbrev pub handed_at : ℕ → List Turn → ℕ → List Handed → List Job
+abbrev pub handed_at : ℕ → List Turn → ℕ → List Handed → List JobOf
 handed_at workers events j handed = take (out_max - length (filter (is_out events (suc j)) handed)) (waiting_at workers events j handed)
 
-abbrev pub handed_in : ℕ → List Job → List Handed
+abbrev pub handed_in : ℕ → List JobOf → List Handed
 handed_in j jobs = map (λ job. record { place = j; number = job.number }) jobs
 
 -- all that was handed on before place j, in order

@@ -14,8 +14,7 @@ use Rattle.gq_replies.specs.Answers.{IsAnswer, AreDiagnosticsMessages}
 use Rattle.gq_events.specs.declared.documents.OpenDocument.{OpenDocument}
 use Rattle.gq_events.specs.declared.event.Task.{Task}
 use Rattle.gq_events.specs.declared.event.Task.TheVariants as task
-use Rattle.gq_events.specs.declared.event.Job.{Job}
-use Rattle.gq_events.specs.declared.event.Done.{Done}
+use Rattle.gq_events.specs.Jobs.{JobOf, DoneOf}
 use Rattle.gq_events.specs.declared.event.Event.{Event}
 use Rattle.gq_events.specs.declared.event.Out.{Out}
 use Rattle.gq_events.specs.declared.event.Out.TheVariants as out
@@ -65,14 +64,14 @@ DecidedOnce = (events : List Turn) (asked : Asked) (j k : ℕ) → IsFirst event
 
 -- what a worker made of a job decides one job at most
 abbrev pub OneIsDecided : Type 0
-OneIsDecided = (workers : ℕ) (events : List Turn) (j : ℕ) (done : Done) → length (filter (decides (docs_at events j) (effect.Finishes done)) (pending_at workers events j)) ≤ 1
+OneIsDecided = (workers : ℕ) (events : List Turn) (j : ℕ) (done : DoneOf) → length (filter (decides (docs_at events j) (effect.Finishes done)) (pending_at workers events j)) ≤ 1
 
 -- no other job that is pending is for the request of this task
 abbrev pub Differs : Task → Task → Type 0
 Differs task.Check other = Unit {0}
 Differs (task.Ask id q) other = is_of id other ≡ false
 
-abbrev pub HaveOwnIds : List Job → Type 0
+abbrev pub HaveOwnIds : List JobOf → Type 0
 HaveOwnIds [] = Unit {0}
 HaveOwnIds (job ∷ jobs) = AllByRecursion (λ other. Differs job.task other.task) jobs × HaveOwnIds jobs
 
@@ -83,7 +82,7 @@ PendingHaveOwnIds = (workers : ℕ) (events : List Turn) (j : ℕ) → HaveOwnId
 
 -- what a worker made of a job, where that is taken, is the defined answer to its task, about the documents as they were when it was asked
 abbrev pub AnswersAreDefined : Type 0
-AnswersAreDefined = (events : List Turn) (asked : Asked) (j : ℕ) (done : Done) → IsFirst events asked j → effect_at events j ≡ effect.Finishes done
+AnswersAreDefined = (events : List Turn) (asked : Asked) (j : ℕ) (done : DoneOf) → IsFirst events asked j → effect_at events j ≡ effect.Finishes done
     → Answers (docs_at events (suc asked.place)) asked.job.task done.answer
 
 -- a message that gives what a question asks for
@@ -182,7 +181,7 @@ OutIsBounded = (workers : ℕ) (events : List Turn) (j : ℕ) → length (filter
 -- what is handed on to those who answer: changes and jobs
 pub data Handing : Type 0 where
   Published : DocChange → Handing
-  Given : Job → Handing
+  Given : JobOf → Handing
 
 abbrev pub handing_of : Out → List Handing
 handing_of (out.Reply message) = []

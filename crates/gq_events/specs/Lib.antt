@@ -1,9 +1,11 @@
 pub mod Positions
 pub mod Documents
 pub mod Tasks
+pub mod Jobs
 pub mod Rules
 pub mod History
 pub mod Machine
 pub mod Laws
 pub mod Lifecycle
 pub mod Headline
+pub mod Helping

@@ -3,7 +3,7 @@ use Rattle.std.specs.Prelude.{◌≡◌, ℕ, ◌+◌, ◌-◌, Bool, not, ◌==
 use Rattle.gq_project.specs.declared.document.Doc.{Doc}
 use Rattle.gq_events.specs.declared.documents.OpenDocument.{OpenDocument}
 use Rattle.gq_events.specs.declared.event.Task.{Task}
-use Rattle.gq_events.specs.declared.event.Job.{Job}
+use Rattle.gq_events.specs.Jobs.{JobOf}
 use Rattle.gq_events.specs.declared.event.Answer.{Answer}
 use Rattle.gq_events.specs.declared.event.Event.{Event}
 use Rattle.gq_events.specs.declared.event.Out.{Out}
@@ -15,8 +15,8 @@ use Rattle.gq_events.specs.Rules.{Turn, Session, begun, effect_of, changed_by, s
 
 -- the jobs that are pending, those of them that wait, the numbers of the jobs that are out, and the next number
 pub record Table : Type 0 where
-  pub pending : List Job
-  pub waiting : List Job
+  pub pending : List JobOf
+  pub waiting : List JobOf
   pub out : List ℕ
   pub next : ℕ
 
@@ -24,7 +24,7 @@ abbrev pub no_jobs : Table
 no_jobs = record { pending = []; waiting = []; out = []; next = 1 }
 
 -- those that an event of this effect leaves pending
-abbrev pub left : List Doc → Effect → List Job → List Job
+abbrev pub left : List Doc → Effect → List JobOf → List JobOf
 left docs e jobs = filter (λ job. not (decides docs e job)) jobs
 
 abbrev pub still_out : Effect → List ℕ → List ℕ
@@ -34,18 +34,18 @@ abbrev pub settled : List Doc → Effect → Table → Table
 settled docs e t = record { pending = left docs e t.pending; waiting = left docs e t.waiting; out = still_out e t.out; next = t.next }
 
 -- the job that a task makes
-abbrev pub job_for : ℕ → Option Task → List Job
+abbrev pub job_for : ℕ → Option Task → List JobOf
 job_for number None = []
 job_for number (Some t) = record { number = number; task = t } ∷ []
 
-abbrev pub with_jobs : Table → List Job → Table
+abbrev pub with_jobs : Table → List JobOf → Table
 with_jobs t jobs = record { pending = t.pending ++ jobs; waiting = t.waiting ++ jobs; out = t.out; next = t.next + length jobs }
 
 -- the first that wait are handed on, while there is room
 abbrev pub room_for : List ℕ → ℕ
 room_for out = out_max - length out
 
-abbrev pub next_jobs : Table → List Job
+abbrev pub next_jobs : Table → List JobOf
 next_jobs t = take (room_for t.out) t.waiting
 
 abbrev pub handed_on : Table → Table
@@ -72,7 +72,7 @@ abbrev pub taken_by : Session → Table → Effect → Option Task
 taken_by session jobs e = taken session.diagnostics (denied_in session jobs e) e
 
 -- what is written for the jobs that an event decides
-abbrev pub verdicts : List Doc → Effect → List Job → List Out
+abbrev pub verdicts : List Doc → Effect → List JobOf → List Out
 verdicts docs e pending = flat_map (verdict e) (filter (decides docs e) pending)
 
 -- that, then its own reply
@@ -80,7 +80,7 @@ abbrev pub replies_to : ℕ → Session → Table → Effect → Option OpenDocu
 replies_to workers session jobs e document = verdicts (docs_of session.documents) e jobs.pending ++ own workers session (denied_in session jobs e) e document
 
 -- the jobs that a task makes, where there are workers
-abbrev pub jobs_for : ℕ → ℕ → Option Task → List Job
+abbrev pub jobs_for : ℕ → ℕ → Option Task → List JobOf
 jobs_for workers number t = if workers == 0 then [] else job_for number t
 
 -- the jobs before those that wait are handed on, and after it

@@ -22,7 +22,7 @@ use Rattle.gq_rpc.specs.declared.messages.Outgoing.TheVariants as outgoing
 use Rattle.gq_events.specs.declared.documents.OpenDocument.{OpenDocument}
 use Rattle.gq_events.specs.declared.event.Task.{Task}
 use Rattle.gq_events.specs.declared.event.Task.TheVariants as task
-use Rattle.gq_events.specs.declared.event.Job.{Job}
+use Rattle.gq_events.specs.Jobs.{JobOf}
 use Rattle.gq_events.specs.declared.event.Answer.{Answer}
 use Rattle.gq_events.specs.declared.event.Answer.TheVariants as answer
 use Rattle.gq_events.specs.declared.event.InputEnd.{InputEnd}
@@ -207,7 +207,7 @@ wants_code_actions (question.Rename params) = false
 abbrev pub pending_max : ℕ
 pending_max = 64
 
-abbrev pub are_too_many : List Job → Bool
+abbrev pub are_too_many : List JobOf → Bool
 are_too_many pending = nat_le pending_max (count_by (λ job. is_ask job.task) pending)
 
 -- How a question is denied, if it is, tested in this order: its document is not open, some document is lost, the client does
@@ -215,7 +215,7 @@ are_too_many pending = nat_le pending_max (count_by (λ job. is_ask job.task) pe
 abbrev pub denied : List ℕ → Denial
 denied why = denial.Error (failed why)
 
-abbrev pub denial_of_question : Session → List Job → Question → Option Denial
+abbrev pub denial_of_question : Session → List JobOf → Question → Option Denial
 denial_of_question s pending q =
     if not (is_open (place_of q).key s.documents) then Some (denial.Error error.InvalidParams)
     else (if is_any_lost s.documents then Some (denied (codes "document lost"))
@@ -225,15 +225,15 @@ denial_of_question s pending q =
     else None))))
 
 -- its parameters cannot be read
-abbrev pub denial_of_ask : Session → List Job → Option Question → Option Denial
+abbrev pub denial_of_ask : Session → List JobOf → Option Question → Option Denial
 denial_of_ask s pending None = Some (denial.Error error.InvalidParams)
 denial_of_ask s pending (Some q) = denial_of_question s pending q
 
 -- its id is that of a question that is pending
-abbrev pub denial_of_request : Session → List Job → Id → Option Question → Option Denial
+abbrev pub denial_of_request : Session → List JobOf → Id → Option Question → Option Denial
 denial_of_request s pending id asked = if list_any (λ job. is_of id job.task) pending then Some (denial.Error error.InvalidRequest) else denial_of_ask s pending asked
 
-abbrev pub denied_by : Session → List Job → Effect → Option Denial
+abbrev pub denied_by : Session → List JobOf → Effect → Option Denial
 denied_by s pending (effect.Asks id asked) = denial_of_request s pending id asked
 denied_by s pending effect.Nothing = None
 denied_by s pending (effect.Begins id capabilities) = None
@@ -265,7 +265,7 @@ taken diagnostics denied (effect.Stops status) = None
 
 -- a change and a shutdown decide each, a cancel that of its id, and what a worker made of its number decides it, if it is of
 -- that task and about the documents as they are now
-abbrev pub decides : List Doc → Effect → Job → Bool
+abbrev pub decides : List Doc → Effect → JobOf → Bool
 decides docs (effect.Changes c) job = true
 decides docs (effect.ShutsDown id) job = true
 decides docs (effect.Cancels id) job = is_of id job.task
@@ -287,7 +287,7 @@ answered t (answer.Response message) = out.Reply message ∷ []
 answered t (answer.Report messages) = map out.Notify messages
 answered t answer.NoMemory = refused_as t (failed (codes "12 NoMemory"))
 
-abbrev pub verdict : Effect → Job → List Out
+abbrev pub verdict : Effect → JobOf → List Out
 verdict (effect.Changes c) job = refused_as job.task error.ContentModified
 verdict (effect.ShutsDown id) job = refused_as job.task (failed (codes "shutdown"))
 verdict (effect.Cancels id) job = refused_as job.task error.Cancelled

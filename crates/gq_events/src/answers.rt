@@ -1,66 +1,20 @@
-//! Answers that the desk gives itself, where no worker is to answer.
-ghost use Rattle.std.specs.Prelude.{◌≡◌, ◌++◌, map, OnOk, IfOk};
-ghost use Rattle.gq_replies.specs.Answers.{AreDiagnosticsMessages};
+//! What is written for answers, and the answers that the desk gives itself, where no worker is to answer.
+ghost use Rattle.std.specs.Prelude.{◌≡◌, ◌++◌, map, IfSome, OnOk};
 ghost use Rattle.gq_events.specs.declared.event.Answer.{Answer};
 ghost use Rattle.gq_events.specs.declared.event.Out.TheVariants as out;
-ghost use Rattle.gq_events.specs.declared.event.Task.TheVariants as task;
 ghost use Rattle.gq_events.specs.Documents.{docs_of};
-ghost use Rattle.gq_events.specs.Positions.{position_encoding};
-ghost use Rattle.gq_events.specs.Tasks.{Answers};
-ghost use Rattle.gq_events.specs.Rules.{answered, answer_to, FitsTaken};
+ghost use Rattle.gq_events.specs.Rules as rules;
+ghost use Rattle.gq_events.specs.Rules.{answer_to, FitsTaken};
 
-use crate::bringing::brought;
 use crate::documents::OpenDocuments;
-use crate::event::{Out, Task};
+use crate::event::{Answer, Out, Task};
+use crate::keeping::Keeping;
 use crate::refusals::failed;
-use crate::session::POSITION_ENCODING;
-use gq_kept::Kept;
-use gq_replies::{answer, diagnostics_messages};
-use gq_rpc::{Id, Outgoing, Question};
+use gq_rpc::{Outgoing, ResponseError};
 use gq_text::NoMemory;
 use std::alloc::Global;
 
-/// Adds the answer to a question about the documents; where these find no memory to be read, that it failed.
-fn answer_question(
-    alloc: Global,
-    documents: &OpenDocuments,
-    kept: &mut Option<Kept>,
-    id: Id,
-    question: Question,
-    outs: &mut Vec<Out>,
-) -> Result<(), NoMemory>
-    ensures { OnOk result ((answer : Answer) × Answers (docs_of documents.now) (task.Ask id question) answer × (outs.new.items ≡ outs.old.items ++ answered (task.Ask id question) answer)) }
-{
-    match brought(alloc, documents, kept.take()) {
-        Ok(mut now) => {
-            let message = answer(alloc, POSITION_ENCODING, &mut now, id, &question);
-            *kept = Some(now);
-            outs.push(Out::Reply(message?))?;
-            Ok(())
-        }
-        Err(NoMemory) => {
-            let why = failed(alloc, "12 NoMemory")?;
-            outs.push(Out::Reply(Outgoing::Error(Some(id), why)))?;
-            Ok(())
-        }
-    }
-}
-
-/// The notifications that tell what is wrong with each document.
-fn check(
-    alloc: Global,
-    documents: &OpenDocuments,
-    kept: &mut Option<Kept>,
-) -> Result<Vec<Outgoing>, NoMemory>
-    ensures { IfOk result (λ messages. ∥ AreDiagnosticsMessages position_encoding (docs_of documents.now) messages.items ∥₁) }
-{
-    let mut now = brought(alloc, documents, kept.take())?;
-    let messages = diagnostics_messages(alloc, POSITION_ENCODING, &mut now);
-    *kept = Some(now);
-    messages
-}
-
-pub fn notify(messages: Vec<Outgoing>, outs: &mut Vec<Out>) -> Result<(), NoMemory>
+fn notify(messages: Vec<Outgoing>, outs: &mut Vec<Out>) -> Result<(), NoMemory>
     ensures { OnOk result (outs.new.items ≡ outs.old.items ++ map out.Notify messages.items) }
 {
     for message in messages {
@@ -69,37 +23,57 @@ pub fn notify(messages: Vec<Outgoing>, outs: &mut Vec<Out>) -> Result<(), NoMemo
     Ok(())
 }
 
-/// Adds what a check finds, and nothing where that finds no memory.
-fn write_check(
+/// Refuses a task. A check has no request, and nothing is written for it.
+pub fn refuse(task: Task, why: ResponseError, outs: &mut Vec<Out>) -> Result<(), NoMemory>
+    ensures { OnOk result (outs.new.items ≡ outs.old.items ++ rules.refused_as task why) }
+{
+    match task {
+        Task::Ask(id, _) => {
+            outs.push(Out::Reply(Outgoing::Error(Some(id), why)))?;
+            Ok(())
+        }
+        Task::Check => Ok(()),
+    }
+}
+
+/// Adds the answer to a task.
+pub fn write_answer(
     alloc: Global,
-    documents: &OpenDocuments,
-    kept: &mut Option<Kept>,
+    task: Task,
+    answer: Answer,
     outs: &mut Vec<Out>,
 ) -> Result<(), NoMemory>
-    ensures { OnOk result ((answer : Answer) × Answers (docs_of documents.now) task.Check answer × (outs.new.items ≡ outs.old.items ++ answered task.Check answer)) }
+    ensures { OnOk result (outs.new.items ≡ outs.old.items ++ rules.answered task answer) }
 {
-    match check(alloc, documents, kept) {
-        Ok(messages) => notify(messages, outs),
-        Err(NoMemory) => Ok(()),
+    match answer {
+        Answer::Response(message) => {
+            outs.push(Out::Reply(message))?;
+            Ok(())
+        }
+        Answer::Report(messages) => notify(messages.into_vec(), outs),
+        Answer::NoMemory => {
+            let why = failed(alloc, "12 NoMemory")?;
+            refuse(task, why, outs)
+        }
     }
 }
 
 /// Adds the answer to the task that an event brings, if it brings one. What is kept is brought to the documents first, of
-/// which only those that changed are copied and read; where memory is refused for that, nothing is kept.
+/// which only those that changed are copied and read.
 pub fn answer_task(
     alloc: Global,
     documents: &OpenDocuments,
-    kept: &mut Option<Kept>,
+    keeping: &mut Keeping,
     task: Option<Task>,
     outs: &mut Vec<Out>,
 ) -> Result<(), NoMemory>
-    ensures { OnOk result ((answer : Answer) × FitsTaken (docs_of documents.now) task answer × (outs.new.items ≡ outs.old.items ++ answer_to task answer)) }
+    requires { IfSome keeping.old (λ docs. docs ≡ docs_of documents.now) }
+    ensures outs { OnOk result ((answer : Answer) × FitsTaken (docs_of documents.now) task answer × (outs.new.items ≡ outs.old.items ++ answer_to task answer)) }
+    ensures kept { IfSome keeping.new (λ docs. docs ≡ docs_of documents.now) }
 {
-    match task {
-        Some(Task::Ask(id, question)) => {
-            answer_question(alloc, documents, kept, id, question, outs)
-        }
-        Some(Task::Check) => write_check(alloc, documents, kept, outs),
-        None => Ok(()),
-    }
+    let Some(task) = task else {
+        return Ok(());
+    };
+    let answer = keeping.answer(alloc, documents, &task);
+    write_answer(alloc, task, answer, outs)
 }

@@ -12,32 +12,13 @@ use gq_project::{Doc, Project};
 use gq_text::{NoMemory, OwnedText};
 use std::alloc::Global;
 
-/// What is kept, brought to the documents as they are now. Of a document that is the same no copy is made, and its text is
-/// not read again. Where nothing is kept, all are copied and read.
-pub(crate) fn brought(
+/// Brings what is kept to the documents as they are now. Of a document that is the same no copy is made, and its text is
+/// not read again. Where memory is refused, some of that is done.
+pub(crate) fn bring(
     alloc: Global,
     documents: &OpenDocuments,
-    kept: Option<Kept>,
-) -> Result<Kept, NoMemory>
-    ensures documents { IfOk result (λ kept. kept.documents ≡ docs_of documents.now) }
-    ensures texts { AreTexts (docs_of documents.now) }
-{
-    documents.texts_fit();
-    match kept {
-        Some(mut kept) => {
-            bring(alloc, documents, &mut kept)?;
-            Ok(kept)
-        }
-        None => {
-            let project = documents.project(alloc)?;
-            let kept = Kept::of(alloc, &project)?;
-            Ok(kept)
-        }
-    }
-}
-
-/// Brings what is kept to the documents as they are now. Where memory is refused, some of that is done.
-fn bring(alloc: Global, documents: &OpenDocuments, kept: &mut Kept) -> Result<(), NoMemory>
+    kept: &mut Kept,
+) -> Result<(), NoMemory>
     ensures { OnOk result (kept.new.documents ≡ docs_of documents.now) }
 {
     if same_documents(kept.project(), documents) {
@@ -97,7 +78,7 @@ fn put_one(alloc: Global, document: &OpenDocument, kept: &mut Kept) -> Result<()
         return Ok(());
     }
     let copy = copy_document(alloc, document)?;
-    kept.replace_file(alloc, copy)
+    kept.replace_file(alloc, copy, None)
 }
 
 /// Whether the project has this document, with the same URI, version and text. It makes no copy.

@@ -53,6 +53,18 @@ pub enum Effect {
     Stops(u8),
 }
 
+impl Effect {
+    ghost use Rattle.std.specs.Prelude.{false, Option};
+    ghost use Rattle.gq_events.specs.declared.documents.OpenDocument.{OpenDocument};
+
+    /// Whether the documents may be others after it.
+    pub fn may_change_documents(&self) -> bool
+        ensures { result ≡ false → (s : spec.Session) (document : Option OpenDocument) → (spec.session_after s self.now document).documents ≡ s.documents }
+    {
+        matches!(self, Effect::Changes(_))
+    }
+}
+
 fn request_effect(phase: Phase, id: Id, request: Request) -> Effect
     ensures { result ≡ spec.effect_of_request phase id request }
 {

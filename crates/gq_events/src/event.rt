@@ -1,9 +1,12 @@
 //! What comes to the desk, and what it puts out.
 ghost use Rattle.gq_events.specs.Tasks.{Answers};
 
+use gq_parse::Piece;
 use gq_project::{DocChange, Project};
 use gq_rpc::{Id, Incoming, Outgoing, Question};
 use gq_text::Items;
+use std::marker::Model;
+use std::sync::Arc;
 
 /// What is to be answered about the documents.
 #[derive(Drop)]
@@ -14,12 +17,23 @@ pub enum Task {
     Check,
 }
 
-/// A task under its number.
+/// A task under its number. Contracts see these two: pieces decide no answer.
 #[derive(Drop)]
 pub struct Job {
     /// Jobs count from 1, in the order in which their tasks came.
     pub number: u64,
     pub task: Task,
+    /// Pieces of documents as they are when the job is handed on, in ascending order of their keys, each key once. Whoever
+    /// does the job need not read their texts.
+    pub pieces: Vec<Arc<Piece>>,
+}
+
+impl Model for Job {
+    ghost use Rattle.gq_events.specs.Jobs.{JobOf};
+
+    ghost Value = { JobOf };
+
+    ghost view = { λ j. record { number = j.number; task = j.task } };
 }
 
 /// What a task came to.
@@ -33,7 +47,7 @@ pub enum Answer {
     NoMemory,
 }
 
-/// What a worker made of a job.
+/// What a worker made of a job. Contracts see all but the pieces.
 #[derive(Drop)]
 pub struct Done {
     /// The number of the job.
@@ -42,8 +56,18 @@ pub struct Done {
     /// The documents that the worker saw.
     pub texts: Project,
     pub answer: Answer,
+    /// Pieces of the documents whose texts the worker read for it.
+    pub pieces: Vec<Arc<Piece>>,
     /// The answer is the one that is defined for this task and these documents, or that memory was refused.
     ghost fits: { Answers texts task answer },
+}
+
+impl Model for Done {
+    ghost use Rattle.gq_events.specs.Jobs.{DoneOf};
+
+    ghost Value = { DoneOf };
+
+    ghost view = { λ d. record { job = d.job; task = d.task; texts = d.texts; answer = d.answer; fits = d.fits } };
 }
 
 /// How the input ended.

@@ -9,53 +9,80 @@ use crate::copies::copy_id;
 use crate::event::{Answer, Done, Task};
 use crate::session::POSITION_ENCODING;
 use gq_kept::Kept;
+use gq_parse::Piece;
 use gq_project::Project;
 use gq_replies::{answer, diagnostics_messages};
 use gq_rpc::{Id, Outgoing, Question};
 use gq_text::{Items, NoMemory};
 use std::alloc::Global;
+use std::sync::Arc;
 
-/// The response to a question about the texts.
+/// The response to a question about the documents that are kept.
 fn respond(
     alloc: Global,
+    kept: &mut Kept,
     id: &Id,
     question: &Question,
-    texts: &Project,
 ) -> Result<Outgoing, NoMemory>
-    requires { AreTexts texts.now }
-    ensures { IfOk result (λ message. ∥ IsAnswer position_encoding texts.now id.now question.now message ∥₁) }
+    requires { AreTexts kept.old.documents }
+    ensures message { IfOk result (λ message. ∥ IsAnswer position_encoding kept.old.documents id.now question.now message ∥₁) }
+    ensures documents { kept.new.documents ≡ kept.old.documents }
 {
-    let mut kept = Kept::of(alloc, texts)?;
     let id = copy_id(alloc, id)?;
-    answer(alloc, POSITION_ENCODING, &mut kept, id, question)
+    answer(alloc, POSITION_ENCODING, kept, id, question)
 }
 
-/// The notifications that tell what is wrong with each of the texts.
-fn report(alloc: Global, texts: &Project) -> Result<Items<Outgoing>, NoMemory>
-    requires { AreTexts texts.now }
-    ensures { IfOk result (λ messages. ∥ AreDiagnosticsMessages position_encoding texts.now messages ∥₁) }
+/// The notifications that tell what is wrong with each of the documents that are kept.
+fn report(alloc: Global, kept: &mut Kept) -> Result<Items<Outgoing>, NoMemory>
+    requires { AreTexts kept.old.documents }
+    ensures messages { IfOk result (λ messages. ∥ AreDiagnosticsMessages position_encoding kept.old.documents messages ∥₁) }
+    ensures documents { kept.new.documents ≡ kept.old.documents }
 {
-    let mut kept = Kept::of(alloc, texts)?;
-    let messages = diagnostics_messages(alloc, POSITION_ENCODING, &mut kept)?;
+    let messages = diagnostics_messages(alloc, POSITION_ENCODING, kept)?;
     Ok(Items::from_vec(messages))
 }
 
-fn find_answer(alloc: Global, task: &Task, texts: &Project) -> Result<Answer, NoMemory>
-    requires { AreTexts texts.now }
-    ensures { IfOk result (λ answer. Answers texts.now task.now answer) }
+/// The answer to a task about the documents that are kept.
+pub(crate) fn find_answer(alloc: Global, kept: &mut Kept, task: &Task) -> Result<Answer, NoMemory>
+    requires { AreTexts kept.old.documents }
+    ensures answer { IfOk result (λ answer. Answers kept.old.documents task.now answer) }
+    ensures documents { kept.new.documents ≡ kept.old.documents }
 {
     match task {
-        Task::Ask(id, question) => Ok(Answer::Response(respond(alloc, id, question, texts)?)),
-        Task::Check => Ok(Answer::Report(report(alloc, texts)?)),
+        Task::Ask(id, question) => Ok(Answer::Response(respond(alloc, kept, id, question)?)),
+        Task::Check => Ok(Answer::Report(report(alloc, kept)?)),
     }
 }
 
-/// The answer to a task about the texts. Want of memory is an answer, too.
-fn answer_task(alloc: Global, task: &Task, texts: &Project) -> Answer
+/// The answer to a task about these texts, to which what is kept is brought.
+fn bring_and_answer(
+    alloc: Global,
+    task: &Task,
+    texts: &Project,
+    pieces: &[Arc<Piece>],
+    parsed: &mut Vec<Arc<Piece>>,
+    kept: &mut Kept,
+) -> Result<Answer, NoMemory>
+    requires { AreTexts texts.now }
+    ensures { IfOk result (λ answer. Answers texts.now task.now answer) }
+{
+    kept.bring_to(alloc, texts, pieces, parsed)?;
+    find_answer(alloc, kept, task)
+}
+
+/// The same. Want of memory is an answer, too.
+fn answer_task(
+    alloc: Global,
+    task: &Task,
+    texts: &Project,
+    pieces: &[Arc<Piece>],
+    parsed: &mut Vec<Arc<Piece>>,
+    kept: &mut Kept,
+) -> Answer
     requires { AreTexts texts.now }
     ensures { Answers texts.now task.now result }
 {
-    match find_answer(alloc, task, texts) {
+    match bring_and_answer(alloc, task, texts, pieces, parsed, kept) {
         Ok(answer) => answer,
         Err(NoMemory) => Answer::NoMemory,
     }
@@ -65,18 +92,30 @@ impl Done {
     /// What a worker makes of the job of that number: the answer to its task about these texts, each of at most 4 MiB, as
     /// those of open documents are. A question comes to a response, and a check to a report of a notification for each
     /// text, in order of key. Where a growth was refused, that is the answer.
-    pub fn of(alloc: Global, job: u64, task: Task, texts: Project) -> Done
+    ///
+    /// What the worker keeps is brought to the texts. Of those of which the job has pieces none is read, and pieces of the
+    /// others are with what is made, where there is memory for them.
+    pub fn of(
+        alloc: Global,
+        job: u64,
+        task: Task,
+        texts: Project,
+        pieces: &[Arc<Piece>],
+        kept: &mut Kept,
+    ) -> Done
         requires { AreTexts texts }
         ensures job { result.job ≡ job }
         ensures task { result.task ≡ task }
         ensures texts { result.texts ≡ texts }
     {
-        let answer = answer_task(alloc, &task, &texts);
+        let mut parsed = Vec::new(alloc);
+        let answer = answer_task(alloc, &task, &texts, pieces, &mut parsed, kept);
         Done {
             job,
             task,
             texts,
             answer,
+            pieces: parsed,
         }
     }
 }

@@ -121,12 +121,7 @@ impl Kept {
     }
 
     /// Adds the document, whose text reads so, or replaces the one of its key.
-    fn put_read(
-        &mut self,
-        alloc: Global,
-        doc: Doc,
-        reading: Arc<Parsed>,
-    ) -> Result<(), NoMemory>
+    fn put_read(&mut self, alloc: Global, doc: Doc, reading: Arc<Parsed>) -> Result<(), NoMemory>
         requires { ∥ IsParsed doc.text (shared_view reading) ∥₁ }
         ensures ok { OnOk result (self.new.documents ≡ with_doc self.old.documents doc) }
         ensures err { OnErr result (self.new ≡ self.old) }

@@ -62,6 +62,13 @@ impl Piece {
         self.key.as_str()
     }
 
+    /// The document's text.
+    pub fn text(&self) -> &str
+        ensures { result.now ≡ self.now.text }
+    {
+        self.text.as_str()
+    }
+
     /// Whether it is a piece of this document: of the same key and text.
     pub fn is_of(&self, doc: &Doc) -> bool
         ensures key { result ≡ true → self.now.key ≡ doc.now.key }

@@ -3,8 +3,7 @@
 use Rattle.std.specs.Prelude.{ℕ, Bool, List, map, flat_map}
 use Rattle.gq_project.specs.declared.document.Doc.{Doc}
 use Rattle.gq_rpc.specs.declared.messages.ResponseError.{ResponseError}
-use Rattle.gq_events.specs.declared.event.Done.{Done}
-use Rattle.gq_events.specs.declared.event.Job.{Job}
+use Rattle.gq_events.specs.Jobs.{JobOf, DoneOf}
 use Rattle.gq_events.specs.declared.event.Out.{Out}
 use Rattle.gq_events.specs.declared.effect.Effect.{Effect}
 use Rattle.gq_events.specs.declared.effect.Effect.TheVariants as effect
@@ -12,15 +11,15 @@ use Rattle.gq_events.specs.Rules.{refused_as, decides}
 use Rattle.gq_events.specs.Laws.{AreAscending}
 
 -- their numbers ascend from 1 on, and are below the next
-abbrev pub AreNumbered : List Job → ℕ → Type 0
+abbrev pub AreNumbered : List JobOf → ℕ → Type 0
 AreNumbered jobs next = AreAscending 1 (map (λ job. job.number) jobs) next
 
 -- all of them are refused for this
-abbrev pub refused_each : ResponseError → List Job → List Out
+abbrev pub refused_each : ResponseError → List JobOf → List Out
 refused_each why jobs = flat_map (λ job. refused_as job.task why) jobs
 
 -- what a worker made decides this job
-unfoldable pub is_result_of : List Doc → Done → Job → Bool
+unfoldable pub is_result_of : List Doc → DoneOf → JobOf → Bool
 is_result_of docs done job = decides docs (effect.Finishes done) job
 
 -- what a worker made is used up by the job that it decides, or by none
