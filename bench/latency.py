@@ -48,13 +48,14 @@ class Client:
         self.server.stdin.flush()
 
     def read(self):
+        """The body of the next message."""
         length = 0
         while True:
             line = self.server.stdout.readline()
             if not line:
                 sys.exit("the server has ended")
             if line == b"\r\n":
-                return json.loads(self.server.stdout.read(length))
+                return self.server.stdout.read(length)
             name, value = line.split(b":")
             if name.lower() == b"content-length":
                 length = int(value)
@@ -64,7 +65,7 @@ class Client:
         self.number += 1
         self.send({"id": self.number, "method": method, "params": params})
         while True:
-            message = self.read()
+            message = json.loads(self.read())
             if message.get("id") == self.number:
                 return message
 
@@ -72,8 +73,12 @@ class Client:
         self.send({"method": method, "params": params})
 
     def diagnosed(self, count):
-        """So many notifications of diagnostics: those in which something is wrong."""
-        return [m["params"] for m in (self.read() for _ in range(count)) if m["params"]["diagnostics"]]
+        """So many notifications of diagnostics: those in which something is wrong. The others are not read as JSON, since
+        there is one for each document that is open after each change."""
+        bodies = [self.read() for _ in range(count)]
+        if not all(b'"method":"textDocument/publishDiagnostics"' in body for body in bodies):
+            sys.exit("no diagnostics")
+        return [json.loads(body)["params"] for body in bodies if b'"diagnostics":[]' not in body]
 
     def open(self, uri, text):
         self.versions[uri] = 1

@@ -78,12 +78,6 @@ module _ (docs : List Doc) (e : Effect) (pending : List JobOf) (no_change : (c :
   pub others_told : (old : List Out) → old ≡ old ++ verdicts docs e pending
   others_told old = sym (append-nil old) ∙ ap (λ (l : List JobOf). old ++ flat_map (verdict e) l) (sym (none_passes (decides docs e) pending (none_is_decided pending)))
 
--- a task for which memory was refused fails
-pub told_failed : (task : Task) (a : Answer) (why : ResponseError) (result : Result (Unit {0}) NoMemory) (old new : List Out) → a ≡ answer.NoMemory → why ≡ failed (codes "12 NoMemory") → OnOk result (new ≡ old ++ refused_as task why)
-    → OnOk result (new ≡ old ++ answered task a)
-told_failed task a why result old new none is told =
-    subst (λ (a : Answer). OnOk result (new ≡ old ++ answered task a)) (sym none) (subst (λ (w : ResponseError). OnOk result (new ≡ old ++ refused_as task w)) is told)
-
 -- what a worker made decides a job of its number alone
 first_of_both : (a b : Bool) → (a && b) ≡ true → a ≡ true
 first_of_both true b h = refl

@@ -6,10 +6,10 @@ ghost use Rattle.gq_events.specs.Rules.{answer_to, FitsTaken};
 ghost use Rattle.gq_events.specs.Machine as spec;
 
 use crate::jobs::Jobs;
+use crate::pieces::Pieces;
 use gq_events::answers::answer_task;
 use gq_events::documents::OpenDocuments;
-use gq_events::{ClientSession, Event, Out, Task};
-use gq_kept::Kept;
+use gq_events::{ClientSession, Event, Keeping, Out, Task};
 use gq_text::NoMemory;
 use std::alloc::Global;
 use std::marker::Model;
@@ -27,19 +27,21 @@ pub enum DeskFault {
 fn bring(
     alloc: Global,
     documents: &OpenDocuments,
-    kept: &mut Option<Kept>,
+    keeping: &mut Keeping,
     workers: u8,
     jobs: &mut Jobs,
     task: Option<Task>,
     outs: &mut Vec<Out>,
 ) -> Result<(), NoMemory>
-    requires { jobs.old.next < 2 ^ 62 }
+    requires next { jobs.old.next < 2 ^ 62 }
+    requires kept { IfSome keeping.old (λ docs. docs ≡ docs_of documents.now) }
+    ensures kept { IfSome keeping.new (λ docs. docs ≡ docs_of documents.now) }
     ensures jobs { OnOk result (jobs.new ≡ spec.with_jobs jobs.old (spec.jobs_for workers jobs.old.next task)) }
     ensures outs { OnOk result ((answer : Answer) × (workers ≡ 0 → FitsTaken (docs_of documents.now) task answer)
         × (outs.new.items ≡ outs.old.items ++ (if workers == 0 then answer_to task answer else []))) }
 {
     if workers == 0 {
-        return answer_task(alloc, documents, kept, task, outs);
+        return answer_task(alloc, documents, keeping, task, outs);
     }
     match task {
         Some(task) => jobs.add(alloc, task),
@@ -51,7 +53,8 @@ fn bring(
 fn take_event(
     alloc: Global,
     session: &mut ClientSession,
-    kept: &mut Option<Kept>,
+    keeping: &mut Keeping,
+    pieces: &mut Pieces,
     workers: u8,
     jobs: &mut Jobs,
     event: Event,
@@ -59,24 +62,29 @@ fn take_event(
 ) -> Result<(), NoMemory>
     requires next { jobs.old.next < 2 ^ 62 }
     requires empty { outs.old.items ≡ [] }
-    ensures { OnOk result (spec.Steps (record { session = session.old; workers = workers; jobs = jobs.old }) event outs.new.items
+    requires kept { IfSome keeping.old (λ docs. docs ≡ docs_of session.old.documents) }
+    ensures kept { OnOk result (IfSome keeping.new (λ docs. docs ≡ docs_of session.new.documents)) }
+    ensures steps { OnOk result (spec.Steps (record { session = session.old; workers = workers; jobs = jobs.old }) event outs.new.items
         (record { session = session.new; workers = workers; jobs = jobs.new })) }
 {
     let effect = session.effect(event);
     let denied = session.denied_by(alloc, jobs.pending(), &effect)?;
+    keeping.outdate_if(effect.may_change_documents());
+    pieces.follow(session.documents(), &effect);
     let rest = jobs.settle(alloc, session.documents(), effect, outs)?;
     let task = session.take_in(alloc, workers, denied, rest, outs)?;
-    bring(alloc, session.documents(), kept, workers, jobs, task, outs)?;
-    jobs.hand_on(outs)
+    bring(alloc, session.documents(), keeping, workers, jobs, task, outs)?;
+    jobs.hand_on(alloc, pieces, outs)
 }
 
 /// A session with its jobs. Contracts see its state, or nothing once it has failed.
 #[derive(Drop)]
 pub struct Desk {
     session: ClientSession,
-    /// What is known of the documents, from the last task that was answered here. Nothing is told of it: an answer is the
-    /// same without.
-    kept: Option<Kept>,
+    /// What is known of the documents, from the last task that was answered here. An answer is the same without.
+    keeping: Keeping,
+    /// Pieces of the documents, as workers made them. They decide no answer.
+    pieces: Pieces,
     workers: u8,
     jobs: Jobs,
     failed: bool,
@@ -88,7 +96,12 @@ impl Model for Desk {
 
     ghost Value = { Option State };
 
+    ghost use Rattle.std.specs.Prelude.{◌≡◌, IfSome};
+    ghost use Rattle.gq_events.specs.Documents.{docs_of};
+
     ghost view = { λ d. if d.failed then None else Some (record { session = d.session; workers = d.workers; jobs = d.jobs }) };
+
+    ghost invariant = { λ d. IfSome d.keeping (λ docs. docs ≡ docs_of d.session.documents) };
 }
 
 impl Desk {
@@ -99,7 +112,8 @@ impl Desk {
     {
         Desk {
             session: ClientSession::new(alloc),
-            kept: None,
+            keeping: Keeping::new(),
+            pieces: Pieces::new(alloc),
             workers,
             jobs: Jobs::new(alloc),
             failed: false,
@@ -135,7 +149,8 @@ impl Desk {
         let done = take_event(
             alloc,
             &mut self.session,
-            &mut self.kept,
+            &mut self.keeping,
+            &mut self.pieces,
             self.workers,
             &mut self.jobs,
             event,
@@ -144,6 +159,7 @@ impl Desk {
         match done {
             Ok(()) => Ok(outs),
             Err(NoMemory) => {
+                self.keeping.outdate_if(true);
                 self.failed = true;
                 Err(DeskFault::NoMemory)
             }

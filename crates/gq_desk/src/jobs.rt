@@ -10,13 +10,12 @@ ghost use Rattle.gq_events.specs.Tasks as tasks;
 ghost use Rattle.gq_events.specs.Machine as spec;
 ghost use Rattle.gq_desk.specs.Helping.Settling.{AreNumbered, refused_each, is_result_of, rest_of};
 
-use gq_events::answers::notify;
+use crate::pieces::Pieces;
+use gq_events::answers::{refuse, write_answer};
 use gq_events::documents::OpenDocuments;
 use gq_events::refusals::failed;
-use gq_events::{
-    Answer, Done, Effect, Job, Out, Task, copy_task, is_of, same_documents, same_task,
-};
-use gq_rpc::{Id, Outgoing, ResponseError};
+use gq_events::{Done, Effect, Job, Out, Task, copy_task, is_of, same_documents, same_task};
+use gq_rpc::{Id, ResponseError};
 use gq_text::NoMemory;
 use std::alloc::Global;
 use std::collections::VecDeque;
@@ -25,41 +24,6 @@ use std::mem;
 
 /// So many jobs are out at once.
 const OUT_MAX: usize = 64;
-
-/// Refuses a task. A check has no request, and nothing is written for it.
-fn refuse(task: Task, why: ResponseError, outs: &mut Vec<Out>) -> Result<(), NoMemory>
-    ensures { OnOk result (outs.new.items ≡ outs.old.items ++ rules.refused_as task why) }
-{
-    match task {
-        Task::Ask(id, _) => {
-            outs.push(Out::Reply(Outgoing::Error(Some(id), why)))?;
-            Ok(())
-        }
-        Task::Check => Ok(()),
-    }
-}
-
-/// Adds the answer to a task.
-fn write_answer(
-    alloc: Global,
-    task: Task,
-    answer: Answer,
-    outs: &mut Vec<Out>,
-) -> Result<(), NoMemory>
-    ensures { OnOk result (outs.new.items ≡ outs.old.items ++ rules.answered task answer) }
-{
-    match answer {
-        Answer::Response(message) => {
-            outs.push(Out::Reply(message))?;
-            Ok(())
-        }
-        Answer::Report(messages) => notify(messages.into_vec(), outs),
-        Answer::NoMemory => {
-            let why = failed(alloc, "12 NoMemory")?;
-            refuse(task, why, outs)
-        }
-    }
-}
 
 /// Refuses all of them, since a document changed.
 fn refuse_modified(pending: Vec<Job>, outs: &mut Vec<Out>) -> Result<(), NoMemory>
@@ -222,10 +186,34 @@ fn keep_out(out: &mut Vec<u64>, effect: &Effect)
     out.retain(|number| !finishes(effect, *number));
 }
 
-/// Hands on the first jobs that wait, while fewer are out than may be.
+/// The job, with all pieces.
+fn with_pieces(alloc: Global, job: Job, pieces: &Pieces) -> Job
+    ensures { result ≡ job }
+{
+    Job {
+        number: job.number,
+        task: job.task,
+        pieces: pieces.shared(alloc),
+    }
+}
+
+/// A job without pieces. It takes no memory.
+fn bare_job(alloc: Global, number: u64, task: Task) -> Job
+    ensures { result ≡ record { number = number; task = task } }
+{
+    Job {
+        number,
+        task,
+        pieces: Vec::new(alloc),
+    }
+}
+
+/// Hands on the first jobs that wait, each with all pieces, while fewer are out than may be.
 fn hand_on(
+    alloc: Global,
     out: &mut Vec<u64>,
     waiting: &mut VecDeque<Job>,
+    pieces: &Pieces,
     outs: &mut Vec<Out>,
 ) -> Result<(), NoMemory>
     ensures out { OnOk result (out.new.items ≡ out.old.items ++ map (λ job. job.number) (take (spec.room_for out.old.items) waiting.old.items)) }
@@ -237,7 +225,7 @@ fn hand_on(
             return Ok(());
         };
         out.push(job.number)?;
-        outs.push(Out::Job(job))?;
+        outs.push(Out::Job(with_pieces(alloc, job, pieces)))?;
     }
     Ok(())
 }
@@ -311,17 +299,22 @@ impl Jobs {
     {
         let number = self.next;
         let copy = copy_task(alloc, &task)?;
-        self.waiting.push_back(Job { number, task: copy })?;
-        self.pending.push(Job { number, task })?;
+        self.waiting.push_back(bare_job(alloc, number, copy))?;
+        self.pending.push(bare_job(alloc, number, task))?;
         self.next += 1;
         Ok(())
     }
 
-    /// Hands on the first jobs that wait, while fewer are out than may be.
-    pub(crate) fn hand_on(&mut self, outs: &mut Vec<Out>) -> Result<(), NoMemory>
+    /// Hands on the first jobs that wait, each with all pieces, while fewer are out than may be.
+    pub(crate) fn hand_on(
+        &mut self,
+        alloc: Global,
+        pieces: &Pieces,
+        outs: &mut Vec<Out>,
+    ) -> Result<(), NoMemory>
         ensures jobs { OnOk result (self.new ≡ spec.handed_on self.old) }
         ensures outs { OnOk result (outs.new.items ≡ outs.old.items ++ map output.Job (spec.next_jobs self.old)) }
     {
-        hand_on(&mut self.out, &mut self.waiting, outs)
+        hand_on(alloc, &mut self.out, &mut self.waiting, pieces, outs)
     }
 }

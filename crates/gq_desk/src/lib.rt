@@ -6,6 +6,7 @@ pub mod driving;
 pub mod hands;
 mod jobs;
 pub mod laws;
+mod pieces;
 
 pub use desk::{Desk, DeskFault};
 pub use driving::{DriveFault, drive};

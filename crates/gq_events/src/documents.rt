@@ -1,5 +1,6 @@
 //! The documents that a client has open.
 ghost use Rattle.std.specs.Prelude.{◌≡◌, ◌≤◌, ◌^◌, Bool, true, false, [], length, Some, None, IfOk, IfErr, OnOk};
+ghost use Rattle.std.specs.Option.{option_copied};
 ghost use Rattle.gq_edit.specs.Workspace.{AreTexts};
 ghost use Rattle.gq_project.specs.Helping.Places.{IsPlaceOf, IsGapFor};
 ghost use Rattle.gq_events.specs.Documents as spec;
@@ -177,6 +178,16 @@ impl OpenDocuments {
     {
         self.documents
             .binary_search_by(|document| document.key.as_str().cmp(&key))
+    }
+
+    /// The document of that key, if it is open.
+    pub fn get(&self, key: &str) -> Option<&OpenDocument>
+        ensures { option_copied result ≡ spec.document_at key.now self.now }
+    {
+        match self.place(key) {
+            Ok(at) => Some(&self.documents[at]),
+            Err(_) => None,
+        }
     }
 
     pub fn is_open(&self, key: &str) -> bool

@@ -6,6 +6,7 @@ use crate::no_answer::NoAnswer;
 use crate::taker::Taker;
 use gq_desk::{Done, Event, InputEnd, Job, Out, Task};
 use gq_events::copy_task;
+use gq_kept::Kept;
 use gq_project::{Doc, DocChange, Project};
 use gq_rpc::{Incoming, Outgoing, Request, encode, read_message};
 use gq_text::OwnedText;
@@ -30,6 +31,14 @@ struct Play {
     told: Vec<String>,
     /// So many lines of `told` were wanted.
     met: usize,
+}
+
+/// What a worker that keeps nothing yet makes of a job.
+fn done_of(alloc: Global, number: u64, task: Task, texts: Project) -> Result<Done, NoAnswer>
+    requires { AreTexts texts }
+{
+    let mut kept = Kept::of(alloc, &Project::new(alloc))?;
+    Ok(Done::of(alloc, number, task, texts, &[], &mut kept))
 }
 
 /// The line for a message to the client.
@@ -169,7 +178,7 @@ impl Play {
         if !are_texts(&texts) {
             return Err(NoAnswer);
         }
-        Ok(Done::of(self.alloc, number, self.task(task)?, texts))
+        done_of(self.alloc, number, self.task(task)?, texts)
     }
 
     /// The event of a line, if it is one.

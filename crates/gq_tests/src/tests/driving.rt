@@ -5,11 +5,14 @@ ghost use Rattle.gq_edit.specs.Workspace.{AreTexts};
 
 use gq_desk::laws::{new_desks_stand_for_none, numbers_stay_low};
 use gq_desk::{Desk, Done, DriveFault, Event, Hands, HandsFault, Job, Task, drive};
+use gq_kept::Kept;
+use gq_parse::Piece;
 use gq_project::{Doc, DocChange, Project};
 use gq_rpc::{Flagged, Incoming, Request, read_message};
 use gq_text::OwnedText;
 use gq_text::text::TEXT_MAX;
 use std::alloc::Global;
+use std::sync::Arc;
 use std::test::Fail;
 
 const INITIALIZE: &str =
@@ -242,10 +245,24 @@ fn task(alloc: Global, id: u64) -> Result<Task, Fail> {
 
 /// What a worker makes of a job of that number: to rename as the request of that id asks, about these texts.
 fn done(alloc: Global, job: u64, id: u64, texts: Project) -> Result<Event, Fail> {
+    let mut kept = Kept::of(alloc, &Project::new(alloc))?;
+    let done = done_by(alloc, job, id, texts, &[], &mut kept)?;
+    Ok(Event::Done(done))
+}
+
+/// The same of a worker that keeps this, by these pieces.
+fn done_by(
+    alloc: Global,
+    job: u64,
+    id: u64,
+    texts: Project,
+    pieces: &[Arc<Piece>],
+    kept: &mut Kept,
+) -> Result<Done, Fail> {
     if !are_texts(&texts) {
         return Err("a text is too long".into());
     }
-    Ok(Event::Done(Done::of(alloc, job, task(alloc, id)?, texts)))
+    Ok(Done::of(alloc, job, task(alloc, id)?, texts, pieces, kept))
 }
 
 /// The bodies, each in its frame.

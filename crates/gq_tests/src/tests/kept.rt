@@ -27,15 +27,15 @@ fn are_unknown_fragments(report: &Report, key: &str, places: &[usize]) -> bool {
 
 /// Whether a fragment that goes, comes back and is dropped makes its spreads unknown, and known again.
 fn is_unknown_while_it_is_gone(alloc: Global, kept: &mut Kept) -> Result<bool, NoMemory> {
-    kept.replace_file(alloc, file(alloc, "s", "type Query{x:Int}")?)?;
-    kept.replace_file(alloc, file(alloc, "q", "{...F ...F}")?)?;
-    kept.replace_file(alloc, file(alloc, "f", "fragment F on Query{x}")?)?;
+    kept.replace_file(alloc, file(alloc, "s", "type Query{x:Int}")?, None)?;
+    kept.replace_file(alloc, file(alloc, "q", "{...F ...F}")?, None)?;
+    kept.replace_file(alloc, file(alloc, "f", "fragment F on Query{x}")?, None)?;
     let first = kept.report(alloc)?.found.is_empty();
-    kept.replace_file(alloc, file(alloc, "f", "")?)?;
+    kept.replace_file(alloc, file(alloc, "f", "")?, None)?;
     let gone = are_unknown_fragments(&kept.report(alloc)?, "q", &[4, 9]);
     kept.drop_file(alloc, "f")?;
     let dropped = are_unknown_fragments(&kept.report(alloc)?, "q", &[4, 9]);
-    kept.replace_file(alloc, file(alloc, "f", "fragment F on Query{x}")?)?;
+    kept.replace_file(alloc, file(alloc, "f", "fragment F on Query{x}")?, None)?;
     let last = kept.report(alloc)?.found.is_empty();
     Ok(first && gone && dropped && last && kept.valid().is_some())
 }
@@ -87,7 +87,7 @@ fn change(alloc: Global, kept: &mut Kept, number: usize) -> Result<(), NoMemory>
     if number % 9 == 8 {
         return kept.drop_file(alloc, key_of(number));
     }
-    kept.replace_file(alloc, document_of(alloc, number)?)
+    kept.replace_file(alloc, document_of(alloc, number)?, None)
 }
 
 /// The same in a project and in its index.
@@ -205,13 +205,13 @@ fn change_operations(alloc: Global, kept: &mut Kept, number: usize) -> Result<()
         return kept.drop_file(alloc, key);
     }
     let text = OPERATIONS[(number % 16 * 5 + number / 16 * 3) % 16];
-    kept.replace_file(alloc, file(alloc, key, text)?)
+    kept.replace_file(alloc, file(alloc, key, text)?, None)
 }
 
 /// The same of a thousand changes of operations over one schema.
 fn is_as_anew_over_a_schema(alloc: Global, kept: &mut Kept) -> Result<bool, NoMemory> {
     let schema = "type Query{x:Int f(a:Int):Int q:Query} type T{y:Int}";
-    kept.replace_file(alloc, file(alloc, "s", schema)?)?;
+    kept.replace_file(alloc, file(alloc, "s", schema)?, None)?;
     for number in 0..1000 {
         change_operations(alloc, kept, number)?;
         if !is_as_anew(alloc, kept)? {

@@ -1,5 +1,5 @@
-use Rattle.gq_desk.proofs.Settled.{told_failed}
-use Rattle.gq_desk.proofs.jobs.write_answer.Goals as goal
+use Rattle.gq_events.proofs.Answering.{told_failed}
+use Rattle.gq_events.proofs.answers.write_answer.Goals as goal
 
 pub returns-in_ok-why-in-NoMemory : goal.returns-in_ok-why-in-NoMemory
 returns-in_ok-why-in-NoMemory c =
