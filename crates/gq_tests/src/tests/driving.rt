@@ -4,11 +4,11 @@ ghost use Rattle.gq_desk.specs.Standing.{StandsFor};
 ghost use Rattle.gq_edit.specs.Workspace.{AreTexts};
 
 use gq_desk::laws::{new_desks_stand_for_none, numbers_stay_low};
-use gq_desk::{Desk, Done, DriveFault, Event, Hands, HandsFault, Job, Task, drive};
+use gq_desk::{Answer, Desk, Done, DriveFault, Event, Hands, HandsFault, Job, Task, drive};
 use gq_kept::Kept;
 use gq_parse::Piece;
 use gq_project::{Doc, DocChange, Project};
-use gq_rpc::{Flagged, Incoming, Request, read_message};
+use gq_rpc::{Flagged, Incoming, Request, encode, read_message};
 use gq_text::OwnedText;
 use gq_text::text::TEXT_MAX;
 use std::alloc::Global;
@@ -50,6 +50,8 @@ const OPENED: &str =
 #[derive(Drop)]
 struct Noted {
     told: String,
+    /// How many pieces came with each job.
+    pieces: String,
     room: usize,
     closed: bool,
 }
@@ -95,6 +97,9 @@ impl Hands for Noted {
 
     fn job(&mut self, job: Job) -> Result<(), HandsFault> {
         self.enter()?;
+        if write!(self.pieces, "{}: {}\n", job.number, job.pieces.len()).is_err() {
+            return Err(HandsFault::NoMemory);
+        }
         match write!(self.told, "job {}\n", job.number) {
             Ok(()) => Ok(()),
             Err(_) => Err(HandsFault::NoMemory),
@@ -107,12 +112,14 @@ impl Hands for Noted {
 struct Driven {
     written: String,
     told: String,
+    pieces: String,
     ended: Result<u8, DriveFault>,
 }
 
 fn note_up_to(alloc: Global, room: usize) -> Noted {
     Noted {
         told: String::new(alloc),
+        pieces: String::new(alloc),
         room,
         closed: false,
     }
@@ -128,6 +135,7 @@ fn drive_new(alloc: Global, events: Vec<Event>, room: usize) -> Result<Driven, F
     Ok(Driven {
         written: String::from_utf8(sink.inner)?,
         told: hands.told,
+        pieces: hands.pieces,
         ended,
     })
 }
@@ -155,6 +163,7 @@ fn drive_both(
     let driven = Driven {
         written: String::from_utf8(sink.inner)?,
         told: hands.told,
+        pieces: hands.pieces,
         ended,
     };
     Ok((early, driven))
@@ -415,5 +424,52 @@ fn a_job_waits_for_room(rt: HostRuntime) -> Result<(), Fail> {
     assert_eq!(rt; driven.told.as_str(), told.as_str());
     assert!(rt; driven.written.as_str().ends_with(RENAMED));
     assert_eq!(rt; driven.ended, Ok(1));
+    Ok(())
+}
+
+/// The pieces of the first result come with the next job, and with the one after it those of texts that did not change.
+#[test]
+fn pieces_come_with_jobs(rt: HostRuntime) -> Result<(), Fail> {
+    let alloc = rt.alloc();
+    let mut events = Vec::new(alloc);
+    add_early(alloc, &mut events)?;
+    events.push(done(alloc, 1, 7, texts(alloc, 1, "type Query{x:Int}")?)?)?;
+    events.push(message(alloc, rename(alloc, 8)?.as_str())?)?;
+    events.push(message(alloc, cancel(alloc, 8)?.as_str())?)?;
+    add_messages(alloc, &[CHANGE_S], &mut events)?;
+    events.push(message(alloc, rename(alloc, 9)?.as_str())?)?;
+    let driven = drive_new(alloc, events, usize::MAX)?;
+    assert_eq!(rt; driven.pieces.as_str(), "1: 0\n2: 2\n3: 1\n");
+    assert_eq!(rt; driven.ended, Ok(1));
+    Ok(())
+}
+
+/// Whether a worker made this answer to the rename, and so many pieces.
+fn renamed_with(alloc: Global, done: &Done, pieces: usize) -> Result<bool, Fail> {
+    let Answer::Response(message) = &done.answer else {
+        return Ok(false);
+    };
+    let frame = String::from_utf8(encode(alloc, message)?)?;
+    Ok(frame.as_str().ends_with(RENAMED) && done.pieces.len() == pieces)
+}
+
+/// Whether one worker makes pieces of both texts, another one, who has them, none, and none but that of a text that changed.
+fn are_taken(alloc: Global, one: &mut Kept, another: &mut Kept) -> Result<bool, Fail> {
+    let schema = "type Query{x:Int}";
+    let made = done_by(alloc, 1, 8, texts(alloc, 1, schema)?, &[], one)?;
+    let taken = done_by(alloc, 2, 8, texts(alloc, 1, schema)?, &made.pieces, another)?;
+    let changed = texts(alloc, 2, "type Query{x:Int y:Int}")?;
+    let mended = done_by(alloc, 3, 8, changed, &made.pieces, another)?;
+    Ok(renamed_with(alloc, &made, 2)?
+        && renamed_with(alloc, &taken, 0)?
+        && renamed_with(alloc, &mended, 1)?)
+}
+
+#[test]
+fn a_worker_takes_the_pieces_of_a_job(rt: HostRuntime) -> Result<(), Fail> {
+    let alloc = rt.alloc();
+    let mut one = Kept::of(alloc, &Project::new(alloc))?;
+    let mut another = Kept::of(alloc, &Project::new(alloc))?;
+    assert!(rt; are_taken(alloc, &mut one, &mut another)?);
     Ok(())
 }

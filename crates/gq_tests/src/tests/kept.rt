@@ -3,10 +3,12 @@ use crate::tests::versions::file;
 use gq_fault::Code;
 use gq_index::Index;
 use gq_kept::Kept;
+use gq_parse::Piece;
 use gq_project::{Doc, Project};
 use gq_rules::{Report, Valid, validate};
 use gq_text::NoMemory;
 use std::alloc::Global;
+use std::sync::Arc;
 use std::test::Fail;
 
 /// Whether these are all faults of a report: unknown fragments in the document of that key, from these places on.
@@ -45,6 +47,34 @@ fn a_fragment_goes_and_comes_back(rt: HostRuntime) -> Result<(), Fail> {
     let alloc = rt.alloc();
     let mut kept = Kept::of(alloc, &Project::new(alloc))?;
     assert!(rt; is_unknown_while_it_is_gone(alloc, &mut kept)?);
+    Ok(())
+}
+
+/// A piece of a document of that key and text.
+fn piece(alloc: Global, key: &str, text: &str) -> Result<Arc<Piece>, NoMemory> {
+    Ok(Arc::new(alloc, Piece::of(alloc, &file(alloc, key, text)?)?)?)
+}
+
+/// Whether a piece of another text or of another key is not used, and what is told is that of the document's text.
+fn takes_its_own_piece_alone(alloc: Global, kept: &mut Kept) -> Result<bool, NoMemory> {
+    kept.replace_file(alloc, file(alloc, "s", "type Query{x:Int}")?, None)?;
+    let right = piece(alloc, "q", "{x}")?;
+    kept.replace_file(alloc, file(alloc, "q", "{...F ...F}")?, Some(right))?;
+    let of_another_text = are_unknown_fragments(&kept.report(alloc)?, "q", &[4, 9]);
+    let wrong = piece(alloc, "r", "{...F}")?;
+    kept.replace_file(alloc, file(alloc, "q", "{x}")?, Some(wrong))?;
+    let of_another_key = kept.report(alloc)?.found.is_empty();
+    let own = piece(alloc, "q", "{...F}")?;
+    kept.replace_file(alloc, file(alloc, "q", "{...F}")?, Some(own))?;
+    let its_own = are_unknown_fragments(&kept.report(alloc)?, "q", &[4]);
+    Ok(of_another_text && of_another_key && its_own)
+}
+
+#[test]
+fn a_piece_of_another_text_is_not_used(rt: HostRuntime) -> Result<(), Fail> {
+    let alloc = rt.alloc();
+    let mut kept = Kept::of(alloc, &Project::new(alloc))?;
+    assert!(rt; takes_its_own_piece_alone(alloc, &mut kept)?);
     Ok(())
 }
 
