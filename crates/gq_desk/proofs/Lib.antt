@@ -6,3 +6,4 @@ pub mod Runs
 pub mod Chains
 pub mod Drives
 pub mod Standing
+pub mod Current

@@ -1,13 +1,28 @@
+use Rattle.std.proofs.Common.{Option, List, subst, sym}
+use Rattle.std.proofs.lemmas.Result.{on_ok_weaker}
+use Rattle.gq_project.specs.declared.document.Doc.{Doc}
+use Rattle.gq_events.specs.declared.documents.OpenDocument.{OpenDocument}
+use Rattle.gq_desk.proofs.Current.{KeptOf, still_kept, documents_stay}
 use Rattle.gq_desk.proofs.Stepping.{stepped, from_none}
 use Rattle.gq_desk.proofs.desk.take_event.Goals as goal
 
-pub returns : goal.returns
-returns c =
+pub bring-requires-clause-kept : goal.bring-requires-clause-kept
+bring-requires-clause-kept c =
+    subst (λ (documents : List OpenDocument). KeptOf documents c.outdate_if.new.self) (sym c.documents-3.ensures)
+    (still_kept c.may_change_documents.result c.args.keeping.now c.outdate_if.new.self c.args.session.now.documents c.take_in.new.self.documents c.outdate_if.ensures.others c.outdate_if.ensures.same c.requires.kept
+    (λ e. documents_stay c.args.workers c.args.session.now c.take_in.new.self c.in_ok-denied.denied c.effect-effect.result c.in_ok-rest.rest c.settle.new.outs.items c.take_in.new.outs.items c.in_ok-rest.ensures.rest c.in_ok-task.ensures.own
+    (c.may_change_documents.ensures e)))
+
+pub returns-clause-kept : goal.returns-clause-kept
+returns-clause-kept c = on_ok_weaker c.hand_on.result (λ _. subst (λ (documents : List OpenDocument). KeptOf documents c.bring.new.keeping) c.documents-3.ensures c.bring.ensures.kept) c.hand_on.ensures.jobs
+
+pub returns-clause-steps : goal.returns-clause-steps
+returns-clause-steps c =
     stepped (record { session = c.args.session.now; workers = c.args.workers; jobs = c.args.jobs.now }) c.args.event c.effect-effect.result c.in_ok-rest.rest c.in_ok-denied.denied c.in_ok-task.task
     c.settle.new.outs.items c.take_in.new.outs.items c.bring.new.outs.items c.hand_on.new.outs.items c.take_in.new.self c.settle.new.self c.bring.new.jobs c.hand_on.new.self c.hand_on.result
     c.effect-effect.ensures (rw c.pending.ensures at c.in_ok-denied.ensures) c.in_ok-rest.ensures.rest
-    (rw c.documents.ensures at c.in_ok-rest.ensures.jobs)
-    (from_none _ _ _ c.requires.empty (rw c.documents.ensures at c.in_ok-rest.ensures.outs))
+    (rw c.documents-2.ensures at c.in_ok-rest.ensures.jobs)
+    (from_none _ _ _ c.requires.empty (rw c.documents-2.ensures at c.in_ok-rest.ensures.outs))
     c.in_ok-task.ensures.task c.in_ok-task.ensures.own
-    c.in_ok-bring.ensures.jobs (rw c.documents-2.ensures at c.in_ok-bring.ensures.outs)
+    c.in_ok-bring.ensures.jobs (rw c.documents-3.ensures at c.in_ok-bring.ensures.outs)
     c.hand_on.ensures.jobs c.hand_on.ensures.outs
