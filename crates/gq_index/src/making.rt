@@ -17,7 +17,7 @@ use crate::places::{
 };
 use crate::spreads::{are_operations, spread_rows};
 use gq_graph::transposed::transposed;
-use gq_parse::read;
+use gq_parse::read_shared;
 use gq_project::{Doc, Project};
 use gq_text::NoMemory;
 use gq_tree::Parsed;

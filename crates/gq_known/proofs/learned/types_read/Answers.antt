@@ -1,12 +1,13 @@
-use Rattle.std.proofs.Common.{ℕ, List, [], ◌∷◌, ◌++◌, map, subst, sym}
+use Rattle.std.proofs.Common.{◌≡◌, ℕ, List, [], ◌∷◌, ◌++◌, map, subst, sym}
 use Rattle.std.specs.Map.Iter.{deref_pair}
 use Rattle.std.proofs.lemmas.List.{map-append}
 use Rattle.std.proofs.lemmas.Iterator.{YieldsList-from_slice, YieldsList-from_zip}
 use Rattle.std.proofs.lemmas.Iterator.Consumers.{YieldsList-end}
 use Rattle.gq_project.specs.declared.document.Doc.{Doc}
 use Rattle.gq_tree.specs.declared.parsed.Parsed.{Parsed}
-use Rattle.gq_tree.specs.Readings.{SharedParsed, shared_view, readings_view}
+use Rattle.gq_tree.specs.Readings.{SharedParsed, in_document, parsed_view, readings_view}
 use Rattle.gq_parse.specs.Parsed.{AreParsed, IsParsed}
+use Rattle.gq_document.specs.Definitions.{entry_in}
 use Rattle.gq_known.proofs.Again.{DefinesSame, DefineSame, none, one_more, same_from}
 use Rattle.gq_known.proofs.learned.types_read.Goals as goal
 
@@ -19,7 +20,9 @@ loop-document-preserved c =
     let reading = c.in-Some.reading in
     let again = c.in_ok-types_in.field-0 in
     let before = c.loop-document.yielded in
-    let same : DefinesSame (document.now, reading.now) again = λ is. c.in_ok-types_in.ensures (subst (λ (text : List ℕ). IsParsed text (shared_view reading.now)) (sym c.as_str.ensures) is) in
+    let same : DefinesSame (document.now, reading.now) again =
+    subst (λ (r : Parsed). IsParsed document.now.text (parsed_view r) → (file : ℕ) → in_document entry_in file (parsed_view again) ≡ in_document entry_in file (parsed_view r)) c.deref.ensures
+    (λ is. c.in_ok-types_in.ensures (subst (λ (text : List ℕ). IsParsed text (parsed_view c.deref.result.now)) (sym c.as_str.ensures) is)) in
     subst (λ (ps : List (Doc × SharedParsed)). DefineSame ps c.push.new.self.items) (sym (map-append deref_pair before ((document, reading) ∷ [])))
     (subst (λ (agains : List Parsed). DefineSame (map deref_pair before ++ (document.now, reading.now) ∷ []) agains) (sym c.in_ok-push.ensures.items)
     (one_more (map deref_pair before) c.loop-document.all.items (document.now, reading.now) again c.loop-document.invariant same))

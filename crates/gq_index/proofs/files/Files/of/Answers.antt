@@ -1,11 +1,13 @@
 -- What is kept of one more document.
-use Rattle.std.proofs.Common.{List, [], ◌∷◌, ◌++◌, ◌∙◌, map, subst, sym}
+use Rattle.std.proofs.Common.{List, [], ◌∷◌, ◌++◌, ◌∙◌, ap, map, subst, sym}
 use Rattle.std.specs.Map.Iter.{deref_pair}
 use Rattle.std.proofs.lemmas.List.{map-append}
 use Rattle.std.proofs.lemmas.Iterator.{YieldsList-from_slice, YieldsList-from_zip}
 use Rattle.std.proofs.lemmas.Iterator.Consumers.{YieldsList-end}
 use Rattle.gq_project.specs.declared.document.Doc.{Doc}
-use Rattle.gq_tree.specs.Readings.{SharedParsed}
+use Rattle.gq_tree.specs.declared.parsed.Parsed.{Parsed}
+use Rattle.gq_tree.specs.Readings.{SharedParsed, parsed_view}
+use Rattle.gq_index.specs.Parts.{parts_in}
 use Rattle.gq_index.specs.declared.files.File.{File}
 use Rattle.gq_index.proofs.FileLemmas.{AreKept, kept_none, kept_more, kept_all}
 use Rattle.gq_index.proofs.files.Files.of.Goals as goal
@@ -21,7 +23,7 @@ loop-document-preserved c =
     let before = c.loop-document.yielded in
     subst (λ (ps : List (Doc × SharedParsed)). AreKept ps c.push.new.self.items) (sym {A = List (Doc × SharedParsed)} (map-append deref_pair before ((document, reading) ∷ [])))
     (subst (λ (files : List File). AreKept (map deref_pair before ++ (document.now, reading.now) ∷ []) files) (sym {A = List File} c.in_ok-push.ensures.items)
-    (kept_more (map deref_pair before) c.loop-document.files.items (document.now, reading.now) file (c.in_ok-of.ensures.key ∙ c.as_str.ensures) c.in_ok-of.ensures.parts c.loop-document.invariant))
+    (kept_more (map deref_pair before) c.loop-document.files.items (document.now, reading.now) file (c.in_ok-of.ensures.key ∙ c.as_str.ensures) (c.in_ok-of.ensures.parts ∙ ap (λ (r : Parsed). parts_in (parsed_view r)) c.deref.ensures) c.loop-document.invariant))
 
 pub returns : goal.returns
 returns c =
