@@ -51,7 +51,10 @@ fn put_names_in(alloc: Global, reading: &Parsed, names: &mut Vec<OwnedText>) -> 
 }
 
 /// The names of the fragments of documents that read so.
-pub(crate) fn fragment_names(alloc: Global, readings: &[Arc<Parsed>]) -> Result<Vec<OwnedText>, NoMemory>
+pub(crate) fn fragment_names(
+    alloc: Global,
+    readings: &[Arc<Parsed>],
+) -> Result<Vec<OwnedText>, NoMemory>
     ensures { IfOk result (λ names. (documents : List Doc) → AreParsed documents (readings_view readings.now) → (label : List ℕ) → Contains names.items label ↔ IsFragmentName documents label) }
 {
     one_tree();

@@ -1,5 +1,5 @@
 -- The documents of a valid project have trees.
-use Rattle.std.proofs.Common.{◌≡◌, ℕ, zero, suc, List, [], ◌∷◌, Some, refl, slice_get}
+use Rattle.std.proofs.Common.{◌≡◌, ℕ, zero, suc, List, Some, refl, slice_get}
 use Rattle.std.specs.List.{AllByRecursion}
 use Rattle.gq_project.specs.declared.document.Doc.{Doc}
 use Rattle.gq_fault.specs.declared.code.Code.TheVariants.{Syntax, OverLimit}

@@ -1,4 +1,4 @@
-use Rattle.std.proofs.Common.{◌≡◌, ◌↔◌, Contains, subst, sym}
+use Rattle.std.proofs.Common.{◌↔◌, Contains, subst, sym}
 use Rattle.gq_tree.specs.Readings.{readings_view}
 use Rattle.gq_types.specs.Look.{types_view}
 use Rattle.gq_fault.specs.declared.fault.Fault.{Fault}

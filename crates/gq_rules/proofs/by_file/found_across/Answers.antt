@@ -1,4 +1,4 @@
-use Rattle.std.proofs.Common.{◌≡◌, ◌∙◌, List, ap, subst, false, filter}
+use Rattle.std.proofs.Common.{◌∙◌, List, ap, subst, false, filter}
 use Rattle.std.specs.Bool.{beq}
 use Rattle.gq_fault.specs.declared.fault.Fault.{Fault}
 use Rattle.gq_document.specs.Executable.{executable_view}

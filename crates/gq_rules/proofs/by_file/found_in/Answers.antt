@@ -1,4 +1,4 @@
-use Rattle.std.proofs.Common.{◌≡◌, ◌∙◌, List, ap, true, filter}
+use Rattle.std.proofs.Common.{◌∙◌, List, ap, true, filter}
 use Rattle.std.specs.Bool.{beq}
 use Rattle.gq_fault.specs.declared.fault.Fault.{Fault}
 use Rattle.gq_rules.specs.RestsOnFile.{rests_on_file}
