@@ -19,7 +19,8 @@ use Rattle.gq_rpc.specs.declared.messages.Diagnostic.{Diagnostic}
 use Rattle.gq_rpc.specs.declared.messages.PublishDiagnosticsParams.{PublishDiagnosticsParams}
 use Rattle.gq_rpc.specs.declared.messages.Outgoing.{Outgoing}
 use Rattle.gq_rpc.specs.declared.messages.Outgoing.TheVariants as outgoing
-use Rattle.gq_rpc.specs.Encoding.{id_value, id_or_null, response, error_response, member_where, rename_options, initialize_result, capability_members, text_edit_value, version_or_null, document_edit_value, workspace_edit_value, hover_or_null, location_value, completion_value, prepared_or_null, code_action_value, diagnostic_value, version_members, diagnostics_value, told, code_of, words_of, value_of}
+use Rattle.gq_text.specs.declared.place.PositionEncoding.{PositionEncoding}
+use Rattle.gq_rpc.specs.Encoding.{id_value, id_or_null, response, error_response, member_where, encoding_member, rename_options, initialize_result, capability_members, text_edit_value, version_or_null, document_edit_value, workspace_edit_value, hover_or_null, location_value, completion_value, prepared_or_null, code_action_value, diagnostic_value, version_members, diagnostics_value, told, code_of, words_of, value_of}
 
 integer_no_float : (z : ℤ) → is_float (of_integer z) ≡ false
 integer_no_float (pos n) = refl
@@ -58,14 +59,19 @@ rename_options_no_float : (prepare : Bool) → has_float (rename_options prepare
 rename_options_no_float true = refl
 rename_options_no_float false = refl
 
+encoding_no_float : (e : Option PositionEncoding) (rest : Members) → members_have_float rest ≡ false → members_have_float (encoding_member e rest) ≡ false
+encoding_no_float (Some e) rest h = h
+encoding_no_float None rest h = h
+
 members_no_float : (c : ServerCapabilities) → members_have_float (capability_members c) ≡ false
 members_no_float c =
     where_no_float c.code_action_provider _ _ _ refl
     (where_no_float c.completion_provider _ _ _ refl
     (where_no_float c.definition_provider _ _ _ refl
     (where_no_float c.hover_provider _ _ _ refl
+    (encoding_no_float c.position_encoding _
     (where_no_float c.references_provider _ _ _ refl
-    (where_no_float c.rename_provider _ _ _ (rename_options_no_float c.prepare_provider) refl)))))
+    (where_no_float c.rename_provider _ _ _ (rename_options_no_float c.prepare_provider) refl))))))
 
 hover_no_float : (found : Option Hover) → has_float (hover_or_null found) ≡ false
 hover_no_float None = refl

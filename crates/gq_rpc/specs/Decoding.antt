@@ -5,6 +5,8 @@ use Rattle.serde_json.specs.Data.{Data, null, boolean, number, string, array, ob
 use Rattle.serde_json.specs.Find.{get, as_null, as_bool, as_str, as_number, as_array, as_object, as_i64, as_u64}
 use Rattle.serde_json.specs.Read.{read}
 use Rattle.gq_text.specs.declared.place.Position.{Position}
+use Rattle.gq_text.specs.declared.place.PositionEncoding.{PositionEncoding}
+use Rattle.gq_text.specs.declared.place.PositionEncoding.TheVariants as encoding
 use Rattle.gq_text.specs.declared.text.Range.{Range}
 use Rattle.gq_text.specs.declared.text.Change.{Change}
 use Rattle.gq_text.specs.declared.text.Change.TheVariants as change
@@ -102,6 +104,24 @@ takes_code_actions message =
     is_true_in (edit_capability (codes "documentChanges") message)
     && is_object_in (member_in (codes "codeActionLiteralSupport") (document_capability (codes "codeAction") message))
 
+-- the encoding of positions of this name (LSP 3.17, PositionEncodingKind), if this server knows it
+abbrev pub encoding_called : List ℕ → Option PositionEncoding
+encoding_called name =
+    if bytes_eq name (codes "utf-8") then Some encoding.Utf8
+    else (if bytes_eq name (codes "utf-16") then Some encoding.Utf16 else None)
+
+abbrev pub encoding_named : Data → Option PositionEncoding
+encoding_named value = option_and_then encoding_called (as_str value)
+
+-- the first that the items of an array name, the others passed over, else UTF-16
+abbrev pub first_encoding : Items → PositionEncoding
+first_encoding no_items = encoding.Utf16
+first_encoding (item value values) = unwrap_or (encoding_named value) (first_encoding values)
+
+-- none without an array (LSP 3.17, general client capabilities, `positionEncodings`)
+abbrev pub position_encoding_in : Option Data → Option PositionEncoding
+position_encoding_in found = option_map first_encoding (option_and_then as_array found)
+
 abbrev pub client_capabilities_of : Data → ClientCapabilities
 client_capabilities_of message = record {
   document_changes = is_true_in (edit_capability (codes "documentChanges") message);
@@ -112,6 +132,7 @@ client_capabilities_of message = record {
   hover = is_object_in (document_capability (codes "hover") message);
   publish_diagnostics = is_object_in (document_capability (codes "publishDiagnostics") message);
   references = is_object_in (document_capability (codes "references") message);
+  position_encoding = position_encoding_in (member_in (codes "positionEncodings") (capability (codes "general") message));
 }
 
 -- ---- documents, positions and ranges (LSP 3.17, TextDocumentIdentifier, Position and Range)

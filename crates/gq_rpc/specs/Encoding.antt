@@ -5,6 +5,8 @@ use Rattle.serde_json.specs.Find.{of_integer}
 use Rattle.serde_json.specs.View.{items_of}
 use Rattle.serde_json.specs.Written.{compact_text}
 use Rattle.gq_text.specs.declared.place.Position.{Position}
+use Rattle.gq_text.specs.declared.place.PositionEncoding.{PositionEncoding}
+use Rattle.gq_text.specs.declared.place.PositionEncoding.TheVariants as encoding
 use Rattle.gq_text.specs.declared.text.Range.{Range}
 use Rattle.gq_edit.specs.declared.workspace.TextEdit.{TextEdit}
 use Rattle.gq_edit.specs.declared.workspace.TextDocumentEdit.{TextDocumentEdit}
@@ -74,15 +76,26 @@ code_action_options =
     (array (item (action_kind action.Extract) (item (action_kind action.Inline) (item (action_kind action.Rewrite) no_items))))
     no_members)
 
+-- what positions are counted in (LSP 3.17, PositionEncodingKind)
+abbrev pub encoding_name : PositionEncoding → List ℕ
+encoding_name encoding.Utf8 = codes "utf-8"
+encoding_name encoding.Utf16 = codes "utf-16"
+
+-- `positionEncoding` stands only where there is one
+abbrev pub encoding_member : Option PositionEncoding → Members → Members
+encoding_member (Some chosen) rest = member (codes "positionEncoding") (string (encoding_name chosen)) rest
+encoding_member None rest = rest
+
 abbrev pub capability_members : ServerCapabilities → Members
 capability_members capabilities =
     member_where capabilities.code_action_provider (codes "codeActionProvider") code_action_options
     (member_where capabilities.completion_provider (codes "completionProvider") (object no_members)
     (member_where capabilities.definition_provider (codes "definitionProvider") (boolean true)
     (member_where capabilities.hover_provider (codes "hoverProvider") (boolean true)
+    (encoding_member capabilities.position_encoding
     (member_where capabilities.references_provider (codes "referencesProvider") (boolean true)
     (member_where capabilities.rename_provider (codes "renameProvider") (rename_options capabilities.prepare_provider)
-    (member (codes "textDocumentSync") synchronization no_members))))))
+    (member (codes "textDocumentSync") synchronization no_members)))))))
 
 abbrev pub initialize_result : ServerCapabilities → Data
 initialize_result capabilities =

@@ -1,10 +1,11 @@
 //! What the server says that it can do, written (LSP 3.17, InitializeResult).
-ghost use Rattle.std.specs.Prelude.{◌≡◌, codes, IfOk, OnOk, if◌then◌else◌};
-ghost use Rattle.serde_json.specs.Data.{object, put};
+ghost use Rattle.std.specs.Prelude.{◌≡◌, codes, IfOk, OnOk, option_map, unwrap_or, if◌then◌else◌};
+ghost use Rattle.serde_json.specs.Data.{string, object, put};
 ghost use Rattle.serde_json.specs.View.{view, members_view};
-ghost use Rattle.gq_rpc.specs.Encoding.{rename_options, code_action_options, capability_members, initialize_result, synchronization};
+ghost use Rattle.gq_rpc.specs.Encoding.{rename_options, code_action_options, encoding_name, capability_members, initialize_result, synchronization};
 
 use crate::messages::{CodeActionKind, ServerCapabilities};
+use gq_text::PositionEncoding;
 use serde_json::{Map, Value, json};
 use std::alloc::{AllocError, Global};
 
@@ -54,6 +55,34 @@ fn put_where(
     serde_json::put(members, alloc, name, value)
 }
 
+/// The name of an encoding of positions.
+fn name_of(encoding: PositionEncoding) -> &'static str
+    ensures { result.now ≡ encoding_name encoding }
+{
+    match encoding {
+        PositionEncoding::Utf8 => "utf-8",
+        PositionEncoding::Utf16 => "utf-16",
+    }
+}
+
+/// Puts what positions are counted in, where there is one.
+fn put_encoding(
+    members: &mut Map<String, Value>,
+    alloc: Global,
+    encoding: Option<PositionEncoding>,
+) -> Result<(), AllocError>
+    ensures { OnOk result (members_view members.new.entries ≡ unwrap_or
+        (option_map (λ e. put (codes "positionEncoding") (string (encoding_name e))
+        (members_view members.old.entries)) encoding)
+        (members_view members.old.entries)) }
+{
+    let Some(encoding) = encoding else {
+        return Ok(());
+    };
+    let name = Value::try_from_str(alloc, name_of(encoding))?;
+    serde_json::put(members, alloc, "positionEncoding", name)
+}
+
 /// All that the server can do.
 fn write_capabilities(alloc: Global, offered: ServerCapabilities) -> Result<Value, AllocError>
     ensures { IfOk result (λ v. view v ≡ object (capability_members offered)) }
@@ -77,6 +106,7 @@ fn write_capabilities(alloc: Global, offered: ServerCapabilities) -> Result<Valu
         "referencesProvider",
         references,
     )?;
+    put_encoding(&mut members, alloc, offered.position_encoding)?;
     let hover = Value::Bool(true);
     put_where(
         &mut members,

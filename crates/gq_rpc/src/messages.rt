@@ -3,7 +3,7 @@ ghost use Rattle.std.specs.Prelude.{◌≡◌, List, ℕ};
 ghost use Rattle.gq_rpc.specs.Actions.{action_name, action_title};
 
 use gq_edit::WorkspaceEdit;
-use gq_text::{Change, Items, OwnedText, Position, Range};
+use gq_text::{Change, Items, OwnedText, Position, PositionEncoding, Range};
 
 /// What names a request (JSON-RPC 2.0, section 4): `1` and `"1"` differ.
 #[derive(Drop)]
@@ -28,6 +28,8 @@ pub struct ClientCapabilities {
     pub hover: bool,
     pub publish_diagnostics: bool,
     pub references: bool,
+    /// Where `general.positionEncodings` is an array: its first entry that is `utf-8` or `utf-16`, else UTF-16.
+    pub position_encoding: Option<PositionEncoding>,
 }
 
 /// A place in a document (LSP 3.17, TextDocumentPositionParams).
@@ -157,6 +159,8 @@ pub struct ServerCapabilities {
     /// What a rename would be of is answered, where renames are.
     pub prepare_provider: bool,
     pub code_action_provider: bool,
+    /// What positions are counted in, where the client listed what it knows; else nothing is said, and UTF-16 holds.
+    pub position_encoding: Option<PositionEncoding>,
 }
 
 /// What is shown where a pointer rests (LSP 3.17, Hover).

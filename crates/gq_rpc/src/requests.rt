@@ -1,7 +1,7 @@
 //! Requests read: what a client says that it can do, and what it asks about open documents.
-ghost use Rattle.std.specs.Prelude.{◌≡◌, codes, IfOk, option_map, option_and_then};
-ghost use Rattle.serde_json.specs.View.{view};
-ghost use Rattle.gq_rpc.specs.Decoding.{member_in, capability, edit_capability, document_capability, is_true_in, is_object_in, takes_code_actions, boolean_in, parameter, client_capabilities_of, place_in, references_in, rename_in, asked, question_of, request_of};
+ghost use Rattle.std.specs.Prelude.{◌≡◌, map, codes, IfOk, option_map, option_and_then};
+ghost use Rattle.serde_json.specs.View.{view, items_of};
+ghost use Rattle.gq_rpc.specs.Decoding.{member_in, capability, edit_capability, document_capability, is_true_in, is_object_in, takes_code_actions, encoding_named, first_encoding, position_encoding_in, boolean_in, parameter, client_capabilities_of, place_in, references_in, rename_in, asked, question_of, request_of};
 
 use crate::code_actions::read_code_action;
 use crate::messages::{
@@ -9,7 +9,7 @@ use crate::messages::{
     TextDocumentPositionParams,
 };
 use crate::parameters::{find_parameter, read_key, read_position};
-use gq_text::{NoMemory, OwnedText};
+use gq_text::{NoMemory, OwnedText, PositionEncoding};
 use serde_json::Value;
 use std::alloc::Global;
 
@@ -89,6 +89,43 @@ fn can_take_code_actions(message: &Value) -> bool
     takes_document_changes(message) && has_code_action_literals(message)
 }
 
+/// The encoding of positions that a value names, if this server knows it.
+fn read_encoding(value: &Value) -> Option<PositionEncoding>
+    ensures { result ≡ encoding_named (view value.now) }
+{
+    let name = value.as_str()?;
+    if name == "utf-8" {
+        return Some(PositionEncoding::Utf8);
+    }
+    if name == "utf-16" {
+        return Some(PositionEncoding::Utf16);
+    }
+    None
+}
+
+/// The first encoding that values name, else UTF-16.
+fn read_first_encoding(values: &[Value]) -> PositionEncoding
+    ensures { result ≡ first_encoding (items_of (map view values.now)) }
+{
+    for value in values {
+        if let Some(encoding) = read_encoding(value) {
+            return encoding;
+        }
+    }
+    PositionEncoding::Utf16
+}
+
+/// What positions are counted in, where the client lists what it knows.
+fn read_position_encoding(message: &Value) -> Option<PositionEncoding>
+    ensures { result ≡ position_encoding_in (member_in (codes "positionEncodings")
+        (capability (codes "general") (view message.now))) }
+{
+    let values = find_capability(message, "general")?
+        .get("positionEncodings")?
+        .as_array()?;
+    Some(read_first_encoding(values.as_slice()))
+}
+
 /// What the client says that it can do.
 fn read_client_capabilities(message: &Value) -> ClientCapabilities
     ensures { result ≡ client_capabilities_of (view message.now) }
@@ -102,6 +139,7 @@ fn read_client_capabilities(message: &Value) -> ClientCapabilities
         hover: has_document_capability(message, "hover"),
         publish_diagnostics: has_document_capability(message, "publishDiagnostics"),
         references: has_document_capability(message, "references"),
+        position_encoding: read_position_encoding(message),
     }
 }
 

@@ -11,10 +11,11 @@ view-Bool b = search (rules, the_lemmas)
 
 pub returns : goal.returns
 returns c =
-    view-Object _ ∙ ap object (capability_members-from_puts c.args.offered _ _ _ _ _ _ _ _ _ _ _ _ _ _ _
+    view-Object _ ∙ ap object (capability_members-from_puts c.args.offered _ _ _ _ _ _ _ _ _ _ _ _ _ _ _ _
     (ap members_view c.new-members.ensures.empty) c.in_ok-put.ensures.ok c.in_ok-synchronization.ensures
     c.in_ok-put_where.ensures c.in_ok-rename.ensures
     c.in_ok-put_where-2.ensures (view-Bool true)
+    c.in_ok-put_encoding.ensures
     c.in_ok-put_where-3.ensures (view-Bool true)
     c.in_ok-put_where-4.ensures (view-Bool true)
     c.in_ok-put_where-5.ensures (view-Object _ ∙ ap (λ es. object (members_view es)) c.new.ensures.empty)
