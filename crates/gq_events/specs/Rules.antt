@@ -311,6 +311,7 @@ server_capabilities client = record {
   rename_provider = client.document_changes;
   prepare_provider = client.document_changes && client.prepare_support;
   code_action_provider = client.code_actions;
+  position_encoding = None;
 }
 
 -- the reply to a question that is denied

@@ -37,6 +37,7 @@ fn server_capabilities(client: ClientCapabilities) -> ServerCapabilities
         rename_provider: client.document_changes,
         prepare_provider: client.document_changes && client.prepare_support,
         code_action_provider: client.code_actions,
+        position_encoding: None,
     }
 }
 
