@@ -1,6 +1,6 @@
 use Rattle.std.proofs.Common.{◌≤◌, length, arith}
 use Rattle.std.proofs.lemmas.List.{length-map}
-use Rattle.gq_tree.specs.Readings.{parsed_view, readings_view}
+use Rattle.gq_tree.specs.Readings.{parsed_view, shared_view, readings_view}
 use Rattle.gq_document.specs.Definitions.{operation_in, fragment_in, operations_view, fragments_view}
 use Rattle.gq_changed.specs.Changed.{anew_view, mixed}
 use Rattle.gq_changed.proofs.Files.{files_more, files_all}
@@ -23,12 +23,12 @@ pub returns-clause-operations : goal.returns-clause-operations
 returns-clause-operations c =
     let old = c.args.before.now in
     let anew = anew_view c.args.anew.now in
-    let past : length (mixed (readings_view old) anew) ≤ c.loop-file.file = omega (arith, length_mixed (readings_view old) anew, length-map old parsed_view, c.loop-file-test.false) in
+    let past : length (mixed (readings_view old) anew) ≤ c.loop-file.file = omega (arith, length_mixed (readings_view old) anew, length-map old shared_view, c.loop-file-test.false) in
     files_all operation_in (mixed (readings_view old) anew) c.loop-file.file (operations_view c.loop-file.all.operations.items) past c.loop-file.invariant.operations
 
 pub returns-clause-fragments : goal.returns-clause-fragments
 returns-clause-fragments c =
     let old = c.args.before.now in
     let anew = anew_view c.args.anew.now in
-    let past : length (mixed (readings_view old) anew) ≤ c.loop-file.file = omega (arith, length_mixed (readings_view old) anew, length-map old parsed_view, c.loop-file-test.false) in
+    let past : length (mixed (readings_view old) anew) ≤ c.loop-file.file = omega (arith, length_mixed (readings_view old) anew, length-map old shared_view, c.loop-file-test.false) in
     files_all fragment_in (mixed (readings_view old) anew) c.loop-file.file (fragments_view c.loop-file.all.fragments.items) past c.loop-file.invariant.fragments
