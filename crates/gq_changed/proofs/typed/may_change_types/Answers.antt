@@ -17,7 +17,7 @@ loop-place-preserved c =
     let one = c.index-anew-place.result in
     let stood = slice_get_read before (length before) place was refl c.loop-place-test.true c.index-before-place.is in
     let stands = slice_get_read anew (length anew) place one refl (omega arith) c.index-anew-place.is in
-    keeps_more before anew place was one stood stands 
+    keeps_more before anew place was one stood stands
     (subst (λ (r : Parsed). IfSome one (λ new. DefinesNoTypes (parsed_view r) × DefinesNoTypes (parsed_view new))) c.deref.ensures (c.changes_types.ensures c.if-changes_types.false)) c.loop-place.invariant
 
 pub returns : goal.returns
