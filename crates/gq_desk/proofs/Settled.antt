@@ -123,13 +123,13 @@ own_stays workers s denied (effect.Cancels id) d = refl
 own_stays workers s denied (effect.ShutsDown id) d = refl
 own_stays workers s denied (effect.Stops status) d = refl
 
-pub taken_stays : (diagnostics : Bool) (denied : Option Denial) (e : Effect) → taken diagnostics denied (rest_of e) ≡ taken diagnostics denied e
-taken_stays diagnostics denied (effect.Finishes done) = refl
-taken_stays diagnostics denied effect.Nothing = refl
-taken_stays diagnostics denied (effect.Begins id capabilities) = refl
-taken_stays diagnostics denied (effect.Refuses id why) = refl
-taken_stays diagnostics denied (effect.Asks id asked) = refl
-taken_stays diagnostics denied (effect.Changes c) = refl
-taken_stays diagnostics denied (effect.Cancels id) = refl
-taken_stays diagnostics denied (effect.ShutsDown id) = refl
-taken_stays diagnostics denied (effect.Stops status) = refl
+pub taken_stays : (s : Session) (denied : Option Denial) (e : Effect) → taken s denied (rest_of e) ≡ taken s denied e
+taken_stays s denied (effect.Finishes done) = refl
+taken_stays s denied effect.Nothing = refl
+taken_stays s denied (effect.Begins id capabilities) = refl
+taken_stays s denied (effect.Refuses id why) = refl
+taken_stays s denied (effect.Asks id asked) = refl
+taken_stays s denied (effect.Changes c) = refl
+taken_stays s denied (effect.Cancels id) = refl
+taken_stays s denied (effect.ShutsDown id) = refl
+taken_stays s denied (effect.Stops status) = refl

@@ -70,7 +70,7 @@ module _ (s : State) (event : Event) (e rest : Effect) (denied : Option Denial) 
   Brought = (a : Answer) × (s.workers ≡ 0 → FitsTaken (docs_of session.documents) task a) × (brought ≡ mid ++ (if s.workers == 0 then answer_to task a else []))
 
   joined : e ≡ effect_of s.session.phase s.session.documents event → denied ≡ denied_by s.session s.jobs.pending e → rest ≡ rest_of e → settled_jobs ≡ settled (docs_of s.session.documents) e s.jobs
-      → told ≡ verdicts (docs_of s.session.documents) e s.jobs.pending → task ≡ taken s.session.diagnostics denied rest → Replied s.workers s.session denied rest session told mid
+      → told ≡ verdicts (docs_of s.session.documents) e s.jobs.pending → task ≡ taken s.session denied rest → Replied s.workers s.session denied rest session told mid
       → jobs ≡ with_jobs settled_jobs (jobs_for s.workers settled_jobs.next task) → Brought → jobs' ≡ handed_on jobs → new ≡ brought ++ map out.Job (next_jobs jobs) → Steps s event new (state session s.workers jobs')
   joined e_is denied_is rest_is settled_is told_is task_is replied jobs_is given handed_is new_is =
       let ss = s.session in
@@ -78,7 +78,7 @@ module _ (s : State) (event : Event) (e rest : Effect) (denied : Option Denial) 
       let w = s.workers in
       let by_event = whole w ss session denied e told mid (subst (λ (x : Effect). Replied w ss denied x session told mid) rest_is replied) in
       let d = changed_by ss e by_event.0 in
-      let t_is : task ≡ taken_by ss sj e = task_is ∙ (ap (taken ss.diagnostics denied) rest_is ∙ (taken_stays ss.diagnostics denied e ∙ ap (λ (x : Option Denial). taken ss.diagnostics x e) denied_is)) in
+      let t_is : task ≡ taken_by ss sj e = task_is ∙ (ap (taken ss denied) rest_is ∙ (taken_stays ss denied e ∙ ap (λ (x : Option Denial). taken ss x e) denied_is)) in
       let then_is : jobs ≡ jobs_then w ss sj e task = jobs_is ∙ ap (λ (x : Table). with_jobs x (jobs_for w x.next task)) settled_is in
       let mid_is : mid ≡ replies_to w ss sj e d =
       by_event.2 ∙ (ap (λ (l : List Out). l ++ own w ss denied e d) told_is ∙ ap (λ (x : Option Denial). verdicts (docs_of ss.documents) e sj.pending ++ own w ss x e d) denied_is) in
@@ -90,7 +90,7 @@ module _ (s : State) (event : Event) (e rest : Effect) (denied : Option Denial) 
       done s event e d task mid new session jobs' e_is (by_event.0, refl) mid_is t_is by_event.1 (handed_is ∙ ap handed_on then_is) (a, given.1, new_then)
 
   pub stepped : (result : Result (Unit {0}) NoMemory) → e ≡ effect_of s.session.phase s.session.documents event → denied ≡ denied_by s.session s.jobs.pending e → rest ≡ rest_of e
-      → settled_jobs ≡ settled (docs_of s.session.documents) e s.jobs → told ≡ verdicts (docs_of s.session.documents) e s.jobs.pending → task ≡ taken s.session.diagnostics denied rest
+      → settled_jobs ≡ settled (docs_of s.session.documents) e s.jobs → told ≡ verdicts (docs_of s.session.documents) e s.jobs.pending → task ≡ taken s.session denied rest
       → Replied s.workers s.session denied rest session told mid → jobs ≡ with_jobs settled_jobs (jobs_for s.workers settled_jobs.next task) → Brought
       → OnOk result (jobs' ≡ handed_on jobs) → OnOk result (new ≡ brought ++ map out.Job (next_jobs jobs)) → OnOk result (Steps s event new (state session s.workers jobs'))
   stepped (Ok u) e_is denied_is rest_is settled_is told_is task_is replied jobs_is given handed_is new_is =

@@ -43,7 +43,7 @@ abbrev pub own_then_answer : Session → Turn → List Out
 own_then_answer session turn =
     let e = effect_of session.phase session.documents turn.event in
     let denied = denied_by session [] e in
-    own 0 session denied e (changed_by session e turn.text_refused) ++ answer_to (taken session.diagnostics denied e) turn.answer
+    own 0 session denied e (changed_by session e turn.text_refused) ++ answer_to (taken session denied e) turn.answer
 
 nothing_behind : (a b : List Out) → a ++ (b ++ []) ≡ a ++ b
 nothing_behind a b = ap (λ (l : List Out). a ++ l) (append-nil b)
@@ -75,8 +75,8 @@ answered_at_once events j =
 -- want of memory is an answer to each task
 no_memory_fits : (docs : List Doc) (t : Option Task) → FitsTaken docs t answer.NoMemory
 no_memory_fits docs None = tt
-no_memory_fits docs (Some (task.Ask id q)) = ∣ tt ∣₁
-no_memory_fits docs (Some task.Check) = ∣ tt ∣₁
+no_memory_fits docs (Some (task.Ask encoding id q)) = ∣ tt ∣₁
+no_memory_fits docs (Some (task.Check encoding)) = ∣ tt ∣₁
 
 pub steps_exist : StepsExist
 steps_exist s e = (_, _, record { text_refused = false; answer = answer.NoMemory; fits = λ alone. no_memory_fits _ _; outputs = refl; state = refl })

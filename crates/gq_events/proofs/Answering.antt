@@ -17,7 +17,6 @@ use Rattle.gq_events.specs.declared.event.Out.{Out}
 use Rattle.gq_events.specs.declared.event.Out.TheVariants as out
 use Rattle.gq_events.specs.declared.event.Task.{Task}
 use Rattle.gq_events.specs.declared.event.Task.TheVariants as task
-use Rattle.gq_events.specs.Positions.{position_encoding}
 use Rattle.gq_events.specs.Tasks.{Answers}
 use Rattle.gq_events.specs.Rules.{Session, changed_by, session_after, own, failed, answered, Replies}
 

@@ -8,6 +8,8 @@ use Rattle.std.specs.Cmp.{signed_Decides, booleans_Decides}
 use Rattle.std.specs.Option.{option_eq}
 use Rattle.std.specs.Ordering.{int_eq}
 use Rattle.gq_text.specs.declared.place.Position.{Position}
+use Rattle.gq_text.specs.declared.place.PositionEncoding.{PositionEncoding}
+use Rattle.gq_text.specs.declared.place.PositionEncoding.TheVariants.{Utf8, Utf16}
 use Rattle.gq_project.specs.declared.document.Doc.{Doc}
 use Rattle.gq_rpc.specs.declared.messages.Id.{Id}
 use Rattle.gq_rpc.specs.declared.messages.Id.TheVariants as ids
@@ -21,7 +23,7 @@ use Rattle.gq_events.specs.Jobs.{JobOf, DoneOf}
 use Rattle.gq_events.specs.declared.effect.Effect.{Effect}
 use Rattle.gq_events.specs.declared.effect.Effect.TheVariants as effect
 use Rattle.gq_events.specs.Documents.{docs_of}
-use Rattle.gq_events.specs.Tasks.{same_id, kind_of, place_of, includes_declaration, new_name_of, end_of, kinds_of, same_position, same_place, same_texts, same_kinds, same_question, same_task, same_doc, same_docs, Answers}
+use Rattle.gq_events.specs.Tasks.{same_id, same_encoding, kind_of, place_of, includes_declaration, new_name_of, end_of, kinds_of, same_position, same_place, same_texts, same_kinds, same_question, same_task, same_doc, same_docs, Answers}
 use Rattle.gq_events.specs.Rules.{Turn, Session, session_after, decides}
 use Rattle.gq_events.specs.History.{is_between, Asked, may_decide, is_pending, is_decided_at, session_at, docs_at, effect_at, changed_at}
 use Rattle.gq_events.specs.Laws.{IsFirst}
@@ -217,17 +219,26 @@ question_same a b h =
     (position_same (end_of a) (end_of b) fifth.0) (kinds_same (kinds_of a) (kinds_of b) fifth.1)
     ∙ of_parts b)
 
-abbrev ask : Id → Question → Task
-ask i q = task.Ask i q
+encoding_same : (a b : PositionEncoding) → same_encoding a b ≡ true → a ≡ b
+encoding_same Utf8 Utf8 h = refl
+encoding_same Utf16 Utf16 h = refl
+encoding_same Utf8 Utf16 h = absurd (cc)
+encoding_same Utf16 Utf8 h = absurd (cc)
 
-same_ask : {i j : Id} {q r : Question} → i ≡ j → q ≡ r → ask i q ≡ ask j r
-same_ask e f = cc
+abbrev ask : PositionEncoding → Id → Question → Task
+ask e i q = task.Ask e i q
+
+same_ask : {e f : PositionEncoding} {i j : Id} {q r : Question} → e ≡ f → i ≡ j → q ≡ r → ask e i q ≡ ask f j r
+same_ask h k l = cc
 
 pub task_same : (a b : Task) → same_task a b ≡ true → a ≡ b
-task_same (task.Ask i a) (task.Ask j b) h = let parts = and_true (same_id i j) (same_question a b) h in same_ask (id_same i j parts.0) (question_same a b parts.1)
-task_same task.Check task.Check h = refl
-task_same (task.Ask i a) task.Check h = absurd (cc)
-task_same task.Check (task.Ask j b) h = absurd (cc)
+task_same (task.Ask e i a) (task.Ask f j b) h =
+    let first = and_true (same_encoding e f) (same_id i j && same_question a b) h in
+    let second = and_true (same_id i j) (same_question a b) first.1 in
+    same_ask (encoding_same e f first.0) (id_same i j second.0) (question_same a b second.1)
+task_same (task.Check e) (task.Check f) h = ap (λ (encoding : PositionEncoding). task.Check encoding) (encoding_same e f h)
+task_same (task.Ask e i a) (task.Check f) h = absurd (cc)
+task_same (task.Check e) (task.Ask f j b) h = absurd (cc)
 
 pub answers_are_defined : (events : List Turn) (asked : Asked) (j : ℕ) (done : DoneOf) → IsFirst events asked j → effect_at events j ≡ effect.Finishes done → Answers (docs_at events (suc asked.place)) asked.job.task done.answer
 answers_are_defined events asked j done first is =

@@ -30,8 +30,8 @@ abbrev IsWritten : List Out → Type 0
 IsWritten outs = handings outs ≡ []
 
 refused_as_written : (t : Task) (why : ResponseError) → IsWritten (refused_as t why)
-refused_as_written (task.Ask id q) why = refl
-refused_as_written task.Check why = refl
+refused_as_written (task.Ask encoding id q) why = refl
+refused_as_written (task.Check encoding) why = refl
 
 messages_written : (messages : List Outgoing) → IsWritten (map out.Notify messages)
 messages_written [] = refl

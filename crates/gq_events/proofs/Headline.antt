@@ -7,11 +7,10 @@ use Rattle.gq_edit.specs.declared.workspace.WorkspaceEdit.{WorkspaceEdit}
 use Rattle.gq_rpc.specs.declared.messages.Outgoing.{Outgoing}
 use Rattle.gq_rpc.specs.declared.messages.Outgoing.TheVariants as outgoing
 use Rattle.gq_replies.specs.Offers.{edits_in, IsSafe, AnsweredEditsAreSafe}
-use Rattle.gq_events.specs.Positions.{position_encoding}
 use Rattle.gq_events.specs.declared.event.Out.{Out}
 use Rattle.gq_events.specs.declared.event.Out.TheVariants as out
 use Rattle.gq_events.specs.Rules.{Turn}
-use Rattle.gq_events.specs.History.{docs_at, outputs_at}
+use Rattle.gq_events.specs.History.{docs_at, encoding_at, outputs_at}
 use Rattle.gq_events.specs.Laws.{IsOwnAnswer, IsNoActions, IsRightOutput}
 use Rattle.gq_events.specs.Headline.{IsOwnEdit, IsSafeOutput, EditsAreSafe}
 use Rattle.gq_events.proofs.Lists.{weaker}
@@ -28,9 +27,9 @@ module _ (law : AnsweredEditsAreSafe) (events : List Turn) (j : ℕ) where
 
   of_own : (message : Outgoing) → IsOwnAnswer events j message → Own message (edits_in message)
   of_own message own =
-      weaker (IsSafe position_encoding (docs_at events own.place) own.question) (IsOwnEdit events j message)
+      weaker (IsSafe (encoding_at events own.place) (docs_at events own.place) own.question) (IsOwnEdit events j message)
       (λ edit safe. record { place = own.place; id = own.id; question = own.question; earlier = own.earlier; asks = own.asks; still = own.still; answers = own.is; safe = safe }) (edits_in message)
-      (law position_encoding (docs_at events own.place) own.id own.question message own.is)
+      (law (encoding_at events own.place) (docs_at events own.place) own.id own.question message own.is)
 
   -- no action carries no edit
   of_none : (message : Outgoing) → IsNoActions events j message → Own message (edits_in message)

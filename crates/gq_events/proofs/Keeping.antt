@@ -20,7 +20,6 @@ use Rattle.gq_events.specs.declared.effect.Change.{Change}
 use Rattle.gq_events.specs.declared.effect.Change.TheVariants as change
 use Rattle.gq_events.specs.declared.effect.Effect.{Effect}
 use Rattle.gq_events.specs.declared.effect.Effect.TheVariants as effect
-use Rattle.gq_events.specs.Positions.{position_encoding}
 use Rattle.gq_events.specs.Documents.{docs_of, IsInOrder, has_key, document_at, key_of, fits, fit_each, opened_text, changes_in, edited_text, document_with, unless_refused, edited, changed, is_before, is_after, with_changed}
 use Rattle.gq_events.specs.Rules.{Session, changed_by, session_after}
 use Rattle.gq_events.specs.History.{session_at, effect_at, turn_at}
@@ -96,11 +95,11 @@ edited_if : (b : Bool) (t : List ℕ) → (b ≡ true → length t ≤ 2 ^ 22) �
 edited_if true t h = h refl
 edited_if false t h = tt
 
-short_edited : (document : OpenDocument) (cs : Option (List text.Change)) → IsShort document → IsShortIfAny (edited_text position_encoding document cs)
-short_edited document None h = tt
-short_edited document (Some cs) h =
-    edited_if (not document.lost && fit_each position_encoding document.text cs) (after_changes position_encoding document.text cs)
-    (λ e. changed_fits position_encoding document.text cs h (fit_each_is position_encoding document.text cs (and_true (not document.lost) (fit_each position_encoding document.text cs) e).1))
+short_edited : (encoding : PositionEncoding) (document : OpenDocument) (cs : Option (List text.Change)) → IsShort document → IsShortIfAny (edited_text encoding document cs)
+short_edited encoding document None h = tt
+short_edited encoding document (Some cs) h =
+    edited_if (not document.lost && fit_each encoding document.text cs) (after_changes encoding document.text cs)
+    (λ e. changed_fits encoding document.text cs h (fit_each_is encoding document.text cs (and_true (not document.lost) (fit_each encoding document.text cs) e).1))
 
 abbrev OfAny : (OpenDocument → Type 0) → Option OpenDocument → Type 0
 OfAny P None = Unit {0}
@@ -114,25 +113,25 @@ found : (P : OpenDocument → Type 0) (p : OpenDocument → Bool) (documents : L
 found P p [] h = tt
 found P p (document ∷ documents) h = found_if P (p document) document (find p documents) h.0 (found P p documents h.1)
 
-short_found : (params : DidChangeParams) (refused : Bool) (document : Option OpenDocument) → OfAny IsShort document → OfAny IsShort (option_map (λ d. edited d params refused) document)
-short_found params refused None h = tt
-short_found params refused (Some document) h =
-    short_with document.key document.uri _ _ (short_unless refused (edited_text position_encoding document (changes_in params)) (short_edited document (changes_in params) h))
+short_found : (encoding : PositionEncoding) (params : DidChangeParams) (refused : Bool) (document : Option OpenDocument) → OfAny IsShort document → OfAny IsShort (option_map (λ d. edited encoding d params refused) document)
+short_found encoding params refused None h = tt
+short_found encoding params refused (Some document) h =
+    short_with document.key document.uri _ _ (short_unless refused (edited_text encoding document (changes_in params)) (short_edited encoding document (changes_in params) h))
 
-short_changed : (documents : List OpenDocument) (c : Change) (refused : Bool) → AllByRecursion IsShort documents → OfAny IsShort (changed documents c refused)
-short_changed documents (change.Open item) refused h =
+short_changed : (encoding : PositionEncoding) (documents : List OpenDocument) (c : Change) (refused : Bool) → AllByRecursion IsShort documents → OfAny IsShort (changed encoding documents c refused)
+short_changed encoding documents (change.Open item) refused h =
     short_with item.key item.uri item.version (opened_text item.text) (opened_if (fits item.text) item.text (fits_is item.text))
-short_changed documents (change.Edit params) refused h = short_found params refused (document_at params.key documents) (found IsShort (has_key params.key) documents h)
-short_changed documents (change.Close key) refused h = tt
+short_changed encoding documents (change.Edit params) refused h = short_found encoding params refused (document_at params.key documents) (found IsShort (has_key params.key) documents h)
+short_changed encoding documents (change.Close key) refused h = tt
 
-empty_found : (params : DidChangeParams) (refused : Bool) (document : Option OpenDocument) → OfAny IsEmptyIfLost (option_map (λ d. edited d params refused) document)
-empty_found params refused None = tt
-empty_found params refused (Some document) = empty_with document.key document.uri _ _
+empty_found : (encoding : PositionEncoding) (params : DidChangeParams) (refused : Bool) (document : Option OpenDocument) → OfAny IsEmptyIfLost (option_map (λ d. edited encoding d params refused) document)
+empty_found encoding params refused None = tt
+empty_found encoding params refused (Some document) = empty_with document.key document.uri _ _
 
-empty_changed : (documents : List OpenDocument) (c : Change) (refused : Bool) → OfAny IsEmptyIfLost (changed documents c refused)
-empty_changed documents (change.Open item) refused = empty_with item.key item.uri item.version _
-empty_changed documents (change.Edit params) refused = empty_found params refused (document_at params.key documents)
-empty_changed documents (change.Close key) refused = tt
+empty_changed : (encoding : PositionEncoding) (documents : List OpenDocument) (c : Change) (refused : Bool) → OfAny IsEmptyIfLost (changed encoding documents c refused)
+empty_changed encoding documents (change.Open item) refused = empty_with item.key item.uri item.version _
+empty_changed encoding documents (change.Edit params) refused = empty_found encoding params refused (document_at params.key documents)
+empty_changed encoding documents (change.Close key) refused = tt
 
 -- ---- all documents
 
@@ -149,15 +148,15 @@ ordered_with : (documents : List OpenDocument) (key : List ℕ) (document : Opti
 ordered_with documents key None h = Ascend-without_item key_in documents key h
 ordered_with documents key (Some document) h = Ascend-with_item key_in documents document h
 
-pub kept_with : (documents : List OpenDocument) (c : Change) (refused : Bool) → AreKept documents → AreKept (with_changed documents (key_of c) (changed documents c refused))
-kept_with documents c refused h = record {
-  in_order = ordered_with documents (key_of c) (changed documents c refused) h.in_order;
-  texts = all_with IsShort documents (key_of c) (changed documents c refused) h.texts (short_changed documents c refused h.texts);
-  lost = all_with IsEmptyIfLost documents (key_of c) (changed documents c refused) h.lost (empty_changed documents c refused);
+pub kept_with : (encoding : PositionEncoding) (documents : List OpenDocument) (c : Change) (refused : Bool) → AreKept documents → AreKept (with_changed documents (key_of c) (changed encoding documents c refused))
+kept_with encoding documents c refused h = record {
+  in_order = ordered_with documents (key_of c) (changed encoding documents c refused) h.in_order;
+  texts = all_with IsShort documents (key_of c) (changed encoding documents c refused) h.texts (short_changed encoding documents c refused h.texts);
+  lost = all_with IsEmptyIfLost documents (key_of c) (changed encoding documents c refused) h.lost (empty_changed encoding documents c refused);
 }
 
 pub kept_after : (s : Session) (e : Effect) (refused : Bool) → AreKept s.documents → AreKept (session_after s e (changed_by s e refused)).documents
-kept_after s (effect.Changes c) refused h = kept_with s.documents c refused h
+kept_after s (effect.Changes c) refused h = kept_with s.position_encoding s.documents c refused h
 kept_after s effect.Nothing refused h = h
 kept_after s (effect.Begins id capabilities) refused h = h
 kept_after s (effect.Refuses id why) refused h = h

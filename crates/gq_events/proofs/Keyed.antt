@@ -8,6 +8,7 @@ use Rattle.std.proofs.Math.Seq.{lt-length-set}
 use Rattle.std.proofs.lemmas.List.{get_or-set_same}
 use Rattle.gq_project.specs.Helping.Places.{IsPlaceOf, IsGapFor}
 use Rattle.gq_project.proofs.Keys.{Ascend-with_item, Ascend-without_item, set_with_item, insert_with_item}
+use Rattle.gq_text.specs.declared.place.PositionEncoding.{PositionEncoding}
 use Rattle.gq_rpc.specs.declared.messages.DidChangeParams.{DidChangeParams}
 use Rattle.gq_events.specs.declared.documents.OpenDocument.{OpenDocument}
 use Rattle.gq_events.specs.declared.effect.Change.TheVariants as change
@@ -49,25 +50,25 @@ with_key : (key uri : List ℕ) (version : ℤ) (text : Option (List ℕ)) → (
 with_key key uri version None = refl
 with_key key uri version (Some text) = refl
 
-module _ (documents : List OpenDocument) (params : DidChangeParams) (i : ℕ) (old new : OpenDocument) (refused : Bool) (place : IsPlaceOf key_of params.key documents i) (is_old : old ≡ get_or documents i old) (is : new ≡ edited old params refused) where
+module _ (encoding : PositionEncoding) (documents : List OpenDocument) (params : DidChangeParams) (i : ℕ) (old new : OpenDocument) (refused : Bool) (place : IsPlaceOf key_of params.key documents i) (is_old : old ≡ get_or documents i old) (is : new ≡ edited encoding old params refused) where
   here : document_at params.key documents ≡ Some old
   here = place.here old ∙ ap (λ (d : OpenDocument). Some d) (sym is_old)
 
   new_key : params.key ≡ new.key
   new_key = found_key documents params.key old here ∙ (sym (with_key old.key old.uri _ _) ∙ ap key_of (sym is))
 
-  changed_here : changed documents (change.Edit params) refused ≡ Some new
-  changed_here = ap (option_map (λ document. edited document params refused)) here ∙ ap (λ (d : OpenDocument). Some d) (sym is)
+  changed_here : changed encoding documents (change.Edit params) refused ≡ Some new
+  changed_here = ap (option_map (λ document. edited encoding document params refused)) here ∙ ap (λ (d : OpenDocument). Some d) (sym is)
 
-  edited_here : set documents i new ≡ with_changed documents params.key (changed documents (change.Edit params) refused)
+  edited_here : set documents i new ≡ with_changed documents params.key (changed encoding documents (change.Edit params) refused)
   edited_here = set_with_document documents params.key i new place new_key ∙ ap (with_changed documents params.key) (sym changed_here)
 
   in_order_here : IsInOrder documents → IsInOrder (set documents i new)
   in_order_here h = subst IsInOrder (sym (set_with_document documents params.key i new place new_key)) (IsInOrder-with_document documents new h)
 
 -- as the code reads it: the list inside is the documents, and the key that was sought that of the edit
-module _ (inside documents : List OpenDocument) (view : inside ≡ documents) (params : DidChangeParams) (key : List ℕ) (is_key : key ≡ params.key) (i : ℕ) (place : IsPlaceOf key_of key documents i) (old new : OpenDocument)
-    (is_old : old ≡ get_or inside i old) (is : (refused : Bool) × (new ≡ edited old params refused)) where
+module _ (encoding : PositionEncoding) (inside documents : List OpenDocument) (view : inside ≡ documents) (params : DidChangeParams) (key : List ℕ) (is_key : key ≡ params.key) (i : ℕ) (place : IsPlaceOf key_of key documents i) (old new : OpenDocument)
+    (is_old : old ≡ get_or inside i old) (is : (refused : Bool) × (new ≡ edited encoding old params refused)) where
   place_of_key : IsPlaceOf key_of params.key documents i
   place_of_key = subst (λ (k : List ℕ). IsPlaceOf key_of k documents i) is_key place
 
@@ -76,24 +77,24 @@ module _ (inside documents : List OpenDocument) (view : inside ≡ documents) (p
 
   pub still_in_order : IsInOrder inside → IsInOrder (set inside i new)
   still_in_order h =
-      subst (λ (ds : List OpenDocument). IsInOrder (set ds i new)) (sym view) (in_order_here documents params i old new is.0 place_of_key old_here is.1 (subst IsInOrder view h))
+      subst (λ (ds : List OpenDocument). IsInOrder (set ds i new)) (sym view) (in_order_here encoding documents params i old new is.0 place_of_key old_here is.1 (subst IsInOrder view h))
 
   within : i < length inside
   within = subst (λ (ds : List OpenDocument). i < length ds) (sym view) place.in_range
 
-  pub edits : EditsAt documents params (set inside i new) (Some i)
+  pub edits : EditsAt encoding documents params (set inside i new) (Some i)
   edits = (
     is.0,
-    ap (λ (ds : List OpenDocument). set ds i new) view ∙ edited_here documents params i old new is.0 place_of_key old_here is.1,
+    ap (λ (ds : List OpenDocument). set ds i new) view ∙ edited_here encoding documents params i old new is.0 place_of_key old_here is.1,
     (
       lt-length-set inside i new within,
-      λ d. changed_here documents params i old new is.0 place_of_key old_here is.1 ∙ ap (λ (x : OpenDocument). Some x) (sym (get_or-set_same inside i new d within)),
+      λ d. changed_here encoding documents params i old new is.0 place_of_key old_here is.1 ∙ ap (λ (x : OpenDocument). Some x) (sym (get_or-set_same inside i new d within)),
     ),
   )
 
 -- none has the key, so nothing is changed
-pub edits_nothing : (documents : List OpenDocument) (params : DidChangeParams) (key : List ℕ) (i : ℕ) → key ≡ params.key → IsGapFor key_of key documents i → EditsAt documents params documents None
-edits_nothing documents params key i is_key gap =
+pub edits_nothing : (encoding : PositionEncoding) (documents : List OpenDocument) (params : DidChangeParams) (key : List ℕ) (i : ℕ) → key ≡ params.key → IsGapFor key_of key documents i → EditsAt encoding documents params documents None
+edits_nothing encoding documents params key i is_key gap =
     let at : IsGapFor key_of params.key documents i = subst (λ (k : List ℕ). IsGapFor key_of k documents i) is_key gap in
-    let none : changed documents (change.Edit params) false ≡ None = ap (option_map (λ document. edited document params false)) at.none in
+    let none : changed encoding documents (change.Edit params) false ≡ None = ap (option_map (λ document. edited encoding document params false)) at.none in
     (false, at.others ∙ ap (with_changed documents params.key) (sym none), none)

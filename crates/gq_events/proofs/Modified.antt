@@ -39,7 +39,6 @@ use Rattle.gq_events.specs.declared.effect.Effect.{Effect}
 use Rattle.gq_events.specs.declared.effect.Effect.TheVariants as effect
 use Rattle.gq_events.specs.Documents.{document_at, is_open, is_any_lost, is_change, key_of, published}
 use Rattle.gq_events.specs.Tasks.{is_of, place_of}
-use Rattle.gq_events.specs.Positions.{position_encoding}
 use Rattle.gq_events.specs.Rules.{Turn, Session, failed, refused_as, answered, denied, denied_with, nothing_wrong, cleared, shown, own, wants_document_changes, wants_code_actions, are_too_many, denial_of_question, denial_of_ask, denied_by, effect_of_request, effect_while_running, effect_while_not, effect_of_notification, effect_of_message, effect_going, effect_of}
 use Rattle.gq_events.specs.History.{session_at, effect_at, docs_at, turn_at, asked_before, pending_of}
 use Rattle.gq_events.specs.Laws.{tells_modified, ModifiedAtChange}
@@ -69,12 +68,12 @@ other_error : (e : Effect) (to : Option Id) (why : ResponseError) → IsOther wh
 other_error e to why h (id, is) = absurd (h (error_is to id why is))
 
 refused_other : (e : Effect) (t : Task) (why : ResponseError) → IsOther why → All_may e (refused_as t why)
-refused_other e (task.Ask id q) why h = (other_error e (Some id) why h, tt)
-refused_other e task.Check why h = tt
+refused_other e (task.Ask encoding id q) why h = (other_error e (Some id) why h, tt)
+refused_other e (task.Check encoding) why h = tt
 
 refused_change : (e : Effect) (c : Change) → e ≡ effect.Changes c → (t : Task) → All_may e (refused_as t error.ContentModified)
-refused_change e c is (task.Ask id q) = ((λ h. (c, is)), tt)
-refused_change e c is task.Check = tt
+refused_change e c is (task.Ask encoding id q) = ((λ h. (c, is)), tt)
+refused_change e c is (task.Check encoding) = tt
 
 all_notify : (e : Effect) (messages : List Outgoing) → All_may e (map out.Notify messages)
 all_notify e [] = tt
@@ -108,9 +107,9 @@ no_two x y = absurd x
 
 module _ (respond : AnswersRespond) where
   response_may : (e : Effect) (events : List Turn) (j : ℕ) (t : Task) (message : Outgoing) → IsGiven events j t (answer.Response message) → May e (out.Reply message)
-  response_may e events j (task.Ask id q) message given (to, is) =
-      absurd (∥∥₁_elim given.fits no_two (λ h. response_other id message (respond position_encoding (docs_at events (suc given.place)) id q message h) to is))
-  response_may e events j task.Check message given told = absurd (∥∥₁_elim given.fits no_two (λ h. h))
+  response_may e events j (task.Ask encoding id q) message given (to, is) =
+      absurd (∥∥₁_elim given.fits no_two (λ h. response_other id message (respond encoding (docs_at events (suc given.place)) id q message h) to is))
+  response_may e events j (task.Check encoding) message given told = absurd (∥∥₁_elim given.fits no_two (λ h. h))
 
   answer_may : (e : Effect) (events : List Turn) (j : ℕ) (t : Task) (a : Answer) → IsGiven events j t a → All_may e (answered t a)
   answer_may e events j t (answer.Response message) given = (response_may e events j t message given, tt)

@@ -3,6 +3,7 @@ use Rattle.std.proofs.Common.{inl, inr, arith, Contains, ◌≡◌, ℕ, suc, Bo
 use Rattle.std.specs.Prelude.{codes, option_map, option_to_list}
 use Rattle.std.specs.List.{AllByRecursion, list_any}
 use mathlib.Core.Logic.{∥∥₁_map}
+use Rattle.gq_text.specs.declared.place.PositionEncoding.{PositionEncoding}
 use Rattle.gq_project.specs.declared.document.Doc.{Doc}
 use Rattle.gq_project.specs.declared.document.DocChange.{DocChange}
 use Rattle.gq_rpc.specs.declared.messages.Id.{Id}
@@ -26,10 +27,11 @@ use Rattle.gq_events.specs.declared.effect.Change.{Change}
 use Rattle.gq_events.specs.declared.effect.Change.TheVariants as change
 use Rattle.gq_events.specs.declared.effect.Effect.{Effect}
 use Rattle.gq_events.specs.declared.effect.Effect.TheVariants as effect
+use Rattle.gq_replies.specs.Answers.{IsAnswer, AreDiagnosticsMessages}
 use Rattle.gq_events.specs.Documents.{docs_of, document_at, is_open, is_any_lost, key_of, published}
 use Rattle.gq_events.specs.Tasks.{is_of, place_of, Answers}
 use Rattle.gq_events.specs.Rules.{Turn, Session, session_after, refused_as, answered, wants_document_changes, wants_code_actions, are_too_many, denied, denial_of_question, denial_of_ask, denied_by, denied_with, nothing_wrong, cleared, shown, own}
-use Rattle.gq_events.specs.History.{session_at, effect_at, changed_at, docs_at, asked_before, pending_of}
+use Rattle.gq_events.specs.History.{session_at, effect_at, changed_at, docs_at, encoding_at, asked_before, pending_of}
 use Rattle.gq_events.specs.Laws.{is_result, IsOwnAnswer, IsRightOutput, ResultsAreTheirQuestions}
 use Rattle.gq_events.proofs.Lists.{both, weaker}
 use Rattle.gq_events.proofs.Sources.{IsBroughtBy, IsGiven, of_outputs}
@@ -110,8 +112,8 @@ module _ (events : List Turn) (j : ℕ) where
   no_result message e = λ h. let both_are : true ≡ false = sym h ∙ e in absurd (cc)
 
   of_refused : (t : Task) (why : ResponseError) → All_right (refused_as t why)
-  of_refused (task.Ask id q) why = (no_result _ refl, tt)
-  of_refused task.Check why = tt
+  of_refused (task.Ask encoding id q) why = (no_result _ refl, tt)
+  of_refused (task.Check encoding) why = tt
 
   abbrev IsRightNotice : Outgoing → Type 0
   IsRightNotice message = IsRightOutput events j (out.Notify message)
@@ -120,28 +122,32 @@ module _ (events : List Turn) (j : ℕ) where
   of_messages [] h = tt
   of_messages (m ∷ messages) h = (h.0, of_messages messages h.1)
 
-  changes_of : (e : Effect) → IsBroughtBy e task.Check → (c : Change) × (e ≡ effect.Changes c)
-  changes_of (effect.Changes c) h = (c, refl)
-  changes_of (effect.Asks id asked) (q, (is, same)) = absurd (cc)
-  changes_of effect.Nothing h = absurd h
-  changes_of (effect.Begins id capabilities) h = absurd h
-  changes_of (effect.Refuses id why) h = absurd h
-  changes_of (effect.Cancels id) h = absurd h
-  changes_of (effect.ShutsDown id) h = absurd h
-  changes_of (effect.Finishes done) h = absurd h
-  changes_of (effect.Stops status) h = absurd h
+  -- a check is brought by a change, and has the session's encoding
+  changes_of : (session encoding : PositionEncoding) (e : Effect) → IsBroughtBy session e (task.Check encoding) → (c : Change) × (e ≡ effect.Changes c) × (encoding ≡ session)
+  changes_of session encoding (effect.Changes c) h = (c, refl, same_check encoding session h)
+    where
+      same_check : (a b : PositionEncoding) → task.Check a ≡ task.Check b → a ≡ b
+      same_check a b h = cc
+  changes_of session encoding (effect.Asks id asked) (q, (is, same)) = absurd (cc)
+  changes_of session encoding effect.Nothing h = absurd h
+  changes_of session encoding (effect.Begins id capabilities) h = absurd h
+  changes_of session encoding (effect.Refuses id why) h = absurd h
+  changes_of session encoding (effect.Cancels id) h = absurd h
+  changes_of session encoding (effect.ShutsDown id) h = absurd h
+  changes_of session encoding (effect.Finishes done) h = absurd h
+  changes_of session encoding (effect.Stops status) h = absurd h
 
   of_report : (t : Task) (messages : List Outgoing) → IsGiven events j t (answer.Report messages) → (message : Outgoing) → Contains messages message → IsRightNotice message
-  of_report (task.Ask id q) messages given message among = ∥∥₁_map given.fits (λ e. absurd e)
-  of_report task.Check messages given message among =
-      let changes = changes_of (effect_at events given.place) given.brought in
+  of_report (task.Ask encoding id q) messages given message among = ∥∥₁_map given.fits (λ e. absurd e)
+  of_report (task.Check encoding) messages given message among =
+      let changes = changes_of (encoding_at events given.place) encoding (effect_at events given.place) given.brought in
       ∥∥₁_map given.fits (λ are. inr (record {
         place = given.place;
         change = changes.0;
         messages = messages;
         earlier = given.earlier;
         changes = changes.1;
-        are = are;
+        are = subst (λ (e : PositionEncoding). AreDiagnosticsMessages e (docs_at events (suc given.place)) messages) changes.2 are;
         among = among;
       }))
 
@@ -149,28 +155,40 @@ module _ (events : List Turn) (j : ℕ) where
   same_docs_after : (s : Session) (e : Effect) (document : Option OpenDocument) (id : Id) (asked : Option Question) → e ≡ effect.Asks id asked → docs_of (session_after s e document).documents ≡ docs_of s.documents
   same_docs_after s e document id asked is = ap (λ (x : Effect). docs_of (session_after s x document).documents) is
 
-  asks_of : (e : Effect) (id : Id) (q : Question) → IsBroughtBy e (task.Ask id q) → e ≡ effect.Asks id (Some q)
-  asks_of (effect.Asks i asked) id q (r, (is, same)) = same_ask i id r q same asked is
+  -- a question is asked by its own event, and has the session's encoding
+  asks_of : (session encoding : PositionEncoding) (e : Effect) (id : Id) (q : Question) → IsBroughtBy session e (task.Ask encoding id q) → (e ≡ effect.Asks id (Some q)) × (encoding ≡ session)
+  asks_of session encoding (effect.Asks i asked) id q (r, (is, same)) = (same_ask encoding session i id r q same asked is, same_encoding encoding session i id r q same)
     where
-      same_ask : (i id : Id) (r q : Question) → task.Ask id q ≡ task.Ask i r → (asked : Option Question) → asked ≡ Some r → effect.Asks i asked ≡ effect.Asks id (Some q)
-      same_ask i id r q same asked is = cc
-  asks_of (effect.Changes c) id q h = absurd (cc)
-  asks_of effect.Nothing id q h = absurd h
-  asks_of (effect.Begins i capabilities) id q h = absurd h
-  asks_of (effect.Refuses i why) id q h = absurd h
-  asks_of (effect.Cancels i) id q h = absurd h
-  asks_of (effect.ShutsDown i) id q h = absurd h
-  asks_of (effect.Finishes done) id q h = absurd h
-  asks_of (effect.Stops status) id q h = absurd h
+      same_ask : (a b : PositionEncoding) (i id : Id) (r q : Question) → task.Ask a id q ≡ task.Ask b i r → (asked : Option Question) → asked ≡ Some r → effect.Asks i asked ≡ effect.Asks id (Some q)
+      same_ask a b i id r q same asked is = cc
+
+      same_encoding : (a b : PositionEncoding) (i id : Id) (r q : Question) → task.Ask a id q ≡ task.Ask b i r → a ≡ b
+      same_encoding a b i id r q same = cc
+  asks_of session encoding (effect.Changes c) id q h = absurd (cc)
+  asks_of session encoding effect.Nothing id q h = absurd h
+  asks_of session encoding (effect.Begins i capabilities) id q h = absurd h
+  asks_of session encoding (effect.Refuses i why) id q h = absurd h
+  asks_of session encoding (effect.Cancels i) id q h = absurd h
+  asks_of session encoding (effect.ShutsDown i) id q h = absurd h
+  asks_of session encoding (effect.Finishes done) id q h = absurd h
+  asks_of session encoding (effect.Stops status) id q h = absurd h
 
   of_response : (t : Task) (message : Outgoing) → IsGiven events j t (answer.Response message) → ∥ IsOwnAnswer events j message ∥₁
-  of_response (task.Ask id q) message given =
-      let asks = asks_of (effect_at events given.place) id q given.brought in
-      let docs = same_docs_after (session_at events given.place) (effect_at events given.place) (changed_at events given.place) id (Some q) asks in
-      let at : Answers (docs_at events given.place) (task.Ask id q) (answer.Response message) =
-      subst (λ (d : List Doc). Answers d (task.Ask id q) (answer.Response message)) docs given.fits in
-      ∥∥₁_map at (λ e. record { place = given.place; id = id; question = q; earlier = given.earlier; asks = asks; still = sym docs ∙ given.still; is = e })
-  of_response task.Check message given = ∥∥₁_map given.fits (λ e. absurd e)
+  of_response (task.Ask encoding id q) message given =
+      let asks = asks_of (encoding_at events given.place) encoding (effect_at events given.place) id q given.brought in
+      let docs = same_docs_after (session_at events given.place) (effect_at events given.place) (changed_at events given.place) id (Some q) asks.0 in
+      let at : Answers (docs_at events given.place) (task.Ask encoding id q) (answer.Response message) =
+      subst (λ (d : List Doc). Answers d (task.Ask encoding id q) (answer.Response message)) docs given.fits in
+      ∥∥₁_map at (λ told. record {
+        place = given.place;
+        id = id;
+        question = q;
+        earlier = given.earlier;
+        asks = asks.0;
+        still = sym docs ∙ given.still;
+        is = subst (λ (e : PositionEncoding). IsAnswer e (docs_at events given.place) id q message) asks.1 told;
+      })
+  of_response (task.Check encoding) message given = ∥∥₁_map given.fits (λ e. absurd e)
 
   of_answer : (t : Task) (a : Answer) → IsGiven events j t a → All_right (answered t a)
   of_answer t (answer.Response message) given = ((λ h. ∥∥₁_map (of_response t message given) inl), tt)

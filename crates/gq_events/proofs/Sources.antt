@@ -3,6 +3,7 @@ use Rattle.std.proofs.Common.{◌≤◌, ◌≡◌, ℕ, zero, suc, ◌+◌, ◌
 use Rattle.std.specs.Prelude.{filter, flat_map, codes}
 use Rattle.std.specs.List.{AllByRecursion}
 use Rattle.std.proofs.lemmas.Bool.Decides.{nat_tests}
+use Rattle.gq_text.specs.declared.place.PositionEncoding.{PositionEncoding}
 use Rattle.gq_rpc.specs.declared.messages.Id.{Id}
 use Rattle.gq_rpc.specs.declared.messages.Question.{Question}
 use Rattle.gq_events.specs.declared.refusals.Denial.{Denial}
@@ -20,51 +21,51 @@ use Rattle.gq_events.specs.declared.effect.Effect.TheVariants as effect
 use Rattle.gq_events.specs.Documents.{docs_of}
 use Rattle.gq_events.specs.Tasks.{Answers}
 use Rattle.gq_events.specs.Rules.{Turn, Session, session_after, failed, refused_as, answered, verdict, accepted, taken, own, FitsTaken, answer_to}
-use Rattle.gq_events.specs.History.{session_at, effect_at, changed_at, docs_at, turn_at, Asked, is_decided_at, asked_before, denied_at, taken_at, numbered, handed_at, handed_before, decided_at, at_once, outputs_at, IsAnswered}
+use Rattle.gq_events.specs.History.{session_at, effect_at, changed_at, docs_at, encoding_at, turn_at, Asked, is_decided_at, asked_before, denied_at, taken_at, numbered, handed_at, handed_before, decided_at, at_once, outputs_at, IsAnswered}
 use Rattle.gq_events.proofs.Lists.{both, weaker}
 use Rattle.gq_events.proofs.Firsts.{decided_at_first, documents_stay, answers_are_defined}
 
--- the event of this effect brings the task: a client's question, or after a change the check
-abbrev pub IsBroughtBy : Effect → Task → Type 0
-IsBroughtBy (effect.Asks id asked) t = (q : Question) × ((asked ≡ Some q) × (t ≡ task.Ask id q))
-IsBroughtBy (effect.Changes c) t = t ≡ task.Check
-IsBroughtBy effect.Nothing t = ⊥
-IsBroughtBy (effect.Begins id capabilities) t = ⊥
-IsBroughtBy (effect.Refuses id why) t = ⊥
-IsBroughtBy (effect.Cancels id) t = ⊥
-IsBroughtBy (effect.ShutsDown id) t = ⊥
-IsBroughtBy (effect.Finishes done) t = ⊥
-IsBroughtBy (effect.Stops status) t = ⊥
+-- the event of this effect brings the task, in a session with this encoding: a client's question, or after a change the check
+abbrev pub IsBroughtBy : PositionEncoding → Effect → Task → Type 0
+IsBroughtBy encoding (effect.Asks id asked) t = (q : Question) × ((asked ≡ Some q) × (t ≡ task.Ask encoding id q))
+IsBroughtBy encoding (effect.Changes c) t = t ≡ task.Check encoding
+IsBroughtBy encoding effect.Nothing t = ⊥
+IsBroughtBy encoding (effect.Begins id capabilities) t = ⊥
+IsBroughtBy encoding (effect.Refuses id why) t = ⊥
+IsBroughtBy encoding (effect.Cancels id) t = ⊥
+IsBroughtBy encoding (effect.ShutsDown id) t = ⊥
+IsBroughtBy encoding (effect.Finishes done) t = ⊥
+IsBroughtBy encoding (effect.Stops status) t = ⊥
 
-abbrev IsTakenBy : Effect → Option Task → Type 0
-IsTakenBy e None = Unit {0}
-IsTakenBy e (Some t) = IsBroughtBy e t
+abbrev IsTakenBy : PositionEncoding → Effect → Option Task → Type 0
+IsTakenBy encoding e None = Unit {0}
+IsTakenBy encoding e (Some t) = IsBroughtBy encoding e t
 
-check_if : (b : Bool) (c : Change) → IsTakenBy (effect.Changes c) (cond b (Some task.Check) None)
-check_if true c = refl
-check_if false c = tt
+check_if : (encoding : PositionEncoding) (b : Bool) (c : Change) → IsTakenBy encoding (effect.Changes c) (cond b (Some (task.Check encoding)) None)
+check_if encoding true c = refl
+check_if encoding false c = tt
 
-ask_if : (id : Id) (asked : Option Question) (denied : Option Denial) → IsTakenBy (effect.Asks id asked) (accepted id asked denied)
-ask_if id None denied = tt
-ask_if id (Some q) None = (q, (refl, refl))
-ask_if id (Some q) (Some why) = tt
+ask_if : (encoding : PositionEncoding) (id : Id) (asked : Option Question) (denied : Option Denial) → IsTakenBy encoding (effect.Asks id asked) (accepted encoding id asked denied)
+ask_if encoding id None denied = tt
+ask_if encoding id (Some q) None = (q, (refl, refl))
+ask_if encoding id (Some q) (Some why) = tt
 
-taken_by : (diagnostics : Bool) (denied : Option Denial) (e : Effect) → IsTakenBy e (taken diagnostics denied e)
-taken_by diagnostics denied (effect.Asks id asked) = ask_if id asked denied
-taken_by diagnostics denied (effect.Changes c) = check_if diagnostics c
-taken_by diagnostics denied effect.Nothing = tt
-taken_by diagnostics denied (effect.Begins id capabilities) = tt
-taken_by diagnostics denied (effect.Refuses id why) = tt
-taken_by diagnostics denied (effect.Cancels id) = tt
-taken_by diagnostics denied (effect.ShutsDown id) = tt
-taken_by diagnostics denied (effect.Finishes done) = tt
-taken_by diagnostics denied (effect.Stops status) = tt
+taken_by : (s : Session) (denied : Option Denial) (e : Effect) → IsTakenBy s.position_encoding e (taken s denied e)
+taken_by s denied (effect.Asks id asked) = ask_if s.position_encoding id asked denied
+taken_by s denied (effect.Changes c) = check_if s.position_encoding s.diagnostics c
+taken_by s denied effect.Nothing = tt
+taken_by s denied (effect.Begins id capabilities) = tt
+taken_by s denied (effect.Refuses id why) = tt
+taken_by s denied (effect.Cancels id) = tt
+taken_by s denied (effect.ShutsDown id) = tt
+taken_by s denied (effect.Finishes done) = tt
+taken_by s denied (effect.Stops status) = tt
 
 -- an answer to a task that an event at place i brought, about the documents after it, which are those of now
 pub record IsGiven (events : List Turn) (j : ℕ) (t : Task) (a : Answer) : Type 0 where
   pub place : ℕ
   pub earlier : place ≤ j
-  pub brought : IsBroughtBy (effect_at events place) t
+  pub brought : IsBroughtBy (encoding_at events place) (effect_at events place) t
   pub still : docs_at events (suc place) ≡ docs_at events (suc j)
   pub fits : Answers (docs_at events (suc place)) t a
 
@@ -83,9 +84,9 @@ module _ (workers : ℕ) (events : List Turn) (j : ℕ) (P : Out → Type 0)
   All_hold outs = AllByRecursion P outs
 
   abbrev Comes : ℕ → Asked → Type 0
-  Comes k a = (a.place < k) × IsBroughtBy (effect_at events a.place) a.job.task
+  Comes k a = (a.place < k) × IsBroughtBy (encoding_at events a.place) (effect_at events a.place) a.job.task
 
-  brought : (alone : Bool) (k number : ℕ) (t : Option Task) → IsTakenBy (effect_at events k) t → AllByRecursion (Comes (suc k)) (cond alone [] (numbered k number t))
+  brought : (alone : Bool) (k number : ℕ) (t : Option Task) → IsTakenBy (encoding_at events k) (effect_at events k) t → AllByRecursion (Comes (suc k)) (cond alone [] (numbered k number t))
   brought true k number t h = tt
   brought false k number None h = tt
   brought false k number (Some t) h = ((omega arith, h), tt)
@@ -96,7 +97,7 @@ module _ (workers : ℕ) (events : List Turn) (j : ℕ) (P : Out → Type 0)
       let asked = asked_before workers events k in
       both (Comes (suc k)) asked (cond (workers == 0) [] (numbered k (length asked + 1) (taken_at events k asked)))
       (weaker (Comes k) (Comes (suc k)) (λ a h. (let before : a.place < k = h.0 in omega arith, h.1)) asked (all_come k))
-      (brought (workers == 0) k (length asked + 1) (taken_at events k asked) (taken_by _ _ (effect_at events k)))
+      (brought (workers == 0) k (length asked + 1) (taken_at events k asked) (taken_by (session_at events k) _ (effect_at events k)))
 
   of_verdict : (a : Asked) (e : Effect) → effect_at events j ≡ e → Comes j a → is_decided_at events j a ≡ true → All_hold (verdict e a.job)
   of_verdict a (effect.Changes c) is come decided = of_change c is a.job.task
@@ -132,7 +133,7 @@ module _ (workers : ℕ) (events : List Turn) (j : ℕ) (P : Out → Type 0)
   of_jobs [] = tt
   of_jobs (job ∷ jobs) = (of_job job, of_jobs jobs)
 
-  of_once : (alone : Bool) (t : Option Task) (a : Answer) → IsTakenBy (effect_at events j) t → (alone ≡ true → FitsTaken (docs_at events (suc j)) t a) → All_hold (cond alone (answer_to t a) [])
+  of_once : (alone : Bool) (t : Option Task) (a : Answer) → IsTakenBy (encoding_at events j) (effect_at events j) t → (alone ≡ true → FitsTaken (docs_at events (suc j)) t a) → All_hold (cond alone (answer_to t a) [])
   of_once true None a h f = tt
   of_once true (Some t) a h f = of_answer t a (record { place = j; earlier = omega arith; brought = h; still = refl; fits = f refl })
   of_once false t a h f = tt
@@ -148,4 +149,4 @@ module _ (workers : ℕ) (events : List Turn) (j : ℕ) (P : Out → Type 0)
       both P (decided_at workers events j ++ own_outs) (at_once workers events j ++ jobs)
       (both P (decided_at workers events j) own_outs (of_decided asked (all_come j)) of_own)
       (both P (at_once workers events j) jobs
-      (of_once (workers == 0) (taken_at events j asked) (turn_at events j).answer (taken_by _ _ (effect_at events j)) (λ e. fits (alone_is workers e))) (of_jobs _))
+      (of_once (workers == 0) (taken_at events j asked) (turn_at events j).answer (taken_by (session_at events j) _ (effect_at events j)) (λ e. fits (alone_is workers e))) (of_jobs _))

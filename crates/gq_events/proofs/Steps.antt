@@ -10,6 +10,7 @@ use Rattle.std.proofs.lemmas.List.{map-append, length-map, length-append, length
 use Rattle.std.proofs.lemmas.List.Elements.{filter-append}
 use Rattle.std.proofs.lemmas.List.Folds.{flat_map-map}
 use Rattle.std.proofs.Math.Seq.{drop-cons, take-nil}
+use Rattle.gq_text.specs.declared.place.PositionEncoding.{PositionEncoding}
 use Rattle.gq_rpc.specs.declared.messages.Id.{Id}
 use Rattle.gq_rpc.specs.declared.messages.Id.TheVariants as ids
 use Rattle.gq_rpc.specs.declared.messages.Question.{Question}
@@ -202,13 +203,13 @@ own_ids_on jobs true number t h k = rw append-nil h
 own_ids_on jobs false number None h k = rw append-nil h
 own_ids_on jobs false number (Some t) h k = own_id_last jobs (record { number = number; task = t }) h k
 
-no_id : (pending : List JobOf) → AllByRecursion (λ job. Differs job.task task.Check) pending
-no_id [] = tt
-no_id (job ∷ pending) = (nothing job.task, no_id pending)
+no_id : (encoding : PositionEncoding) (pending : List JobOf) → AllByRecursion (λ job. Differs job.task (task.Check encoding)) pending
+no_id encoding [] = tt
+no_id encoding (job ∷ pending) = (nothing job.task, no_id encoding pending)
   where
-    nothing : (t : Task) → Differs t task.Check
-    nothing task.Check = tt
-    nothing (task.Ask id q) = refl
+    nothing : (t : Task) → Differs t (task.Check encoding)
+    nothing (task.Check other) = tt
+    nothing (task.Ask other id q) = refl
 
 or_parts : (a b : Bool) → (a || b) ≡ false → (a ≡ false) × (b ≡ false)
 or_parts true b h = absurd (cc)
@@ -220,39 +221,40 @@ other_way (ids.Text a) (ids.Text b) h = nat_list_eq_equiv.symm b a ∙ h
 other_way (ids.Number a) (ids.Text b) h = refl
 other_way (ids.Text a) (ids.Number b) h = refl
 
-other_id : (id : Id) (q : Question) (of : Task) → is_of id of ≡ false → Differs of (task.Ask id q)
-other_id id q task.Check h = tt
-other_id id q (task.Ask other r) h = other_way other id h
+module _ (encoding : PositionEncoding) where
+  other_id : (id : Id) (q : Question) (of : Task) → is_of id of ≡ false → Differs of (task.Ask encoding id q)
+  other_id id q (task.Check its) h = tt
+  other_id id q (task.Ask its other r) h = other_way other id h
 
-own_id : (id : Id) (q : Question) (pending : List JobOf) → list_any (λ job. is_of id job.task) pending ≡ false → AllByRecursion (λ job. Differs job.task (task.Ask id q)) pending
-own_id id q [] h = tt
-own_id id q (job ∷ pending) h =
-    let parts = or_parts (is_of id job.task) (list_any (λ job. is_of id job.task) pending) h in
-    (other_id id q job.task parts.0, own_id id q pending parts.1)
+  own_id : (id : Id) (q : Question) (pending : List JobOf) → list_any (λ job. is_of id job.task) pending ≡ false → AllByRecursion (λ job. Differs job.task (task.Ask encoding id q)) pending
+  own_id id q [] h = tt
+  own_id id q (job ∷ pending) h =
+      let parts = or_parts (is_of id job.task) (list_any (λ job. is_of id job.task) pending) h in
+      (other_id id q job.task parts.0, own_id id q pending parts.1)
 
-if_accepted : (id : Id) (asked : Option Question) (is_pending : Bool) (pending : List JobOf) (r : Option Denial)
-    → (is_pending ≡ false → (q : Question) → AllByRecursion (λ job. Differs job.task (task.Ask id q)) pending)
-    → OwnIdAmong pending (accepted id asked (cond is_pending (Some (denial.Error error.InvalidRequest)) r))
-if_accepted id None b pending r h = tt
-if_accepted id (Some q) true pending r h = tt
-if_accepted id (Some q) false pending None h = h refl q
-if_accepted id (Some q) false pending (Some why) h = tt
+  if_accepted : (id : Id) (asked : Option Question) (is_pending : Bool) (pending : List JobOf) (r : Option Denial)
+      → (is_pending ≡ false → (q : Question) → AllByRecursion (λ job. Differs job.task (task.Ask encoding id q)) pending)
+      → OwnIdAmong pending (accepted encoding id asked (cond is_pending (Some (denial.Error error.InvalidRequest)) r))
+  if_accepted id None b pending r h = tt
+  if_accepted id (Some q) true pending r h = tt
+  if_accepted id (Some q) false pending None h = h refl q
+  if_accepted id (Some q) false pending (Some why) h = tt
 
-if_checked : (b : Bool) (pending : List JobOf) → OwnIdAmong pending (cond b (Some task.Check) None)
-if_checked true pending = no_id pending
-if_checked false pending = tt
+  if_checked : (b : Bool) (pending : List JobOf) → OwnIdAmong pending (cond b (Some (task.Check encoding)) None)
+  if_checked true pending = no_id encoding pending
+  if_checked false pending = tt
 
-taken_differs : (s : Session) (pending : List JobOf) (diagnostics : Bool) (e : Effect) → OwnIdAmong pending (taken diagnostics (denied_by s pending e) e)
-taken_differs s pending diagnostics (effect.Asks id asked) =
-    if_accepted id asked (list_any (λ job. is_of id job.task) pending) pending (denial_of_ask s pending asked) (λ h q. own_id id q pending h)
-taken_differs s pending diagnostics (effect.Changes c) = if_checked diagnostics pending
-taken_differs s pending diagnostics effect.Nothing = tt
-taken_differs s pending diagnostics (effect.Begins id d) = tt
-taken_differs s pending diagnostics (effect.Refuses id w) = tt
-taken_differs s pending diagnostics (effect.Cancels id) = tt
-taken_differs s pending diagnostics (effect.ShutsDown id) = tt
-taken_differs s pending diagnostics (effect.Finishes done) = tt
-taken_differs s pending diagnostics (effect.Stops status) = tt
+taken_differs : (s : Session) (pending : List JobOf) (e : Effect) → OwnIdAmong pending (taken s (denied_by s pending e) e)
+taken_differs s pending (effect.Asks id asked) =
+    if_accepted s.position_encoding id asked (list_any (λ job. is_of id job.task) pending) pending (denial_of_ask s pending asked) (λ h q. own_id s.position_encoding id q pending h)
+taken_differs s pending (effect.Changes c) = if_checked s.position_encoding s.diagnostics pending
+taken_differs s pending effect.Nothing = tt
+taken_differs s pending (effect.Begins id d) = tt
+taken_differs s pending (effect.Refuses id w) = tt
+taken_differs s pending (effect.Cancels id) = tt
+taken_differs s pending (effect.ShutsDown id) = tt
+taken_differs s pending (effect.Finishes done) = tt
+taken_differs s pending (effect.Stops status) = tt
 
 same_number : (n number : ℕ) (other : Bool) → ((n == number) && other) ≡ true → number ≡ n
 same_number n number other h = grind (arith, nat_tests)
@@ -518,4 +520,4 @@ module _ (workers : ℕ) (events : List Turn) where
       let e = effect_at events j in
       subst HaveOwnIds (sym (pending_step j))
       (own_ids_on (left d e pending) (workers == 0) (length (asked j) + 1) (taken_at events j (asked j)) (own_ids_kept _ pending (pending_have_own_ids j))
-      (differ_kept _ (taken_at events j (asked j)) pending (taken_differs (session_at events j) pending (session_at events j).diagnostics e)))
+      (differ_kept _ (taken_at events j (asked j)) pending (taken_differs (session_at events j) pending e)))

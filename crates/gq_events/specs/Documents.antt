@@ -17,7 +17,6 @@ use Rattle.gq_rpc.specs.declared.messages.DidChangeParams.{DidChangeParams}
 use Rattle.gq_events.specs.declared.documents.OpenDocument.{OpenDocument}
 use Rattle.gq_events.specs.declared.effect.Change.{Change}
 use Rattle.gq_events.specs.declared.effect.Change.TheVariants as change
-use Rattle.gq_events.specs.Positions.{position_encoding}
 
 -- the keys ascend by their bytes, so no key comes twice
 abbrev pub IsInOrder : List OpenDocument → Type 0
@@ -97,16 +96,16 @@ abbrev pub unless_refused : Bool → Option (List ℕ) → Option (List ℕ)
 unless_refused refused text = if refused then None else text
 
 -- a version that cannot be read stays as it was
-abbrev pub edited : OpenDocument → DidChangeParams → Bool → OpenDocument
-edited document params refused =
+abbrev pub edited : PositionEncoding → OpenDocument → DidChangeParams → Bool → OpenDocument
+edited encoding document params refused =
     document_with document.key document.uri (unwrap_or params.version document.version)
-    (unless_refused refused (edited_text position_encoding document (changes_in params)))
+    (unless_refused refused (edited_text encoding document (changes_in params)))
 
 -- the document that a change leaves, if it leaves one; refused says that the changes of its text were refused memory
-abbrev pub changed : List OpenDocument → Change → Bool → Option OpenDocument
-changed documents (change.Open item) refused = Some (opened item)
-changed documents (change.Edit params) refused = option_map (λ document. edited document params refused) (document_at params.key documents)
-changed documents (change.Close key) refused = None
+abbrev pub changed : PositionEncoding → List OpenDocument → Change → Bool → Option OpenDocument
+changed encoding documents (change.Open item) refused = Some (opened item)
+changed encoding documents (change.Edit params) refused = option_map (λ document. edited encoding document params refused) (document_at params.key documents)
+changed encoding documents (change.Close key) refused = None
 
 -- the document's key comes before this one, after it
 abbrev pub is_before : List ℕ → OpenDocument → Bool
@@ -125,10 +124,10 @@ with_changed documents key None = filter (λ document. not (has_key key document
 with_changed documents key (Some document) = with_document documents document
 
 -- what an edit leaves, and where the document is that it edits; refused says that the changes of its text were refused memory
-abbrev pub EditsAt : List OpenDocument → DidChangeParams → List OpenDocument → Option ℕ → Type 0
-EditsAt old params new at =
-    (refused : Bool) × (new ≡ with_changed old params.key (changed old (change.Edit params) refused))
-    × MatchOption at (changed old (change.Edit params) refused ≡ None) (λ i. (i < length new) × HoldsAt (λ document. changed old (change.Edit params) refused ≡ Some document) new i)
+abbrev pub EditsAt : PositionEncoding → List OpenDocument → DidChangeParams → List OpenDocument → Option ℕ → Type 0
+EditsAt encoding old params new at =
+    (refused : Bool) × (new ≡ with_changed old params.key (changed encoding old (change.Edit params) refused))
+    × MatchOption at (changed encoding old (change.Edit params) refused ≡ None) (λ i. (i < length new) × HoldsAt (λ document. changed encoding old (change.Edit params) refused ≡ Some document) new i)
 
 -- what workers are to see changed
 abbrev pub published : List ℕ → Option OpenDocument → DocChange

@@ -10,12 +10,11 @@ use Rattle.gq_replies.specs.Offers.{edits_in, IsSafe}
 use Rattle.gq_events.specs.declared.event.Out.{Out}
 use Rattle.gq_events.specs.declared.event.Out.TheVariants as out
 use Rattle.gq_events.specs.declared.effect.Effect.TheVariants as effect
-use Rattle.gq_events.specs.Positions.{position_encoding}
 use Rattle.gq_events.specs.Rules.{Turn}
-use Rattle.gq_events.specs.History.{docs_at, effect_at, outputs_at, IsAnswered}
+use Rattle.gq_events.specs.History.{docs_at, encoding_at, effect_at, outputs_at, IsAnswered}
 
 -- The message answers a question that was asked at some earlier place, under its id. Its edit is exactly the one that is defined for the documents
--- as they were there, and still are: a valid project, at the versions that the edit states; applied to these texts it gives a valid project, in which every
+-- as they were there, and still are, with positions in the session's encoding: a valid project, at the versions that the edit states; applied to these texts it gives a valid project, in which every
 -- operation has over every table and for all values of variables, renamed alike, the responses that it had.
 pub record IsOwnEdit (events : List Turn) (j : ℕ) (message : Outgoing) (edit : WorkspaceEdit) : Type 0 where
   pub place : ℕ
@@ -24,8 +23,8 @@ pub record IsOwnEdit (events : List Turn) (j : ℕ) (message : Outgoing) (edit :
   pub earlier : place ≤ j
   pub asks : effect_at events place ≡ effect.Asks id (Some question)
   pub still : docs_at events place ≡ docs_at events (suc j)
-  pub answers : IsAnswer position_encoding (docs_at events place) id question message
-  pub safe : IsSafe position_encoding (docs_at events place) question edit
+  pub answers : IsAnswer (encoding_at events place) (docs_at events place) id question message
+  pub safe : IsSafe (encoding_at events place) (docs_at events place) question edit
 
 abbrev pub IsSafeOutput : List Turn → ℕ → Out → Type 0
 IsSafeOutput events j (out.Reply message) = AllByRecursion (λ edit. ∥ IsOwnEdit events j message edit ∥₁) (edits_in message)

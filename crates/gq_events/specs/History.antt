@@ -1,6 +1,7 @@
 -- What the desk puts out for a list of events, told from the list: places in it count from 0.
 use Rattle.std.specs.Prelude.{◌≡◌, ℕ, zero, suc, ◌+◌, ◌-◌, Bool, false, not, ◌||◌, ◌&&◌, ◌==◌, nat_lt, List, [], ◌∷◌, ◌++◌, length, map, filter, flat_map, take, slice_index_or, Option, Some, None, if◌then◌else◌}
 use Rattle.std.specs.List.{list_any}
+use Rattle.gq_text.specs.declared.place.PositionEncoding.{PositionEncoding}
 use Rattle.gq_project.specs.declared.document.Doc.{Doc}
 use Rattle.gq_rpc.specs.declared.messages.Incoming.TheVariants as incoming
 use Rattle.gq_events.specs.declared.documents.OpenDocument.{OpenDocument}
@@ -34,6 +35,9 @@ session_at events (suc j) = session_step (session_at events j) (turn_at events j
 
 abbrev pub docs_at : List Turn → ℕ → List Doc
 docs_at events j = docs_of (session_at events j).documents
+
+abbrev pub encoding_at : List Turn → ℕ → PositionEncoding
+encoding_at events j = (session_at events j).position_encoding
 
 abbrev pub effect_at : List Turn → ℕ → Effect
 effect_at events j = effect_of (session_at events j).phase (session_at events j).documents (turn_at events j).event
@@ -76,7 +80,7 @@ abbrev pub denied_at : List Turn → ℕ → List Asked → Option Denial
 denied_at events j before = denied_by (session_at events j) (pending_of events j before) (effect_at events j)
 
 abbrev pub taken_at : List Turn → ℕ → List Asked → Option Task
-taken_at events j before = taken (session_at events j).diagnostics (denied_at events j before) (effect_at events j)
+taken_at events j before = taken (session_at events j) (denied_at events j before) (effect_at events j)
 
 -- its job
 abbrev pub numbered : ℕ → ℕ → Option Task → List Asked

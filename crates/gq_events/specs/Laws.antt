@@ -23,11 +23,10 @@ use Rattle.gq_events.specs.declared.effect.Change.{Change}
 use Rattle.gq_events.specs.declared.effect.Change.TheVariants as change
 use Rattle.gq_events.specs.declared.effect.Effect.{Effect}
 use Rattle.gq_events.specs.declared.effect.Effect.TheVariants as effect
-use Rattle.gq_events.specs.Positions.{position_encoding}
 use Rattle.gq_events.specs.Documents.{IsInOrder, document_at, key_of, published}
 use Rattle.gq_events.specs.Tasks.{is_of, Answers}
 use Rattle.gq_events.specs.Rules.{Turn, nothing_wrong, own, answer_to, decides, out_max}
-use Rattle.gq_events.specs.History.{Asked, may_decide, is_decided_at, session_at, docs_at, effect_at, changed_at, turn_at, denied_at, taken_at, pending_at, is_out, outputs, outputs_at, outputs_behind, handed_at, handed_before, IsAnswered}
+use Rattle.gq_events.specs.History.{Asked, may_decide, is_decided_at, session_at, docs_at, encoding_at, effect_at, changed_at, turn_at, denied_at, taken_at, pending_at, is_out, outputs, outputs_at, outputs_behind, handed_at, handed_before, IsAnswered}
 use Rattle.gq_events.specs.Machine.{State, Steps, start, run, reached}
 
 -- step by step, a desk puts out what the list of events tells, behind whatever it took before
@@ -68,8 +67,8 @@ OneIsDecided = (workers : ℕ) (events : List Turn) (j : ℕ) (done : DoneOf) �
 
 -- no other job that is pending is for the request of this task
 abbrev pub Differs : Task → Task → Type 0
-Differs task.Check other = Unit {0}
-Differs (task.Ask id q) other = is_of id other ≡ false
+Differs (task.Check encoding) other = Unit {0}
+Differs (task.Ask encoding id q) other = is_of id other ≡ false
 
 abbrev pub HaveOwnIds : List JobOf → Type 0
 HaveOwnIds [] = Unit {0}
@@ -98,7 +97,8 @@ is_result (outgoing.CodeActions id actions) = true
 is_result (outgoing.Error id why) = false
 is_result (outgoing.Diagnostics params) = false
 
--- the message is the defined answer to a question that was asked, under its id, about the documents as they were then, and still are
+-- the message is the defined answer to a question that was asked, under its id, about the documents as they were then, and still are, with
+-- positions in the session's encoding
 pub record IsOwnAnswer (events : List Turn) (j : ℕ) (message : Outgoing) : Type 0 where
   pub place : ℕ
   pub id : Id
@@ -106,7 +106,7 @@ pub record IsOwnAnswer (events : List Turn) (j : ℕ) (message : Outgoing) : Typ
   pub earlier : place ≤ j
   pub asks : effect_at events place ≡ effect.Asks id (Some question)
   pub still : docs_at events place ≡ docs_at events (suc j)
-  pub is : IsAnswer position_encoding (docs_at events place) id question message
+  pub is : IsAnswer (encoding_at events place) (docs_at events place) id question message
 
 -- the message tells a client that takes no code actions that there is none
 pub record IsNoActions (events : List Turn) (j : ℕ) (message : Outgoing) : Type 0 where
@@ -124,14 +124,14 @@ pub record IsClearing (events : List Turn) (j : ℕ) (message : Outgoing) : Type
   pub was_open : document_at key (session_at events j).documents ≡ Some document
   pub is : out.Notify message ≡ nothing_wrong document
 
--- it is one of those that the check after a change defines, about the documents as they were then
+-- it is one of those that the check after a change defines, about the documents as they were then, with positions in the session's encoding
 pub record IsOfCheck (events : List Turn) (j : ℕ) (message : Outgoing) : Type 0 where
   pub place : ℕ
   pub change : Change
   pub messages : List Outgoing
   pub earlier : place ≤ j
   pub changes : effect_at events place ≡ effect.Changes change
-  pub are : AreDiagnosticsMessages position_encoding (docs_at events (suc place)) messages
+  pub are : AreDiagnosticsMessages (encoding_at events place) (docs_at events (suc place)) messages
   pub among : Contains messages message
 
 abbrev pub IsRightOutput : List Turn → ℕ → Out → Type 0

@@ -2,6 +2,7 @@
 use Rattle.std.specs.Prelude.{◌≡◌, ◌≤◌, ℕ, Bool, true, false, List, [], take, length, fold, find, Option, Some, None, is_some, option_and_then, if◌then◌else◌}
 use Rattle.std.specs.List.{list_any, before_first, after_first}
 use Rattle.std.specs.Option.{option_map_or}
+use Rattle.gq_text.specs.declared.place.PositionEncoding.{PositionEncoding}
 use Rattle.gq_rpc.specs.declared.messages.ClientCapabilities.{ClientCapabilities}
 use Rattle.gq_rpc.specs.declared.messages.Request.{Request}
 use Rattle.gq_rpc.specs.declared.messages.Request.TheVariants as request
@@ -15,6 +16,7 @@ use Rattle.gq_events.specs.declared.effect.Phase.{Phase}
 use Rattle.gq_events.specs.declared.effect.Phase.TheVariants.{Fresh, Running, Down, Stopped}
 use Rattle.gq_events.specs.declared.effect.Change.{Change}
 use Rattle.gq_events.specs.declared.effect.Change.TheVariants as change
+use Rattle.gq_events.specs.Positions.{default_encoding, encoding_for}
 use Rattle.gq_events.specs.Documents.{is_change, key_of, changed, with_changed}
 use Rattle.gq_events.specs.Rules.{Turn, Session, begun}
 use Rattle.gq_events.specs.History.{session_step, session_at}
@@ -100,27 +102,32 @@ abbrev pub phase_of : List Turn → Phase
 phase_of past = if list_any is_shutdown (in_session past) then Down else (if list_any is_initialize past then Running else Fresh)
 
 -- what the client stated at first
-abbrev pub states : (ClientCapabilities → Bool) → Turn → Bool
-states capability turn = option_map_or capability (stated_in turn) false
+abbrev pub stated : List Turn → Option ClientCapabilities
+stated past = option_and_then stated_in (find is_initialize past)
 
 abbrev pub is_stated : (ClientCapabilities → Bool) → List Turn → Bool
-is_stated capability past = option_map_or (states capability) (find is_initialize past) false
+is_stated capability past = option_map_or capability (stated past) false
+
+-- so what the characters of positions are counted in
+abbrev pub encoding_of : List Turn → PositionEncoding
+encoding_of past = option_map_or encoding_for (stated past) default_encoding
 
 -- the documents after what an event tells of them
-abbrev pub with_change : List OpenDocument → Bool → Option Change → List OpenDocument
-with_change documents refused None = documents
-with_change documents refused (Some c) = if is_change documents c then with_changed documents (key_of c) (changed documents c refused) else documents
+abbrev pub with_change : PositionEncoding → List OpenDocument → Bool → Option Change → List OpenDocument
+with_change encoding documents refused None = documents
+with_change encoding documents refused (Some c) = if is_change documents c then with_changed documents (key_of c) (changed encoding documents c refused) else documents
 
-abbrev pub documents_after : List OpenDocument → Turn → List OpenDocument
-documents_after documents turn = with_change documents turn.text_refused (change_in turn)
+abbrev pub documents_after : PositionEncoding → List OpenDocument → Turn → List OpenDocument
+documents_after encoding documents turn = with_change encoding documents turn.text_refused (change_in turn)
 
 -- the changes of the session before its first `shutdown`, one after another
 abbrev pub documents_of : List Turn → List OpenDocument
-documents_of past = fold documents_after [] (before_first is_shutdown (in_session past))
+documents_of past = fold (documents_after (encoding_of past)) [] (before_first is_shutdown (in_session past))
 
 abbrev pub told : List Turn → Session
 told past = record {
   phase = phase_of past;
+  position_encoding = encoding_of past;
   document_changes = is_stated (λ c. c.document_changes) past;
   code_actions = is_stated (λ c. c.code_actions) past;
   diagnostics = is_stated (λ c. c.publish_diagnostics) past;

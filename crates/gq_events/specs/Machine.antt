@@ -69,7 +69,7 @@ abbrev pub denied_in : Session → Table → Effect → Option Denial
 denied_in session jobs e = denied_by session jobs.pending e
 
 abbrev pub taken_by : Session → Table → Effect → Option Task
-taken_by session jobs e = taken session.diagnostics (denied_in session jobs e) e
+taken_by session jobs e = taken session (denied_in session jobs e) e
 
 -- what is written for the jobs that an event decides
 abbrev pub verdicts : List Doc → Effect → List JobOf → List Out

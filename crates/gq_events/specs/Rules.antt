@@ -1,6 +1,7 @@
 -- What one event does, by how far the session has come and by what is pending.
 use Rattle.std.specs.Prelude.{◌≡◌, ℕ, Bool, true, false, ◌&&◌, not, ◌==◌, nat_le, List, [], ◌∷◌, ◌++◌, map, count_by, codes, option_map, option_to_list, Option, Some, None, if◌then◌else◌}
 use Rattle.std.specs.List.{list_any}
+use Rattle.gq_text.specs.declared.place.PositionEncoding.{PositionEncoding}
 use Rattle.gq_project.specs.declared.document.Doc.{Doc}
 use Rattle.gq_project.specs.declared.document.DocChange.{DocChange}
 use Rattle.gq_rpc.specs.declared.messages.Id.{Id}
@@ -39,6 +40,7 @@ use Rattle.gq_events.specs.declared.effect.Change.{Change}
 use Rattle.gq_events.specs.declared.effect.Change.TheVariants as change
 use Rattle.gq_events.specs.declared.effect.Effect.{Effect}
 use Rattle.gq_events.specs.declared.effect.Effect.TheVariants as effect
+use Rattle.gq_events.specs.Positions.{default_encoding, encoding_for}
 use Rattle.gq_events.specs.Documents.{document_at, is_open, is_any_lost, is_change, changed, key_of, with_changed, published}
 use Rattle.gq_events.specs.Tasks.{same_task, same_docs, place_of, is_of, is_ask, Answers}
 
@@ -49,17 +51,18 @@ pub record Turn : Type 0 where
   pub text_refused : Bool
   pub answer : Answer
 
--- how far the session has come, whether its client takes edits with versions, code actions with such edits, and diagnostics,
--- and its documents, in order of key
+-- how far the session has come, what the characters of its positions are counted in, whether its client takes edits with
+-- versions, code actions with such edits, and diagnostics, and its documents, in order of key
 pub record Session : Type 0 where
   pub phase : Phase
+  pub position_encoding : PositionEncoding
   pub document_changes : Bool
   pub code_actions : Bool
   pub diagnostics : Bool
   pub documents : List OpenDocument
 
 abbrev pub begun : Session
-begun = record { phase = Fresh; document_changes = false; code_actions = false; diagnostics = false; documents = [] }
+begun = record { phase = Fresh; position_encoding = default_encoding; document_changes = false; code_actions = false; diagnostics = false; documents = [] }
 
 -- ---- what an event comes to (LSP 3.17, "Server lifecycle")
 
@@ -141,7 +144,7 @@ effect_of Stopped documents e = effect.Nothing
 
 -- the document that a change leaves, if it leaves one
 abbrev pub changed_by : Session → Effect → Bool → Option OpenDocument
-changed_by s (effect.Changes c) refused = changed s.documents c refused
+changed_by s (effect.Changes c) refused = changed s.position_encoding s.documents c refused
 changed_by s effect.Nothing refused = None
 changed_by s (effect.Begins id capabilities) refused = None
 changed_by s (effect.Refuses id why) refused = None
@@ -154,6 +157,7 @@ changed_by s (effect.Stops status) refused = None
 abbrev pub begun_by : Session → ClientCapabilities → Session
 begun_by s capabilities = record {
   phase = Running;
+  position_encoding = encoding_for capabilities;
   document_changes = capabilities.document_changes;
   code_actions = capabilities.code_actions;
   diagnostics = capabilities.publish_diagnostics;
@@ -161,10 +165,24 @@ begun_by s capabilities = record {
 }
 
 abbrev pub with_phase : Session → Phase → Session
-with_phase s phase = record { phase = phase; document_changes = s.document_changes; code_actions = s.code_actions; diagnostics = s.diagnostics; documents = s.documents }
+with_phase s phase = record {
+  phase = phase;
+  position_encoding = s.position_encoding;
+  document_changes = s.document_changes;
+  code_actions = s.code_actions;
+  diagnostics = s.diagnostics;
+  documents = s.documents;
+}
 
 abbrev pub with_documents : Session → List OpenDocument → Session
-with_documents s documents = record { phase = s.phase; document_changes = s.document_changes; code_actions = s.code_actions; diagnostics = s.diagnostics; documents = documents }
+with_documents s documents = record {
+  phase = s.phase;
+  position_encoding = s.position_encoding;
+  document_changes = s.document_changes;
+  code_actions = s.code_actions;
+  diagnostics = s.diagnostics;
+  documents = documents;
+}
 
 -- the session after an event of this effect, whose change leaves this document
 abbrev pub session_after : Session → Effect → Option OpenDocument → Session
@@ -244,22 +262,22 @@ denied_by s pending (effect.ShutsDown id) = None
 denied_by s pending (effect.Finishes done) = None
 denied_by s pending (effect.Stops status) = None
 
-abbrev pub accepted : Id → Option Question → Option Denial → Option Task
-accepted id None denied = None
-accepted id (Some q) None = Some (task.Ask id q)
-accepted id (Some q) (Some how) = None
+abbrev pub accepted : PositionEncoding → Id → Option Question → Option Denial → Option Task
+accepted encoding id None denied = None
+accepted encoding id (Some q) None = Some (task.Ask encoding id q)
+accepted encoding id (Some q) (Some how) = None
 
 -- the task that an event brings: a question that is not denied, or after a change the check, where the client takes diagnostics
-abbrev pub taken : Bool → Option Denial → Effect → Option Task
-taken diagnostics denied (effect.Asks id asked) = accepted id asked denied
-taken diagnostics denied (effect.Changes c) = if diagnostics then Some task.Check else None
-taken diagnostics denied effect.Nothing = None
-taken diagnostics denied (effect.Begins id capabilities) = None
-taken diagnostics denied (effect.Refuses id why) = None
-taken diagnostics denied (effect.Cancels id) = None
-taken diagnostics denied (effect.ShutsDown id) = None
-taken diagnostics denied (effect.Finishes done) = None
-taken diagnostics denied (effect.Stops status) = None
+abbrev pub taken : Session → Option Denial → Effect → Option Task
+taken s denied (effect.Asks id asked) = accepted s.position_encoding id asked denied
+taken s denied (effect.Changes c) = if s.diagnostics then Some (task.Check s.position_encoding) else None
+taken s denied effect.Nothing = None
+taken s denied (effect.Begins id capabilities) = None
+taken s denied (effect.Refuses id why) = None
+taken s denied (effect.Cancels id) = None
+taken s denied (effect.ShutsDown id) = None
+taken s denied (effect.Finishes done) = None
+taken s denied (effect.Stops status) = None
 
 -- ---- what decides a job that is pending, and what is written for it
 
@@ -278,8 +296,8 @@ decides docs (effect.Stops status) job = false
 
 -- the request of a task fails; a check has none, and nothing is written for it
 abbrev pub refused_as : Task → ResponseError → List Out
-refused_as (task.Ask id q) why = out.Reply (outgoing.Error (Some id) why) ∷ []
-refused_as task.Check why = []
+refused_as (task.Ask encoding id q) why = out.Reply (outgoing.Error (Some id) why) ∷ []
+refused_as (task.Check encoding) why = []
 
 -- what is written for a task's answer
 abbrev pub answered : Task → Answer → List Out
@@ -301,7 +319,7 @@ verdict (effect.Stops status) job = []
 -- ---- what an event itself puts out
 
 -- what this server does for a client (LSP 3.17, ServerCapabilities): what the client knows, renames where it takes edits with
--- versions, and code actions where it takes those with such edits
+-- versions, and code actions where it takes those with such edits; and its choice of a position encoding, if it has one
 abbrev pub server_capabilities : ClientCapabilities → ServerCapabilities
 server_capabilities client = record {
   completion_provider = client.completion;
@@ -311,7 +329,7 @@ server_capabilities client = record {
   rename_provider = client.document_changes;
   prepare_provider = client.document_changes && client.prepare_support;
   code_action_provider = client.code_actions;
-  position_encoding = None;
+  position_encoding = client.position_encoding;
 }
 
 -- the reply to a question that is denied
@@ -355,12 +373,13 @@ own workers s denied (effect.Finishes done) document = []
 -- it may be that a text was refused memory.
 abbrev pub Edits : ℕ → Session → DidChangeParams → Session → List Out → List Out → Type 0
 Edits workers s params t old new =
-    (refused : Bool) × (t ≡ with_documents s (with_changed s.documents params.key (changed s.documents (change.Edit params) refused)))
-    × (new ≡ old ++ shown workers (published params.key (changed s.documents (change.Edit params) refused)))
+    (refused : Bool) × (t ≡ with_documents s (with_changed s.documents params.key (changed s.position_encoding s.documents (change.Edit params) refused)))
+    × (new ≡ old ++ shown workers (published params.key (changed s.position_encoding s.documents (change.Edit params) refused)))
 
 abbrev pub Changes : ℕ → Session → Change → Session → List Out → List Out → Type 0
 Changes workers s c t old new =
-    (refused : Bool) × (t ≡ with_documents s (with_changed s.documents (key_of c) (changed s.documents c refused))) × (new ≡ old ++ own_of_change workers s c (changed s.documents c refused))
+    (refused : Bool) × (t ≡ with_documents s (with_changed s.documents (key_of c) (changed s.position_encoding s.documents c refused)))
+    × (new ≡ old ++ own_of_change workers s c (changed s.position_encoding s.documents c refused))
 
 abbrev pub Replies : ℕ → Session → Option Denial → Effect → Session → List Out → List Out → Type 0
 Replies workers s how e t old new = (refused : Bool) × (t ≡ session_after s e (changed_by s e refused)) × (new ≡ old ++ own workers s how e (changed_by s e refused))

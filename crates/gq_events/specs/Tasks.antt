@@ -5,6 +5,8 @@ use Rattle.std.specs.Option.{option_eq}
 use Rattle.std.specs.Ordering.{int_eq}
 use Rattle.std.specs.Str.{bytes_eq}
 use Rattle.gq_text.specs.declared.place.Position.{Position}
+use Rattle.gq_text.specs.declared.place.PositionEncoding.{PositionEncoding}
+use Rattle.gq_text.specs.declared.place.PositionEncoding.TheVariants.{Utf8, Utf16}
 use Rattle.gq_project.specs.declared.document.Doc.{Doc}
 use Rattle.gq_rpc.specs.declared.messages.Id.{Id}
 use Rattle.gq_rpc.specs.declared.messages.Id.TheVariants as id
@@ -16,7 +18,6 @@ use Rattle.gq_events.specs.declared.event.Task.{Task}
 use Rattle.gq_events.specs.declared.event.Task.TheVariants as task
 use Rattle.gq_events.specs.declared.event.Answer.{Answer}
 use Rattle.gq_events.specs.declared.event.Answer.TheVariants as answer
-use Rattle.gq_events.specs.Positions.{position_encoding}
 
 -- ---- which are the same
 
@@ -26,6 +27,12 @@ same_id (id.Number a) (id.Number b) = int_eq a b
 same_id (id.Text a) (id.Text b) = bytes_eq a b
 same_id (id.Number a) (id.Text b) = false
 same_id (id.Text a) (id.Number b) = false
+
+abbrev pub same_encoding : PositionEncoding → PositionEncoding → Bool
+same_encoding Utf8 Utf8 = true
+same_encoding Utf16 Utf16 = true
+same_encoding Utf8 Utf16 = false
+same_encoding Utf16 Utf8 = false
 
 -- where a question is asked: the key of its document, and the position in it, or where the range starts
 abbrev pub place_of : Question → TextDocumentPositionParams
@@ -114,10 +121,10 @@ same_question a b =
     && same_kinds (kinds_of a) (kinds_of b)))))
 
 abbrev pub same_task : Task → Task → Bool
-same_task (task.Ask i a) (task.Ask j b) = same_id i j && same_question a b
-same_task task.Check task.Check = true
-same_task (task.Ask i a) task.Check = false
-same_task task.Check (task.Ask j b) = false
+same_task (task.Ask e i a) (task.Ask f j b) = same_encoding e f && (same_id i j && same_question a b)
+same_task (task.Check e) (task.Check f) = same_encoding e f
+same_task (task.Ask e i a) (task.Check f) = false
+same_task (task.Check e) (task.Ask f j b) = false
 
 -- documents are the same in key, URI, version and text
 abbrev pub same_doc : Doc → Doc → Bool
@@ -132,28 +139,28 @@ same_docs (a ∷ as_) [] = false
 -- ---- the request that a task is for
 
 abbrev pub id_of : Task → Option Id
-id_of (task.Ask i q) = Some i
-id_of task.Check = None
+id_of (task.Ask encoding i q) = Some i
+id_of (task.Check encoding) = None
 
 -- it is the request of that id
 abbrev pub is_of : Id → Task → Bool
-is_of i (task.Ask j q) = same_id j i
-is_of i task.Check = false
+is_of i (task.Ask encoding j q) = same_id j i
+is_of i (task.Check encoding) = false
 
 abbrev pub is_ask : Task → Bool
-is_ask (task.Ask i q) = true
-is_ask task.Check = false
+is_ask (task.Ask encoding i q) = true
+is_ask (task.Check encoding) = false
 
 -- ---- which answers are right
 
 -- an answer to a task about these documents: the defined one, or that memory was refused
 abbrev pub IsAnswerTo : List Doc → Task → Answer → Type 0
-IsAnswerTo docs (task.Ask i q) (answer.Response message) = IsAnswer position_encoding docs i q message
-IsAnswerTo docs (task.Ask i q) (answer.Report messages) = ⊥
-IsAnswerTo docs (task.Ask i q) answer.NoMemory = Unit {0}
-IsAnswerTo docs task.Check (answer.Response message) = ⊥
-IsAnswerTo docs task.Check (answer.Report messages) = AreDiagnosticsMessages position_encoding docs messages
-IsAnswerTo docs task.Check answer.NoMemory = Unit {0}
+IsAnswerTo docs (task.Ask encoding i q) (answer.Response message) = IsAnswer encoding docs i q message
+IsAnswerTo docs (task.Ask encoding i q) (answer.Report messages) = ⊥
+IsAnswerTo docs (task.Ask encoding i q) answer.NoMemory = Unit {0}
+IsAnswerTo docs (task.Check encoding) (answer.Response message) = ⊥
+IsAnswerTo docs (task.Check encoding) (answer.Report messages) = AreDiagnosticsMessages encoding docs messages
+IsAnswerTo docs (task.Check encoding) answer.NoMemory = Unit {0}
 
 abbrev pub Answers : List Doc → Task → Answer → Type 0
 Answers docs t a = ∥ IsAnswerTo docs t a ∥₁

@@ -28,11 +28,11 @@ pub fn refuse(task: Task, why: ResponseError, outs: &mut Vec<Out>) -> Result<(),
     ensures { OnOk result (outs.new.items ≡ outs.old.items ++ rules.refused_as task why) }
 {
     match task {
-        Task::Ask(id, _) => {
+        Task::Ask(_, id, _) => {
             outs.push(Out::Reply(Outgoing::Error(Some(id), why)))?;
             Ok(())
         }
-        Task::Check => Ok(()),
+        Task::Check(_) => Ok(()),
     }
 }
 

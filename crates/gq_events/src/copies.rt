@@ -102,10 +102,11 @@ pub fn copy_task(alloc: Global, task: &Task) -> Result<Task, NoMemory>
     ensures { IfOk result (λ copy. copy ≡ task.now) }
 {
     match task {
-        Task::Ask(id, question) => Ok(Task::Ask(
+        Task::Ask(encoding, id, question) => Ok(Task::Ask(
+            *encoding,
             copy_id(alloc, id)?,
             copy_question(alloc, question)?,
         )),
-        Task::Check => Ok(Task::Check),
+        Task::Check(encoding) => Ok(Task::Check(*encoding)),
     }
 }

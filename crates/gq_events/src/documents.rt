@@ -6,7 +6,6 @@ ghost use Rattle.gq_project.specs.Helping.Places.{IsPlaceOf, IsGapFor};
 ghost use Rattle.gq_events.specs.Documents as spec;
 
 use crate::effect::Change;
-use crate::session::POSITION_ENCODING;
 use crate::texts::OpenText;
 use gq_project::{Doc, Project};
 use gq_rpc::{DidChangeParams, TextDocumentItem};
@@ -119,10 +118,15 @@ fn change_text(
 }
 
 /// Makes the changes of its text, and sets its version, where that can be read.
-fn edit_document(alloc: Global, document: &mut OpenDocument, params: &DidChangeParams)
-    ensures { (refused : Bool) × (document.new ≡ spec.edited document.old params.now refused) }
+fn edit_document(
+    alloc: Global,
+    encoding: PositionEncoding,
+    document: &mut OpenDocument,
+    params: &DidChangeParams,
+)
+    ensures { (refused : Bool) × (document.new ≡ spec.edited encoding document.old params.now refused) }
 {
-    change_text(alloc, POSITION_ENCODING, document, params);
+    change_text(alloc, encoding, document, params);
     document.version = params.version.unwrap_or(document.version);
 }
 
@@ -234,12 +238,17 @@ impl OpenDocuments {
 
     /// Edits the document of that key, if it is open: where it is. It takes no memory but for the changes of its text,
     /// which is lost where they find none.
-    pub fn edit(&mut self, alloc: Global, params: &DidChangeParams) -> Option<usize>
-        ensures { spec.EditsAt self.old params.now self.new result }
+    pub fn edit(
+        &mut self,
+        alloc: Global,
+        encoding: PositionEncoding,
+        params: &DidChangeParams,
+    ) -> Option<usize>
+        ensures { spec.EditsAt encoding self.old params.now self.new result }
     {
         match self.place(params.key.as_str()) {
             Ok(at) => {
-                edit_document(alloc, &mut self.documents[at], params);
+                edit_document(alloc, encoding, &mut self.documents[at], params);
                 Some(at)
             }
             Err(_) => None,

@@ -4,17 +4,17 @@ ghost use Rattle.gq_events.specs.Tasks.{Answers};
 use gq_parse::Piece;
 use gq_project::{DocChange, Project};
 use gq_rpc::{Id, Incoming, Outgoing, Question};
-use gq_text::Items;
+use gq_text::{Items, PositionEncoding};
 use std::marker::Model;
 use std::sync::Arc;
 
-/// What is to be answered about the documents.
+/// What is to be answered about the documents, with positions in the encoding that the session has.
 #[derive(Drop)]
 pub enum Task {
     /// A client's question, under the id of its request.
-    Ask(Id, Question),
+    Ask(PositionEncoding, Id, Question),
     /// What is wrong with each document.
-    Check,
+    Check(PositionEncoding),
 }
 
 /// A task under its number. Contracts see these two: pieces decide no answer.

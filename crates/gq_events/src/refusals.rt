@@ -40,8 +40,8 @@ fn is_ask(task: &Task) -> bool
     ensures { result ≡ tasks.is_ask task.now }
 {
     match task {
-        Task::Ask(_, _) => true,
-        Task::Check => false,
+        Task::Ask(_, _, _) => true,
+        Task::Check(_) => false,
     }
 }
 

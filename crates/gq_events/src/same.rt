@@ -9,7 +9,7 @@ use crate::event::Task;
 use crate::refusals::key_of;
 use gq_project::{Doc, Project};
 use gq_rpc::{Id, Question};
-use gq_text::{Items, OwnedText, Position};
+use gq_text::{Items, OwnedText, Position, PositionEncoding};
 
 fn same_id(a: &Id, b: &Id) -> bool
     ensures { result ≡ spec.same_id a.now b.now }
@@ -26,9 +26,19 @@ pub fn is_of(id: &Id, task: &Task) -> bool
     ensures { result ≡ spec.is_of id.now task.now }
 {
     match task {
-        Task::Ask(other, _) => same_id(other, id),
-        Task::Check => false,
+        Task::Ask(_, other, _) => same_id(other, id),
+        Task::Check(_) => false,
     }
+}
+
+fn same_encoding(a: PositionEncoding, b: PositionEncoding) -> bool
+    ensures { result ≡ spec.same_encoding a b }
+{
+    matches!(
+        (a, b),
+        (PositionEncoding::Utf8, PositionEncoding::Utf8)
+            | (PositionEncoding::Utf16, PositionEncoding::Utf16)
+    )
 }
 
 /// The kinds of questions, numbered.
@@ -148,10 +158,12 @@ pub fn same_task(a: &Task, b: &Task) -> bool
     ensures { result ≡ spec.same_task a.now b.now }
 {
     match (a, b) {
-        (Task::Ask(id, question), Task::Ask(other, asked)) => {
-            same_id(id, other) && same_question(question, asked)
+        (Task::Ask(encoding, id, question), Task::Ask(another, other, asked)) => {
+            same_encoding(*encoding, *another)
+                && same_id(id, other)
+                && same_question(question, asked)
         }
-        (Task::Check, Task::Check) => true,
+        (Task::Check(encoding), Task::Check(another)) => same_encoding(*encoding, *another),
         _ => false,
     }
 }

@@ -21,9 +21,9 @@ use gq_text::{Items, NoMemory, OwnedText, PositionEncoding};
 use std::alloc::Global;
 use std::marker::Model;
 
-/// What the characters of each session's positions are counted in: UTF-16 code units, as every client counts (LSP 3.17,
-/// "PositionEncodingKind").
-pub(crate) const POSITION_ENCODING: PositionEncoding = PositionEncoding::Utf16;
+/// What the characters of positions are counted in, where the client lists nothing: UTF-16 code units, as every client counts
+/// (LSP 3.17, "PositionEncodingKind").
+const DEFAULT_ENCODING: PositionEncoding = PositionEncoding::Utf16;
 
 /// What this server does for a client (LSP 3.17, ServerCapabilities).
 fn server_capabilities(client: ClientCapabilities) -> ServerCapabilities
@@ -37,7 +37,7 @@ fn server_capabilities(client: ClientCapabilities) -> ServerCapabilities
         rename_provider: client.document_changes,
         prepare_provider: client.document_changes && client.prepare_support,
         code_action_provider: client.code_actions,
-        position_encoding: None,
+        position_encoding: client.position_encoding,
     }
 }
 
@@ -92,10 +92,14 @@ fn hide(workers: u8, key: OwnedText, outs: &mut Vec<Out>) -> Result<(), NoMemory
 }
 
 /// After a change the documents are checked, where the client takes diagnostics.
-fn check_after(diagnostics: bool) -> Option<Task>
-    ensures { result ≡ (if diagnostics then Some task.Check else None) }
+fn check_after(diagnostics: bool, encoding: PositionEncoding) -> Option<Task>
+    ensures { result ≡ (if diagnostics then Some (task.Check encoding) else None) }
 {
-    if diagnostics { Some(Task::Check) } else { None }
+    if diagnostics {
+        Some(Task::Check(encoding))
+    } else {
+        None
+    }
 }
 
 /// The reply to a question that is denied.
@@ -111,12 +115,13 @@ fn reply_to_denied(alloc: Global, id: Id, denial: Denial) -> Outgoing
 /// Adds how a question is denied, if it is; else it is a task.
 fn take_question(
     alloc: Global,
+    encoding: PositionEncoding,
     id: Id,
     asked: Option<Question>,
     denied: Option<Denial>,
     outs: &mut Vec<Out>,
 ) -> Result<Option<Task>, NoMemory>
-    ensures task { IfOk result (λ task. task ≡ spec.accepted id asked denied) }
+    ensures task { IfOk result (λ task. task ≡ spec.accepted encoding id asked denied) }
     ensures outs { OnOk result (outs.new.items ≡ outs.old.items ++ spec.denied_with id denied) }
 {
     match (asked, denied) {
@@ -124,7 +129,7 @@ fn take_question(
             outs.push(Out::Reply(reply_to_denied(alloc, id, denial)))?;
             Ok(None)
         }
-        (Some(question), None) => Ok(Some(Task::Ask(id, question))),
+        (Some(question), None) => Ok(Some(Task::Ask(encoding, id, question))),
         (None, None) => Ok(None),
     }
 }
@@ -133,6 +138,8 @@ fn take_question(
 #[derive(Drop)]
 pub struct ClientSession {
     phase: Phase,
+    /// What the characters of its positions are counted in.
+    position_encoding: PositionEncoding,
     /// Its client takes edits with versions.
     document_changes: bool,
     /// Its client takes code actions that hold such edits.
@@ -147,7 +154,7 @@ impl Model for ClientSession {
 
     ghost Value = { Session };
 
-    ghost view = { λ s. record { phase = s.phase; document_changes = s.document_changes; code_actions = s.code_actions; diagnostics = s.diagnostics; documents = s.documents } };
+    ghost view = { λ s. record { phase = s.phase; position_encoding = s.position_encoding; document_changes = s.document_changes; code_actions = s.code_actions; diagnostics = s.diagnostics; documents = s.documents } };
 }
 
 impl ClientSession {
@@ -157,6 +164,7 @@ impl ClientSession {
     {
         ClientSession {
             phase: Phase::Fresh,
+            position_encoding: DEFAULT_ENCODING,
             document_changes: false,
             code_actions: false,
             diagnostics: false,
@@ -263,7 +271,7 @@ impl ClientSession {
     ) -> Result<(), NoMemory>
         ensures { OnOk result (spec.Edits workers self.old params self.new outs.old.items outs.new.items) }
     {
-        match self.documents.edit(alloc, &params) {
+        match self.documents.edit(alloc, self.position_encoding, &params) {
             Some(at) => show(alloc, workers, &self.documents.as_slice()[at], outs),
             None => hide(workers, params.key, outs),
         }
@@ -302,6 +310,17 @@ impl ClientSession {
         }
     }
 
+    /// The session begins, with what its client states.
+    fn begin(&mut self, client: ClientCapabilities)
+        ensures { self.new ≡ spec.begun_by self.old client }
+    {
+        self.phase = Phase::Running;
+        self.position_encoding = client.position_encoding.unwrap_or(DEFAULT_ENCODING);
+        self.document_changes = client.document_changes;
+        self.code_actions = client.code_actions;
+        self.diagnostics = client.publish_diagnostics;
+    }
+
     /// Takes in an event of this effect, and adds its own reply and what it publishes for so many workers: the task that
     /// it brings.
     pub fn take_in(
@@ -312,15 +331,12 @@ impl ClientSession {
         effect: Effect,
         outs: &mut Vec<Out>,
     ) -> Result<Option<Task>, NoMemory>
-        ensures task { IfOk result (λ task. task ≡ spec.taken self.old.diagnostics denied effect) }
+        ensures task { IfOk result (λ task. task ≡ spec.taken self.old denied effect) }
         ensures own { OnOk result (spec.Replies workers self.old denied effect self.new outs.old.items outs.new.items) }
     {
         match effect {
             Effect::Begins(id, capabilities) => {
-                self.phase = Phase::Running;
-                self.document_changes = capabilities.document_changes;
-                self.code_actions = capabilities.code_actions;
-                self.diagnostics = capabilities.publish_diagnostics;
+                self.begin(capabilities);
                 let server = server_capabilities(capabilities);
                 outs.push(Out::Reply(Outgoing::Initialized(id, server)))?;
                 Ok(None)
@@ -329,10 +345,12 @@ impl ClientSession {
                 outs.push(Out::Reply(Outgoing::Error(id, why)))?;
                 Ok(None)
             }
-            Effect::Asks(id, asked) => take_question(alloc, id, asked, denied, outs),
+            Effect::Asks(id, asked) => {
+                take_question(alloc, self.position_encoding, id, asked, denied, outs)
+            }
             Effect::Changes(change) => {
                 self.change(alloc, workers, change, outs)?;
-                Ok(check_after(self.diagnostics))
+                Ok(check_after(self.diagnostics, self.position_encoding))
             }
             Effect::ShutsDown(id) => {
                 self.phase = Phase::Down;

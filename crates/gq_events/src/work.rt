@@ -2,43 +2,46 @@
 ghost use Rattle.std.specs.Prelude.{◌≡◌, IfOk};
 ghost use Rattle.gq_edit.specs.Workspace.{AreTexts};
 ghost use Rattle.gq_replies.specs.Answers.{IsAnswer, AreDiagnosticsMessages};
-ghost use Rattle.gq_events.specs.Positions.{position_encoding};
 ghost use Rattle.gq_events.specs.Tasks.{Answers};
 
 use crate::copies::copy_id;
 use crate::event::{Answer, Done, Task};
-use crate::session::POSITION_ENCODING;
 use gq_kept::Kept;
 use gq_parse::Piece;
 use gq_project::Project;
 use gq_replies::{answer, diagnostics_messages};
 use gq_rpc::{Id, Outgoing, Question};
-use gq_text::{Items, NoMemory};
+use gq_text::{Items, NoMemory, PositionEncoding};
 use std::alloc::Global;
 use std::sync::Arc;
 
 /// The response to a question about the documents that are kept.
 fn respond(
     alloc: Global,
+    encoding: PositionEncoding,
     kept: &mut Kept,
     id: &Id,
     question: &Question,
 ) -> Result<Outgoing, NoMemory>
     requires { AreTexts kept.old.documents }
-    ensures message { IfOk result (λ message. ∥ IsAnswer position_encoding kept.old.documents id.now question.now message ∥₁) }
+    ensures message { IfOk result (λ message. ∥ IsAnswer encoding kept.old.documents id.now question.now message ∥₁) }
     ensures documents { kept.new.documents ≡ kept.old.documents }
 {
     let id = copy_id(alloc, id)?;
-    answer(alloc, POSITION_ENCODING, kept, id, question)
+    answer(alloc, encoding, kept, id, question)
 }
 
 /// The notifications that tell what is wrong with each of the documents that are kept.
-fn report(alloc: Global, kept: &mut Kept) -> Result<Items<Outgoing>, NoMemory>
+fn report(
+    alloc: Global,
+    encoding: PositionEncoding,
+    kept: &mut Kept,
+) -> Result<Items<Outgoing>, NoMemory>
     requires { AreTexts kept.old.documents }
-    ensures messages { IfOk result (λ messages. ∥ AreDiagnosticsMessages position_encoding kept.old.documents messages ∥₁) }
+    ensures messages { IfOk result (λ messages. ∥ AreDiagnosticsMessages encoding kept.old.documents messages ∥₁) }
     ensures documents { kept.new.documents ≡ kept.old.documents }
 {
-    let messages = diagnostics_messages(alloc, POSITION_ENCODING, kept)?;
+    let messages = diagnostics_messages(alloc, encoding, kept)?;
     Ok(Items::from_vec(messages))
 }
 
@@ -49,8 +52,11 @@ pub(crate) fn find_answer(alloc: Global, kept: &mut Kept, task: &Task) -> Result
     ensures documents { kept.new.documents ≡ kept.old.documents }
 {
     match task {
-        Task::Ask(id, question) => Ok(Answer::Response(respond(alloc, kept, id, question)?)),
-        Task::Check => Ok(Answer::Report(report(alloc, kept)?)),
+        Task::Ask(encoding, id, question) => {
+            let message = respond(alloc, *encoding, kept, id, question)?;
+            Ok(Answer::Response(message))
+        }
+        Task::Check(encoding) => Ok(Answer::Report(report(alloc, *encoding, kept)?)),
     }
 }
 

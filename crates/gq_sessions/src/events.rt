@@ -9,8 +9,8 @@ use gq_events::copy_task;
 use gq_kept::Kept;
 use gq_project::{Doc, DocChange, Project};
 use gq_rpc::{Incoming, Outgoing, Request, encode, read_message};
-use gq_text::OwnedText;
 use gq_text::text::TEXT_MAX;
+use gq_text::{OwnedText, PositionEncoding};
 use std::alloc::Global;
 
 /// A job that was handed on, and the documents that workers saw then.
@@ -117,7 +117,7 @@ impl Play {
         }
     }
 
-    /// The task that is meant: that of a job, or that of a request's body.
+    /// The task that is meant: that of a job, or that of a request's body, with positions in UTF-16.
     fn task(&self, word: &str) -> Result<Task, NoAnswer> {
         if !word.starts_with('{') {
             let given = self.given(word.parse::<u64>()?)?;
@@ -125,7 +125,7 @@ impl Play {
         }
         match read_message(self.alloc, word.as_bytes())? {
             Incoming::Request(id, request) => match request {
-                Request::Ask(question) => Ok(Task::Ask(id, question)),
+                Request::Ask(question) => Ok(Task::Ask(PositionEncoding::Utf16, id, question)),
                 _ => Err(NoAnswer),
             },
             _ => Err(NoAnswer),

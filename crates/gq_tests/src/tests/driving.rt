@@ -9,8 +9,8 @@ use gq_kept::Kept;
 use gq_parse::Piece;
 use gq_project::{Doc, DocChange, Project};
 use gq_rpc::{Flagged, Incoming, Request, encode, read_message};
-use gq_text::OwnedText;
 use gq_text::text::TEXT_MAX;
+use gq_text::{OwnedText, PositionEncoding};
 use std::alloc::Global;
 use std::sync::Arc;
 use std::test::Fail;
@@ -245,7 +245,7 @@ fn texts(alloc: Global, version: i64, schema: &str) -> Result<Project, Fail> {
 fn task(alloc: Global, id: u64) -> Result<Task, Fail> {
     match read_message(alloc, rename(alloc, id)?.as_bytes())? {
         Incoming::Request(id, request) => match request {
-            Request::Ask(question) => Ok(Task::Ask(id, question)),
+            Request::Ask(question) => Ok(Task::Ask(PositionEncoding::Utf16, id, question)),
             _ => Err("no question".into()),
         },
         _ => Err("no request".into()),
