@@ -7,7 +7,7 @@ use Rattle.gq_text.specs.declared.text.TextError.{TextError}
 use Rattle.gq_text.specs.Change.{FitEach, after_changes}
 use Rattle.gq_rpc.specs.declared.messages.DidChangeParams.{DidChangeParams}
 use Rattle.gq_events.specs.declared.documents.OpenDocument.{OpenDocument}
-use Rattle.gq_events.proofs.Keeping.{is_fit_each}
+use Rattle.gq_events.proofs.DocumentsKept.{is_fit_each}
 use Rattle.gq_events.specs.Documents.{fit_each, changes_in, edited_text}
 
 -- changes that can be read and kept

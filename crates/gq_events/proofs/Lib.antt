@@ -13,7 +13,7 @@ pub mod Keyed
 pub mod Editing
 pub mod Answering
 pub mod Going
-pub mod Keeping
+pub mod DocumentsKept
 pub mod OpenNow
 pub mod Lifecycles
 pub mod Agreeing

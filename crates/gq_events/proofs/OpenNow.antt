@@ -14,7 +14,7 @@ use Rattle.gq_kept.specs.Helping.Gone.{AreGone, AreDropped, IsPut, ArePut}
 use Rattle.gq_kept.proofs.Brought.{put_more, dropped_more}
 use Rattle.gq_events.specs.declared.documents.OpenDocument.{OpenDocument}
 use Rattle.gq_events.specs.Documents.{IsInOrder, has_key, is_open, doc_of, docs_of}
-use Rattle.gq_events.proofs.Keeping.{docs_in_order}
+use Rattle.gq_events.proofs.DocumentsKept.{docs_in_order}
 
 -- a key finds the document that is open under it
 found_open : (documents : List OpenDocument) (key : List ℕ) → find (project.has_key key) (docs_of documents) ≡ option_map doc_of (find (has_key key) documents)

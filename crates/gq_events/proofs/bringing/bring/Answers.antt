@@ -7,7 +7,7 @@ use Rattle.gq_kept.proofs.Brought.{brought}
 use Rattle.gq_events.specs.declared.documents.OpenDocument.{OpenDocument}
 use Rattle.gq_events.specs.Documents.{docs_of}
 use Rattle.gq_events.proofs.Firsts.{docs_same}
-use Rattle.gq_events.proofs.Keeping.{docs_in_order}
+use Rattle.gq_events.proofs.DocumentsKept.{docs_in_order}
 use Rattle.gq_events.proofs.bringing.bring.Goals as goal
 
 pub returns-then-same_documents : goal.returns-then-same_documents

@@ -1,4 +1,4 @@
-use Rattle.gq_events.proofs.Keeping.{documents_are_kept}
+use Rattle.gq_events.proofs.DocumentsKept.{documents_are_kept}
 use Rattle.gq_events.proofs.laws.documents_are_kept.Goals as goal
 
 pub returns : goal.returns

@@ -3,7 +3,7 @@ use Rattle.std.proofs.Common.{◌≡◌, arith, sym, subst}
 use Rattle.std.proofs.lemmas.Grind.{common_steps}
 use Rattle.gq_project.specs.Documents.{IsInOrder}
 use Rattle.gq_events.specs.Documents.{docs_of}
-use Rattle.gq_events.proofs.Keeping.{docs_in_order}
+use Rattle.gq_events.proofs.DocumentsKept.{docs_in_order}
 use Rattle.gq_events.proofs.documents.OpenDocuments.project.Goals as goal
 
 pub from_ordered-requires : goal.from_ordered-requires

@@ -3,7 +3,7 @@ use Rattle.std.proofs.Common.{◌≡◌, ◌≤◌, ◌^◌, ◌+◌, List, [], 
 use Rattle.std.specs.List.{AllByRecursion}
 use Rattle.std.proofs.lemmas.List.{take_all, take_more}
 use Rattle.gq_events.specs.declared.documents.OpenDocument.{OpenDocument}
-use Rattle.gq_events.proofs.Keeping.{docs_are_texts}
+use Rattle.gq_events.proofs.DocumentsKept.{docs_are_texts}
 use Rattle.gq_events.proofs.Lists.{both}
 use Rattle.gq_events.proofs.documents.OpenDocuments.texts_fit.Goals as goal
 
