@@ -8,4 +8,4 @@ pub mod Machine
 pub mod Laws
 pub mod Lifecycle
 pub mod Headline
-pub mod Helping
+pub mod Keeping

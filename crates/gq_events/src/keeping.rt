@@ -2,7 +2,7 @@
 ghost use Rattle.std.specs.Prelude.{◌≡◌, true, false, None, Some, IfOk, IfSome, OnOk, is_some};
 ghost use Rattle.gq_edit.specs.Workspace.{AreTexts};
 ghost use Rattle.gq_events.specs.Documents.{docs_of};
-ghost use Rattle.gq_events.specs.Helping.Keeping.{documents_kept};
+ghost use Rattle.gq_events.specs.Keeping.{documents_kept};
 ghost use Rattle.gq_events.specs.Tasks.{Answers};
 
 use crate::bringing::bring;
@@ -27,7 +27,7 @@ pub struct Keeping {
 impl Model for Keeping {
     ghost use Rattle.std.specs.Prelude.{◌≡◌, true, is_some, List, Option};
     ghost use Rattle.gq_project.specs.declared.document.Doc.{Doc};
-    ghost use Rattle.gq_events.specs.Helping.Keeping.{documents_kept};
+    ghost use Rattle.gq_events.specs.Keeping.{documents_kept};
 
     ghost Value = { Option (List Doc) };
 
