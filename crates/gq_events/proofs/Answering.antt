@@ -1,24 +1,16 @@
--- What a session puts out for an event that changes nothing, and for a task.
-use Rattle.std.proofs.Common.{◌≡◌, ℕ, Bool, false, List, [], ◌∷◌, ◌++◌, map, Option, Some, ap, sym, subst, ◌∙◌}
+-- What a session puts out for an event that changes nothing, and for a task for which memory was refused.
+use Rattle.std.proofs.Common.{◌≡◌, ℕ, false, List, [], ◌++◌, Option, Result, OnOk, ap, sym, subst, ◌∙◌}
 use Rattle.std.specs.Prelude.{codes}
 use Rattle.std.proofs.lemmas.List.{append-nil}
-use Rattle.gq_project.specs.declared.document.Doc.{Doc}
-use Rattle.gq_rpc.specs.declared.messages.Id.{Id}
-use Rattle.gq_rpc.specs.declared.messages.Outgoing.{Outgoing}
-use Rattle.gq_rpc.specs.declared.messages.Outgoing.TheVariants as outgoing
-use Rattle.gq_rpc.specs.declared.messages.Question.{Question}
+use Rattle.gq_text.specs.declared.buffer.NoMemory.{NoMemory}
 use Rattle.gq_rpc.specs.declared.messages.ResponseError.{ResponseError}
 use Rattle.gq_events.specs.declared.refusals.Denial.{Denial}
-use Rattle.gq_replies.specs.Answers.{IsAnswer, AreDiagnosticsMessages}
 use Rattle.gq_events.specs.declared.effect.Effect.{Effect}
 use Rattle.gq_events.specs.declared.event.Answer.{Answer}
 use Rattle.gq_events.specs.declared.event.Answer.TheVariants as answer
 use Rattle.gq_events.specs.declared.event.Out.{Out}
-use Rattle.gq_events.specs.declared.event.Out.TheVariants as out
 use Rattle.gq_events.specs.declared.event.Task.{Task}
-use Rattle.gq_events.specs.declared.event.Task.TheVariants as task
-use Rattle.gq_events.specs.Tasks.{Answers}
-use Rattle.gq_events.specs.Rules.{Session, changed_by, session_after, own, failed, answered, Replies}
+use Rattle.gq_events.specs.Rules.{Session, changed_by, session_after, own, failed, refused_as, answered, Replies}
 
 -- an event that changes nothing
 pub quiet : (workers : ℕ) (s : Session) (denied : Option Denial) (e f : Effect) (outs : List Out) → e ≡ f → s ≡ session_after s f (changed_by s f false) → [] ≡ own workers s denied f (changed_by s f false) → Replies workers s denied e s outs outs
