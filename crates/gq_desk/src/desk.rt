@@ -73,7 +73,15 @@ fn take_event(
     pieces.follow(session.documents(), &effect);
     let rest = jobs.settle(alloc, session.documents(), effect, outs)?;
     let task = session.take_in(alloc, workers, denied, rest, outs)?;
-    bring(alloc, session.documents(), keeping, workers, jobs, task, outs)?;
+    bring(
+        alloc,
+        session.documents(),
+        keeping,
+        workers,
+        jobs,
+        task,
+        outs,
+    )?;
     jobs.hand_on(alloc, pieces, outs)
 }
 

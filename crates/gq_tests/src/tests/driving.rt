@@ -460,9 +460,11 @@ fn are_taken(alloc: Global, one: &mut Kept, another: &mut Kept) -> Result<bool, 
     let taken = done_by(alloc, 2, 8, texts(alloc, 1, schema)?, &made.pieces, another)?;
     let changed = texts(alloc, 2, "type Query{x:Int y:Int}")?;
     let mended = done_by(alloc, 3, 8, changed, &made.pieces, another)?;
-    Ok(renamed_with(alloc, &made, 2)?
-        && renamed_with(alloc, &taken, 0)?
-        && renamed_with(alloc, &mended, 1)?)
+    Ok(
+        renamed_with(alloc, &made, 2)?
+            && renamed_with(alloc, &taken, 0)?
+            && renamed_with(alloc, &mended, 1)?,
+    )
 }
 
 #[test]
