@@ -43,8 +43,8 @@ answered_goes t (answer.Report messages) = reports_go messages
     reports_go : (messages : List Outgoing) → stop_in (map out.Notify messages) ≡ None
     reports_go [] = refl
     reports_go (message ∷ messages) = reports_go messages
-answered_goes (task.Ask id q) answer.NoMemory = refl
-answered_goes task.Check answer.NoMemory = refl
+answered_goes (task.Ask encoding id q) answer.NoMemory = refl
+answered_goes (task.Check encoding) answer.NoMemory = refl
 
 brought_goes : (t : Option Task) (a : Answer) → stop_in (answer_to t a) ≡ None
 brought_goes None a = refl
@@ -89,7 +89,7 @@ stops_by s denied (effect.Finishes done) document t a status h = never [] (answe
 stop_phase : (s : Session) (turn : Turn) (status : ℕ) → stop_in (writes (alone s) turn) ≡ Some status → (after (alone s) turn).session.phase ≡ Stopped
 stop_phase s turn status h =
     let e = effect_in (alone s) turn in
-    stops_by s (denied_by s [] e) e (changed_in (alone s) turn) (taken s.diagnostics (denied_by s [] e) e) turn.answer status (ap stop_in (sym (writes_alone s turn)) ∙ h)
+    stops_by s (denied_by s [] e) e (changed_in (alone s) turn) (taken s (denied_by s [] e) e) turn.answer status (ap stop_in (sym (writes_alone s turn)) ∙ h)
 
 -- ---- turns of bodies that are not served
 
@@ -106,8 +106,8 @@ quiet_of (body ∷ bodies) = ap (λ (l : List Event). event_of body ∷ l) (quie
 
 no_memory_fits : (documents : List OpenDocument) (t : Option Task) → FitsTaken (docs_of documents) t answer.NoMemory
 no_memory_fits documents None = tt
-no_memory_fits documents (Some (task.Ask id q)) = ∣ tt ∣₁
-no_memory_fits documents (Some task.Check) = ∣ tt ∣₁
+no_memory_fits documents (Some (task.Ask encoding id q)) = ∣ tt ∣₁
+no_memory_fits documents (Some (task.Check encoding)) = ∣ tt ∣₁
 
 pub quiet_fits : (s : State) (bodies : List (List ℕ)) → FitsRun s (quiet bodies)
 quiet_fits s [] = tt
@@ -126,7 +126,7 @@ silent s h (body ∷ bodies) =
     let nothing = nothing_in s turn h in
     let none : writes (alone s) turn ≡ [] =
     writes_alone s turn
-    ∙ ap (λ (e : Effect). own 0 s (denied_by s [] e) e (changed_by s e turn.text_refused) ++ answer_to (taken s.diagnostics (denied_by s [] e) e) turn.answer) nothing in
+    ∙ ap (λ (e : Effect). own 0 s (denied_by s [] e) e (changed_by s e turn.text_refused) ++ answer_to (taken s (denied_by s [] e) e) turn.answer) nothing in
     let same : after (alone s) turn ≡ alone s = ap (λ (e : Effect). alone (session_after s e (changed_by s e turn.text_refused))) nothing in
     ap (λ (l : List Out). l ++ run (after (alone s) turn) (quiet bodies)) none
     ∙ (ap (λ (t : State). run t (quiet bodies)) same ∙ silent s h bodies)
