@@ -41,24 +41,36 @@ class Client:
         self.server = subprocess.Popen(["taskset", "-c", "0", program, "serve", "--workers", "0"], stdin=subprocess.PIPE, stdout=subprocess.PIPE)
         self.number = 0
         self.versions = {}
+        self.held, self.at = b"", 0
 
     def send(self, message):
         body = json.dumps({"jsonrpc": "2.0", **message}).encode()
         self.server.stdin.write(b"Content-Length: %d\r\n\r\n" % len(body) + body)
         self.server.stdin.flush()
 
+    def take(self):
+        """Takes what the server wrote meanwhile, many messages at once."""
+        more = self.server.stdout.read1(1 << 20)
+        if not more:
+            sys.exit("the server has ended")
+        self.held, self.at = self.held[self.at :] + more, 0
+
+    def end_of(self, start):
+        """The end of the message that starts there, or None where it is not whole."""
+        head = self.held.find(b"\r\n\r\n", start)
+        if head < 0:
+            return None
+        end = head + 4 + int(self.held[start + len(b"Content-Length: ") : head])
+        return end if end <= len(self.held) else None
+
     def read(self):
         """The body of the next message."""
-        length = 0
         while True:
-            line = self.server.stdout.readline()
-            if not line:
-                sys.exit("the server has ended")
-            if line == b"\r\n":
-                return self.server.stdout.read(length)
-            name, value = line.split(b":")
-            if name.lower() == b"content-length":
-                length = int(value)
+            end = self.end_of(self.at)
+            if end:
+                start, self.at = self.held.index(b"\r\n\r\n", self.at) + 4, end
+                return self.held[start:end]
+            self.take()
 
     def ask(self, method, params):
         """The response to a request."""
@@ -73,12 +85,15 @@ class Client:
         self.send({"method": method, "params": params})
 
     def diagnosed(self, count):
-        """So many notifications of diagnostics: those in which something is wrong. The others are not read as JSON, since
-        there is one for each document that is open after each change."""
-        bodies = [self.read() for _ in range(count)]
-        if not all(b'"method":"textDocument/publishDiagnostics"' in body for body in bodies):
-            sys.exit("no diagnostics")
-        return [json.loads(body)["params"] for body in bodies if b'"diagnostics":[]' not in body]
+        """So many notifications of diagnostics: those in which something is wrong. There is one for each document that is
+        open after each change; where nothing is wrong in any they are counted, and not read as JSON."""
+        while self.held.count(b"Content-Length: ", self.at) < count or not self.end_of(self.held.rindex(b"Content-Length: ")):
+            self.take()
+        if self.held.count(b'"diagnostics":[]', self.at) == count:
+            self.held, self.at = b"", 0
+            return []
+        told = [json.loads(self.read())["params"] for _ in range(count)]
+        return [one for one in told if one["diagnostics"]]
 
     def open(self, uri, text):
         self.versions[uri] = 1
