@@ -255,8 +255,18 @@ fn task(alloc: Global, id: u64) -> Result<Task, Fail> {
 /// What a worker makes of a job of that number: to rename as the request of that id asks, about these texts.
 fn done(alloc: Global, job: u64, id: u64, texts: Project) -> Result<Event, Fail> {
     let mut kept = Kept::of(alloc, &Project::new(alloc))?;
-    let done = done_by(alloc, job, id, texts, &[], &mut kept)?;
-    Ok(Event::Done(done))
+    event_by(alloc, job, id, texts, &mut kept)
+}
+
+/// The same of a worker that keeps this.
+fn event_by(
+    alloc: Global,
+    job: u64,
+    id: u64,
+    texts: Project,
+    kept: &mut Kept,
+) -> Result<Event, Fail> {
+    Ok(Event::Done(done_by(alloc, job, id, texts, &[], kept)?))
 }
 
 /// The same of a worker that keeps this, by these pieces.
@@ -467,11 +477,21 @@ fn are_taken(alloc: Global, one: &mut Kept, another: &mut Kept) -> Result<bool, 
     )
 }
 
+/// The same, where the other worker keeps nothing yet.
+fn are_taken_from(alloc: Global, one: &mut Kept) -> Result<bool, Fail> {
+    let mut another = Kept::of(alloc, &Project::new(alloc))?;
+    are_taken(alloc, one, &mut another)
+}
+
+/// The same, where neither keeps anything yet.
+fn pieces_are_taken(alloc: Global) -> Result<bool, Fail> {
+    let mut one = Kept::of(alloc, &Project::new(alloc))?;
+    are_taken_from(alloc, &mut one)
+}
+
 #[test]
 fn a_worker_takes_the_pieces_of_a_job(rt: HostRuntime) -> Result<(), Fail> {
     let alloc = rt.alloc();
-    let mut one = Kept::of(alloc, &Project::new(alloc))?;
-    let mut another = Kept::of(alloc, &Project::new(alloc))?;
-    assert!(rt; are_taken(alloc, &mut one, &mut another)?);
+    assert!(rt; pieces_are_taken(alloc)?);
     Ok(())
 }
