@@ -234,7 +234,7 @@ def main():
                 rows, memory = session(program, files, asked.rounds)
                 print("%s: %d files, %.1f MB; check %.0f ms, %.0f MB" % (program, len(files), sum(map(len, files.values())) / 1e6, check, check_memory))
                 for what, spent in rows:
-                    print("  %-40s %10.1f ms %8.3f of the check" % (what, spent, spent / check))
+                    print("  %-40s %10.2f ms %8.4f of the check" % (what, spent, spent / check))
                 print("  %-40s %10.0f MB %8.2f of the check" % ("memory of the server, at the end", memory, memory / check_memory), flush=True)
 
 
