@@ -1,37 +1,25 @@
--- What is kept of the documents stays of them where an event does not change them.
-use Rattle.std.proofs.Common.{◌≡◌, ℕ, Bool, true, false, List, Option, Some, None, IfSome, refl, sym, subst, ap, ◌∙◌}
-use Rattle.gq_project.specs.declared.document.Doc.{Doc}
-use Rattle.gq_events.specs.declared.documents.OpenDocument.{OpenDocument}
+-- What is kept of the documents is kept of those after an event, but under its key.
+use Rattle.std.proofs.Common.{◌≡◌, ℕ, List, Option, sym, subst, ap, ◌∙◌}
+use Rattle.std.specs.Prelude.{Bool}
+use Rattle.gq_events.specs.declared.documents.SessionDocument.{SessionDocument}
 use Rattle.gq_events.specs.declared.effect.Effect.{Effect}
 use Rattle.gq_events.specs.declared.event.Out.{Out}
 use Rattle.gq_events.specs.declared.refusals.Denial.{Denial}
 use Rattle.gq_events.specs.Documents.{docs_of}
+use Rattle.gq_events.specs.Keeping.{KeepingOf, IsKeptOf}
 use Rattle.gq_events.specs.Rules.{Session, changed_by, session_after, Replies}
 use Rattle.gq_desk.specs.Helping.Settling.{rest_of}
-use Rattle.gq_desk.proofs.Settled.{session_stays}
+use Rattle.gq_desk.proofs.Settled.{session_stays, changed_stays}
 
--- what is kept, if it is known to be of some documents, is of these
-abbrev pub KeptOf : List OpenDocument → Option (List Doc) → Type 0
-KeptOf documents kept = IfSome kept (λ docs. docs ≡ docs_of documents)
-
-same_kept : (before after : List OpenDocument) (kept : Option (List Doc)) → after ≡ before → KeptOf before kept → KeptOf after kept
-same_kept before after kept same is = subst (λ (ds : List OpenDocument). KeptOf ds kept) (sym same) is
-
-none_kept : (documents : List OpenDocument) (kept : Option (List Doc)) → kept ≡ None → KeptOf documents kept
-none_kept documents kept none = subst (λ (k : Option (List Doc)). KeptOf documents k) (sym none) tt
-
-pub still_kept : (may_change : Bool) (old new : Option (List Doc)) (before after : List OpenDocument) → (may_change ≡ true → new ≡ None) → (may_change ≡ false → new ≡ old) → KeptOf before old
-    → (may_change ≡ false → after ≡ before) → KeptOf after new
-still_kept true old new before after outdated same is stay = none_kept after new (outdated refl)
-still_kept false old new before after outdated same is stay =
-    subst (λ (k : Option (List Doc)). KeptOf after k) (sym (same refl)) (same_kept before after old (stay refl) is)
-
--- the documents after an event that does not change them
-pub documents_stay : (workers : ℕ) (s t : Session) (denied : Option Denial) (e rest : Effect) (old new : List Out) → rest ≡ rest_of e → Replies workers s denied rest t old new
-    → ((s : Session) (document : Option OpenDocument) → (session_after s e document).documents ≡ s.documents) → t.documents ≡ s.documents
-documents_stay workers s t denied e rest old new rest_is replied stays =
+pub still_kept : (workers : ℕ) (s t : Session) (denied : Option Denial) (e rest : Effect) (before after : KeepingOf) (old new : List Out) → rest ≡ rest_of e → Replies workers s denied rest t old new
+    → ((s : Session) (refused : Bool) → IsKeptOf before (docs_of s.documents) → IsKeptOf after (docs_of (session_after s e (changed_by s e refused)).documents))
+    → IsKeptOf before (docs_of s.documents) → IsKeptOf after (docs_of t.documents)
+still_kept workers s t denied e rest before after old new rest_is replied follows h =
     let r = replied.0 in
-    let d = changed_by s rest r in
-    ap (λ (x : Session). x.documents) replied.1
-    ∙ (ap (λ (x : Effect). (session_after s x d).documents) rest_is
-    ∙ (ap (λ (x : Session). x.documents) (session_stays s e d) ∙ stays s d))
+    subst (λ (x : Session). IsKeptOf after (docs_of x.documents)) (sym same) (follows s r h)
+  where
+    same : t ≡ session_after s e (changed_by s e replied.0)
+    same =
+        replied.1
+        ∙ (ap (λ (x : Effect). session_after s x (changed_by s x replied.0)) rest_is
+        ∙ (session_stays s e (changed_by s (rest_of e) replied.0) ∙ ap (session_after s e) (changed_stays s e replied.0)))

@@ -1,6 +1,6 @@
 -- What is delivered, event after event.
-use Rattle.std.proofs.Common.{◌≡◌, inl, inr, ℕ, ◌+◌, ◌<◌, ◌≤◌, Bool, true, List, [], ◌∷◌, ◌++◌, length, Option, Some, None, Result, Ok, Err, IfErr, IfSome, ap, sym, refl, ◌∙◌, subst, arith}
-use Rattle.std.specs.Prelude.{is_none}
+use Rattle.std.proofs.Common.{◌≡◌, inl, inr, ℕ, ◌+◌, ◌<◌, ◌≤◌, Bool, true, false, List, [], ◌∷◌, ◌++◌, length, Option, Some, None, Result, Ok, Err, IfErr, IfSome, ap, sym, refl, ◌∙◌, subst, arith}
+use Rattle.std.specs.Prelude.{is_none, is_some}
 use Rattle.std.specs.Iterator.{Yields}
 use Rattle.std.specs.Result.{IsErrAnd}
 use Rattle.std.specs.Io.KnownBytes.{Appends}
@@ -13,6 +13,7 @@ use Rattle.gq_events.specs.declared.event.Out.{Out}
 use Rattle.gq_events.specs.Rules.{Turn}
 use Rattle.gq_events.specs.History.{outputs_behind}
 use Rattle.gq_events.specs.Headline.{Headline}
+use Rattle.gq_events.specs.Lifecycle.{load_in, is_load}
 use Rattle.gq_events.specs.Laws.{Handing, handing_of, handings, StepsExist}
 use Rattle.gq_events.specs.Machine.{State, Steps, DeskSteps, FitsTurn, FitsRun, start, after, writes, run, reached}
 use Rattle.gq_events.proofs.Behind.{run-append, reached-append, FitsRun-append, answered_all, fits_all, next_on}
@@ -50,8 +51,8 @@ some_same x y h = cc
 
 module _ {H : Type 0} (takes refuses : H → Handing → H → Type 0) where
   took : (s : State) (event : Event) (outs : List Out) (t : State) (h : H) (held : Option (List ℕ)) (h' : H) (held' : Option (List ℕ)) (stop : Option ℕ) → Steps s event outs t → Delivers takes h held outs h' held' → stop ≡ stop_in outs
-      → TakesTurn takes (Some s) event h held (Some t) h' held' stop
-  took s event outs t h held h' held' stop st d e = record {
+      → (is_some stop ≡ true → is_some (load_in event) ≡ false) → TakesTurn takes (Some s) event h held (Some t) h' held' stop
+  took s event outs t h held h' held' stop st d e k = record {
     before = s;
     was = refl;
     turn = record { event = event; text_refused = st.text_refused; answer = st.answer };
@@ -60,32 +61,35 @@ module _ {H : Type 0} (takes refuses : H → Handing → H → Type 0) where
     fits = st.fits;
     delivers = subst (λ (l : List Out). Delivers takes h held l h' held') st.outputs d;
     stops = e ∙ ap stop_in st.outputs;
+    no_load = k;
   }
 
   pub took_turn : (desk : Option State) (event : Event) (outs : List Out) (desk' : Option State) (h : H) (held : Option (List ℕ)) (h' : H) (held' : Option (List ℕ)) (stop : Option ℕ) → DeskSteps desk event outs desk' → Delivers takes h held outs h' held' → stop ≡ stop_in outs
-      → TakesTurn takes desk event h held desk' h' held' stop
-  took_turn (Some s) event outs (Some t) h held h' held' stop st d e = took s event outs t h held h' held' stop st d e
-  took_turn (Some s) event outs None h held h' held' stop st d e = absurd st
-  took_turn None event outs desk' h held h' held' stop st d e = absurd st
+      → (is_some stop ≡ true → is_some (load_in event) ≡ false) → TakesTurn takes desk event h held desk' h' held' stop
+  took_turn (Some s) event outs (Some t) h held h' held' stop st d e k = took s event outs t h held h' held' stop st d e k
+  took_turn (Some s) event outs None h held h' held' stop st d e k = absurd st
+  took_turn None event outs desk' h held h' held' stop st d e k = absurd st
 
-  broke : (s : State) (event : Event) (outs : List Out) (t : State) (h : H) (held : Option (List ℕ)) (h' : H) (held' : Option (List ℕ)) (fault : DriveFault) → Steps s event outs t → Breaks takes refuses h held outs h' held' fault → BreaksTurn takes refuses s event h held h' held' fault
-  broke s event outs t h held h' held' fault st b = record {
+  broke : (s : State) (event : Event) (outs : List Out) (t : State) (h : H) (held : Option (List ℕ)) (h' : H) (held' : Option (List ℕ)) (fault : DriveFault) → Steps s event outs t → Breaks takes refuses h held outs h' held' fault
+      → (fault ≡ drive.TooMany → is_some (load_in event) ≡ true) → BreaksTurn takes refuses s event h held h' held' fault
+  broke s event outs t h held h' held' fault st b k = record {
     turn = record { event = event; text_refused = st.text_refused; answer = st.answer };
     of = refl;
     fits = st.fits;
     breaks = subst (λ (l : List Out). Breaks takes refuses h held l h' held' fault) st.outputs b;
+    too_many = k;
   }
 
   pub broke_turn : (desk : Option State) (event : Event) (outs : List Out) (desk' : Option State) (h : H) (held : Option (List ℕ)) (h' : H) (held' : Option (List ℕ)) (fault : DriveFault) → DeskSteps desk event outs desk' → Breaks takes refuses h held outs h' held' fault
-      → (s : State) → desk ≡ Some s → BreaksTurn takes refuses s event h held h' held' fault
-  broke_turn (Some before) event outs (Some t) h held h' held' fault st b s is =
-      subst (λ (x : State). BreaksTurn takes refuses x event h held h' held' fault) (some_same before s is) (broke before event outs t h held h' held' fault st b)
-  broke_turn (Some before) event outs None h held h' held' fault st b s is = absurd st
-  broke_turn None event outs desk' h held h' held' fault st b s is = absurd st
+      → (fault ≡ drive.TooMany → is_some (load_in event) ≡ true) → (s : State) → desk ≡ Some s → BreaksTurn takes refuses s event h held h' held' fault
+  broke_turn (Some before) event outs (Some t) h held h' held' fault st b k s is =
+      subst (λ (x : State). BreaksTurn takes refuses x event h held h' held' fault) (some_same before s is) (broke before event outs t h held h' held' fault st b k)
+  broke_turn (Some before) event outs None h held h' held' fault st b k s is = absurd st
+  broke_turn None event outs desk' h held h' held' fault st b k s is = absurd st
 
   -- nothing was put out
   broke_before : (s : State) (event : Event) (h : H) (held : Option (List ℕ)) → (outs : List Out) × (t : State) × Steps s event outs t → BreaksTurn takes refuses s event h held h held drive.NoMemory
-  broke_before s event h held some = broke s event some.0 some.1 h held h held drive.NoMemory some.2 (inl (refl, refl))
+  broke_before s event h held some = broke s event some.0 some.1 h held h held drive.NoMemory some.2 (inl (refl, refl)) (λ e. absurd (cc))
 
   -- the desk fails, or had failed before
   pub broke_step : {T : Type 0} → StepsExist → (desk : Option State) (event : Event) (h : H) (held : Option (List ℕ)) (r : Result T DeskFault) (fault : DeskFault) → r ≡ Err fault → (r ≡ Err desk_fault.Failed → desk ≡ None)
@@ -223,6 +227,7 @@ module _ {S H : Type 0} (steps : S → Option Event → S → Type 0) (takes ref
             refl,
             no_stop g.turns g.none,
             subst (λ (l : List Out). stop_in l ≡ Some status) told (further_stop t.turn t.before (Some status) t.was (sym stops ∙ t.stops)),
+            t.no_load (ap is_some stops),
             further_events t.turn event it'' t.of more,
           );
           replies = subst (λ (l : List Out). Appends held held' (frames_in l)) told d.written;
@@ -266,6 +271,7 @@ module _ {S H : Type 0} (steps : S → Option Event → S → Type 0) (takes ref
           held_then = m;
           delivers = delivered g.turns g.delivers;
           breaks = subst (λ (l : List Out). Breaks takes refuses mid m l h' held' fault) (last_told g.turns b.turn) b.breaks;
+          too_many = b.too_many;
           exact = exact a turns fits;
           headline = safe a turns fits;
         })

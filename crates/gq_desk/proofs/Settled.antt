@@ -9,7 +9,7 @@ use Rattle.gq_project.specs.declared.document.Doc.{Doc}
 use Rattle.gq_rpc.specs.declared.messages.Id.{Id}
 use Rattle.gq_rpc.specs.declared.messages.ResponseError.{ResponseError}
 use Rattle.gq_rpc.specs.declared.messages.ResponseError.TheVariants as error
-use Rattle.gq_events.specs.declared.documents.OpenDocument.{OpenDocument}
+use Rattle.gq_events.specs.declared.documents.SessionDocument.{SessionDocument}
 use Rattle.gq_events.specs.declared.event.Answer.{Answer}
 use Rattle.gq_events.specs.declared.event.Answer.TheVariants as answer
 use Rattle.gq_events.specs.Jobs.{JobOf, DoneOf}
@@ -59,6 +59,7 @@ module _ (docs : List Doc) (e : Effect) (pending : List JobOf) (no_change : (c :
     where
       by_cases : (f : Effect) → e ≡ f → decides docs e job ≡ false
       by_cases effect.Nothing is = ap (λ (f : Effect). decides docs f job) is
+      by_cases (effect.LoadsBehind load) is = ap (λ (f : Effect). decides docs f job) is
       by_cases (effect.Begins id capabilities) is = ap (λ (f : Effect). decides docs f job) is
       by_cases (effect.Refuses id why) is = ap (λ (f : Effect). decides docs f job) is
       by_cases (effect.Asks id asked) is = ap (λ (f : Effect). decides docs f job) is
@@ -90,9 +91,10 @@ pub of_its_number : (docs : List Doc) (done : DoneOf) (job : JobOf) → decides 
 of_its_number docs done job h = same_number done.job job.number (first_of_both _ _ h)
 
 -- what a worker made changes nothing but the jobs
-pub session_stays : (s : Session) (e : Effect) (d : Option OpenDocument) → session_after s (rest_of e) d ≡ session_after s e d
+pub session_stays : (s : Session) (e : Effect) (d : Option SessionDocument) → session_after s (rest_of e) d ≡ session_after s e d
 session_stays s (effect.Finishes done) d = refl
 session_stays s effect.Nothing d = refl
+session_stays s (effect.LoadsBehind load) d = refl
 session_stays s (effect.Begins id capabilities) d = refl
 session_stays s (effect.Refuses id why) d = refl
 session_stays s (effect.Asks id asked) d = refl
@@ -104,6 +106,7 @@ session_stays s (effect.Stops status) d = refl
 pub changed_stays : (s : Session) (e : Effect) (refused : Bool) → changed_by s (rest_of e) refused ≡ changed_by s e refused
 changed_stays s (effect.Finishes done) refused = refl
 changed_stays s effect.Nothing refused = refl
+changed_stays s (effect.LoadsBehind load) refused = refl
 changed_stays s (effect.Begins id capabilities) refused = refl
 changed_stays s (effect.Refuses id why) refused = refl
 changed_stays s (effect.Asks id asked) refused = refl
@@ -112,9 +115,10 @@ changed_stays s (effect.Cancels id) refused = refl
 changed_stays s (effect.ShutsDown id) refused = refl
 changed_stays s (effect.Stops status) refused = refl
 
-pub own_stays : (workers : ℕ) (s : Session) (denied : Option Denial) (e : Effect) (d : Option OpenDocument) → own workers s denied (rest_of e) d ≡ own workers s denied e d
+pub own_stays : (workers : ℕ) (s : Session) (denied : Option Denial) (e : Effect) (d : Option SessionDocument) → own workers s denied (rest_of e) d ≡ own workers s denied e d
 own_stays workers s denied (effect.Finishes done) d = refl
 own_stays workers s denied effect.Nothing d = refl
+own_stays workers s denied (effect.LoadsBehind load) d = refl
 own_stays workers s denied (effect.Begins id capabilities) d = refl
 own_stays workers s denied (effect.Refuses id why) d = refl
 own_stays workers s denied (effect.Asks id asked) d = refl
@@ -126,6 +130,7 @@ own_stays workers s denied (effect.Stops status) d = refl
 pub taken_stays : (s : Session) (denied : Option Denial) (e : Effect) → taken s denied (rest_of e) ≡ taken s denied e
 taken_stays s denied (effect.Finishes done) = refl
 taken_stays s denied effect.Nothing = refl
+taken_stays s denied (effect.LoadsBehind load) = refl
 taken_stays s denied (effect.Begins id capabilities) = refl
 taken_stays s denied (effect.Refuses id why) = refl
 taken_stays s denied (effect.Asks id asked) = refl

@@ -3,7 +3,7 @@ use Rattle.std.proofs.Common.{◌≡◌, ℕ, ◌==◌, Bool, List, [], ◌++◌
 use Rattle.std.specs.Prelude.{if◌then◌else◌}
 use Rattle.std.proofs.lemmas.List.{append_assoc}
 use Rattle.gq_text.specs.declared.buffer.NoMemory.{NoMemory}
-use Rattle.gq_events.specs.declared.documents.OpenDocument.{OpenDocument}
+use Rattle.gq_events.specs.declared.documents.SessionDocument.{SessionDocument}
 use Rattle.gq_events.specs.declared.event.Task.{Task}
 use Rattle.gq_events.specs.declared.event.Answer.{Answer}
 use Rattle.gq_events.specs.declared.event.Event.{Event}
@@ -20,7 +20,7 @@ use Rattle.gq_desk.proofs.Settled.{session_stays, changed_stays, own_stays, take
 abbrev state : Session → ℕ → Table → State
 state session workers jobs = record { session = session; workers = workers; jobs = jobs }
 
-module _ (s : State) (event : Event) (e : Effect) (document : Option OpenDocument) (t : Option Task) (mid new : List Out) (session : Session) (jobs : Table) where
+module _ (s : State) (event : Event) (e : Effect) (document : Option SessionDocument) (t : Option Task) (mid new : List Out) (session : Session) (jobs : Table) where
   -- some answer was given, one to the question where there are no workers
   abbrev Given : Type 0
   Given = (a : Answer) × (s.workers ≡ 0 → FitsTaken (docs_of session.documents) t a) × (new ≡ mid ++ brings s.workers s.session s.jobs e t a)
@@ -37,18 +37,18 @@ module _ (s : State) (event : Event) (e : Effect) (document : Option OpenDocumen
         answer = a;
         fits = λ alone.
             subst (λ (e : Effect). FitsTaken (docs_of (session_after ss e (changed_by ss e d_is.0)).documents) (taken_by ss sj e) a) e_is
-            (subst (λ (d : Option OpenDocument). FitsTaken (docs_of (session_after ss e d).documents) (taken_by ss sj e) a) d_is.1
+            (subst (λ (d : Option SessionDocument). FitsTaken (docs_of (session_after ss e d).documents) (taken_by ss sj e) a) d_is.1
             (subst (λ (x : Option Task). FitsTaken (docs_of (session_after ss e document).documents) x a) t_is
             (subst (λ (x : Session). FitsTaken (docs_of x.documents) t a) session_is (given.1 alone))));
         outputs = given.2
             ∙ (ap (λ (l : List Out). l ++ brings w ss sj e t a) mid_is
             ∙ (ap (λ (t : Option Task). replies_to w ss sj e document ++ brings w ss sj e t a) t_is
-            ∙ (ap (λ (d : Option OpenDocument). replies_to w ss sj e d ++ brings w ss sj e (taken_by ss sj e) a) d_is.1
+            ∙ (ap (λ (d : Option SessionDocument). replies_to w ss sj e d ++ brings w ss sj e (taken_by ss sj e) a) d_is.1
             ∙ ap (λ (e : Effect). replies_to w ss sj e (changed_by ss e d_is.0) ++ brings w ss sj e (taken_by ss sj e) a) e_is)));
         state = ap (λ (x : Session). state x w jobs) session_is
             ∙ (ap (λ (x : Table). state (session_after ss e document) w x) jobs_is
             ∙ (ap (λ (t : Option Task). state (session_after ss e document) w (jobs_after w ss sj e t)) t_is
-            ∙ (ap (λ (d : Option OpenDocument). state (session_after ss e d) w (jobs_after w ss sj e (taken_by ss sj e))) d_is.1
+            ∙ (ap (λ (d : Option SessionDocument). state (session_after ss e d) w (jobs_after w ss sj e (taken_by ss sj e))) d_is.1
             ∙ ap (λ (e : Effect). state (session_after ss e (changed_by ss e d_is.0)) w (jobs_after w ss sj e (taken_by ss sj e))) e_is)));
       }
 

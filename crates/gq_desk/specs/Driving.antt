@@ -1,5 +1,5 @@
 -- What driving a desk does: which events are taken, what is written, and what is handed on.
-use Rattle.std.specs.Prelude.{◌≡◌, ◌⊎◌, ℕ, ◌<◌, ◌≤◌, ◌^◌, List, [], ◌∷◌, ◌++◌, map, length, Option, Some, None}
+use Rattle.std.specs.Prelude.{◌≡◌, ◌⊎◌, ℕ, ◌<◌, ◌≤◌, ◌^◌, Bool, true, false, List, [], ◌∷◌, ◌++◌, map, length, Option, Some, None, is_some}
 use Rattle.std.specs.Iterator.{Yields, YieldsThen}
 use Rattle.std.specs.Io.KnownBytes.{Appends}
 use Rattle.std.specs.List.{AllByRecursion}
@@ -11,6 +11,7 @@ use Rattle.gq_events.specs.declared.effect.Effect.TheVariants as effect
 use Rattle.gq_events.specs.Rules.{Turn}
 use Rattle.gq_events.specs.History.{effect_at, outputs_at, outputs_behind}
 use Rattle.gq_events.specs.Machine.{State}
+use Rattle.gq_events.specs.Lifecycle.{is_load}
 use Rattle.gq_events.specs.Laws.{Handing, handings, IsRightOutput, tells_modified}
 use Rattle.gq_events.specs.Headline.{Headline}
 use Rattle.gq_desk.specs.declared.driving.DriveFault.{DriveFault}
@@ -48,20 +49,23 @@ pub record Delivers {H : Type 0} (takes : H → Handing → H → Type 0) (h : H
   pub handed : Chain takes h (handings outs) h'
 
 -- The outputs of a step were not all delivered. Its frames are written first: where memory was refused for them there is nothing of it, where
--- the sink failed a front of them; and then it is handed on, up to what was refused.
+-- the sink failed a front of them; and then it is handed on, up to what was refused. Where one document too many is loaded they stop the session,
+-- and all were delivered.
 abbrev pub Breaks : {H : Type 0} → (takes refuses : H → Handing → H → Type 0) → H → Option (List ℕ) → List Out → H → Option (List ℕ) → DriveFault → Type 0
 Breaks takes refuses h held outs h' held' drive.NoMemory = ((h' ≡ h) × (held' ≡ held)) ⊎ (Appends held held' (frames_in outs) × Refused takes refuses h (handings outs) h')
 Breaks takes refuses h held outs h' held' drive.Device = (h' ≡ h) × Sent held held' (frames_in outs)
 Breaks takes refuses h held outs h' held' drive.Closed = Appends held held' (frames_in outs) × Refused takes refuses h (handings outs) h'
+Breaks takes refuses h held outs h' held' drive.TooMany = Delivers takes h held outs h' held' × (is_some (stop_in outs) ≡ true)
 Breaks takes refuses h held outs h' held' drive.Failed = ⊥
 
 -- ---- the claims, of turns that are taken behind earlier ones
 
--- The events are those up to the first stop, whose status is told, or all of them where none comes: then the status is 1.
+-- The events are those up to the first stop, which is not at what is loaded, and whose status is told, or all of them where none comes: then the
+-- status is 1.
 abbrev pub EndsAt : {S : Type 0} → (S → Option Event → S → Type 0) → ℕ → List Turn → S → List Turn → S → ℕ → Type 0
 EndsAt steps workers earlier it turns it' status =
     ((front : List Turn) × (last : Turn) × (turns ≡ front ++ last ∷ []) × (stop_in (outputs_behind workers earlier front) ≡ None) × (stop_in (outputs_behind workers earlier turns) ≡ Some status)
-    × Yields steps it (events_of turns) it')
+    × (is_load last ≡ false) × Yields steps it (events_of turns) it')
     ⊎ ((stop_in (outputs_behind workers earlier turns) ≡ None) × (status ≡ 1) × YieldsThen steps it (events_of turns) None it')
 
 -- each result that is replied is exactly its question's, about the documents as they were when it was asked, and that the content was modified
@@ -85,7 +89,7 @@ pub record Drives {S H : Type 0} (steps : S → Option Event → S → Type 0) (
   pub headline : Headline workers (earlier ++ turns)
 
 -- A fault came at the last of the events, and the desk has failed. All that the events before it tell was written and handed on, and of what it puts
--- out itself a front.
+-- out itself a front. The fault of a document too many comes at what is loaded.
 pub record FailsAt {S H : Type 0} (steps : S → Option Event → S → Type 0) (takes refuses : H → Handing → H → Type 0) (workers : ℕ) (earlier : List Turn) (it : S) (h : H) (held : Option (List ℕ))
     (it' : S) (desk' : Option State) (h' : H) (held' : Option (List ℕ)) (fault : DriveFault) : Type 0 where
   pub before : List Turn
@@ -100,6 +104,7 @@ pub record FailsAt {S H : Type 0} (steps : S → Option Event → S → Type 0) 
   pub held_then : Option (List ℕ)
   pub delivers : Delivers takes h held (outputs_behind workers earlier before) h_then held_then
   pub breaks : Breaks takes refuses h_then held_then (outputs_behind workers (earlier ++ before) (last ∷ [])) h' held' fault
+  pub too_many : fault ≡ drive.TooMany → is_load last ≡ true
   pub exact : AreExact workers (earlier ++ (before ++ last ∷ []))
   pub headline : Headline workers (earlier ++ (before ++ last ∷ []))
 

@@ -1,5 +1,6 @@
 //! The desk: one event after another.
 ghost use Rattle.std.specs.Prelude.{◌≡◌, ◌++◌, ◌<◌, ◌^◌, ◌==◌, [], Some, None, is_none, Err, IfOk, IfSome, OnOk, OnErr, IsErrOf, if◌then◌else◌};
+ghost use Rattle.gq_events.specs.Keeping.{IsKeptOf};
 ghost use Rattle.gq_events.specs.declared.event.Answer.{Answer};
 ghost use Rattle.gq_events.specs.Documents.{docs_of};
 ghost use Rattle.gq_events.specs.Rules.{answer_to, FitsTaken};
@@ -8,7 +9,7 @@ ghost use Rattle.gq_events.specs.Machine as spec;
 use crate::jobs::Jobs;
 use crate::pieces::Pieces;
 use gq_events::answers::answer_task;
-use gq_events::documents::OpenDocuments;
+use gq_events::documents::SessionDocuments;
 use gq_events::{ClientSession, Event, Keeping, Out, Task};
 use gq_text::NoMemory;
 use std::alloc::Global;
@@ -26,7 +27,7 @@ pub enum DeskFault {
 /// Answers a task at once where there are no workers, by what is kept of the documents; else makes a job for it.
 fn bring(
     alloc: Global,
-    documents: &OpenDocuments,
+    documents: &SessionDocuments,
     keeping: &mut Keeping,
     workers: u8,
     jobs: &mut Jobs,
@@ -34,8 +35,8 @@ fn bring(
     outs: &mut Vec<Out>,
 ) -> Result<(), NoMemory>
     requires next { jobs.old.next < 2 ^ 62 }
-    requires kept { IfSome keeping.old (λ docs. docs ≡ docs_of documents.now) }
-    ensures kept { IfSome keeping.new (λ docs. docs ≡ docs_of documents.now) }
+    requires kept { IsKeptOf keeping.old (docs_of documents.now) }
+    ensures kept { IsKeptOf keeping.new (docs_of documents.now) }
     ensures jobs { OnOk result (jobs.new ≡ spec.with_jobs jobs.old (spec.jobs_for workers jobs.old.next task)) }
     ensures outs { OnOk result ((answer : Answer) × (workers ≡ 0 → FitsTaken (docs_of documents.now) task answer)
         × (outs.new.items ≡ outs.old.items ++ (if workers == 0 then answer_to task answer else []))) }
@@ -62,14 +63,14 @@ fn take_event(
 ) -> Result<(), NoMemory>
     requires next { jobs.old.next < 2 ^ 62 }
     requires empty { outs.old.items ≡ [] }
-    requires kept { IfSome keeping.old (λ docs. docs ≡ docs_of session.old.documents) }
-    ensures kept { OnOk result (IfSome keeping.new (λ docs. docs ≡ docs_of session.new.documents)) }
+    requires kept { IsKeptOf keeping.old (docs_of session.old.documents) }
+    ensures kept { OnOk result (IsKeptOf keeping.new (docs_of session.new.documents)) }
     ensures steps { OnOk result (spec.Steps (record { session = session.old; workers = workers; jobs = jobs.old }) event outs.new.items
         (record { session = session.new; workers = workers; jobs = jobs.new })) }
 {
     let effect = session.effect(event);
     let denied = session.denied_by(alloc, jobs.pending(), &effect)?;
-    keeping.outdate_if(effect.may_change_documents());
+    keeping.follow(alloc, &effect);
     pieces.follow(session.documents(), &effect);
     let rest = jobs.settle(alloc, session.documents(), effect, outs)?;
     let task = session.take_in(alloc, workers, denied, rest, outs)?;
@@ -104,12 +105,12 @@ impl Model for Desk {
 
     ghost Value = { Option State };
 
-    ghost use Rattle.std.specs.Prelude.{◌≡◌, IfSome};
     ghost use Rattle.gq_events.specs.Documents.{docs_of};
+    ghost use Rattle.gq_events.specs.Keeping.{IsKeptOf};
 
     ghost view = { λ d. if d.failed then None else Some (record { session = d.session; workers = d.workers; jobs = d.jobs }) };
 
-    ghost invariant = { λ d. IfSome d.keeping (λ docs. docs ≡ docs_of d.session.documents) };
+    ghost invariant = { λ d. IsKeptOf d.keeping (docs_of d.session.documents) };
 }
 
 impl Desk {
@@ -120,7 +121,7 @@ impl Desk {
     {
         Desk {
             session: ClientSession::new(alloc),
-            keeping: Keeping::new(),
+            keeping: Keeping::new(alloc),
             pieces: Pieces::new(alloc),
             workers,
             jobs: Jobs::new(alloc),
@@ -167,7 +168,7 @@ impl Desk {
         match done {
             Ok(()) => Ok(outs),
             Err(NoMemory) => {
-                self.keeping.outdate_if(true);
+                self.keeping.forget();
                 self.failed = true;
                 Err(DeskFault::NoMemory)
             }

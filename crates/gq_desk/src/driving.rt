@@ -36,6 +36,9 @@ pub enum DriveFault {
     /// What takes changes and jobs takes no more.
     #[error("Closed")]
     Closed,
+    /// More documents were loaded than there may be.
+    #[error("TooMany")]
+    TooMany,
     /// The desk had failed before.
     #[error("Failed")]
     Failed,
@@ -172,6 +175,7 @@ fn deliver<H: Hands, W: Sink>(
     ensures err { IfErr result (λ fault. spec.Breaks H.takes H.refuses hands.old (W.held writer.old) outs.items hands.new (W.held writer.new) fault) }
     ensures flag { W.failed writer.new ≡ turns.is_device_error result }
     ensures closed { IsErrOf result DriveFault.Closed → H.closed hands.new ≡ true }
+    ensures no_load { IsErrOf result DriveFault.TooMany → ⊥ }
 {
     let frames = write_frames(alloc, &outs)?;
     send(writer, &frames)?;
@@ -179,7 +183,8 @@ fn deliver<H: Hands, W: Sink>(
     Ok(())
 }
 
-/// Takes one event, and answers the status where it stops the session. After a fault the desk has failed.
+/// Takes one event, and answers the status where it stops the session. What is loaded stops it where it is one too many, and
+/// that is a fault. After a fault the desk has failed.
 fn take_turn<H: Hands, W: Sink>(
     alloc: Global,
     desk: &mut Desk,
@@ -197,9 +202,14 @@ fn take_turn<H: Hands, W: Sink>(
     ensures failed { IsErrOf result DriveFault.Failed → desk.old ≡ None }
 {
     steps_exist();
+    let is_load = event.is_load();
     let outs = desk.step(alloc, event)?;
     let stop = find_stop(&outs);
     match deliver(alloc, outs, hands, writer) {
+        Ok(()) if is_load && stop.is_some() => {
+            desk.fail();
+            Err(DriveFault::TooMany)
+        }
         Ok(()) => Ok(stop),
         Err(fault) => {
             desk.fail();
@@ -268,7 +278,8 @@ fn drive_on<I: Iterator<Item = Event>, H: Hands, W: Sink>(
     Err(DriveFault::Device)
 }
 
-/// Takes events up to the first stop, their end or a fault, and answers the stop's status, or 1 where none came. What
+/// Takes events up to the first stop, their end or a fault, and answers the stop's status, or 1 where none came; a document
+/// too many that is loaded is a fault, at the stop that it comes to. What
 /// the events tell behind those that the desk took before is written and handed on, in order; at a fault all of the
 /// events before it, and of its own a front, and then the desk has failed. One that had failed takes none. The sink may
 /// not have failed before.

@@ -12,7 +12,7 @@ ghost use Rattle.gq_desk.specs.Helping.Settling.{AreNumbered, refused_each, is_r
 
 use crate::pieces::Pieces;
 use gq_events::answers::{refuse, write_answer};
-use gq_events::documents::OpenDocuments;
+use gq_events::documents::SessionDocuments;
 use gq_events::refusals::failed;
 use gq_events::{Done, Effect, Job, Out, Task, copy_task, is_of, same_documents, same_task};
 use gq_rpc::{Id, ResponseError};
@@ -69,7 +69,7 @@ fn refuse_cancelled(
 
 /// Whether what a worker made is of that job, and about the documents as they are.
 #[tactic(auto, unfolding(crate::specs::Helping::Settling::is_result_of))]
-fn is_decided_by(documents: &OpenDocuments, done: &Done, job: &Job) -> bool
+fn is_decided_by(documents: &SessionDocuments, done: &Done, job: &Job) -> bool
     ensures { result ≡ is_result_of (docs_of documents.now) done.now job.now }
 {
     done.job == job.number
@@ -78,7 +78,7 @@ fn is_decided_by(documents: &OpenDocuments, done: &Done, job: &Job) -> bool
 }
 
 /// Where the job is that is decided by what a worker made.
-fn place_of(pending: &[Job], documents: &OpenDocuments, done: &Done) -> Option<usize>
+fn place_of(pending: &[Job], documents: &SessionDocuments, done: &Done) -> Option<usize>
     ensures some { IfSome result (λ i. (i < length pending.now) × HoldsAt (λ job. is_result_of (docs_of documents.now) done.now job ≡ true) pending.now i) }
     ensures none { IfNone result (AllByRecursion (λ job. is_result_of (docs_of documents.now) done.now job ≡ false) pending.now) }
 {
@@ -88,7 +88,7 @@ fn place_of(pending: &[Job], documents: &OpenDocuments, done: &Done) -> Option<u
 }
 
 /// Takes the job out that is decided by what a worker made.
-fn take_decided(pending: &mut Vec<Job>, documents: &OpenDocuments, done: &Done) -> Option<Job>
+fn take_decided(pending: &mut Vec<Job>, documents: &SessionDocuments, done: &Done) -> Option<Job>
     requires { (next : ℕ) × AreNumbered pending.old.items next }
     ensures taken { filter (rules.decides (docs_of documents.now) (effects.Finishes done.now)) pending.old.items ≡ option_to_list result }
     ensures left { pending.new.items ≡ spec.left (docs_of documents.now) (effects.Finishes done.now) pending.old.items }
@@ -103,7 +103,7 @@ fn take_decided(pending: &mut Vec<Job>, documents: &OpenDocuments, done: &Done) 
 fn finish(
     alloc: Global,
     pending: &mut Vec<Job>,
-    documents: &OpenDocuments,
+    documents: &SessionDocuments,
     done: Done,
     outs: &mut Vec<Out>,
 ) -> Result<(), NoMemory>
@@ -121,7 +121,7 @@ fn finish(
 fn settle_pending(
     alloc: Global,
     mut pending: Vec<Job>,
-    documents: &OpenDocuments,
+    documents: &SessionDocuments,
     effect: Effect,
     outs: &mut Vec<Out>,
 ) -> Result<(Vec<Job>, Effect), NoMemory>
@@ -153,7 +153,7 @@ fn settle_pending(
 
 /// Whether an event decides a job.
 #[tactic(auto, unfolding(crate::specs::Helping::Settling::is_result_of))]
-fn decides(documents: &OpenDocuments, effect: &Effect, job: &Job) -> bool
+fn decides(documents: &SessionDocuments, effect: &Effect, job: &Job) -> bool
     ensures { result ≡ rules.decides (docs_of documents.now) effect.now job.now }
 {
     match effect {
@@ -164,7 +164,7 @@ fn decides(documents: &OpenDocuments, effect: &Effect, job: &Job) -> bool
     }
 }
 
-fn keep_undecided(waiting: &mut VecDeque<Job>, documents: &OpenDocuments, effect: &Effect)
+fn keep_undecided(waiting: &mut VecDeque<Job>, documents: &SessionDocuments, effect: &Effect)
     ensures { waiting.new.items ≡ spec.left (docs_of documents.now) effect.now waiting.old.items }
 {
     waiting.retain(|job| !decides(documents, effect, job));
@@ -276,7 +276,7 @@ impl Jobs {
     pub(crate) fn settle(
         &mut self,
         alloc: Global,
-        documents: &OpenDocuments,
+        documents: &SessionDocuments,
         effect: Effect,
         outs: &mut Vec<Out>,
     ) -> Result<Effect, NoMemory>

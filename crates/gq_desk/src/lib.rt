@@ -10,5 +10,5 @@ mod pieces;
 
 pub use desk::{Desk, DeskFault};
 pub use driving::{DriveFault, drive};
-pub use gq_events::{Answer, Done, Event, InputEnd, Job, OpenDocument, Out, Task};
+pub use gq_events::{Answer, Done, Event, InputEnd, Job, Out, SessionDocument, Task};
 pub use hands::{Hands, HandsFault, NoHands};

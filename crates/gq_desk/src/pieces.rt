@@ -1,7 +1,7 @@
-//! Pieces of the documents that the client has open, as workers made them.
+//! Pieces of the documents, as workers made them.
 
-use gq_events::documents::OpenDocuments;
-use gq_events::{Change, Effect};
+use gq_events::Effect;
+use gq_events::documents::SessionDocuments;
 use gq_parse::Piece;
 use std::alloc::Global;
 use std::sync::Arc;
@@ -11,15 +11,6 @@ use std::sync::Arc;
 #[derive(Drop)]
 pub(crate) struct Pieces {
     pieces: Vec<Arc<Piece>>,
-}
-
-/// The key of the document that changes.
-fn key_of(change: &Change) -> &str {
-    match change {
-        Change::Open(item) => item.key.as_str(),
-        Change::Edit(params) => params.key.as_str(),
-        Change::Close(key) => key.as_str(),
-    }
 }
 
 impl Pieces {
@@ -44,10 +35,9 @@ impl Pieces {
         }
     }
 
-    /// Takes the piece in, if its document is open and has its text, in the place of the one of its key. Where there is no
-    /// memory for it, it is dropped.
-    fn take(&mut self, documents: &OpenDocuments, piece: &Arc<Piece>) {
-        self.forget(piece.key());
+    /// Takes the piece in, if its document has its text, in the place of the one of its key. Where there is no memory for it,
+    /// it is dropped.
+    fn take(&mut self, documents: &SessionDocuments, piece: &Arc<Piece>) {
         match documents.get(piece.key()) {
             Some(document) if document.text.as_str() == piece.text() => {}
             _ => return,
@@ -55,6 +45,7 @@ impl Pieces {
         let Ok(one) = Arc::try_clone(piece) else {
             return;
         };
+        self.forget(piece.key());
         if let Err(at) = self.place(piece.key()) {
             if at <= self.pieces.len() {
                 let _ = self.pieces.insert(at, one);
@@ -63,16 +54,16 @@ impl Pieces {
     }
 
     /// Takes in pieces, one after the other.
-    fn take_all(&mut self, documents: &OpenDocuments, pieces: &[Arc<Piece>]) {
+    fn take_all(&mut self, documents: &SessionDocuments, pieces: &[Arc<Piece>]) {
         for piece in pieces {
             self.take(documents, piece);
         }
     }
 
     /// Forgets the piece of a document that an event of this effect changes, or takes in those that a worker made.
-    pub(crate) fn follow(&mut self, documents: &OpenDocuments, effect: &Effect) {
+    pub(crate) fn follow(&mut self, documents: &SessionDocuments, effect: &Effect) {
         match effect {
-            Effect::Changes(change) => self.forget(key_of(change)),
+            Effect::Changes(change) => self.forget(change.key()),
             Effect::Finishes(done) => self.take_all(documents, &done.pieces),
             _ => {}
         }

@@ -16,7 +16,7 @@ use Rattle.gq_rpc.specs.declared.messages.Id.TheVariants as ids
 use Rattle.gq_rpc.specs.declared.messages.TextDocumentPositionParams.{TextDocumentPositionParams}
 use Rattle.gq_rpc.specs.declared.messages.Question.{Question}
 use Rattle.gq_rpc.specs.declared.messages.Question.TheVariants as question
-use Rattle.gq_events.specs.declared.documents.OpenDocument.{OpenDocument}
+use Rattle.gq_events.specs.declared.documents.SessionDocument.{SessionDocument}
 use Rattle.gq_events.specs.declared.event.Task.{Task}
 use Rattle.gq_events.specs.declared.event.Task.TheVariants as task
 use Rattle.gq_events.specs.Jobs.{JobOf, DoneOf}
@@ -82,8 +82,9 @@ decided_at_first events asked j later = (
 )
 
 -- an event that decides nothing leaves the documents as they are
-unchanged_by : (s : Session) (e : Effect) (document : Option OpenDocument) (job : JobOf) → decides (docs_of s.documents) e job ≡ false → docs_of (session_after s e document).documents ≡ docs_of s.documents
+unchanged_by : (s : Session) (e : Effect) (document : Option SessionDocument) (job : JobOf) → decides (docs_of s.documents) e job ≡ false → docs_of (session_after s e document).documents ≡ docs_of s.documents
 unchanged_by s effect.Nothing document job h = refl
+unchanged_by s (effect.LoadsBehind load) document job h = refl
 unchanged_by s (effect.Begins id d) document job h = refl
 unchanged_by s (effect.Refuses id w) document job h = refl
 unchanged_by s (effect.Asks id look) document job h = refl

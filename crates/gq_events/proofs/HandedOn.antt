@@ -6,7 +6,7 @@ use Rattle.gq_project.specs.declared.document.DocChange.{DocChange}
 use Rattle.gq_rpc.specs.declared.messages.Id.{Id}
 use Rattle.gq_rpc.specs.declared.messages.ResponseError.{ResponseError}
 use Rattle.gq_rpc.specs.declared.messages.Outgoing.{Outgoing}
-use Rattle.gq_events.specs.declared.documents.OpenDocument.{OpenDocument}
+use Rattle.gq_events.specs.declared.documents.SessionDocument.{SessionDocument}
 use Rattle.gq_events.specs.declared.event.Task.{Task}
 use Rattle.gq_events.specs.declared.event.Task.TheVariants as task
 use Rattle.gq_events.specs.Jobs.{JobOf}
@@ -48,6 +48,7 @@ verdict_written (effect.ShutsDown id) job = refused_as_written job.task _
 verdict_written (effect.Cancels id) job = refused_as_written job.task _
 verdict_written (effect.Finishes done) job = answered_written job.task done.answer
 verdict_written effect.Nothing job = refl
+verdict_written (effect.LoadsBehind load) job = refl
 verdict_written (effect.Begins id capabilities) job = refl
 verdict_written (effect.Refuses id why) job = refl
 verdict_written (effect.Asks id asked) job = refl
@@ -65,13 +66,14 @@ shown_handed : (none : Bool) (c : DocChange) → handings (cond none [] (out.Pub
 shown_handed true c = refl
 shown_handed false c = refl
 
-nothing_wrong_handed : (document : Option OpenDocument) (outs : List Out) → handings (option_to_list (option_map nothing_wrong document) ++ outs) ≡ handings outs
+nothing_wrong_handed : (document : Option SessionDocument) (outs : List Out) → handings (option_to_list (option_map nothing_wrong document) ++ outs) ≡ handings outs
 nothing_wrong_handed None outs = refl
 nothing_wrong_handed (Some document) outs = refl
 
-change_handed : (diagnostics : Bool) (documents : List OpenDocument) (c : Change) (outs : List Out) → handings (cond diagnostics (cleared documents c) [] ++ outs) ≡ handings outs
+change_handed : (diagnostics : Bool) (documents : List SessionDocument) (c : Change) (outs : List Out) → handings (cond diagnostics (cleared documents c) [] ++ outs) ≡ handings outs
 change_handed true documents (change.Open item) outs = refl
 change_handed true documents (change.Edit params) outs = refl
+change_handed true documents (change.Load load) outs = refl
 change_handed true documents (change.Close key) outs = nothing_wrong_handed (document_at key documents) outs
 change_handed false documents c outs = refl
 
@@ -83,7 +85,7 @@ none_handed : (none : Bool) → nothing ≡ cond none nothing nothing
 none_handed true = refl
 none_handed false = refl
 
-own_handed : (workers : ℕ) (s : Session) (denied : Option Denial) (e : Effect) (document : Option OpenDocument) → handings (own workers s denied e document) ≡ cond (workers == 0) [] (published_by e document)
+own_handed : (workers : ℕ) (s : Session) (denied : Option Denial) (e : Effect) (document : Option SessionDocument) → handings (own workers s denied e document) ≡ cond (workers == 0) [] (published_by e document)
 own_handed workers s denied (effect.Changes c) document =
     change_handed s.diagnostics s.documents c (shown workers (published (key_of c) document)) ∙ shown_handed (workers == 0) (published (key_of c) document)
 own_handed workers s denied (effect.Asks id asked) document = denied_written id denied ∙ none_handed (workers == 0)
@@ -92,6 +94,7 @@ own_handed workers s denied (effect.Refuses id why) document = none_handed (work
 own_handed workers s denied (effect.ShutsDown id) document = none_handed (workers == 0)
 own_handed workers s denied (effect.Stops status) document = none_handed (workers == 0)
 own_handed workers s denied effect.Nothing document = none_handed (workers == 0)
+own_handed workers s denied (effect.LoadsBehind load) document = none_handed (workers == 0)
 own_handed workers s denied (effect.Cancels id) document = none_handed (workers == 0)
 own_handed workers s denied (effect.Finishes done) document = none_handed (workers == 0)
 

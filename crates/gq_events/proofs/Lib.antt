@@ -14,7 +14,8 @@ pub mod Editing
 pub mod Answering
 pub mod Going
 pub mod DocumentsKept
-pub mod OpenNow
+pub mod Now
+pub mod Elsewhere
 pub mod Lifecycles
 pub mod Agreeing
 pub mod Headline

@@ -19,12 +19,13 @@ use Rattle.gq_rpc.specs.declared.messages.Outgoing.{Outgoing}
 use Rattle.gq_rpc.specs.declared.messages.Outgoing.TheVariants as outgoing
 use Rattle.gq_replies.specs.Responses.{IsFailure, Responds}
 use Rattle.gq_replies.specs.Laws.{AnswersRespond}
-use Rattle.gq_events.specs.declared.documents.OpenDocument.{OpenDocument}
+use Rattle.gq_events.specs.declared.documents.SessionDocument.{SessionDocument}
 use Rattle.gq_events.specs.declared.event.Task.{Task}
 use Rattle.gq_events.specs.declared.event.Task.TheVariants as task
 use Rattle.gq_events.specs.Jobs.{JobOf}
 use Rattle.gq_events.specs.declared.event.Answer.{Answer}
 use Rattle.gq_events.specs.declared.event.Answer.TheVariants as answer
+use Rattle.gq_events.specs.declared.event.Load.{Load}
 use Rattle.gq_events.specs.declared.event.Event.{Event}
 use Rattle.gq_events.specs.declared.event.Event.TheVariants as event
 use Rattle.gq_events.specs.declared.event.Out.{Out}
@@ -37,9 +38,9 @@ use Rattle.gq_events.specs.declared.effect.Change.{Change}
 use Rattle.gq_events.specs.declared.effect.Change.TheVariants as change
 use Rattle.gq_events.specs.declared.effect.Effect.{Effect}
 use Rattle.gq_events.specs.declared.effect.Effect.TheVariants as effect
-use Rattle.gq_events.specs.Documents.{document_at, is_open, is_any_lost, is_change, key_of, published}
+use Rattle.gq_events.specs.Documents.{document_at, is_open, is_any_lost, is_change, is_one_too_many, key_of, published}
 use Rattle.gq_events.specs.Tasks.{is_of, place_of}
-use Rattle.gq_events.specs.Rules.{Turn, Session, failed, refused_as, answered, denied, denied_with, nothing_wrong, cleared, shown, own, wants_document_changes, wants_code_actions, are_too_many, denial_of_question, denial_of_ask, denied_by, effect_of_request, effect_while_running, effect_while_not, effect_of_notification, effect_of_message, effect_going, effect_of}
+use Rattle.gq_events.specs.Rules.{Turn, Session, failed, refused_as, answered, denied, denied_with, nothing_wrong, cleared, shown, own, wants_document_changes, wants_code_actions, are_too_many, denial_of_question, denial_of_ask, denied_by, effect_of_request, effect_while_running, effect_while_not, effect_of_notification, effect_of_message, effect_of_load, too_many_status, effect_going, effect_of}
 use Rattle.gq_events.specs.History.{session_at, effect_at, docs_at, turn_at, asked_before, pending_of}
 use Rattle.gq_events.specs.Laws.{tells_modified, ModifiedAtChange}
 use Rattle.gq_events.proofs.Lists.{both}
@@ -139,6 +140,7 @@ ask_other s pending (Some q) = question_other s pending q
 denial_other : (s : Session) (pending : List JobOf) (e : Effect) → IsOtherIfAny (denied_by s pending e)
 denial_other s pending (effect.Asks id asked) = cond_other (list_any (λ job. is_of id job.task) pending) (Some (denial.Error error.InvalidRequest)) _ (λ h. cc) (ask_other s pending asked)
 denial_other s pending effect.Nothing = tt
+denial_other s pending (effect.LoadsBehind load) = tt
 denial_other s pending (effect.Begins id capabilities) = tt
 denial_other s pending (effect.Refuses id why) = tt
 denial_other s pending (effect.Changes c) = tt
@@ -151,6 +153,7 @@ denial_other s pending (effect.Stops status) = tt
 abbrev IsFair : Effect → Type 0
 IsFair (effect.Refuses id why) = IsOther why
 IsFair effect.Nothing = Unit {0}
+IsFair (effect.LoadsBehind load) = Unit {0}
 IsFair (effect.Begins id capabilities) = Unit {0}
 IsFair (effect.Asks id asked) = Unit {0}
 IsFair (effect.Changes c) = Unit {0}
@@ -177,7 +180,7 @@ change_fair : (b : Bool) (c : Change) → IsFair (cond b (effect.Changes c) effe
 change_fair true c = tt
 change_fair false c = tt
 
-running_fair : (documents : List OpenDocument) (n : Notification) → IsFair (effect_while_running documents n)
+running_fair : (documents : List SessionDocument) (n : Notification) → IsFair (effect_while_running documents n)
 running_fair documents (notification.DidOpen item) = change_fair (is_change documents (change.Open item)) (change.Open item)
 running_fair documents (notification.DidChange params) = change_fair (is_change documents (change.Edit params)) (change.Edit params)
 running_fair documents (notification.DidClose key) = change_fair (is_change documents (change.Close key)) (change.Close key)
@@ -193,25 +196,37 @@ not_running_fair phase (notification.Cancel id) = tt
 not_running_fair phase notification.Exit = tt
 not_running_fair phase notification.Unknown = tt
 
-notification_fair : (phase : Phase) (documents : List OpenDocument) (n : Notification) → IsFair (effect_of_notification phase documents n)
+notification_fair : (phase : Phase) (documents : List SessionDocument) (n : Notification) → IsFair (effect_of_notification phase documents n)
 notification_fair Fresh documents n = not_running_fair Fresh n
 notification_fair Running documents n = running_fair documents n
 notification_fair Down documents n = not_running_fair Down n
 notification_fair Stopped documents n = tt
 
-message_fair : (phase : Phase) (documents : List OpenDocument) (m : Incoming) → IsFair (effect_of_message phase documents m)
+message_fair : (phase : Phase) (documents : List SessionDocument) (m : Incoming) → IsFair (effect_of_message phase documents m)
 message_fair phase documents (incoming.Request id r) = request_fair phase id r
 message_fair phase documents (incoming.Notification n) = notification_fair phase documents n
 message_fair phase documents (incoming.Invalid id) = λ h. cc
 message_fair phase documents incoming.Ignored = tt
 message_fair phase documents incoming.NotJson = λ h. cc
 
-going_fair : (phase : Phase) (documents : List OpenDocument) (e : Event) → IsFair (effect_going phase documents e)
+loaded_fair : (there many : Bool) (load : Load) → IsFair (cond there (effect.LoadsBehind load) (cond many (effect.Stops too_many_status) (effect.Changes (change.Load load))))
+loaded_fair true many load = tt
+loaded_fair false true load = tt
+loaded_fair false false load = tt
+
+load_fair : (phase : Phase) (documents : List SessionDocument) (load : Load) → IsFair (effect_of_load phase documents load)
+load_fair Fresh documents load = loaded_fair (is_open load.key documents) (is_one_too_many documents load) load
+load_fair Running documents load = loaded_fair (is_open load.key documents) (is_one_too_many documents load) load
+load_fair Down documents load = tt
+load_fair Stopped documents load = tt
+
+going_fair : (phase : Phase) (documents : List SessionDocument) (e : Event) → IsFair (effect_going phase documents e)
 going_fair phase documents (event.Message m) = message_fair phase documents m
+going_fair phase documents (event.Load load) = load_fair phase documents load
 going_fair phase documents (event.Done done) = tt
 going_fair phase documents (event.End end) = tt
 
-effect_fair : (phase : Phase) (documents : List OpenDocument) (e : Event) → IsFair (effect_of phase documents e)
+effect_fair : (phase : Phase) (documents : List SessionDocument) (e : Event) → IsFair (effect_of phase documents e)
 effect_fair Fresh documents e = going_fair Fresh documents e
 effect_fair Running documents e = going_fair Running documents e
 effect_fair Down documents e = going_fair Down documents e
@@ -225,13 +240,14 @@ denied_all e id None h = tt
 denied_all e id (Some (denial.Error why)) h = (other_error e (Some id) why h, tt)
 denied_all e id (Some denial.NoActions) h = ((λ g. absurd (not_actions id g.0 g.1)), tt)
 
-closed_all : (e : Effect) (document : Option OpenDocument) → All_may e (option_to_list (option_map nothing_wrong document))
+closed_all : (e : Effect) (document : Option SessionDocument) → All_may e (option_to_list (option_map nothing_wrong document))
 closed_all e None = tt
 closed_all e (Some document) = ((λ h. absurd h), tt)
 
-cleared_all : (e : Effect) (b : Bool) (documents : List OpenDocument) (c : Change) → All_may e (cond b (cleared documents c) [])
+cleared_all : (e : Effect) (b : Bool) (documents : List SessionDocument) (c : Change) → All_may e (cond b (cleared documents c) [])
 cleared_all e true documents (change.Open item) = tt
 cleared_all e true documents (change.Edit params) = tt
+cleared_all e true documents (change.Load load) = tt
 cleared_all e true documents (change.Close key) = closed_all e (document_at key documents)
 cleared_all e false documents c = tt
 
@@ -245,7 +261,7 @@ shown_all : (e : Effect) (none : Bool) (c : DocChange) → All_may e (cond none 
 shown_all e true c = tt
 shown_all e false c = ((λ g. absurd g), tt)
 
-own_all : (workers : ℕ) (s : Session) (denied : Option Denial) (e : Effect) (document : Option OpenDocument) → IsOtherIfAny denied → IsFair e → All_may e (own workers s denied e document)
+own_all : (workers : ℕ) (s : Session) (denied : Option Denial) (e : Effect) (document : Option SessionDocument) → IsOtherIfAny denied → IsFair e → All_may e (own workers s denied e document)
 own_all workers s denied (effect.Begins id capabilities) document h k = ((λ g. absurd (not_begun id _ g.0 g.1)), tt)
 own_all workers s denied (effect.Refuses id why) document h k = (other_error _ id why k, tt)
 own_all workers s denied (effect.Asks id asked) document h k = denied_all _ id denied h
@@ -254,6 +270,7 @@ own_all workers s denied (effect.Changes c) document h k =
 own_all workers s denied (effect.ShutsDown id) document h k = ((λ g. absurd (not_down id g.0 g.1)), tt)
 own_all workers s denied (effect.Stops status) document h k = ((λ g. absurd g), tt)
 own_all workers s denied effect.Nothing document h k = tt
+own_all workers s denied (effect.LoadsBehind load) document h k = tt
 own_all workers s denied (effect.Cancels id) document h k = tt
 own_all workers s denied (effect.Finishes done) document h k = tt
 

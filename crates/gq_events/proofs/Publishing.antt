@@ -4,7 +4,7 @@ use Rattle.std.specs.Prelude.{filter}
 use Rattle.std.proofs.lemmas.List.{map-append}
 use Rattle.gq_project.specs.declared.document.Doc.{Doc}
 use Rattle.gq_project.specs.Documents as project
-use Rattle.gq_events.specs.declared.documents.OpenDocument.{OpenDocument}
+use Rattle.gq_events.specs.declared.documents.SessionDocument.{SessionDocument}
 use Rattle.gq_events.specs.declared.effect.Change.{Change}
 use Rattle.gq_events.specs.declared.effect.Effect.{Effect}
 use Rattle.gq_events.specs.declared.effect.Effect.TheVariants as effect
@@ -14,7 +14,7 @@ use Rattle.gq_events.specs.History.{session_at, effect_at, changed_at}
 use Rattle.gq_events.specs.Laws.{ChangesArePublished}
 use Rattle.gq_events.proofs.Lists.{map_filter}
 
-published_is : (documents : List OpenDocument) (key : List ℕ) (document : Option OpenDocument)
+pub published_is : (documents : List SessionDocument) (key : List ℕ) (document : Option SessionDocument)
     → docs_of (with_changed documents key document) ≡ project.after_change (docs_of documents) (published key document)
 published_is documents key None = map_filter doc_of (λ doc. not (project.has_key key doc)) documents
 published_is documents key (Some document) =
@@ -24,7 +24,7 @@ published_is documents key (Some document) =
     joined : {a a' b b' : List Doc} → a ≡ a' → b ≡ b' → a ++ doc_of document ∷ b ≡ a' ++ doc_of document ∷ b'
     joined e f = cc
 
-after_changes : (s : Session) (e : Effect) (document : Option OpenDocument) (c : Change) → e ≡ effect.Changes c
+after_changes : (s : Session) (e : Effect) (document : Option SessionDocument) (c : Change) → e ≡ effect.Changes c
     → docs_of (session_after s e document).documents ≡ docs_of (with_changed s.documents (key_of c) document)
 after_changes s e document c is = ap (λ (x : Effect). docs_of (session_after s x document).documents) is
 

@@ -13,7 +13,7 @@ use Rattle.gq_rpc.specs.declared.messages.Question.TheVariants as question
 use Rattle.gq_rpc.specs.declared.messages.ResponseError.{ResponseError}
 use Rattle.gq_rpc.specs.declared.messages.ResponseError.TheVariants as error
 use Rattle.gq_rpc.specs.declared.messages.Outgoing.{Outgoing}
-use Rattle.gq_events.specs.declared.documents.OpenDocument.{OpenDocument}
+use Rattle.gq_events.specs.declared.documents.SessionDocument.{SessionDocument}
 use Rattle.gq_events.specs.Jobs.{JobOf}
 use Rattle.gq_events.specs.declared.event.Task.{Task}
 use Rattle.gq_events.specs.declared.event.Task.TheVariants as task
@@ -83,6 +83,7 @@ ask_fair s pending (Some q) = question_fair s pending q
 abbrev IsFairBy : Session → Effect → Option Denial → Type 0
 IsFairBy s (effect.Asks id asked) denied = IsFair s asked denied
 IsFairBy s effect.Nothing denied = Unit {0}
+IsFairBy s (effect.LoadsBehind load) denied = Unit {0}
 IsFairBy s (effect.Begins id capabilities) denied = Unit {0}
 IsFairBy s (effect.Refuses id why) denied = Unit {0}
 IsFairBy s (effect.Changes c) denied = Unit {0}
@@ -94,6 +95,7 @@ IsFairBy s (effect.Stops status) denied = Unit {0}
 denied_fair : (s : Session) (pending : List JobOf) (e : Effect) → IsFairBy s e (denied_by s pending e)
 denied_fair s pending (effect.Asks id asked) = cond_fair s asked (list_any (λ job. is_of id job.task) pending) (Some (denial.Error error.InvalidRequest)) _ (λ h. tt) (ask_fair s pending asked)
 denied_fair s pending effect.Nothing = tt
+denied_fair s pending (effect.LoadsBehind load) = tt
 denied_fair s pending (effect.Begins id capabilities) = tt
 denied_fair s pending (effect.Refuses id why) = tt
 denied_fair s pending (effect.Changes c) = tt
@@ -130,6 +132,7 @@ module _ (events : List Turn) (j : ℕ) where
       same_check a b h = cc
   changes_of session encoding (effect.Asks id asked) (q, (is, same)) = absurd (cc)
   changes_of session encoding effect.Nothing h = absurd h
+  changes_of session encoding (effect.LoadsBehind load) h = absurd h
   changes_of session encoding (effect.Begins id capabilities) h = absurd h
   changes_of session encoding (effect.Refuses id why) h = absurd h
   changes_of session encoding (effect.Cancels id) h = absurd h
@@ -152,7 +155,7 @@ module _ (events : List Turn) (j : ℕ) where
       }))
 
   -- an ask leaves the documents as they are
-  same_docs_after : (s : Session) (e : Effect) (document : Option OpenDocument) (id : Id) (asked : Option Question) → e ≡ effect.Asks id asked → docs_of (session_after s e document).documents ≡ docs_of s.documents
+  same_docs_after : (s : Session) (e : Effect) (document : Option SessionDocument) (id : Id) (asked : Option Question) → e ≡ effect.Asks id asked → docs_of (session_after s e document).documents ≡ docs_of s.documents
   same_docs_after s e document id asked is = ap (λ (x : Effect). docs_of (session_after s x document).documents) is
 
   -- a question is asked by its own event, and has the session's encoding
@@ -166,6 +169,7 @@ module _ (events : List Turn) (j : ℕ) where
       same_encoding a b i id r q same = cc
   asks_of session encoding (effect.Changes c) id q h = absurd (cc)
   asks_of session encoding effect.Nothing id q h = absurd h
+  asks_of session encoding (effect.LoadsBehind load) id q h = absurd h
   asks_of session encoding (effect.Begins i capabilities) id q h = absurd h
   asks_of session encoding (effect.Refuses i why) id q h = absurd h
   asks_of session encoding (effect.Cancels i) id q h = absurd h
@@ -201,7 +205,7 @@ module _ (events : List Turn) (j : ℕ) where
   of_denied id asked (Some denial.NoActions) is (params, same, none) =
       ((λ g. ∣ inr (record { id = id; params = params; asks = is ∙ ap (λ (q : Option Question). effect.Asks id q) same; takes_none = none; is = refl }) ∣₁), tt)
 
-  of_closed : (key : List ℕ) → effect_at events j ≡ effect.Changes (change.Close key) → (document : Option OpenDocument) → document_at key (session_at events j).documents ≡ document
+  of_closed : (key : List ℕ) → effect_at events j ≡ effect.Changes (change.Close key) → (document : Option SessionDocument) → document_at key (session_at events j).documents ≡ document
       → All_right (option_to_list (option_map nothing_wrong document))
   of_closed key closes None was_open = tt
   of_closed key closes (Some document) was_open = (∣ inl (record { key = key; document = document; closes = closes; was_open = was_open; is = refl }) ∣₁, tt)
@@ -209,6 +213,7 @@ module _ (events : List Turn) (j : ℕ) where
   of_cleared : (b : Bool) (c : Change) → effect_at events j ≡ effect.Changes c → All_right (cond b (cleared (session_at events j).documents c) [])
   of_cleared true (change.Open item) is = tt
   of_cleared true (change.Edit params) is = tt
+  of_cleared true (change.Load load) is = tt
   of_cleared true (change.Close key) is = of_closed key is (document_at key (session_at events j).documents) refl
   of_cleared false c is = tt
 
@@ -216,7 +221,7 @@ module _ (events : List Turn) (j : ℕ) where
   of_shown true c = tt
   of_shown false c = (tt, tt)
 
-  of_own : (workers : ℕ) (denied : Option Denial) (e : Effect) (document : Option OpenDocument) → effect_at events j ≡ e → IsFairBy (session_at events j) e denied → All_right (own workers (session_at events j) denied e document)
+  of_own : (workers : ℕ) (denied : Option Denial) (e : Effect) (document : Option SessionDocument) → effect_at events j ≡ e → IsFairBy (session_at events j) e denied → All_right (own workers (session_at events j) denied e document)
   of_own workers denied (effect.Begins id capabilities) document is h = (no_result _ refl, tt)
   of_own workers denied (effect.Refuses id why) document is h = (no_result _ refl, tt)
   of_own workers denied (effect.Asks id asked) document is h = of_denied id asked denied is h
@@ -226,6 +231,7 @@ module _ (events : List Turn) (j : ℕ) where
   of_own workers denied (effect.ShutsDown id) document is h = (no_result _ refl, tt)
   of_own workers denied (effect.Stops status) document is h = (tt, tt)
   of_own workers denied effect.Nothing document is h = tt
+  of_own workers denied (effect.LoadsBehind load) document is h = tt
   of_own workers denied (effect.Cancels id) document is h = tt
   of_own workers denied (effect.Finishes done) document is h = tt
 

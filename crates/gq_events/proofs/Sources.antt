@@ -11,7 +11,7 @@ use Rattle.gq_rpc.specs.declared.messages.ResponseError.TheVariants as error
 use Rattle.gq_events.specs.declared.event.Task.{Task}
 use Rattle.gq_events.specs.declared.event.Task.TheVariants as task
 use Rattle.gq_events.specs.Jobs.{JobOf, DoneOf}
-use Rattle.gq_events.specs.declared.documents.OpenDocument.{OpenDocument}
+use Rattle.gq_events.specs.declared.documents.SessionDocument.{SessionDocument}
 use Rattle.gq_events.specs.declared.event.Answer.{Answer}
 use Rattle.gq_events.specs.declared.event.Out.{Out}
 use Rattle.gq_events.specs.declared.event.Out.TheVariants as out
@@ -30,6 +30,7 @@ abbrev pub IsBroughtBy : PositionEncoding → Effect → Task → Type 0
 IsBroughtBy encoding (effect.Asks id asked) t = (q : Question) × ((asked ≡ Some q) × (t ≡ task.Ask encoding id q))
 IsBroughtBy encoding (effect.Changes c) t = t ≡ task.Check encoding
 IsBroughtBy encoding effect.Nothing t = ⊥
+IsBroughtBy encoding (effect.LoadsBehind load) t = ⊥
 IsBroughtBy encoding (effect.Begins id capabilities) t = ⊥
 IsBroughtBy encoding (effect.Refuses id why) t = ⊥
 IsBroughtBy encoding (effect.Cancels id) t = ⊥
@@ -54,6 +55,7 @@ taken_by : (s : Session) (denied : Option Denial) (e : Effect) → IsTakenBy s.p
 taken_by s denied (effect.Asks id asked) = ask_if s.position_encoding id asked denied
 taken_by s denied (effect.Changes c) = check_if s.position_encoding s.diagnostics c
 taken_by s denied effect.Nothing = tt
+taken_by s denied (effect.LoadsBehind load) = tt
 taken_by s denied (effect.Begins id capabilities) = tt
 taken_by s denied (effect.Refuses id why) = tt
 taken_by s denied (effect.Cancels id) = tt
@@ -70,7 +72,7 @@ pub record IsGiven (events : List Turn) (j : ℕ) (t : Task) (a : Answer) : Type
   pub fits : Answers (docs_at events (suc place)) t a
 
 -- what a worker made of a job leaves the documents as they are
-after_finish : (s : Session) (e : Effect) (document : Option OpenDocument) (done : DoneOf) → e ≡ effect.Finishes done → docs_of (session_after s e document).documents ≡ docs_of s.documents
+after_finish : (s : Session) (e : Effect) (document : Option SessionDocument) (done : DoneOf) → e ≡ effect.Finishes done → docs_of (session_after s e document).documents ≡ docs_of s.documents
 after_finish s e document done is = ap (λ (x : Effect). docs_of (session_after s x document).documents) is
 
 module _ (workers : ℕ) (events : List Turn) (j : ℕ) (P : Out → Type 0)
@@ -113,6 +115,7 @@ module _ (workers : ℕ) (events : List Turn) (j : ℕ) (P : Out → Type 0)
         fits = answers_are_defined events a j done first is;
       })
   of_verdict a effect.Nothing is come decided = tt
+  of_verdict a (effect.LoadsBehind load) is come decided = tt
   of_verdict a (effect.Begins id capabilities) is come decided = tt
   of_verdict a (effect.Refuses id why) is come decided = tt
   of_verdict a (effect.Asks id asked) is come decided = tt

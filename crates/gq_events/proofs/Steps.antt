@@ -17,7 +17,7 @@ use Rattle.gq_rpc.specs.declared.messages.Question.{Question}
 use Rattle.gq_rpc.specs.declared.messages.ResponseError.TheVariants as error
 use Rattle.gq_events.specs.declared.refusals.Denial.{Denial}
 use Rattle.gq_events.specs.declared.refusals.Denial.TheVariants as denial
-use Rattle.gq_events.specs.declared.documents.OpenDocument.{OpenDocument}
+use Rattle.gq_events.specs.declared.documents.SessionDocument.{SessionDocument}
 use Rattle.gq_events.specs.declared.event.Task.{Task}
 use Rattle.gq_events.specs.declared.event.Task.TheVariants as task
 use Rattle.gq_events.specs.Jobs.{JobOf, DoneOf}
@@ -164,7 +164,7 @@ quiet : (alone : Bool) (n : ℕ) (waiting : List JobOf) → (waiting ≡ []) ⊎
 quiet true n waiting h = ap (λ (l : List JobOf). map out.Job (take n l)) (append-nil waiting) ∙ ap (map out.Job) (nothing_next n waiting h)
 quiet false n waiting h = ap (λ (l : List JobOf). map out.Job (take n l)) (append-nil waiting) ∙ ap (map out.Job) (nothing_next n waiting h)
 
-idle_step : (s : State) (document : Option OpenDocument) (a : Answer) → (s.jobs.waiting ≡ []) ⊎ (room_for s.jobs.out ≡ 0) → writes_effect s effect.Nothing document a ≡ []
+idle_step : (s : State) (document : Option SessionDocument) (a : Answer) → (s.jobs.waiting ≡ []) ⊎ (room_for s.jobs.out ≡ 0) → writes_effect s effect.Nothing document a ≡ []
 idle_step s document a h =
     let none : filter (λ (job : JobOf). false) s.jobs.pending ≡ [] = filter_none s.jobs.pending in
     let all_wait : filter (λ (job : JobOf). true) s.jobs.waiting ≡ s.jobs.waiting = filter_all _ s.jobs.waiting (every _ (λ job. refl) s.jobs.waiting) in
@@ -249,6 +249,7 @@ taken_differs s pending (effect.Asks id asked) =
     if_accepted s.position_encoding id asked (list_any (λ job. is_of id job.task) pending) pending (denial_of_ask s pending asked) (λ h q. own_id s.position_encoding id q pending h)
 taken_differs s pending (effect.Changes c) = if_checked s.position_encoding s.diagnostics pending
 taken_differs s pending effect.Nothing = tt
+taken_differs s pending (effect.LoadsBehind load) = tt
 taken_differs s pending (effect.Begins id d) = tt
 taken_differs s pending (effect.Refuses id w) = tt
 taken_differs s pending (effect.Cancels id) = tt

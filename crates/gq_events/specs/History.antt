@@ -4,7 +4,7 @@ use Rattle.std.specs.List.{list_any}
 use Rattle.gq_text.specs.declared.place.PositionEncoding.{PositionEncoding}
 use Rattle.gq_project.specs.declared.document.Doc.{Doc}
 use Rattle.gq_rpc.specs.declared.messages.Incoming.TheVariants as incoming
-use Rattle.gq_events.specs.declared.documents.OpenDocument.{OpenDocument}
+use Rattle.gq_events.specs.declared.documents.SessionDocument.{SessionDocument}
 use Rattle.gq_events.specs.declared.event.Task.{Task}
 use Rattle.gq_events.specs.Jobs.{JobOf}
 use Rattle.gq_events.specs.declared.event.Answer.TheVariants as answer
@@ -43,7 +43,7 @@ abbrev pub effect_at : List Turn → ℕ → Effect
 effect_at events j = effect_of (session_at events j).phase (session_at events j).documents (turn_at events j).event
 
 -- the document that the event at place j leaves, if it leaves one
-abbrev pub changed_at : List Turn → ℕ → Option OpenDocument
+abbrev pub changed_at : List Turn → ℕ → Option SessionDocument
 changed_at events j = changed_by (session_at events j) (effect_at events j) (turn_at events j).text_refused
 
 -- ---- which jobs are pending

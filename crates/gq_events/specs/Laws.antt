@@ -1,5 +1,5 @@
 -- What the definitions mean: which event is the deciding one, what is answered, and what is handed on.
-use Rattle.std.specs.Prelude.{Option, Some, ◌≡◌, ℕ, suc, ◌<◌, ◌≤◌, ◌^◌, ◌⊎◌, ◌↔◌, Bool, Contains, true, false, List, [], ◌∷◌, ◌++◌, map, filter, flat_map, length, ◌==◌, if◌then◌else◌}
+use Rattle.std.specs.Prelude.{Option, Some, None, ◌≡◌, ℕ, suc, ◌<◌, ◌≤◌, ◌^◌, ◌⊎◌, ◌↔◌, Bool, Contains, true, false, List, [], ◌∷◌, ◌++◌, map, filter, flat_map, length, ◌==◌, if◌then◌else◌}
 use Rattle.std.specs.List.{AllByRecursion}
 use Rattle.gq_project.specs.declared.document.DocChange.{DocChange}
 use Rattle.gq_project.specs.Documents.{after_change}
@@ -11,7 +11,7 @@ use Rattle.gq_rpc.specs.declared.messages.ResponseError.TheVariants as error
 use Rattle.gq_rpc.specs.declared.messages.Outgoing.{Outgoing}
 use Rattle.gq_rpc.specs.declared.messages.Outgoing.TheVariants as outgoing
 use Rattle.gq_replies.specs.Answers.{IsAnswer, AreDiagnosticsMessages}
-use Rattle.gq_events.specs.declared.documents.OpenDocument.{OpenDocument}
+use Rattle.gq_events.specs.declared.documents.SessionDocument.{SessionDocument}
 use Rattle.gq_events.specs.declared.event.Task.{Task}
 use Rattle.gq_events.specs.declared.event.Task.TheVariants as task
 use Rattle.gq_events.specs.Jobs.{JobOf, DoneOf}
@@ -119,7 +119,7 @@ pub record IsNoActions (events : List Turn) (j : ℕ) (message : Outgoing) : Typ
 -- the message tells that a document, which the event at place j closes, has nothing wrong in it
 pub record IsClearing (events : List Turn) (j : ℕ) (message : Outgoing) : Type 0 where
   pub key : List ℕ
-  pub document : OpenDocument
+  pub document : SessionDocument
   pub closes : effect_at events j ≡ effect.Changes (change.Close key)
   pub was_open : document_at key (session_at events j).documents ≡ Some document
   pub is : out.Notify message ≡ nothing_wrong document
@@ -194,9 +194,10 @@ abbrev pub handings : List Out → List Handing
 handings outs = flat_map handing_of outs
 
 -- the change that an event of this effect hands on, if it is one
-abbrev pub published_by : Effect → Option OpenDocument → List Handing
+abbrev pub published_by : Effect → Option SessionDocument → List Handing
 published_by (effect.Changes c) document = Published (published (key_of c) document) ∷ []
 published_by effect.Nothing document = []
+published_by (effect.LoadsBehind load) document = []
 published_by (effect.Begins id capabilities) document = []
 published_by (effect.Refuses id why) document = []
 published_by (effect.Asks id asked) document = []
@@ -223,10 +224,18 @@ ChangesArePublished = (events : List Turn) (j : ℕ) (c : Change) → effect_at 
 -- ---- what the documents are
 
 -- they stand in order of key, a text has at most 4 MiB, and a lost document has the empty one
-pub record AreKept (documents : List OpenDocument) : Type 0 where
+pub record AreKept (documents : List SessionDocument) : Type 0 where
   pub in_order : IsInOrder documents
   pub texts : AllByRecursion (λ document. length document.text ≤ 2 ^ 22) documents
   pub lost : AllByRecursion (λ document. document.lost ≡ true → document.text ≡ []) documents
 
 abbrev pub DocumentsAreKept : Type 0
 DocumentsAreKept = (events : List Turn) (j : ℕ) → AreKept (session_at events j).documents
+
+-- so are those behind open documents, and none of them is open
+pub record AreBehind (documents : List SessionDocument) : Type 0 where
+  pub kept : AreKept documents
+  pub loaded : AllByRecursion (λ document. document.version ≡ None) documents
+
+abbrev pub DocumentsBehindAreKept : Type 0
+DocumentsBehindAreKept = (events : List Turn) (j : ℕ) → AreBehind (session_at events j).behind

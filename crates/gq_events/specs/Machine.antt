@@ -1,7 +1,7 @@
 -- The desk as a machine: a table of what is pending, a queue, and the numbers of the jobs that are out.
 use Rattle.std.specs.Prelude.{◌≡◌, ℕ, ◌+◌, ◌-◌, Bool, not, ◌==◌, List, [], ◌∷◌, ◌++◌, length, map, filter, flat_map, take, drop, Option, Some, None, if◌then◌else◌}
 use Rattle.gq_project.specs.declared.document.Doc.{Doc}
-use Rattle.gq_events.specs.declared.documents.OpenDocument.{OpenDocument}
+use Rattle.gq_events.specs.declared.documents.SessionDocument.{SessionDocument}
 use Rattle.gq_events.specs.declared.event.Task.{Task}
 use Rattle.gq_events.specs.Jobs.{JobOf}
 use Rattle.gq_events.specs.declared.event.Answer.{Answer}
@@ -76,7 +76,7 @@ abbrev pub verdicts : List Doc → Effect → List JobOf → List Out
 verdicts docs e pending = flat_map (verdict e) (filter (decides docs e) pending)
 
 -- that, then its own reply
-abbrev pub replies_to : ℕ → Session → Table → Effect → Option OpenDocument → List Out
+abbrev pub replies_to : ℕ → Session → Table → Effect → Option SessionDocument → List Out
 replies_to workers session jobs e document = verdicts (docs_of session.documents) e jobs.pending ++ own workers session (denied_in session jobs e) e document
 
 -- the jobs that a task makes, where there are workers
@@ -96,20 +96,20 @@ brings workers session jobs e t a =
     (if workers == 0 then answer_to t a else []) ++ map out.Job (next_jobs (jobs_then workers session jobs e t))
 
 -- the state after an event of this effect, which leaves this document, and what its step puts out
-abbrev pub after_effect : State → Effect → Option OpenDocument → State
+abbrev pub after_effect : State → Effect → Option SessionDocument → State
 after_effect s e document = record {
   session = session_after s.session e document;
   workers = s.workers;
   jobs = jobs_after s.workers s.session s.jobs e (taken_by s.session s.jobs e);
 }
 
-abbrev pub writes_effect : State → Effect → Option OpenDocument → Answer → List Out
+abbrev pub writes_effect : State → Effect → Option SessionDocument → Answer → List Out
 writes_effect s e document a = replies_to s.workers s.session s.jobs e document ++ brings s.workers s.session s.jobs e (taken_by s.session s.jobs e) a
 
 abbrev pub effect_in : State → Turn → Effect
 effect_in s turn = effect_of s.session.phase s.session.documents turn.event
 
-abbrev pub changed_in : State → Turn → Option OpenDocument
+abbrev pub changed_in : State → Turn → Option SessionDocument
 changed_in s turn = changed_by s.session (effect_in s turn) turn.text_refused
 
 -- the state after a turn, and what its step puts out

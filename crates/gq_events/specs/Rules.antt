@@ -20,12 +20,13 @@ use Rattle.gq_rpc.specs.declared.messages.ResponseError.{ResponseError}
 use Rattle.gq_rpc.specs.declared.messages.ResponseError.TheVariants as error
 use Rattle.gq_rpc.specs.declared.messages.Outgoing.{Outgoing}
 use Rattle.gq_rpc.specs.declared.messages.Outgoing.TheVariants as outgoing
-use Rattle.gq_events.specs.declared.documents.OpenDocument.{OpenDocument}
+use Rattle.gq_events.specs.declared.documents.SessionDocument.{SessionDocument}
 use Rattle.gq_events.specs.declared.event.Task.{Task}
 use Rattle.gq_events.specs.declared.event.Task.TheVariants as task
 use Rattle.gq_events.specs.Jobs.{JobOf}
 use Rattle.gq_events.specs.declared.event.Answer.{Answer}
 use Rattle.gq_events.specs.declared.event.Answer.TheVariants as answer
+use Rattle.gq_events.specs.declared.event.Load.{Load}
 use Rattle.gq_events.specs.declared.event.InputEnd.{InputEnd}
 use Rattle.gq_events.specs.declared.event.InputEnd.TheVariants.{Border, Fault}
 use Rattle.gq_events.specs.declared.event.Event.{Event}
@@ -41,7 +42,7 @@ use Rattle.gq_events.specs.declared.effect.Change.TheVariants as change
 use Rattle.gq_events.specs.declared.effect.Effect.{Effect}
 use Rattle.gq_events.specs.declared.effect.Effect.TheVariants as effect
 use Rattle.gq_events.specs.Positions.{default_encoding, encoding_for}
-use Rattle.gq_events.specs.Documents.{document_at, is_open, is_any_lost, is_change, changed, key_of, with_changed, published}
+use Rattle.gq_events.specs.Documents.{document_at, is_open, is_any_lost, is_change, is_one_too_many, changed, loaded, key_of, with_changed, behind_after, published}
 use Rattle.gq_events.specs.Tasks.{same_task, same_docs, place_of, is_of, is_ask, Answers}
 
 -- an event, and what was free to choose: whether the edit that it is was refused memory, and the answer to the task that
@@ -51,18 +52,20 @@ pub record Turn : Type 0 where
   pub text_refused : Bool
   pub answer : Answer
 
--- how far the session has come, what the characters of its positions are counted in, whether its client takes edits with
--- versions, code actions with such edits, and diagnostics, and its documents, in order of key
+-- How far the session has come, what the characters of its positions are counted in, whether its client takes edits with versions, code actions
+-- with such edits, and diagnostics; its documents, open or loaded, in order of key; and behind open ones those that were loaded, which are
+-- its documents again once these are closed.
 pub record Session : Type 0 where
   pub phase : Phase
   pub position_encoding : PositionEncoding
   pub document_changes : Bool
   pub code_actions : Bool
   pub diagnostics : Bool
-  pub documents : List OpenDocument
+  pub documents : List SessionDocument
+  pub behind : List SessionDocument
 
 abbrev pub begun : Session
-begun = record { phase = Fresh; position_encoding = default_encoding; document_changes = false; code_actions = false; diagnostics = false; documents = [] }
+begun = record { phase = Fresh; position_encoding = default_encoding; document_changes = false; code_actions = false; diagnostics = false; documents = []; behind = [] }
 
 -- ---- what an event comes to (LSP 3.17, "Server lifecycle")
 
@@ -89,10 +92,10 @@ exit_status Down = 0
 exit_status Stopped = 1
 
 -- a notification of a running session
-abbrev pub effect_of_change : List OpenDocument → Change → Effect
+abbrev pub effect_of_change : List SessionDocument → Change → Effect
 effect_of_change documents c = if is_change documents c then effect.Changes c else effect.Nothing
 
-abbrev pub effect_while_running : List OpenDocument → Notification → Effect
+abbrev pub effect_while_running : List SessionDocument → Notification → Effect
 effect_while_running documents (notification.DidOpen item) = effect_of_change documents (change.Open item)
 effect_while_running documents (notification.DidChange params) = effect_of_change documents (change.Edit params)
 effect_while_running documents (notification.DidClose key) = effect_of_change documents (change.Close key)
@@ -109,32 +112,50 @@ effect_while_not phase (notification.DidClose key) = effect.Nothing
 effect_while_not phase (notification.Cancel id) = effect.Nothing
 effect_while_not phase notification.Unknown = effect.Nothing
 
-abbrev pub effect_of_notification : Phase → List OpenDocument → Notification → Effect
+abbrev pub effect_of_notification : Phase → List SessionDocument → Notification → Effect
 effect_of_notification Fresh documents n = effect_while_not Fresh n
 effect_of_notification Running documents n = effect_while_running documents n
 effect_of_notification Down documents n = effect_while_not Down n
 effect_of_notification Stopped documents n = effect.Nothing
 
 -- what is no message is refused whatever the phase
-abbrev pub effect_of_message : Phase → List OpenDocument → Incoming → Effect
+abbrev pub effect_of_message : Phase → List SessionDocument → Incoming → Effect
 effect_of_message phase documents (incoming.Request id r) = effect_of_request phase id r
 effect_of_message phase documents (incoming.Notification n) = effect_of_notification phase documents n
 effect_of_message phase documents (incoming.Invalid id) = effect.Refuses id error.InvalidRequest
 effect_of_message phase documents incoming.Ignored = effect.Nothing
 effect_of_message phase documents incoming.NotJson = effect.Refuses None error.ParseError
 
+-- the status of the process where more documents are loaded than there may be
+abbrev pub too_many_status : ℕ
+too_many_status = 3
+
+-- what is loaded of a document that is not open changes it; of one that is open it comes behind that
+abbrev pub effect_of_loaded : List SessionDocument → Load → Effect
+effect_of_loaded documents load =
+    if is_open load.key documents then effect.LoadsBehind load
+    else (if is_one_too_many documents load then effect.Stops too_many_status else effect.Changes (change.Load load))
+
+-- what is loaded counts before `initialize` and while the session runs
+abbrev pub effect_of_load : Phase → List SessionDocument → Load → Effect
+effect_of_load Fresh documents load = effect_of_loaded documents load
+effect_of_load Running documents load = effect_of_loaded documents load
+effect_of_load Down documents load = effect.Nothing
+effect_of_load Stopped documents load = effect.Nothing
+
 abbrev pub end_status : InputEnd → ℕ
 end_status Border = 1
 end_status Fault = 3
 
 -- what an event comes to while the session goes on
-abbrev pub effect_going : Phase → List OpenDocument → Event → Effect
+abbrev pub effect_going : Phase → List SessionDocument → Event → Effect
 effect_going phase documents (event.Message m) = effect_of_message phase documents m
+effect_going phase documents (event.Load load) = effect_of_load phase documents load
 effect_going phase documents (event.Done done) = effect.Finishes done
 effect_going phase documents (event.End end) = effect.Stops (end_status end)
 
 -- what an event comes to: after a stop nothing counts
-abbrev pub effect_of : Phase → List OpenDocument → Event → Effect
+abbrev pub effect_of : Phase → List SessionDocument → Event → Effect
 effect_of Fresh documents e = effect_going Fresh documents e
 effect_of Running documents e = effect_going Running documents e
 effect_of Down documents e = effect_going Down documents e
@@ -143,8 +164,9 @@ effect_of Stopped documents e = effect.Nothing
 -- ---- what becomes of the session
 
 -- the document that a change leaves, if it leaves one
-abbrev pub changed_by : Session → Effect → Bool → Option OpenDocument
-changed_by s (effect.Changes c) refused = changed s.position_encoding s.documents c refused
+abbrev pub changed_by : Session → Effect → Bool → Option SessionDocument
+changed_by s (effect.Changes c) refused = changed s.position_encoding s.documents s.behind c refused
+changed_by s (effect.LoadsBehind load) refused = loaded load
 changed_by s effect.Nothing refused = None
 changed_by s (effect.Begins id capabilities) refused = None
 changed_by s (effect.Refuses id why) refused = None
@@ -162,6 +184,7 @@ begun_by s capabilities = record {
   code_actions = capabilities.code_actions;
   diagnostics = capabilities.publish_diagnostics;
   documents = s.documents;
+  behind = s.behind;
 }
 
 abbrev pub with_phase : Session → Phase → Session
@@ -172,22 +195,29 @@ with_phase s phase = record {
   code_actions = s.code_actions;
   diagnostics = s.diagnostics;
   documents = s.documents;
+  behind = s.behind;
 }
 
-abbrev pub with_documents : Session → List OpenDocument → Session
-with_documents s documents = record {
+abbrev pub with_documents : Session → (documents behind : List SessionDocument) → Session
+with_documents s documents behind = record {
   phase = s.phase;
   position_encoding = s.position_encoding;
   document_changes = s.document_changes;
   code_actions = s.code_actions;
   diagnostics = s.diagnostics;
   documents = documents;
+  behind = behind;
 }
 
+-- the session after a change that leaves this document, if it leaves one
+abbrev pub session_changed : Session → Change → Option SessionDocument → Session
+session_changed s c document = with_documents s (with_changed s.documents (key_of c) document) (behind_after s.documents s.behind c)
+
 -- the session after an event of this effect, whose change leaves this document
-abbrev pub session_after : Session → Effect → Option OpenDocument → Session
+abbrev pub session_after : Session → Effect → Option SessionDocument → Session
 session_after s (effect.Begins id capabilities) document = begun_by s capabilities
-session_after s (effect.Changes c) document = with_documents s (with_changed s.documents (key_of c) document)
+session_after s (effect.Changes c) document = session_changed s c document
+session_after s (effect.LoadsBehind load) document = with_documents s s.documents (with_changed s.behind load.key document)
 session_after s (effect.ShutsDown id) document = with_phase s Down
 session_after s (effect.Stops status) document = with_phase s Stopped
 session_after s effect.Nothing document = s
@@ -257,6 +287,7 @@ denied_by s pending effect.Nothing = None
 denied_by s pending (effect.Begins id capabilities) = None
 denied_by s pending (effect.Refuses id why) = None
 denied_by s pending (effect.Changes c) = None
+denied_by s pending (effect.LoadsBehind load) = None
 denied_by s pending (effect.Cancels id) = None
 denied_by s pending (effect.ShutsDown id) = None
 denied_by s pending (effect.Finishes done) = None
@@ -272,6 +303,7 @@ abbrev pub taken : Session → Option Denial → Effect → Option Task
 taken s denied (effect.Asks id asked) = accepted s.position_encoding id asked denied
 taken s denied (effect.Changes c) = if s.diagnostics then Some (task.Check s.position_encoding) else None
 taken s denied effect.Nothing = None
+taken s denied (effect.LoadsBehind load) = None
 taken s denied (effect.Begins id capabilities) = None
 taken s denied (effect.Refuses id why) = None
 taken s denied (effect.Cancels id) = None
@@ -289,6 +321,7 @@ decides docs (effect.ShutsDown id) job = true
 decides docs (effect.Cancels id) job = is_of id job.task
 decides docs (effect.Finishes done) job = (done.job == job.number) && (same_task done.task job.task && same_docs done.texts docs)
 decides docs effect.Nothing job = false
+decides docs (effect.LoadsBehind load) job = false
 decides docs (effect.Begins id capabilities) job = false
 decides docs (effect.Refuses id why) job = false
 decides docs (effect.Asks id asked) job = false
@@ -311,6 +344,7 @@ verdict (effect.ShutsDown id) job = refused_as job.task (failed (codes "shutdown
 verdict (effect.Cancels id) job = refused_as job.task error.Cancelled
 verdict (effect.Finishes done) job = answered job.task done.answer
 verdict effect.Nothing job = []
+verdict (effect.LoadsBehind load) job = []
 verdict (effect.Begins id capabilities) job = []
 verdict (effect.Refuses id why) job = []
 verdict (effect.Asks id asked) job = []
@@ -342,23 +376,24 @@ denied_with id None = []
 denied_with id (Some how) = out.Reply (denying id how) ∷ []
 
 -- a document that is closed has nothing wrong in it: under the URI that it was opened with, and without a version
-abbrev pub nothing_wrong : OpenDocument → Out
+abbrev pub nothing_wrong : SessionDocument → Out
 nothing_wrong document = out.Notify (outgoing.Diagnostics (record { uri = document.uri; version = None; diagnostics = [] }))
 
-abbrev pub cleared : List OpenDocument → Change → List Out
+abbrev pub cleared : List SessionDocument → Change → List Out
 cleared documents (change.Open item) = []
 cleared documents (change.Edit params) = []
+cleared documents (change.Load load) = []
 cleared documents (change.Close key) = option_to_list (option_map nothing_wrong (document_at key documents))
 
 -- what workers are to see changed; with none, nothing is put out for them
 abbrev pub shown : ℕ → DocChange → List Out
 shown workers c = if workers == 0 then [] else out.Publish c ∷ []
 
-abbrev pub own_of_change : ℕ → Session → Change → Option OpenDocument → List Out
+abbrev pub own_of_change : ℕ → Session → Change → Option SessionDocument → List Out
 own_of_change workers s c document = (if s.diagnostics then cleared s.documents c else []) ++ shown workers (published (key_of c) document)
 
 -- the event's own reply, and what is published for workers
-abbrev pub own : ℕ → Session → Option Denial → Effect → Option OpenDocument → List Out
+abbrev pub own : ℕ → Session → Option Denial → Effect → Option SessionDocument → List Out
 own workers s denied (effect.Begins id capabilities) document = out.Reply (outgoing.Initialized id (server_capabilities capabilities)) ∷ []
 own workers s denied (effect.Refuses id why) document = out.Reply (outgoing.Error id why) ∷ []
 own workers s denied (effect.Asks id asked) document = denied_with id denied
@@ -366,20 +401,23 @@ own workers s denied (effect.Changes c) document = own_of_change workers s c doc
 own workers s denied (effect.ShutsDown id) document = out.Reply (outgoing.ShutDown id) ∷ []
 own workers s denied (effect.Stops status) document = out.Stop status ∷ []
 own workers s denied effect.Nothing document = []
+own workers s denied (effect.LoadsBehind load) document = []
 own workers s denied (effect.Cancels id) document = []
 own workers s denied (effect.Finishes done) document = []
 
 -- What a session becomes by an edit of a document, by a change, and by an event, and what is put out for it by then, and for so many workers. Of each
 -- it may be that a text was refused memory.
+abbrev pub changed_in_session : Session → Change → Bool → Option SessionDocument
+changed_in_session s c refused = changed s.position_encoding s.documents s.behind c refused
+
 abbrev pub Edits : ℕ → Session → DidChangeParams → Session → List Out → List Out → Type 0
 Edits workers s params t old new =
-    (refused : Bool) × (t ≡ with_documents s (with_changed s.documents params.key (changed s.position_encoding s.documents (change.Edit params) refused)))
-    × (new ≡ old ++ shown workers (published params.key (changed s.position_encoding s.documents (change.Edit params) refused)))
+    (refused : Bool) × (t ≡ session_changed s (change.Edit params) (changed_in_session s (change.Edit params) refused))
+    × (new ≡ old ++ shown workers (published params.key (changed_in_session s (change.Edit params) refused)))
 
 abbrev pub Changes : ℕ → Session → Change → Session → List Out → List Out → Type 0
 Changes workers s c t old new =
-    (refused : Bool) × (t ≡ with_documents s (with_changed s.documents (key_of c) (changed s.position_encoding s.documents c refused)))
-    × (new ≡ old ++ own_of_change workers s c (changed s.position_encoding s.documents c refused))
+    (refused : Bool) × (t ≡ session_changed s c (changed_in_session s c refused)) × (new ≡ old ++ own_of_change workers s c (changed_in_session s c refused))
 
 abbrev pub Replies : ℕ → Session → Option Denial → Effect → Session → List Out → List Out → Type 0
 Replies workers s how e t old new = (refused : Bool) × (t ≡ session_after s e (changed_by s e refused)) × (new ≡ old ++ own workers s how e (changed_by s e refused))
@@ -404,6 +442,7 @@ finishes number (effect.Begins id capabilities) = false
 finishes number (effect.Refuses id why) = false
 finishes number (effect.Asks id asked) = false
 finishes number (effect.Changes c) = false
+finishes number (effect.LoadsBehind load) = false
 finishes number (effect.Cancels id) = false
 finishes number (effect.ShutsDown id) = false
 finishes number (effect.Stops status) = false

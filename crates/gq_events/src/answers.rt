@@ -1,12 +1,13 @@
 //! What is written for answers, and the answers that the desk gives itself, where no worker is to answer.
-ghost use Rattle.std.specs.Prelude.{◌≡◌, ◌++◌, map, IfSome, OnOk};
+ghost use Rattle.std.specs.Prelude.{◌≡◌, ◌++◌, map, OnOk};
 ghost use Rattle.gq_events.specs.declared.event.Answer.{Answer};
 ghost use Rattle.gq_events.specs.declared.event.Out.TheVariants as out;
 ghost use Rattle.gq_events.specs.Documents.{docs_of};
+ghost use Rattle.gq_events.specs.Keeping.{IsKeptOf};
 ghost use Rattle.gq_events.specs.Rules as rules;
 ghost use Rattle.gq_events.specs.Rules.{answer_to, FitsTaken};
 
-use crate::documents::OpenDocuments;
+use crate::documents::SessionDocuments;
 use crate::event::{Answer, Out, Task};
 use crate::keeping::Keeping;
 use crate::refusals::failed;
@@ -62,14 +63,14 @@ pub fn write_answer(
 /// which only those that changed are copied and read.
 pub fn answer_task(
     alloc: Global,
-    documents: &OpenDocuments,
+    documents: &SessionDocuments,
     keeping: &mut Keeping,
     task: Option<Task>,
     outs: &mut Vec<Out>,
 ) -> Result<(), NoMemory>
-    requires { IfSome keeping.old (λ docs. docs ≡ docs_of documents.now) }
+    requires { IsKeptOf keeping.old (docs_of documents.now) }
     ensures outs { OnOk result ((answer : Answer) × FitsTaken (docs_of documents.now) task answer × (outs.new.items ≡ outs.old.items ++ answer_to task answer)) }
-    ensures kept { IfSome keeping.new (λ docs. docs ≡ docs_of documents.now) }
+    ensures kept { IsKeptOf keeping.new (docs_of documents.now) }
 {
     let Some(task) = task else {
         return Ok(());

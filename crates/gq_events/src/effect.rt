@@ -1,9 +1,10 @@
 //! What an event comes to, by how far the session has come.
 ghost use Rattle.std.specs.Prelude.{◌≡◌};
+ghost use Rattle.gq_events.specs.Documents.{key_of};
 ghost use Rattle.gq_events.specs.Rules as spec;
 
-use crate::documents::OpenDocuments;
-use crate::event::{Done, Event, InputEnd};
+use crate::documents::SessionDocuments;
+use crate::event::{Done, Event, InputEnd, Load};
 use gq_rpc::{
     ClientCapabilities, DidChangeParams, Id, Incoming, Notification, Question, Request,
     ResponseError, TextDocumentItem,
@@ -23,13 +24,29 @@ pub enum Phase {
     Stopped,
 }
 
-/// A change of the documents that a client has open (LSP 3.17, "Text Document Synchronization").
+/// A change of the documents: of those that a client has open (LSP 3.17, "Text Document Synchronization"), or of one that was
+/// loaded.
 #[derive(Drop)]
 pub enum Change {
     Open(TextDocumentItem),
     Edit(DidChangeParams),
     /// The document of this key is closed.
     Close(OwnedText),
+    Load(Load),
+}
+
+impl Change {
+    /// The key of the document that changes.
+    pub fn key(&self) -> &str
+        ensures { result.now ≡ key_of self.now }
+    {
+        match self {
+            Change::Open(item) => item.key.as_str(),
+            Change::Edit(params) => params.key.as_str(),
+            Change::Close(key) => key.as_str(),
+            Change::Load(load) => load.key.as_str(),
+        }
+    }
 }
 
 /// What an event comes to.
@@ -43,6 +60,8 @@ pub enum Effect {
     /// The request of this id asks this. The question is absent where its parameters cannot be read.
     Asks(Id, Option<Question>),
     Changes(Change),
+    /// This was loaded of a document that the client has open, and comes behind that.
+    LoadsBehind(Load),
     /// The request of this id is no longer wanted.
     Cancels(Id),
     /// The session is shut down, by the request of this id.
@@ -51,18 +70,6 @@ pub enum Effect {
     Finishes(Done),
     /// The session stops, with this status of the process.
     Stops(u8),
-}
-
-impl Effect {
-    ghost use Rattle.std.specs.Prelude.{false, Option};
-    ghost use Rattle.gq_events.specs.declared.documents.OpenDocument.{OpenDocument};
-
-    /// Whether the documents may be others after it.
-    pub fn may_change_documents(&self) -> bool
-        ensures { result ≡ false → (s : spec.Session) (document : Option OpenDocument) → (spec.session_after s self.now document).documents ≡ s.documents }
-    {
-        matches!(self, Effect::Changes(_))
-    }
 }
 
 fn request_effect(phase: Phase, id: Id, request: Request) -> Effect
@@ -82,7 +89,7 @@ fn request_effect(phase: Phase, id: Id, request: Request) -> Effect
     }
 }
 
-fn change_effect(documents: &OpenDocuments, change: Change) -> Effect
+fn change_effect(documents: &SessionDocuments, change: Change) -> Effect
     ensures { result ≡ spec.effect_of_change documents.now change }
 {
     if documents.is_change(&change) {
@@ -94,7 +101,7 @@ fn change_effect(documents: &OpenDocuments, change: Change) -> Effect
 
 fn notification_effect(
     phase: Phase,
-    documents: &OpenDocuments,
+    documents: &SessionDocuments,
     notification: Notification,
 ) -> Effect
     ensures { result ≡ spec.effect_of_notification phase documents.now notification }
@@ -116,7 +123,7 @@ fn notification_effect(
     }
 }
 
-fn message_effect(phase: Phase, documents: &OpenDocuments, message: Incoming) -> Effect
+fn message_effect(phase: Phase, documents: &SessionDocuments, message: Incoming) -> Effect
     ensures { result ≡ spec.effect_of_message phase documents.now message }
 {
     match message {
@@ -125,6 +132,30 @@ fn message_effect(phase: Phase, documents: &OpenDocuments, message: Incoming) ->
         Incoming::Invalid(id) => Effect::Refuses(id, ResponseError::InvalidRequest),
         Incoming::Ignored => Effect::Nothing,
         Incoming::NotJson => Effect::Refuses(None, ResponseError::ParseError),
+    }
+}
+
+/// The status of the process where more documents are loaded than there may be.
+const TOO_MANY_STATUS: u8 = 3;
+
+fn loaded_effect(documents: &SessionDocuments, load: Load) -> Effect
+    ensures { result ≡ spec.effect_of_loaded documents.now load }
+{
+    if documents.is_open(load.key.as_str()) {
+        return Effect::LoadsBehind(load);
+    }
+    if documents.is_one_too_many(&load) {
+        return Effect::Stops(TOO_MANY_STATUS);
+    }
+    Effect::Changes(Change::Load(load))
+}
+
+fn load_effect(phase: Phase, documents: &SessionDocuments, load: Load) -> Effect
+    ensures { result ≡ spec.effect_of_load phase documents.now load }
+{
+    match phase {
+        Phase::Fresh | Phase::Running => loaded_effect(documents, load),
+        Phase::Down | Phase::Stopped => Effect::Nothing,
     }
 }
 
@@ -138,12 +169,13 @@ fn end_status(end: InputEnd) -> u8
 }
 
 /// What an event comes to.
-pub fn effect_of(phase: Phase, documents: &OpenDocuments, event: Event) -> Effect
+pub fn effect_of(phase: Phase, documents: &SessionDocuments, event: Event) -> Effect
     ensures { result ≡ spec.effect_of phase documents.now event }
 {
     match (phase, event) {
         (Phase::Stopped, _) => Effect::Nothing,
         (_, Event::Message(message)) => message_effect(phase, documents, message),
+        (_, Event::Load(load)) => load_effect(phase, documents, load),
         (_, Event::Done(done)) => Effect::Finishes(done),
         (_, Event::End(end)) => Effect::Stops(end_status(end)),
     }

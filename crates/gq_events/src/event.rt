@@ -1,10 +1,12 @@
 //! What comes to the desk, and what it puts out.
+ghost use Rattle.std.specs.Prelude.{◌≡◌, is_some};
+ghost use Rattle.gq_events.specs.Lifecycle.{load_in};
 ghost use Rattle.gq_events.specs.Tasks.{Answers};
 
 use gq_parse::Piece;
 use gq_project::{DocChange, Project};
 use gq_rpc::{Id, Incoming, Outgoing, Question};
-use gq_text::{Items, PositionEncoding};
+use gq_text::{Items, OwnedText, PositionEncoding};
 use std::marker::Model;
 use std::sync::Arc;
 
@@ -70,6 +72,25 @@ impl Model for Done {
     ghost view = { λ d. record { job = d.job; task = d.task; texts = d.texts; answer = d.answer; fits = d.fits } };
 }
 
+/// What was loaded of a file of the project's folder.
+#[derive(Drop)]
+pub enum LoadedContent {
+    Text(OwnedText),
+    /// There is no such file any more.
+    Gone,
+    /// The file is not UTF-8, or has more than 4 MiB.
+    Unfit,
+}
+
+/// A file of the project's folder, as it is there.
+#[derive(Drop)]
+pub struct Load {
+    /// What names it: its URI, escaped in one way.
+    pub key: OwnedText,
+    pub uri: OwnedText,
+    pub content: LoadedContent,
+}
+
 /// How the input ended.
 #[derive(Clone, Copy)]
 pub enum InputEnd {
@@ -83,8 +104,19 @@ pub enum InputEnd {
 #[derive(Drop)]
 pub enum Event {
     Message(Incoming),
+    /// A file was loaded. What is loaded of a document that the client has open counts once that is closed.
+    Load(Load),
     Done(Done),
     End(InputEnd),
+}
+
+impl Event {
+    /// Whether a file was loaded.
+    pub fn is_load(&self) -> bool
+        ensures { result ≡ is_some (load_in self.now) }
+    {
+        matches!(self, Event::Load(_))
+    }
 }
 
 /// What the desk puts out.

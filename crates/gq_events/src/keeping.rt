@@ -1,74 +1,94 @@
-//! What is kept of the documents that the client has open, where no worker is to answer.
-ghost use Rattle.std.specs.Prelude.{◌≡◌, true, false, None, Some, IfOk, IfSome, OnOk, is_some};
+//! What is kept of the documents, where no worker is to answer.
+ghost use Rattle.std.specs.Prelude.{◌≡◌, ◌≢◌, ℕ, Bool, List, [], true, None, Some, IfOk, IfSome, OnOk, is_some, find, option_map, Contains};
 ghost use Rattle.gq_edit.specs.Workspace.{AreTexts};
+ghost use Rattle.gq_project.specs.declared.document.Doc.{Doc};
+ghost use Rattle.gq_project.specs.Documents.{has_key};
 ghost use Rattle.gq_events.specs.Documents.{docs_of};
-ghost use Rattle.gq_events.specs.Keeping.{documents_kept};
+ghost use Rattle.gq_events.specs.Keeping.{IsKeptOf, AgreeBut};
+ghost use Rattle.gq_events.specs.Rules.{Session, changed_by, session_after};
 ghost use Rattle.gq_events.specs.Tasks.{Answers};
 
 use crate::bringing::bring;
-use crate::documents::OpenDocuments;
+use crate::documents::SessionDocuments;
+use crate::effect::Effect;
 use crate::event::{Answer, Task};
 use crate::work::find_answer;
 use gq_kept::Kept;
-use gq_text::NoMemory;
+use gq_text::{NoMemory, OwnedText};
 use std::alloc::Global;
 use std::marker::Model;
 
-/// What is kept of documents, from the last task that was answered. Whether it is of the documents as they are is noted, so
-/// that their texts need not be compared with those that are kept.
+/// What is kept of documents, from the last task that was answered, and the keys of those that changed since. So no text has
+/// to be compared with what is kept.
 ///
-/// Contracts see the documents that it is known to be of.
+/// Contracts see the documents that it was made of, and the keys.
 #[derive(Drop)]
 pub struct Keeping {
     kept: Option<Kept>,
-    is_current: bool,
+    /// In ascending order, each key once.
+    changed: Vec<OwnedText>,
 }
 
 impl Model for Keeping {
-    ghost use Rattle.std.specs.Prelude.{◌≡◌, true, is_some, List, Option};
-    ghost use Rattle.gq_project.specs.declared.document.Doc.{Doc};
-    ghost use Rattle.gq_events.specs.Keeping.{documents_kept};
+    ghost use Rattle.std.specs.Prelude.{option_map};
+    ghost use Rattle.gq_events.specs.Keeping.{KeepingOf};
 
-    ghost Value = { Option (List Doc) };
+    ghost Value = { KeepingOf };
 
-    ghost view = { λ k. documents_kept k.is_current k.kept };
-
-    ghost invariant = { λ k. k.is_current ≡ true → is_some k.kept ≡ true };
+    ghost view = { λ k. record { documents = option_map (λ kept. kept.documents) k.kept; changed = k.changed.items } };
 }
 
 impl Keeping {
     /// Nothing is kept. It takes no memory.
-    pub fn new() -> Keeping
-        ensures { result ≡ None }
+    pub fn new(alloc: Global) -> Keeping
+        ensures { result.documents ≡ None }
     {
         Keeping {
             kept: None,
-            is_current: false,
+            changed: Vec::new(alloc),
         }
     }
 
-    /// Notes that the documents may be others from now on, if they may.
-    pub fn outdate_if(&mut self, may_be_others: bool)
-        ensures others { may_be_others ≡ true → self.new ≡ None }
-        ensures same { may_be_others ≡ false → self.new ≡ self.old }
+    /// Drops what is kept. It takes no memory.
+    pub fn forget(&mut self)
+        ensures { self.new.documents ≡ None }
     {
-        if may_be_others {
-            self.is_current = false;
+        self.kept = None;
+    }
+
+    /// Notes that the document of that key may be another one from now on. Where there is no memory for the note, what is
+    /// kept is dropped.
+    fn note_change(&mut self, alloc: Global, key: &str)
+        ensures { (old new : List Doc) → ((other : List ℕ) → other ≢ key.now → find (has_key other) new ≡ find (has_key other) old)
+            → IsKeptOf self.old old → IsKeptOf self.new new }
+    {
+        if note(alloc, &mut self.changed, key).is_err() {
+            self.kept = None;
         }
     }
 
-    /// Brings what is kept to the documents as they are now. Of a document that is the same no copy is made, and its text is
-    /// not read again. Where nothing is kept, all are copied and read. Where memory is refused, some of that is done.
-    fn bring_to(&mut self, alloc: Global, documents: &OpenDocuments) -> Result<(), NoMemory>
-        requires { IfSome self.old (λ docs. docs ≡ docs_of documents.now) }
-        ensures ok { OnOk result (self.new ≡ Some (docs_of documents.now)) }
-        ensures kept { IfSome self.new (λ docs. docs ≡ docs_of documents.now) }
+    /// Follows an event of this effect.
+    pub fn follow(&mut self, alloc: Global, effect: &Effect)
+        ensures { (s : Session) (refused : Bool) → IsKeptOf self.old (docs_of s.documents)
+            → IsKeptOf self.new (docs_of (session_after s effect.now (changed_by s effect.now refused)).documents) }
     {
-        if self.is_current {
-            return Ok(());
+        if let Effect::Changes(change) = effect {
+            self.note_change(alloc, change.key());
         }
-        bring_or_make(alloc, documents, &mut self.kept)?;
-        self.is_current = true;
+    }
+
+    /// Brings what is kept to the documents as they are now. Of a document that did not change no copy is made, and its text
+    /// is not read again. Where nothing is kept, all are copied and read. Where memory is refused, some of that is done.
+    fn bring_to(&mut self, alloc: Global, documents: &SessionDocuments) -> Result<(), NoMemory>
+        requires { IsKeptOf self.old (docs_of documents.now) }
+        ensures ok { OnOk result (self.new.documents ≡ Some (docs_of documents.now)) }
+        ensures kept { IsKeptOf self.new (docs_of documents.now) }
+    {
+        match &mut self.kept {
+            Some(kept) => bring(alloc, documents, &self.changed, kept)?,
+            None => self.kept = Some(made_of(alloc, documents)?),
+        }
+        self.changed.clear();
         Ok(())
     }
 
@@ -76,12 +96,12 @@ impl Keeping {
     fn find_answer(
         &mut self,
         alloc: Global,
-        documents: &OpenDocuments,
+        documents: &SessionDocuments,
         task: &Task,
     ) -> Result<Answer, NoMemory>
-        requires { IfSome self.old (λ docs. docs ≡ docs_of documents.now) }
+        requires { IsKeptOf self.old (docs_of documents.now) }
         ensures answer { IfOk result (λ answer. Answers (docs_of documents.now) task.now answer) }
-        ensures kept { IfSome self.new (λ docs. docs ≡ docs_of documents.now) }
+        ensures kept { IsKeptOf self.new (docs_of documents.now) }
     {
         documents.texts_fit();
         self.bring_to(alloc, documents)?;
@@ -89,10 +109,15 @@ impl Keeping {
     }
 
     /// The same. Want of memory is an answer, too.
-    pub(crate) fn answer(&mut self, alloc: Global, documents: &OpenDocuments, task: &Task) -> Answer
-        requires { IfSome self.old (λ docs. docs ≡ docs_of documents.now) }
+    pub(crate) fn answer(
+        &mut self,
+        alloc: Global,
+        documents: &SessionDocuments,
+        task: &Task,
+    ) -> Answer
+        requires { IsKeptOf self.old (docs_of documents.now) }
         ensures answer { Answers (docs_of documents.now) task.now result }
-        ensures kept { IfSome self.new (λ docs. docs ≡ docs_of documents.now) }
+        ensures kept { IsKeptOf self.new (docs_of documents.now) }
     {
         match self.find_answer(alloc, documents, task) {
             Ok(answer) => answer,
@@ -101,8 +126,22 @@ impl Keeping {
     }
 }
 
+/// Adds the key to those that changed, where it is not among them.
+fn note(alloc: Global, changed: &mut Vec<OwnedText>, key: &str) -> Result<(), NoMemory>
+    ensures kept { OnOk result ((other : List ℕ) → Contains changed.old.items other → Contains changed.new.items other) }
+    ensures noted { OnOk result (Contains changed.new.items key.now) }
+{
+    match changed.binary_search_by(|other| other.as_str().cmp(&key)) {
+        Ok(_) => Ok(()),
+        Err(at) => {
+            changed.insert(at, OwnedText::from_str(alloc, key)?)?;
+            Ok(())
+        }
+    }
+}
+
 /// What is kept of the documents, all of which are copied and read.
-fn made_of(alloc: Global, documents: &OpenDocuments) -> Result<Kept, NoMemory>
+fn made_of(alloc: Global, documents: &SessionDocuments) -> Result<Kept, NoMemory>
     ensures { IfOk result (λ kept. kept.documents ≡ docs_of documents.now) }
 {
     let project = documents.project(alloc)?;
@@ -110,30 +149,12 @@ fn made_of(alloc: Global, documents: &OpenDocuments) -> Result<Kept, NoMemory>
     Ok(kept)
 }
 
-/// Brings what is kept to the documents, or makes it of them, where nothing is kept.
-fn bring_or_make(
-    alloc: Global,
-    documents: &OpenDocuments,
-    kept: &mut Option<Kept>,
-) -> Result<(), NoMemory>
-    ensures some { is_some kept.old ≡ true → is_some kept.new ≡ true }
-    ensures ok { OnOk result (documents_kept true kept.new ≡ Some (docs_of documents.now)) }
-{
-    match kept {
-        Some(now) => bring(alloc, documents, now),
-        None => {
-            *kept = Some(made_of(alloc, documents)?);
-            Ok(())
-        }
-    }
-}
-
 /// The answer to a task about the documents that are kept.
 fn answer_by(alloc: Global, kept: &mut Option<Kept>, task: &Task) -> Result<Answer, NoMemory>
     requires some { is_some kept.old ≡ true }
     requires texts { IfSome kept.old (λ k. AreTexts k.documents) }
     ensures answer { IfOk result (λ answer. IfSome kept.old (λ k. Answers k.documents task.now answer)) }
-    ensures documents { documents_kept true kept.new ≡ documents_kept true kept.old }
+    ensures documents { option_map (λ k. k.documents) kept.new ≡ option_map (λ k. k.documents) kept.old }
 {
     match kept {
         Some(now) => find_answer(alloc, now, task),

@@ -121,3 +121,13 @@ pub fn stops_are_told()
 pub fn sessions_are_folds()
     ensures { lifecycle.SessionsAreFolds }
 {}
+
+/// So do those that were loaded and are behind open ones, and none of these is open.
+pub fn documents_behind_are_kept()
+    ensures { spec.DocumentsBehindAreKept }
+{}
+
+/// A session has stopped only where `exit`, the end of the input or a document too many came.
+pub fn stops_have_causes()
+    ensures { lifecycle.StopsHaveCauses }
+{}

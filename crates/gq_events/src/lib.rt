@@ -1,5 +1,5 @@
-//! What comes to the desk, event by event, and what is told of it: the session of a client, its documents, and what is
-//! put out for a list of events, however many workers answer.
+//! What comes to the desk, event by event, and what is told of it: the session of a client, its documents, open or loaded,
+//! and what is put out for a list of events, however many workers answer.
 #![tactic(auto)]
 
 pub mod answers;
@@ -17,9 +17,9 @@ pub mod texts;
 mod work;
 
 pub use copies::copy_task;
-pub use documents::OpenDocument;
+pub use documents::{SessionDocument, SessionDocuments};
 pub use effect::{Change, Effect, Phase};
-pub use event::{Answer, Done, Event, InputEnd, Job, Out, Task};
+pub use event::{Answer, Done, Event, InputEnd, Job, Load, LoadedContent, Out, Task};
 pub use keeping::Keeping;
 pub use same::{is_of, same_documents, same_task};
 pub use session::ClientSession;

@@ -4,7 +4,7 @@ ghost use Rattle.std.specs.Option.{option_copied};
 ghost use Rattle.gq_events.specs.Documents.{doc_of, docs_of};
 ghost use Rattle.gq_events.specs.Tasks as spec;
 
-use crate::documents::{OpenDocument, OpenDocuments};
+use crate::documents::{SessionDocument, SessionDocuments};
 use crate::event::Task;
 use crate::refusals::key_of;
 use gq_project::{Doc, Project};
@@ -168,14 +168,13 @@ pub fn same_task(a: &Task, b: &Task) -> bool
     }
 }
 
-pub(crate) fn same_document(a: &Doc, b: &OpenDocument) -> bool
+pub(crate) fn same_document(a: &Doc, b: &SessionDocument) -> bool
     ensures { result ≡ spec.same_doc a.now (doc_of b.now) }
 {
-    let version = Some(b.version);
-    a.key == b.key && a.uri == b.uri && a.version == version && a.text.as_str() == b.text.as_str()
+    a.key == b.key && a.uri == b.uri && a.version == b.version && a.text.as_str() == b.text.as_str()
 }
 
-fn are_same(texts: &[Doc], documents: &[OpenDocument]) -> bool
+fn are_same(texts: &[Doc], documents: &[SessionDocument]) -> bool
     ensures { result ≡ spec.same_docs texts.now (docs_of documents.now) }
 {
     if texts.len() != documents.len() {
@@ -190,7 +189,7 @@ fn are_same(texts: &[Doc], documents: &[OpenDocument]) -> bool
 }
 
 /// Whether the texts are those of the documents as they are now. It makes no copy of a text.
-pub fn same_documents(texts: &Project, documents: &OpenDocuments) -> bool
+pub fn same_documents(texts: &Project, documents: &SessionDocuments) -> bool
     ensures { result ≡ spec.same_docs texts.now (docs_of documents.now) }
 {
     are_same(texts.documents(), documents.as_slice())

@@ -1,14 +1,18 @@
-//! How far a session has come, and the documents that its client has open.
+//! How far a session has come, and its documents.
 ghost use Rattle.std.specs.Prelude.{◌≡◌, ◌++◌, [], Some, None, IfOk, OnOk, option_to_list, option_map, if◌then◌else◌};
+ghost use Rattle.std.specs.Option.{option_copied};
 ghost use Rattle.gq_project.specs.declared.document.DocChange.TheVariants as doc_change;
 ghost use Rattle.gq_events.specs.declared.event.Task.TheVariants as task;
 ghost use Rattle.gq_events.specs.declared.effect.Change.TheVariants as change;
-ghost use Rattle.gq_events.specs.Documents.{doc_of, opened, with_document, with_changed};
+ghost use Rattle.gq_events.specs.declared.effect.Effect.TheVariants as effect;
+ghost use Rattle.gq_events.specs.Documents.{doc_of, document_at, opened, loaded, published, with_changed};
 ghost use Rattle.gq_events.specs.Rules as spec;
 
-use crate::documents::{OpenDocument, OpenDocuments, copy_document, open_document};
+use crate::documents::{
+    SessionDocument, SessionDocuments, copy_document, load_document, open_document,
+};
 use crate::effect::{Change, Effect, Phase, effect_of};
-use crate::event::{Event, Job, Out, Task};
+use crate::event::{Event, Job, Load, Out, Task};
 use crate::refusals::{
     Denial, are_too_many, denied, is_pending, key_of, wants_code_actions, wants_document_changes,
 };
@@ -41,19 +45,19 @@ fn server_capabilities(client: ClientCapabilities) -> ServerCapabilities
     }
 }
 
-/// Adds that a document which was closed has nothing wrong in it, where the client takes diagnostics.
+/// Adds that a document which is closed has nothing wrong in it, where the client takes diagnostics.
 fn clear(
     alloc: Global,
     diagnostics: bool,
-    closed: Option<OpenDocument>,
+    closed: Option<&SessionDocument>,
     outs: &mut Vec<Out>,
 ) -> Result<(), NoMemory>
-    ensures { OnOk result (outs.new.items ≡ outs.old.items ++ (if diagnostics then option_to_list (option_map spec.nothing_wrong closed) else [])) }
+    ensures { OnOk result (outs.new.items ≡ outs.old.items ++ (if diagnostics then option_to_list (option_map spec.nothing_wrong (option_copied closed.entry)) else [])) }
 {
     match closed {
         Some(document) if diagnostics => {
             outs.push(Out::Notify(Outgoing::Diagnostics(PublishDiagnosticsParams {
-                uri: document.uri,
+                uri: document.uri.copied(alloc)?,
                 version: None,
                 diagnostics: Items::new(alloc),
             })))?;
@@ -67,7 +71,7 @@ fn clear(
 fn show(
     alloc: Global,
     workers: u8,
-    document: &OpenDocument,
+    document: &SessionDocument,
     outs: &mut Vec<Out>,
 ) -> Result<(), NoMemory>
     ensures { OnOk result (outs.new.items ≡ outs.old.items ++ spec.shown workers (doc_change.Put (doc_of document.now))) }
@@ -89,6 +93,31 @@ fn hide(workers: u8, key: OwnedText, outs: &mut Vec<Out>) -> Result<(), NoMemory
     }
     outs.push(Out::Publish(DocChange::Close(key)))?;
     Ok(())
+}
+
+/// Puts this document in the place of that of the key, or takes that out, and shows it to workers.
+fn replace(
+    alloc: Global,
+    workers: u8,
+    documents: &mut SessionDocuments,
+    key: OwnedText,
+    document: Option<SessionDocument>,
+    outs: &mut Vec<Out>,
+) -> Result<(), NoMemory>
+    ensures documents { OnOk result (documents.new ≡ with_changed documents.old key document) }
+    ensures outs { OnOk result (outs.new.items ≡ outs.old.items ++ spec.shown workers (published key document)) }
+{
+    match document {
+        Some(document) => {
+            show(alloc, workers, &document, outs)?;
+            documents.put(document)?;
+            Ok(())
+        }
+        None => {
+            documents.take(key.as_str());
+            hide(workers, key, outs)
+        }
+    }
 }
 
 /// After a change the documents are checked, where the client takes diagnostics.
@@ -134,7 +163,7 @@ fn take_question(
     }
 }
 
-/// How far a session has come, and the documents that its client has open.
+/// How far a session has come, and its documents.
 #[derive(Drop)]
 pub struct ClientSession {
     phase: Phase,
@@ -146,7 +175,9 @@ pub struct ClientSession {
     code_actions: bool,
     /// Its client takes diagnostics.
     diagnostics: bool,
-    documents: OpenDocuments,
+    documents: SessionDocuments,
+    /// Those that were loaded, of documents that its client has open.
+    behind: SessionDocuments,
 }
 
 impl Model for ClientSession {
@@ -154,7 +185,7 @@ impl Model for ClientSession {
 
     ghost Value = { Session };
 
-    ghost view = { λ s. record { phase = s.phase; position_encoding = s.position_encoding; document_changes = s.document_changes; code_actions = s.code_actions; diagnostics = s.diagnostics; documents = s.documents } };
+    ghost view = { λ s. record { phase = s.phase; position_encoding = s.position_encoding; document_changes = s.document_changes; code_actions = s.code_actions; diagnostics = s.diagnostics; documents = s.documents; behind = s.behind } };
 }
 
 impl ClientSession {
@@ -168,11 +199,12 @@ impl ClientSession {
             document_changes: false,
             code_actions: false,
             diagnostics: false,
-            documents: OpenDocuments::new(alloc),
+            documents: SessionDocuments::new(alloc),
+            behind: SessionDocuments::new(alloc),
         }
     }
 
-    pub fn documents(&self) -> &OpenDocuments
+    pub fn documents(&self) -> &SessionDocuments
         ensures { result.now ≡ self.now.documents }
     {
         &self.documents
@@ -245,7 +277,7 @@ impl ClientSession {
         }
     }
 
-    /// Opens a document, in place of the one of its key, and shows it to workers.
+    /// Opens a document, in place of the one of its key, and shows it to workers. One that was loaded comes behind it.
     fn open(
         &mut self,
         alloc: Global,
@@ -253,12 +285,13 @@ impl ClientSession {
         item: TextDocumentItem,
         outs: &mut Vec<Out>,
     ) -> Result<(), NoMemory>
-        ensures session { OnOk result (self.new ≡ spec.with_documents self.old (with_document self.old.documents (opened item))) }
+        ensures session { OnOk result (self.new ≡ spec.session_changed self.old (change.Open item) (Some (opened item))) }
         ensures outs { OnOk result (outs.new.items ≡ outs.old.items ++ spec.shown workers (doc_change.Put (doc_of (opened item)))) }
     {
         let document = open_document(alloc, item);
         show(alloc, workers, &document, outs)?;
-        self.documents.put(document)
+        let replaced = self.documents.put(document)?;
+        self.behind.put_behind(replaced)
     }
 
     /// Edits a document, and shows it to workers.
@@ -277,7 +310,8 @@ impl ClientSession {
         }
     }
 
-    /// Closes a document, and adds that nothing is wrong in it any more; workers see it closed.
+    /// Adds that nothing is wrong any more in a document that is closed, and closes it: what was loaded of it is its
+    /// document then. Workers see that.
     fn close(
         &mut self,
         alloc: Global,
@@ -285,12 +319,42 @@ impl ClientSession {
         key: OwnedText,
         outs: &mut Vec<Out>,
     ) -> Result<(), NoMemory>
-        ensures session { OnOk result (self.new ≡ spec.with_documents self.old (with_changed self.old.documents key None)) }
-        ensures outs { OnOk result (outs.new.items ≡ outs.old.items ++ spec.own_of_change workers self.old (change.Close key) None) }
+        ensures session { OnOk result (self.new ≡ spec.session_changed self.old (change.Close key) (document_at key self.old.behind)) }
+        ensures outs { OnOk result (outs.new.items ≡ outs.old.items ++ spec.own_of_change workers self.old (change.Close key) (document_at key self.old.behind)) }
     {
-        let closed = self.documents.close(key.as_str());
-        clear(alloc, self.diagnostics, closed, outs)?;
-        hide(workers, key, outs)
+        clear(
+            alloc,
+            self.diagnostics,
+            self.documents.get(key.as_str()),
+            outs,
+        )?;
+        let loaded = self.behind.take(key.as_str());
+        replace(alloc, workers, &mut self.documents, key, loaded, outs)
+    }
+
+    /// Puts in what was loaded of a document that is not open, and shows it to workers.
+    fn load(
+        &mut self,
+        alloc: Global,
+        workers: u8,
+        load: Load,
+        outs: &mut Vec<Out>,
+    ) -> Result<(), NoMemory>
+        ensures session { OnOk result (self.new ≡ spec.session_changed self.old (change.Load load) (loaded load)) }
+        ensures outs { OnOk result (outs.new.items ≡ outs.old.items ++ spec.shown workers (published load.key (loaded load))) }
+    {
+        let key = load.key.copied(alloc)?;
+        let document = load_document(alloc, load);
+        replace(alloc, workers, &mut self.documents, key, document, outs)
+    }
+
+    /// Puts what was loaded of a document that is open behind that.
+    fn load_behind(&mut self, alloc: Global, load: Load) -> Result<(), NoMemory>
+        ensures { OnOk result (self.new ≡ spec.session_after self.old (effect.LoadsBehind load) (loaded load)) }
+    {
+        let key = load.key.copied(alloc)?;
+        let document = load_document(alloc, load);
+        self.behind.set(key.as_str(), document)
     }
 
     /// Changes the documents, and adds what that makes known, to the client and to so many workers.
@@ -307,6 +371,7 @@ impl ClientSession {
             Change::Open(item) => self.open(alloc, workers, item, outs),
             Change::Edit(params) => self.edit(alloc, workers, params, outs),
             Change::Close(key) => self.close(alloc, workers, key, outs),
+            Change::Load(load) => self.load(alloc, workers, load, outs),
         }
     }
 
@@ -351,6 +416,10 @@ impl ClientSession {
             Effect::Changes(change) => {
                 self.change(alloc, workers, change, outs)?;
                 Ok(check_after(self.diagnostics, self.position_encoding))
+            }
+            Effect::LoadsBehind(load) => {
+                self.load_behind(alloc, load)?;
+                Ok(None)
             }
             Effect::ShutsDown(id) => {
                 self.phase = Phase::Down;

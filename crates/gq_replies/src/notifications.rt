@@ -1,8 +1,8 @@
 //! The notifications that tell what is wrong with documents.
-ghost use Rattle.std.specs.Prelude.{◌≡◌, ◌≤◌, ◌^◌, length, map, IfOk};
+ghost use Rattle.std.specs.Prelude.{◌≡◌, ◌++◌, ◌≤◌, ◌^◌, length, map, IfOk, OnOk};
 ghost use Rattle.gq_edit.specs.Workspace.{AreTexts};
 ghost use Rattle.gq_rules.specs.Validity.{IsReportOf};
-ghost use Rattle.gq_replies.specs.Notifications.{diagnostic_in, diagnostics_in, messages_of, AreDiagnosticsMessages};
+ghost use Rattle.gq_replies.specs.Notifications.{diagnostic_in, diagnostics_in, notification_of, messages_of, AreDiagnosticsMessages};
 
 use crate::places::Places;
 use gq_diagnostics::{diagnostics_of, words};
@@ -14,8 +14,8 @@ use gq_rules::Report;
 use gq_text::{Items, NoMemory, OwnedText, PositionEncoding, Span};
 use std::alloc::Global;
 
-/// The notifications that tell all that is wrong with each document (LSP 3.17, "PublishDiagnostics Notification"), in the
-/// order of the documents that are kept. These stay as they are.
+/// The notifications that tell all that is wrong with each document that the client has open (LSP 3.17, "PublishDiagnostics
+/// Notification"), in the order of the documents that are kept. These stay as they are.
 pub fn diagnostics_messages(
     alloc: Global,
     encoding: PositionEncoding,
@@ -44,7 +44,7 @@ fn messages_of(
     notifications(alloc, encoding, project.documents(), &all)
 }
 
-/// A notification for each document with what is wrong with it.
+/// A notification for each open document with what is wrong with it.
 fn notifications(
     alloc: Global,
     encoding: PositionEncoding,
@@ -59,13 +59,30 @@ fn notifications(
         let Some(found) = all.get(index) else {
             return Ok(messages);
         };
-        let params = document_diagnostics(alloc, encoding, document, found.as_slice())?;
-        messages.push(Outgoing::Diagnostics(params))?;
+        notify(alloc, encoding, document, found.as_slice(), &mut messages)?;
     }
     Ok(messages)
 }
 
-/// What is wrong with a document, under its URI and, where it has one, its version.
+/// Adds the notification with what is wrong with a document, where the client has it open.
+fn notify(
+    alloc: Global,
+    encoding: PositionEncoding,
+    document: &Doc,
+    found: &[Found],
+    messages: &mut Vec<Outgoing>,
+) -> Result<(), NoMemory>
+    requires { length document.now.text ≤ 2 ^ 22 }
+    ensures { OnOk result (messages.new.items ≡ messages.old.items ++ notification_of encoding document.now found.now) }
+{
+    if document.version.is_some() {
+        let params = document_diagnostics(alloc, encoding, document, found)?;
+        messages.push(Outgoing::Diagnostics(params))?;
+    }
+    Ok(())
+}
+
+/// What is wrong with a document, under its URI and its version.
 fn document_diagnostics(
     alloc: Global,
     encoding: PositionEncoding,

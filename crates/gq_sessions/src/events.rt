@@ -5,7 +5,7 @@ ghost use Rattle.gq_edit.specs.Workspace.{AreTexts};
 use crate::no_answer::NoAnswer;
 use crate::taker::Taker;
 use gq_desk::{Done, Event, InputEnd, Job, Out, Task};
-use gq_events::copy_task;
+use gq_events::{Load, LoadedContent, copy_task};
 use gq_kept::Kept;
 use gq_project::{Doc, DocChange, Project};
 use gq_rpc::{Incoming, Outgoing, Request, encode, read_message};
@@ -181,10 +181,29 @@ impl Play {
         done_of(self.alloc, number, self.task(task)?, texts)
     }
 
+    /// What was loaded: `KEY text TEXT`, `KEY gone` or `KEY unfit`.
+    fn load(&self, words: &str) -> Result<Load, NoAnswer> {
+        let Some((key, rest)) = words.split_once(' ') else {
+            return Err(NoAnswer);
+        };
+        let content = match rest.split_once(' ') {
+            Some(("text", text)) => LoadedContent::Text(OwnedText::from_str(self.alloc, text)?),
+            None if rest == "gone" => LoadedContent::Gone,
+            None if rest == "unfit" => LoadedContent::Unfit,
+            _ => return Err(NoAnswer),
+        };
+        Ok(Load {
+            key: OwnedText::from_str(self.alloc, key)?,
+            uri: OwnedText::from_str(self.alloc, key)?,
+            content,
+        })
+    }
+
     /// The event of a line, if it is one.
     fn event(&self, word: &str, rest: &str) -> Result<Option<Event>, NoAnswer> {
         match word {
             "->" => Ok(Some(Event::Message(read_message(self.alloc, rest.as_bytes())?))),
+            "load" => Ok(Some(Event::Load(self.load(rest)?))),
             "done" => Ok(Some(Event::Done(self.done(rest)?))),
             "end" if rest == "border" => Ok(Some(Event::End(InputEnd::Border))),
             "end" if rest == "fault" => Ok(Some(Event::End(InputEnd::Fault))),

@@ -30,6 +30,7 @@ rest_of (effect.Begins id capabilities) = effect.Begins id capabilities
 rest_of (effect.Refuses id why) = effect.Refuses id why
 rest_of (effect.Asks id asked) = effect.Asks id asked
 rest_of (effect.Changes c) = effect.Changes c
+rest_of (effect.LoadsBehind load) = effect.LoadsBehind load
 rest_of (effect.Cancels id) = effect.Cancels id
 rest_of (effect.ShutsDown id) = effect.ShutsDown id
 rest_of (effect.Stops status) = effect.Stops status

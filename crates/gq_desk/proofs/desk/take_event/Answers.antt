@@ -1,20 +1,20 @@
-use Rattle.std.proofs.Common.{Option, List, subst, sym}
+use Rattle.std.proofs.Common.{List, subst, sym}
 use Rattle.std.proofs.lemmas.Result.{on_ok_weaker}
-use Rattle.gq_project.specs.declared.document.Doc.{Doc}
-use Rattle.gq_events.specs.declared.documents.OpenDocument.{OpenDocument}
-use Rattle.gq_desk.proofs.Current.{KeptOf, still_kept, documents_stay}
+use Rattle.gq_events.specs.declared.documents.SessionDocument.{SessionDocument}
+use Rattle.gq_events.specs.Documents.{docs_of}
+use Rattle.gq_events.specs.Keeping.{IsKeptOf}
+use Rattle.gq_desk.proofs.Current.{still_kept}
 use Rattle.gq_desk.proofs.Stepping.{stepped, from_none}
 use Rattle.gq_desk.proofs.desk.take_event.Goals as goal
 
 pub bring-requires-clause-kept : goal.bring-requires-clause-kept
 bring-requires-clause-kept c =
-    subst (λ (documents : List OpenDocument). KeptOf documents c.outdate_if.new.self) (sym c.documents-3.ensures)
-    (still_kept c.may_change_documents.result c.args.keeping.now c.outdate_if.new.self c.args.session.now.documents c.take_in.new.self.documents c.outdate_if.ensures.others c.outdate_if.ensures.same c.requires.kept
-    (λ e. documents_stay c.args.workers c.args.session.now c.take_in.new.self c.in_ok-denied.denied c.effect-effect.result c.in_ok-rest.rest c.settle.new.outs.items c.take_in.new.outs.items c.in_ok-rest.ensures.rest c.in_ok-task.ensures.own
-    (c.may_change_documents.ensures e)))
+    subst (λ (documents : List SessionDocument). IsKeptOf c.follow.new.self (docs_of documents)) (sym c.documents-3.ensures)
+    (still_kept c.args.workers c.args.session.now c.take_in.new.self c.in_ok-denied.denied c.effect-effect.result c.in_ok-rest.rest c.args.keeping.now c.follow.new.self c.settle.new.outs.items c.take_in.new.outs.items
+    c.in_ok-rest.ensures.rest c.in_ok-task.ensures.own c.follow.ensures c.requires.kept)
 
 pub returns-clause-kept : goal.returns-clause-kept
-returns-clause-kept c = on_ok_weaker c.hand_on.result (λ _. subst (λ (documents : List OpenDocument). KeptOf documents c.bring.new.keeping) c.documents-3.ensures c.bring.ensures.kept) c.hand_on.ensures.jobs
+returns-clause-kept c = on_ok_weaker c.hand_on.result (λ _. subst (λ (documents : List SessionDocument). IsKeptOf c.bring.new.keeping (docs_of documents)) c.documents-3.ensures c.bring.ensures.kept) c.hand_on.ensures.jobs
 
 pub returns-clause-steps : goal.returns-clause-steps
 returns-clause-steps c =

@@ -1,0 +1,7 @@
+-- No documents are in order.
+use Rattle.std.specs.List.Sorted.{IsStrictlySortedBy}
+use Rattle.gq_events.proofs.documents.SessionDocuments.new.Goals as goal
+
+pub invariant_of-result : goal.invariant_of-result
+unfolding IsStrictlySortedBy
+invariant_of-result c = rw c.new.ensures.items tt
