@@ -37,8 +37,9 @@ CAPABILITIES = {
 class Client:
     """A session with a server, message by message."""
 
-    def __init__(self, program):
-        self.server = subprocess.Popen(["taskset", "-c", "0", program, "serve", "--workers", "0"], stdin=subprocess.PIPE, stdout=subprocess.PIPE)
+    def __init__(self, program, words=()):
+        command = ["taskset", "-c", "0", program, "serve", "--workers", "0", *words]
+        self.server = subprocess.Popen(command, stdin=subprocess.PIPE, stdout=subprocess.PIPE)
         self.number = 0
         self.versions = {}
         self.held, self.at = b"", 0

@@ -30,7 +30,7 @@ THEOREMS = [
     ("What `gqls exec` prints", "gq_check", "executing", "exec"),
 ]
 # crate, source file, trait: what theorems say of any type that has one of these, they say by its members
-TRAITS = [("gq_rpc", "devices", "Source"), ("gq_rpc", "devices", "Sink"), ("gq_desk", "hands", "Hands")]
+TRAITS = [("gq_rpc", "devices", "Source"), ("gq_rpc", "devices", "Sink"), ("gq_crew", "files", "Files"), ("gq_desk", "hands", "Hands")]
 WORD = re.compile(r"[A-Za-z_][A-Za-z0-9_']*(?:\.[A-Za-z_][A-Za-z0-9_']*)?|◌[^\s◌,{}]+◌")
 START = re.compile(r"\s*(?:pub )?(abbrev|unfoldable|data|record|def|lemma)\b(?: pub)? ([A-Za-z_][A-Za-z0-9_']*)")
 MEMBER = re.compile(r"  (pub) ([A-Za-z_][A-Za-z0-9_']*) : ")

@@ -1,30 +1,20 @@
 -- What an inbox has read and given, step after step.
-use Rattle.std.proofs.Common.{◌≡◌, inl, inr, ℕ, ◌≤◌, List, [], ◌∷◌, ◌++◌, map, length, false, Option, Some, None, ap, sym, refl, ◌∙◌, subst, append-nil, append_assoc, arith}
+use Rattle.std.proofs.Common.{◌≡◌, inl, inr, ℕ, ◌≤◌, List, [], ◌∷◌, ◌++◌, length, false, Option, Some, None, ap, sym, refl, ◌∙◌, subst, append-nil, append_assoc, arith}
 use Rattle.std.specs.Iterator.{Yields}
 use Rattle.std.specs.Io.KnownBytes.{Consumes}
 use Rattle.gq_rpc.specs.Frames.{Cuts, scan_of}
 use Rattle.gq_rpc.specs.declared.header.Scan.TheVariants.{Partial}
 use Rattle.gq_rpc.proofs.Sends.{Consumes-nil, Consumes-trans}
 use Rattle.gq_rpc.proofs.Stable.{Cuts-append, Cuts-feed}
-use Rattle.gq_events.specs.declared.event.Event.{Event}
+use Rattle.gq_rpc.specs.declared.messages.Incoming.{Incoming}
 use Rattle.gq_crew.specs.declared.inbox.NoMore.{NoMore}
 use Rattle.gq_crew.specs.declared.inbox.NoMore.TheVariants as no_more
 use Rattle.gq_crew.specs.declared.run.RunFault.TheVariants as fault
-use Rattle.gq_crew.specs.Output.{event_of}
 use Rattle.gq_crew.specs.Runs.{SourceAfter, piece_max}
-use Rattle.gq_crew.specs.Helping.Inbox.{View, with_bodies, Finds, ReadsOn, Fills, GivesBody, Gives}
+use Rattle.gq_crew.specs.Helping.Inbox.{View, with_bodies, Finds, ReadsOn, Fills, GivesBody}
 use Rattle.gq_crew.proofs.Reading.{same_text}
 
--- ---- the steps of an inbox, seen as plain data
-
-module _ {X N : Type 0} (steps : X → Option Event → X → Type 0) (view : X → View) (name : X → N)
-    (sees : (a : X) (r : Option Event) (b : X) → steps a r b → (name b ≡ name a) × Gives (view a) r (view b)) where
-  pub sees_all : (a : X) (events : List Event) (b : X) → Yields steps a events b → (name b ≡ name a) × Yields Gives (view a) events (view b)
-  sees_all a [] b h = (sym (ap name h), ap view h)
-  sees_all a (e ∷ events) b h =
-      let one = sees a (Some e) h.0 h.1 in
-      let more = sees_all h.0 events b h.2 in
-      (more.0 ∙ one.0, (view h.0, one.1, more.1))
+-- ---- steps
 
 -- the last of the steps
 pub last_step : {X A : Type 0} (steps : X → Option A → X → Type 0) (a : X) (front : List A) (x : A) (b : X) → Yields steps a (front ++ x ∷ []) b → (mid : X) × Yields steps a front mid × steps mid (Some x) b
@@ -118,6 +108,8 @@ not_failed (Some no_more.End) rest source body bodies f = f.0
 not_failed (Some (no_more.Fault (fault.Frame why))) rest source body bodies f = f.0
 not_failed (Some (no_more.Fault fault.Device)) rest source body bodies f = let bad = f.1 in absurd (cc)
 not_failed (Some (no_more.Fault fault.NoMemory)) rest source body bodies f = absurd f
+not_failed (Some (no_more.Fault fault.TooDeep)) rest source body bodies f = absurd f
+not_failed (Some (no_more.Fault fault.TooMany)) rest source body bodies f = absurd f
 
 -- and the same is found behind the others
 finds_behind : (no_more : Option NoMore) (rest : List ℕ) (source : SourceAfter) (body : List ℕ) (bodies : List (List ℕ)) → Finds no_more rest source (body ∷ bodies) → Finds no_more rest source bodies
@@ -126,9 +118,11 @@ finds_behind (Some no_more.End) rest source body bodies f = let bad = f.1 in abs
 finds_behind (Some (no_more.Fault (fault.Frame why))) rest source body bodies f = f
 finds_behind (Some (no_more.Fault fault.Device)) rest source body bodies f = let bad = f.1 in absurd (cc)
 finds_behind (Some (no_more.Fault fault.NoMemory)) rest source body bodies f = absurd f
+finds_behind (Some (no_more.Fault fault.TooDeep)) rest source body bodies f = absurd f
+finds_behind (Some (no_more.Fault fault.TooMany)) rest source body bodies f = absurd f
 
 -- the first of those behind is given too
-At-given : (start : Option (List ℕ)) (given : List (List ℕ)) (body : List ℕ) (v : View) → At start given (with_bodies v (body ∷ v.bodies)) → At start (given ++ body ∷ []) v
+pub At-given : (start : Option (List ℕ)) (given : List (List ℕ)) (body : List ℕ) (v : View) → At start given (with_bodies v (body ∷ v.bodies)) → At start (given ++ body ∷ []) v
 At-given start given body v at =
     let st = at.stands in
     record {
@@ -151,23 +145,6 @@ At-given start given body v at =
       untold = at.untold;
     }
 
--- one event more, where that body is not counted as given yet
-pub At-body : (start : Option (List ℕ)) (given : List (List ℕ)) (v : View) (e : Event) (w : View) → At start given v → (g : GivesBody v e w) → At start given (with_bodies w (g.body ∷ w.bodies))
-At-body start given v e w at g = At-fills start given v (with_bodies w (g.body ∷ w.bodies)) at g.fills
-
--- the bodies of these events were given
-pub record Given (start : Option (List ℕ)) (given : List (List ℕ)) (events : List Event) (v : View) : Type 0 where
-  pub bodies : List (List ℕ)
-  pub are : events ≡ map event_of bodies
-  pub at : At start (given ++ bodies) v
-
-pub At-yields : (start : Option (List ℕ)) (given : List (List ℕ)) (v : View) (events : List Event) (w : View) → At start given v → Yields Gives v events w → Given start given events w
-At-yields start given v [] w at h = record { bodies = []; are = refl; at = subst (λ (b : List (List ℕ)). At start b w) (sym (append-nil given)) (subst (At start given) h at) }
-At-yields start given v (e ∷ events) w at h =
-    let g = h.1 in
-    let more = At-yields start (given ++ g.body ∷ []) h.0 events w (At-given start given g.body h.0 (At-body start given v e h.0 at g)) h.2 in
-    record {
-      bodies = g.body ∷ more.bodies;
-      are = ap (λ (x : Event). x ∷ events) g.is ∙ ap (λ (l : List Event). event_of g.body ∷ l) more.are;
-      at = subst (λ (b : List (List ℕ)). At start b w) (append_assoc given (g.body ∷ []) more.bodies) more.at;
-    }
+-- one message more, where its body is not counted as given yet
+pub At-body : (start : Option (List ℕ)) (given : List (List ℕ)) (v : View) (m : Incoming) (w : View) → At start given v → (g : GivesBody v m w) → At start given (with_bodies w (g.body ∷ w.bodies))
+At-body start given v m w at g = At-fills start given v (with_bodies w (g.body ∷ w.bodies)) at g.fills

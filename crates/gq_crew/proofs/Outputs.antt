@@ -1,60 +1,83 @@
--- Turns of bodies, and what is written of what they put out.
-use Rattle.std.proofs.Common.{◌≡◌, ℕ, List, [], ◌∷◌, ◌++◌, map, Option, refl, ap, sym, ◌∙◌, append_assoc}
+-- Turns of what a run takes, and what is written of what they put out.
+use Rattle.std.proofs.Common.{◌≡◌, ℕ, Bool, List, [], ◌∷◌, ◌++◌, map, Option, refl, ap, sym, ◌∙◌, subst, append_assoc}
 use Rattle.std.specs.Io.KnownBytes.{Appends}
-use Rattle.std.proofs.lemmas.List.{map-append}
 use Rattle.gq_rpc.specs.Devices.{Sent}
 use Rattle.gq_rpc.proofs.Sends.{Appends-trans}
 use Rattle.gq_events.specs.declared.event.Event.{Event}
+use Rattle.gq_events.specs.declared.event.LoadedContent.{LoadedContent}
 use Rattle.gq_events.specs.Rules.{Turn}
 use Rattle.gq_events.specs.Machine.{start}
-use Rattle.gq_crew.specs.Output.{event_of, AreTurnsOf, TurnsExist}
+use Rattle.gq_crew.specs.Output.{Input, Body, File, event_of, load_of, AreEventsOf, AreTurnsOf, files_behind, inputs_of, TurnsExist}
 use Rattle.gq_events.proofs.Behind.{answered_all}
 use Rattle.gq_crew.proofs.Alone.{quiet, quiet_of, quiet_fits}
 
 pub turns_exist : TurnsExist
-turns_exist bodies = (quiet bodies, quiet_of bodies, answered_all 0 (quiet bodies) (quiet_fits (start 0) bodies))
+turns_exist inputs = (quiet inputs, quiet_of inputs, answered_all 0 (quiet inputs) (quiet_fits (start 0) inputs))
 
-pub AreTurnsOf-append : (bodies more : List (List ℕ)) (turns later : List Turn) → AreTurnsOf bodies turns → AreTurnsOf more later → AreTurnsOf (bodies ++ more) (turns ++ later)
-AreTurnsOf-append bodies more turns later first next =
-    map-append (λ turn. turn.event) turns later
-    ∙ (ap (λ (l : List Event). l ++ map (λ turn. turn.event) later) first
-    ∙ (ap (λ (l : List Event). map event_of bodies ++ l) next
-    ∙ sym (map-append event_of bodies more)))
+-- ---- lists of inputs
 
-pub AreTurnsOf-cons : (body : List ℕ) (bodies : List (List ℕ)) (turn : Turn) (turns : List Turn) → turn.event ≡ event_of body → AreTurnsOf bodies turns → AreTurnsOf (body ∷ bodies) (turn ∷ turns)
-AreTurnsOf-cons body bodies turn turns of behind = ap (λ (e : Event). e ∷ map (λ turn. turn.event) turns) of ∙ ap (λ (l : List Event). event_of body ∷ l) behind
+-- these were taken, and left the folder so
+abbrev pub EventsTo : {F : Type 0} → (F → List ℕ → LoadedContent → F → Type 0) → F → List Input → List Event → F → Type 0
+EventsTo reads files [] [] files' = files' ≡ files
+EventsTo reads files [] (e ∷ events) files' = ⊥
+EventsTo reads files (input ∷ inputs) [] files' = ⊥
+EventsTo reads files (Body body ∷ inputs) (e ∷ events) files' = (e ≡ event_of body) × EventsTo reads files inputs events files'
+EventsTo {F = F} reads files (File key ∷ inputs) (e ∷ events) files' =
+    (content : LoadedContent) × (e ≡ load_of key content) × (mid : F) × reads files key content mid × EventsTo reads mid inputs events files'
 
--- the turns of the first bodies, and the others
-pub record Parts (first : List (List ℕ)) (turns : List Turn) : Type 0 where
-  pub front : List Turn
-  pub back : List Turn
-  pub whole : turns ≡ front ++ back
-  pub are_turns : AreTurnsOf first front
+module _ {F : Type 0} (reads : F → List ℕ → LoadedContent → F → Type 0) where
+  pub events_are : (files : F) (inputs : List Input) (events : List Event) (files' : F) → EventsTo reads files inputs events files' → AreEventsOf reads files inputs events
+  events_are files [] [] files' h = tt
+  events_are files [] (e ∷ events) files' h = absurd h
+  events_are files (input ∷ inputs) [] files' h = absurd h
+  events_are files (Body body ∷ inputs) (e ∷ events) files' h = (h.0, events_are files inputs events files' h.1)
+  events_are files (File key ∷ inputs) (e ∷ events) files' h = (h.0, h.1, h.2, h.3, events_are h.2 inputs events files' h.4)
 
-parts_more : (body : List ℕ) (first : List (List ℕ)) (turn : Turn) (turns : List Turn) → turn.event ≡ event_of body → Parts first turns → Parts (body ∷ first) (turn ∷ turns)
-parts_more body first turn turns of p = record {
-  front = turn ∷ p.front;
-  back = p.back;
-  whole = ap (λ (l : List Turn). turn ∷ l) p.whole;
-  are_turns = AreTurnsOf-cons body first turn p.front of p.are_turns;
-}
+  -- one more
+  pub one_body : (files : F) (inputs : List Input) (events : List Event) (mid : F) (body : List ℕ) (e : Event) (files' : F) → EventsTo reads files inputs events mid → e ≡ event_of body → files' ≡ mid
+      → EventsTo reads files (inputs ++ Body body ∷ []) (events ++ e ∷ []) files'
+  one_body files [] [] mid body e files' h is same = (is, same ∙ h)
+  one_body files [] (x ∷ events) mid body e files' h is same = absurd h
+  one_body files (input ∷ inputs) [] mid body e files' h is same = absurd h
+  one_body files (Body first ∷ inputs) (x ∷ events) mid body e files' h is same = (h.0, one_body files inputs events mid body e files' h.1 is same)
+  one_body files (File key ∷ inputs) (x ∷ events) mid body e files' h is same = (h.0, h.1, h.2, h.3, one_body h.2 inputs events mid body e files' h.4 is same)
 
-pub parts_of : (first more : List (List ℕ)) (turns : List Turn) → AreTurnsOf (first ++ more) turns → Parts first turns
-parts_of [] more turns h = record { front = []; back = turns; whole = refl; are_turns = refl }
-parts_of (body ∷ first) more [] h = absurd (cc)
-parts_of (body ∷ first) more (turn ∷ turns) h =
-    let head : turn.event ≡ event_of body = cc in
-    let tail : map (λ turn. turn.event) turns ≡ map event_of (first ++ more) = cc in
-    parts_more body first turn turns head (parts_of first more turns tail)
+  pub one_file : (files : F) (inputs : List Input) (events : List Event) (mid : F) (key : List ℕ) (content : LoadedContent) (e : Event) (files' : F) → EventsTo reads files inputs events mid → e ≡ load_of key content
+      → reads mid key content files' → EventsTo reads files (inputs ++ File key ∷ []) (events ++ e ∷ []) files'
+  one_file files [] [] mid key content e files' h is read = (content, is, files', subst (λ f. reads f key content files') h read, refl)
+  one_file files [] (x ∷ events) mid key content e files' h is read = absurd h
+  one_file files (input ∷ inputs) [] mid key content e files' h is read = absurd h
+  one_file files (Body first ∷ inputs) (x ∷ events) mid key content e files' h is read = (h.0, one_file files inputs events mid key content e files' h.1 is read)
+  one_file files (File first ∷ inputs) (x ∷ events) mid key content e files' h is read = (h.0, h.1, h.2, h.3, one_file h.2 inputs events mid key content e files' h.4 is read)
 
--- a front of the bytes, where more come behind them
-pub Sent-more : (held held' : Option (List ℕ)) (bytes more : List ℕ) → Sent held held' bytes → Sent held held' (bytes ++ more)
-Sent-more held held' bytes more s = record {
-  front = s.front;
-  back = s.back ++ more;
-  whole = ap (λ (t : List ℕ). t ++ more) s.whole ∙ append_assoc s.front s.back more;
-  written = s.written;
-}
+  -- the turns of the first inputs, and the others
+  pub record Parts (files : F) (first : List Input) (turns : List Turn) : Type 0 where
+    pub front : List Turn
+    pub back : List Turn
+    pub whole : turns ≡ front ++ back
+    pub are_turns : AreTurnsOf reads files first front
+
+  body_part : (files : F) (body : List ℕ) (first : List Input) (turn : Turn) (turns : List Turn) → turn.event ≡ event_of body → Parts files first turns → Parts files (Body body ∷ first) (turn ∷ turns)
+  body_part files body first turn turns is p = record { front = turn ∷ p.front; back = p.back; whole = ap (λ (l : List Turn). turn ∷ l) p.whole; are_turns = (is, p.are_turns) }
+
+  file_part : (files : F) (key : List ℕ) (first : List Input) (turn : Turn) (turns : List Turn) (content : LoadedContent) → turn.event ≡ load_of key content → (mid : F) → reads files key content mid → Parts mid first turns
+      → Parts files (File key ∷ first) (turn ∷ turns)
+  file_part files key first turn turns content is mid read p = record { front = turn ∷ p.front; back = p.back; whole = ap (λ (l : List Turn). turn ∷ l) p.whole; are_turns = (content, is, mid, read, p.are_turns) }
+
+  pub parts_of : (files : F) (first more : List Input) (turns : List Turn) → AreTurnsOf reads files (first ++ more) turns → Parts files first turns
+  parts_of files [] more turns h = record { front = []; back = turns; whole = refl; are_turns = tt }
+  parts_of files (input ∷ first) more [] h = absurd h
+  parts_of files (Body body ∷ first) more (turn ∷ turns) h = body_part files body first turn turns h.0 (parts_of files first more turns h.1)
+  parts_of files (File key ∷ first) more (turn ∷ turns) h = file_part files key first turn turns h.0 h.1 h.2 h.3 (parts_of h.2 first more turns h.4)
+
+-- the inputs of messages, and of more of them
+pub inputs_of-append : (has : List ℕ → Bool) (bodies more : List (List ℕ)) → inputs_of has (bodies ++ more) ≡ inputs_of has bodies ++ inputs_of has more
+inputs_of-append has [] more = refl
+inputs_of-append has (body ∷ bodies) more =
+    ap (λ (l : List Input). Body body ∷ (map File (files_behind has body) ++ l)) (inputs_of-append has bodies more)
+    ∙ ap (λ (l : List Input). Body body ∷ l) (sym (append_assoc (map File (files_behind has body)) (inputs_of has bodies) (inputs_of has more)))
+
+-- ---- a front of bytes
 
 pub Sent-behind : (held mid last : Option (List ℕ)) (done bytes : List ℕ) → Appends held mid done → Sent mid last bytes → Sent held last (done ++ bytes)
 Sent-behind held mid last done bytes written s = record {

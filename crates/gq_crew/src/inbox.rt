@@ -1,12 +1,15 @@
 //! The messages of an input, one after another.
 ghost use Rattle.std.specs.Prelude.{◌≡◌, [], Some, None, false, IfSome};
 ghost use Rattle.gq_rpc.specs.Frames.{contents};
-ghost use Rattle.std.specs.Option.{option_and_then};
-ghost use Rattle.gq_crew.specs.Helping.Inbox.{TakesFrames, end_in};
+ghost use Rattle.std.specs.Option.{option_and_then, option_or};
+ghost use Rattle.gq_crew.specs.Helping.Inbox.{TakesFrames, end_in, seen, Ready};
+ghost use Rattle.gq_crew.specs.Helping.Coming.{boxed, Comes};
 
+use crate::files::Files;
+use crate::loads::Loads;
 use crate::run::RunFault;
 use gq_desk::Event;
-use gq_rpc::{Framer, Reading, Source, read_message};
+use gq_rpc::{Framer, Incoming, Reading, Source, read_message};
 use std::alloc::Global;
 use std::collections::VecDeque;
 
@@ -134,7 +137,7 @@ impl Pending {
     }
 
     /// The next message; at the end, at a fault and where memory is refused none.
-    fn give<S: Source>(&mut self, input: &mut S) -> Option<Event>
+    pub fn give<S: Source>(&mut self, input: &mut S) -> Option<Incoming>
         requires ready { Ready (seen S.left S.ended S.failed input.old self.old) }
         ensures ready { IfSome result (λ _. Ready (seen S.left S.ended S.failed input.new self.new)) }
         ensures gives { Gives (seen S.left S.ended S.failed input.old self.old) result (seen S.left S.ended S.failed input.new self.new) }
@@ -142,7 +145,7 @@ impl Pending {
         self.fill(input);
         match self.bodies.pop_front() {
             Some(body) => match read_message(self.alloc, &body) {
-                Ok(message) => Some(Event::Message(message)),
+                Ok(message) => Some(message),
                 Err(_) => {
                     self.told = Some(RunFault::NoMemory);
                     None
@@ -156,23 +159,60 @@ impl Pending {
     }
 }
 
-/// The messages of an input, one after another, up to its end or a fault.
-#[derive(Drop)]
-pub struct Inbox<'a, S> {
-    pub input: &'a mut S,
-    pub pending: &'a mut Pending,
+/// What comes next: a file that is to be loaded, or else a message. At the end, at a fault and where memory is refused it is
+/// none.
+fn give_next<S: Source, F: Files>(
+    input: &mut S,
+    files: &mut F,
+    pending: &mut Pending,
+    loads: &mut Loads,
+) -> Option<Event>
+    requires ready { Ready (seen S.left S.ended S.failed input.old pending.old) }
+    ensures ready { IfSome result (λ _. Ready (seen S.left S.ended S.failed input.new pending.new)) }
+    ensures gives { Comes F.reads F.failed F.has
+        (boxed (seen S.left S.ended S.failed input.old pending.old) files.old loads.old) result
+        (boxed (seen S.left S.ended S.failed input.new pending.new) files.new loads.new) }
+{
+    if let Some(key) = loads.next_key() {
+        return loads.give(files, key).map(Event::Load);
+    }
+    let message = pending.give(input)?;
+    if loads.follow(files, &message) {
+        return Some(Event::Message(message));
+    }
+    None
 }
 
-impl<S: Source> Iterator for Inbox<'_, S> {
-    ghost use Rattle.gq_crew.specs.Helping.Inbox.{seen_in, Ready, Steps};
+/// What comes to a desk, one after another: the files that are to be loaded, and then the messages of an input, up to its end
+/// or a fault. Behind a message that closes a document of the folder its file is loaded.
+#[derive(Drop)]
+pub struct Inbox<'i, 'f, 'p, S, F> {
+    pub input: &'i mut S,
+    pub files: &'f mut F,
+    pub pending: &'p mut Pending,
+    pub loads: &'p mut Loads,
+}
+
+impl<S, F> Inbox<'_, '_, '_, S, F> {
+    /// The fault at which it ended.
+    pub fn told(&self) -> Option<RunFault>
+        ensures { result ≡ option_or self.now.loads.now.told self.now.pending.now.told }
+    {
+        self.loads.told().or(self.pending.told())
+    }
+}
+
+impl<S: Source, F: Files> Iterator for Inbox<'_, '_, '_, S, F> {
+    ghost use Rattle.gq_crew.specs.Helping.Inbox.{seen_in, Ready};
+    ghost use Rattle.gq_crew.specs.Helping.Coming.{Steps};
 
     type Item = Event;
 
     ghost can_next = { λ s. Ready (seen_in S.left S.ended S.failed s) };
 
-    ghost next_gives = { Steps S.left S.ended S.failed };
+    ghost next_gives = { Steps S.left S.ended S.failed F.reads F.failed F.has };
 
     fn next(&mut self) -> Option<Event> {
-        self.pending.give(self.input)
+        give_next(self.input, self.files, self.pending, self.loads)
     }
 }

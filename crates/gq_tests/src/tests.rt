@@ -1,10 +1,8 @@
 mod check;
 mod devices;
-mod driving;
 mod kept;
 mod refactorings;
 mod reports;
-mod runs;
 mod texts;
 mod variables;
 mod versions;

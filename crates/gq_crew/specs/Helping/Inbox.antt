@@ -4,7 +4,8 @@ use Rattle.std.specs.Io.KnownBytes.{Consumes}
 use Rattle.gq_rpc.specs.Frames.{Cuts, scan_of, contents}
 use Rattle.gq_rpc.specs.declared.header.Scan.TheVariants.{Partial}
 use Rattle.gq_rpc.specs.declared.header.FrameFault.TheVariants as frame
-use Rattle.gq_events.specs.declared.event.Event.{Event}
+use Rattle.gq_rpc.specs.declared.messages.Incoming.{Incoming}
+use Rattle.gq_rpc.specs.Decoding.{message_of}
 use Rattle.gq_desk.specs.declared.driving.DriveFault.{DriveFault}
 use Rattle.gq_desk.specs.declared.driving.DriveFault.TheVariants as drive
 use Rattle.gq_crew.specs.declared.inbox.Inbox.{Inbox}
@@ -14,7 +15,6 @@ use Rattle.gq_crew.specs.declared.inbox.NoMore.TheVariants as no_more
 use Rattle.gq_crew.specs.declared.run.Ended.{Ended}
 use Rattle.gq_crew.specs.declared.run.RunFault.{RunFault}
 use Rattle.gq_crew.specs.declared.run.RunFault.TheVariants as fault
-use Rattle.gq_crew.specs.Output.{event_of}
 use Rattle.gq_crew.specs.Runs.{SourceAfter, TellsEnd, IsFrameFault, piece_max}
 
 -- how an inbox stands: its source, the bytes that the framer holds, the bodies that were read and not given yet, why no more is
@@ -36,7 +36,7 @@ module _ {S : Type 0} (left : S → Option (List ℕ)) (ended failed : S → Boo
     told = pending.told;
   }
 
-  abbrev pub seen_in : Inbox S → View
+  abbrev pub seen_in : {F : Type 0} → Inbox S F → View
   seen_in box = seen box.input.now box.pending.now
 
 -- one of which nothing was read
@@ -66,6 +66,8 @@ Finds (Some no_more.End) rest source bodies = (source.failed ≡ false) × (bodi
 Finds (Some (no_more.Fault (fault.Frame why))) rest source bodies = (source.failed ≡ false) × IsFrameFault why rest source
 Finds (Some (no_more.Fault fault.Device)) rest source bodies = (source.failed ≡ true) × (bodies ≡ []) × (scan_of rest ≡ Partial)
 Finds (Some (no_more.Fault fault.NoMemory)) rest source bodies = ⊥
+Finds (Some (no_more.Fault fault.TooDeep)) rest source bodies = ⊥
+Finds (Some (no_more.Fault fault.TooMany)) rest source bodies = ⊥
 
 -- the frames that a piece completes, behind what was held
 pub record TakesFrames (held piece : List ℕ) (framer : Option (List ℕ)) (bodies : List (List ℕ)) (no_more : Option NoMore) : Type 0 where
@@ -121,10 +123,10 @@ abbrev pub fault_of : NoMore → Option RunFault
 fault_of no_more.End = None
 fault_of (no_more.Fault why) = Some why
 
--- a body was given, as an event
-pub record GivesBody (a : View) (e : Event) (b : View) : Type 0 where
+-- a body was given, as a message
+pub record GivesBody (a : View) (m : Incoming) (b : View) : Type 0 where
   pub body : List ℕ
-  pub is : e ≡ event_of body
+  pub is : m ≡ message_of body
   pub fills : Fills a (with_bodies b (body ∷ b.bodies))
 
 -- what is told where nothing is given: why no more is read, or that memory was refused for the first body
@@ -138,18 +140,15 @@ pub record GivesNone (a b : View) : Type 0 where
   pub fills : Fills a (with_told (with_bodies b bodies) a.told)
   pub tells : Tells bodies b.no_more b.told
 
-abbrev pub Gives : View → Option Event → View → Type 0
-Gives a (Some e) b = GivesBody a e b
+abbrev pub Gives : View → Option Incoming → View → Type 0
+Gives a (Some m) b = GivesBody a m b
 Gives a None b = GivesNone a b
-
--- a step of an inbox, which keeps its input
-abbrev pub Steps : {S : Type 0} → (S → Option (List ℕ)) → (ended failed : S → Bool) → Inbox S → Option Event → Inbox S → Type 0
-Steps left ended failed a r b = (b.input.ghost_name ≡ a.input.ghost_name) × Gives (seen_in left ended failed a) r (seen_in left ended failed b)
 
 -- the fault of a run at one of driving: the last two do not come
 abbrev pub fault_at : DriveFault → RunFault
 fault_at drive.NoMemory = fault.NoMemory
 fault_at drive.Device = fault.Device
+fault_at drive.TooMany = fault.TooMany
 fault_at drive.Closed = fault.Device
 fault_at drive.Failed = fault.Device
 

@@ -1,7 +1,7 @@
 //! Runs of the server where a device fails or a growth is refused.
 ghost use Rattle.std.specs.Prelude.{◌<◌};
 
-use gq_crew::{Ended, RunFault, run_one};
+use gq_crew::{Ended, NoFiles, RunFault, run_one};
 use gq_rpc::{Flagged, FrameFault, Reading, Sink, Source};
 use std::alloc::Global;
 use std::cell::Cell;
@@ -133,7 +133,7 @@ fn run(alloc: Global, input: &[u8], most: usize, fails: bool) -> (Vec<u8>, Ended
         ended: false,
     };
     let mut sink = Flagged::new(Vec::new(alloc));
-    let ended = run_one(alloc, &mut source, &mut sink);
+    let ended = run_one(alloc, &mut source, &mut sink, &mut NoFiles);
     (sink.inner, ended)
 }
 
@@ -171,6 +171,8 @@ fn faults_are_printed_as_their_names(rt: HostRuntime) -> Result<(), Fail> {
         (RunFault::Frame(FrameFault::NoMemory), "NoMemory"),
         (RunFault::Frame(FrameFault::Failed), "Failed"),
         (RunFault::Device, "Device"),
+        (RunFault::TooDeep, "TooDeep"),
+        (RunFault::TooMany, "TooMany"),
         (RunFault::NoMemory, "NoMemory"),
     ] {
         let printed = format!(in rt.alloc(); "{fault}")?;
@@ -217,7 +219,7 @@ fn a_sink_that_fails_has_a_front(rt: HostRuntime) -> Result<(), Fail> {
                 writes,
                 failed: false,
             };
-            let ended = run_one(alloc, &mut source, &mut sink);
+            let ended = run_one(alloc, &mut source, &mut sink, &mut NoFiles);
             let starts = all.as_bytes().starts_with(&sink.bytes);
             let is_long = writes < enough || sink.bytes.len() == all.len();
             let end = if writes < enough {
@@ -371,7 +373,7 @@ fn a_message_is_answered_before_the_next_is_read(rt: HostRuntime) -> Result<(), 
         written: &written,
         failed: false,
     };
-    let ended = run_one(alloc, &mut source, &mut sink);
+    let ended = run_one(alloc, &mut source, &mut sink, &mut NoFiles);
     let all = joined(alloc, &REPLIES)?;
     assert_eq!(rt; ended, stopped(0));
     assert_eq!(rt; sink.bytes.as_slice(), all.as_bytes());
