@@ -1,12 +1,14 @@
 #!/usr/bin/env python3
-"""Judges a built program by what it writes: each case of crates/gqls/cases, and each row of crates/gqls/commands.
+"""Judges a built program by what it writes: each case of crates/gqls/cases, each row of crates/gqls/commands, and each session of
+crates/gqls/folders.
 
     python3 scripts/cases.py PROGRAM [FOLDER..] [TEXT]        PROGRAM as crates/gqls/out/gqls; TEXT: only what has it in its name
 
 A case is served twice: its input at once, and byte by byte where it is short. Wanted are what NAME.stdout holds, and the status and
 the fault that its line of the file `endings` beside the folder has; without a line the status 0, and nothing said of a fault. Of a
 case that holds many rows each is judged, by its URIs (scripts/make_cases.py says how rows become cases). A row of check.rows, check.*.rows or exec.rows is files that lie where
-the program runs, and what is wanted is what it writes to standard output and then to standard error, and its status.
+the program runs, and what is wanted is what it writes to standard output and then to standard error, and its status. A session of
+folders/*.sessions is served over a folder that is made for it (scripts/folders.py says how it is written).
 
 Each row that differs is printed with its file and line. The last line is `N passed, M failed`; the status is 1 where one failed."""
 import glob
@@ -17,6 +19,7 @@ import sys
 import tempfile
 import threading
 
+from folders import judge_session, read_sessions
 from rows import read_rows
 
 HERE = os.path.dirname(os.path.abspath(__file__))
@@ -90,6 +93,12 @@ def first_difference(told, wanted):
     """The first message that is told otherwise than wanted."""
     at = next((at for at, pair in enumerate(zip(told, wanted)) if pair[0] != pair[1]), min(len(told), len(wanted)))
     return f"told\n    {shown(told[at : at + 1])}\n  wanted\n    {shown(wanted[at : at + 1])}"
+
+
+def told_apart(told, wanted):
+    """The first message of a stream that is told otherwise than wanted."""
+    bodies = [[one.partition(b"\r\n\r\n")[2] or one for one in frames(stream)] for stream in (told, wanted)]
+    return first_difference(*bodies)
 
 
 def differences(told, wanted, place):
@@ -183,11 +192,17 @@ def main(arguments):
         passed += number - len(wrong)
         failed += len(wrong)
 
-    for folder in folders or [os.path.join(CRATE, "cases"), os.path.join(CRATE, "commands")]:
+    for folder in folders or [os.path.join(CRATE, name) for name in ("cases", "commands", "folders")]:
         endings = endings_beside(folder)
         for path in sorted(glob.glob(os.path.join(folder, "*"))):
             name = os.path.basename(path)
-            if name.startswith(("check.", "exec.")) and name.endswith(".rows"):
+            if name.endswith(".sessions") and not os.path.exists(f"{path}.stdout"):
+                for session in read_sessions(path):
+                    place = f"{name}:{session.line}"
+                    if is_asked(place):
+                        why = judge_session(program, session, told_apart)
+                        tell(1, {place: why} if why else {})
+            elif name.startswith(("check.", "exec.")) and name.endswith(".rows"):
                 for row in read_rows(path):
                     place = f"{name}:{row.line}"
                     if is_asked(place):

@@ -1,24 +1,25 @@
-//! The program: `gqls serve --workers 0` serves the language server protocol on the standard streams,
-//! `gqls check FILE..` prints what is wrong with files, and `gqls exec --table FILE FILE..` executes an operation of them.
+//! The program: `gqls serve --workers 0 --root DIR` serves the language server protocol on the standard streams, over the
+//! files of a folder, `gqls check FILE..` prints what is wrong with files, and `gqls exec --table FILE FILE..` executes an operation of them.
 #![tactic(auto)]
 
-ghost use Rattle.std.specs.Prelude.{◌≤◌, ◌^◌};
+mod folder;
 
+ghost use Rattle.std.specs.Prelude.{◌≡◌, ◌≤◌, ◌^◌, false};
+
+use crate::folder::{Folder, read_front, read_root};
 use clap::error::ErrorKind;
 use clap::{Arg, ArgAction, ArgMatches, Command, Error, value_parser};
 use gq_check::files::FILES_MAX;
 use gq_check::{File, check_by_threads, exec};
-use gq_crew::{Ended, RunFault, run_one};
+use gq_crew::{Ended, Files, NoFiles, RunFault, run_one};
 use gq_rpc::Flagged;
 use gq_text::text::TEXT_MAX;
 use gq_text::{NoMemory, OwnedText};
 use std::alloc::{AllocError, Global};
 use std::collections::BTreeSet;
-use std::fs::OpenFile;
-use std::io::Read;
+use std::io;
 use std::process::ExitCode;
 use std::thread::Threads;
-use std::{fs, io};
 
 /// The status where the words of the command line are no command.
 const USAGE_STATUS: u8 = 2;
@@ -27,7 +28,7 @@ const USAGE_STATUS: u8 = 2;
 const FAULT_STATUS: u8 = 3;
 
 const EXAMPLE: &str = "Examples:
-  gqls serve --workers 0
+  gqls serve --workers 0 --root /home/ann/shop
   gqls check schema.graphql query.graphql
   gqls exec --table table.json schema.graphql query.graphql
 
@@ -35,9 +36,13 @@ An editor starts `serve`, and writes to its standard input and reads from its st
 `check` and `exec` are for a command line: `gqls check --help` and `gqls exec --help` say what they print.";
 
 const SERVE_EXAMPLE: &str = "Example:
-  gqls serve --workers 0
+  gqls serve --workers 0 --root /home/ann/shop
 
-An editor starts this command, and writes to its standard input and reads from its standard output.";
+An editor starts this command, and writes to its standard input and reads from its standard output. The project is all
+files under the folder that end in `.graphql` or `.gql`, and the files that are open. Without a folder it is the files
+that are open. Files are read at the start, and each that is closed is read again; start anew after others changed.
+Links are passed over. At most 32 levels of folders are read, and 4,096 files. Where there are more, or the folder or a
+file cannot be read, the status is 3, and standard error says why.";
 
 const CHECK_EXAMPLE: &str = "Example:
   $ gqls check schema.graphql query.graphql
@@ -63,7 +68,7 @@ read, or is too large, 3; standard error says why.";
 /// How many bytes a table or variables may have.
 const INPUT_MAX: u64 = 1_073_741_824;
 
-/// The command `serve`, with 0 workers.
+/// The command `serve`, with 0 workers, and with the folder of the project.
 fn serve_command<'a>(alloc: Global) -> Result<Command<'a>, AllocError> {
     let workers = Arg::new(alloc, "workers")
         .long("workers")
@@ -71,10 +76,14 @@ fn serve_command<'a>(alloc: Global) -> Result<Command<'a>, AllocError> {
         .help("How many threads answer beside the one that reads: 0, for now")
         .value_parser(value_parser!(u8).range(0..=0))
         .required(true);
+    let root = Arg::new(alloc, "root").long("root").value_name("DIR").help(
+        "The folder of the project: its whole path, from `/` on, without `.` and `..`",
+    );
     Command::new(alloc, "serve")
         .about("Serves the language server protocol on the standard streams")
         .after_help(SERVE_EXAMPLE)
-        .arg(workers)
+        .arg(workers)?
+        .arg(root)
 }
 
 /// The command `check`, with the names of files.
@@ -143,6 +152,15 @@ fn not_utf8(alloc: Global) -> Result<Error, AllocError> {
     command.error(ErrorKind::UnknownArgument, "a word is not UTF-8")
 }
 
+/// That a word names no folder, with how the program is called.
+fn no_folder(alloc: Global, word: &str) -> Result<Error, AllocError> {
+    let message = format!(in alloc;
+        "invalid value '{word}' for '--root <DIR>': no whole path from `/` on, without `.` and `..`"
+    )?;
+    let mut command = gqls_command(alloc)?;
+    command.error(ErrorKind::ValueValidation, message.as_str())
+}
+
 /// Tells a fault on the standard error, and answers the status.
 fn tell_fault(rt: &HostRuntime, fault: RunFault) -> u8 {
     let _ = eprintln!(rt; "gqls: {fault}");
@@ -172,27 +190,44 @@ fn explain_unread(rt: &HostRuntime, error: &io::Error) -> u8 {
     }
 }
 
-/// Serves on the standard streams.
-fn serve(rt: &HostRuntime) -> u8 {
+/// Serves on the standard streams, over those files.
+fn serve_over<F: Files>(rt: &HostRuntime, files: &mut F) -> u8
+    requires { F.failed files.old ≡ false }
+{
     let mut input = Flagged::new(rt.stdin());
     let mut output = Flagged::new(rt.stdout());
-    let Ended { status, fault } = run_one(rt.alloc(), &mut input, &mut output);
+    let Ended { status, fault } = run_one(rt.alloc(), &mut input, &mut output, files);
     match fault {
         Some(fault) => tell_fault(rt, fault),
         None => status,
     }
 }
 
-/// Up to that many bytes of a file. There is room for all of them, and for one more at which the end is seen, before they
-/// are read.
-fn read_front(rt: &HostRuntime, name: &str, limit: u64) -> io::Result<Vec<u8>>
-    requires { limit ≤ 2 ^ 32 }
-{
-    let file = fs::open(rt, name)?;
-    let room = file.metadata()?.len().min(limit) as usize + 1;
-    let mut bytes = Vec::with_capacity(rt.alloc(), room)?;
-    file.take(limit).read_to_end(&mut bytes)?;
-    Ok(bytes)
+/// Serves over the files of the folder of that path.
+fn serve_folder(rt: &HostRuntime, path: &str) -> u8 {
+    match Folder::new(rt, path) {
+        Ok(mut folder) => serve_over(rt, &mut folder),
+        Err(NoMemory) => tell_fault(rt, RunFault::NoMemory),
+    }
+}
+
+/// Tells that a word names no folder, and answers the status.
+fn explain_root(rt: &HostRuntime, word: &str) -> u8 {
+    match no_folder(rt.alloc(), word) {
+        Ok(error) => explain(rt, &error),
+        Err(_) => tell_fault(rt, RunFault::NoMemory),
+    }
+}
+
+/// Serves over the files of the folder that the words name, or over those alone that are open.
+fn serve(rt: &HostRuntime, words: &ArgMatches<'_>) -> u8 {
+    match words.get_str("root") {
+        None => serve_over(rt, &mut NoFiles),
+        Some(word) => match read_root(word) {
+            Some(path) => serve_folder(rt, path),
+            None => explain_root(rt, word),
+        },
+    }
 }
 
 /// Up to that many bytes of a file, or none where it cannot be read.
@@ -302,7 +337,8 @@ fn run<R: Threads + Sync>(threads: &R, rt: &HostRuntime, matches: &ArgMatches<'_
             check_files(threads, rt, words.get_raw("files").unwrap_or(&[]))
         }
         Some(("exec", words)) => exec_files(rt, words),
-        _ => serve(rt),
+        Some((_, words)) => serve(rt, words),
+        None => USAGE_STATUS,
     }
 }
 

@@ -1,0 +1,182 @@
+"""Sessions over a folder of files. scripts/cases.py judges crates/gqls/folders/*.sessions with it.
+
+What makes a session is a line each. Those on the folder come before the messages, or between them: then they are done once all
+that is wanted before them has come.
+
+    file NAME: TEXT             writes a file, and the folders on the way to it
+    files COUNT NAME: TEXT      so many files; ‹0› in NAME stands for 0 at first, and for one more each time
+    folder NAME                 makes a folder, and those on the way to it
+    link NAME TARGET            makes a link
+    gone NAME                   takes a file away, or an empty folder
+    root WORD                   what stands behind `--root`, if not the folder; {} in it stands for the folder
+    -> BODY                     goes to the server, in a frame of its own
+    <- BODY                     comes from the server, in a frame of its own
+    ! TEXT                      a line on standard error, where it tells no fault
+    = STATUS FAULT              ends the session
+
+In bodies file:///w stands for the folder. Pictures in names and texts are those of scripts/rows.py."""
+import os
+import re
+import subprocess
+import tempfile
+import threading
+import time
+
+from rows import bytes_of
+
+SECONDS = 600
+PATIENCE = 60
+STEP = 0.01
+FOLDER = b"file:///w"
+SERVE = ["serve", "--workers", "0", "--root"]
+
+
+class Session:
+    """A session: what is done in turn, and what is wanted of it."""
+
+    def __init__(self):
+        self.steps = []
+        self.said = []
+        self.root = "{}"
+        self.line = None
+        self.ending = None
+
+
+def read_sessions(path):
+    """The sessions of a file."""
+    sessions, session = [], Session()
+    with open(path, encoding="utf-8") as file:
+        lines = file.read().split("\n")
+    for number, line in enumerate(lines, 1):
+        word, _, rest = line.partition(" ")
+        if not line or line.startswith("#"):
+            continue
+        if word == "=":
+            status, _, fault = rest.partition(" ")
+            session.line, session.ending = number, (int(status), fault)
+            sessions.append(session)
+            session = Session()
+        elif word == "root":
+            session.root = bytes_of(rest).decode()
+        elif word == "!":
+            session.said.append(rest)
+        elif word in ("->", "<-", *CHANGES):
+            session.steps.append((word, rest))
+        else:
+            raise ValueError(f"{path}:{number}: no line of a session")
+    return sessions
+
+
+def path_in(folder, name):
+    """The path of what has that name in a folder, those on the way to it being made."""
+    path = os.path.join(os.fsencode(folder), bytes_of(name))
+    os.makedirs(os.path.dirname(path), exist_ok=True)
+    return path
+
+
+def write_file(folder, words):
+    name, _, text = words.partition(":")
+    with open(path_in(folder, name), "wb") as file:
+        file.write(bytes_of(text.strip()))
+
+
+def write_files(folder, words):
+    count, _, rest = words.partition(" ")
+    for turn in range(int(count)):
+        write_file(folder, re.sub("‹([0-9]+)›", lambda found: str(int(found[1]) + turn), rest))
+
+
+def make_link(folder, words):
+    name, _, target = words.partition(" ")
+    os.symlink(bytes_of(target), path_in(folder, name))
+
+
+def take_away(folder, words):
+    path = path_in(folder, words)
+    (os.rmdir if os.path.isdir(path) else os.remove)(path)
+
+
+CHANGES = {
+    "file": write_file,
+    "files": write_files,
+    "folder": lambda folder, words: os.makedirs(path_in(folder, words), exist_ok=True),
+    "link": make_link,
+    "gone": take_away,
+}
+
+
+class Server:
+    """A server that runs, with all that it has written so far."""
+
+    def __init__(self, command):
+        pipes = {"stdin": subprocess.PIPE, "stdout": subprocess.PIPE, "stderr": subprocess.PIPE}
+        self.process = subprocess.Popen(command, **pipes)
+        self.output, self.errors = bytearray(), bytearray()
+        pairs = [(self.process.stdout, self.output), (self.process.stderr, self.errors)]
+        self.readers = [threading.Thread(target=self.keep, args=pair, daemon=True) for pair in pairs]
+        self.ender = threading.Timer(SECONDS, self.process.kill)
+        for thread in (*self.readers, self.ender):
+            thread.start()
+
+    def keep(self, pipe, kept):
+        while piece := pipe.read1():
+            kept += piece
+
+    def write(self, data):
+        try:
+            self.process.stdin.write(data)
+            self.process.stdin.flush()
+        except OSError:
+            pass
+
+    def await_bytes(self, count):
+        """Waits until so many bytes have come, or no more will come; for a minute at most."""
+        end = time.monotonic() + PATIENCE
+        while len(self.output) < count and self.readers[0].is_alive() and time.monotonic() < end:
+            time.sleep(STEP)
+
+    def end(self):
+        try:
+            self.process.stdin.close()
+        except OSError:
+            pass
+        for reader in self.readers:
+            reader.join()
+        status = self.process.wait()
+        self.ender.cancel()
+        return status
+
+
+def framed(text, folder):
+    body = text.encode().replace(FOLDER, b"file://" + os.fsencode(folder))
+    return b"Content-Length: %d\r\n\r\n" % len(body) + body
+
+
+def judge_session(program, session, told_apart):
+    """What is wrong with a session."""
+    with tempfile.TemporaryDirectory() as outer:
+        folder = os.path.join(os.path.realpath(outer), "w")
+        os.mkdir(folder)
+        first = next((at for at, step in enumerate(session.steps) if step[0] not in CHANGES), len(session.steps))
+        for word, rest in session.steps[:first]:
+            CHANGES[word](folder, rest)
+        server = Server([program, *SERVE, session.root.replace("{}", folder)])
+        wanted = bytearray()
+        for word, rest in session.steps[first:]:
+            if word == "->":
+                server.write(framed(rest, folder))
+            elif word == "<-":
+                wanted += framed(rest, folder)
+            else:
+                server.await_bytes(len(wanted))
+                CHANGES[word](folder, rest)
+        status = server.end()
+        wanted_status, fault = session.ending
+        said = [f"gqls: {fault}"] if fault else session.said
+        wanted_errors = "".join(f"{line}\n" for line in said).replace("{}", folder).encode()
+        wrong = []
+        if (status, bytes(server.errors)) != (wanted_status, wanted_errors):
+            wrong.append(f"the end is {status} {bytes(server.errors)!r}, wanted {wanted_status} {wanted_errors!r}")
+        if server.output != wanted:
+            wrong.append(told_apart(bytes(server.output), bytes(wanted)))
+        return ". ".join(wrong).replace(folder, "/w") or None
