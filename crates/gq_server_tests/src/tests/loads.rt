@@ -1,5 +1,5 @@
 //! Runs of the server over folders: what is loaded, and folders that fail.
-ghost use Rattle.std.specs.Prelude.{◌≡◌};
+ghost use Rattle.std.specs.Prelude.{◌≡◌, false};
 
 use gq_crew::{Ended, Files, FilesFault, MemoryFile, MemoryFiles, RunFault, run_one};
 use gq_events::LoadedContent;
