@@ -87,14 +87,15 @@ class Client:
 
     def diagnosed(self, count):
         """So many notifications of diagnostics: those in which something is wrong. There is one for each document that is
-        open after each change; where nothing is wrong in any they are counted, and not read as JSON."""
+        open after each change; where nothing is wrong they are counted, and not read as JSON, which would take the client
+        longer than the server takes to write them."""
         while self.held.count(b"Content-Length: ", self.at) < count or not self.end_of(self.held.rindex(b"Content-Length: ")):
             self.take()
         if self.held.count(b'"diagnostics":[]', self.at) == count:
             self.held, self.at = b"", 0
             return []
-        told = [json.loads(self.read())["params"] for _ in range(count)]
-        return [one for one in told if one["diagnostics"]]
+        told = [self.read() for _ in range(count)]
+        return [json.loads(one)["params"] for one in told if b'"diagnostics":[]' not in one]
 
     def open(self, uri, text):
         self.versions[uri] = 1
