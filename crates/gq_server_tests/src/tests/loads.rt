@@ -193,7 +193,9 @@ impl Files for Failing {
 }
 
 /// A folder whose files are read up to one of them.
-fn folder_that_fails(whole: usize, is_memory: bool) -> Failing {
+fn folder_that_fails(whole: usize, is_memory: bool) -> Failing
+    ensures { result.failed ≡ false }
+{
     Failing {
         count: 3,
         whole,
