@@ -28,7 +28,7 @@ const USAGE_STATUS: u8 = 2;
 const FAULT_STATUS: u8 = 3;
 
 const EXAMPLE: &str = "Examples:
-  gqls serve --workers 0 --root /home/ann/shop
+  gqls serve --workers 0 --root /shop
   gqls check schema.graphql query.graphql
   gqls exec --table table.json schema.graphql query.graphql
 
@@ -36,7 +36,7 @@ An editor starts `serve`, and writes to its standard input and reads from its st
 `check` and `exec` are for a command line: `gqls check --help` and `gqls exec --help` say what they print.";
 
 const SERVE_EXAMPLE: &str = "Example:
-  gqls serve --workers 0 --root /home/ann/shop
+  gqls serve --workers 0 --root /shop
 
 An editor starts this command, and writes to its standard input and reads from its standard output. The project is all
 files under the folder that end in `.graphql` or `.gql`, and the files that are open. Without a folder it is the files
