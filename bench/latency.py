@@ -37,8 +37,9 @@ CAPABILITIES = {
 class Client:
     """A session with a server, message by message."""
 
-    def __init__(self, program, words=()):
-        command = ["taskset", "-c", "0", program, "serve", "--workers", "0", *words]
+    def __init__(self, program, words=(), workers=0):
+        one_processor = ["taskset", "-c", "0"] if workers == 0 else []
+        command = [*one_processor, program, "serve", "--workers", str(workers), *words]
         self.server = subprocess.Popen(command, stdin=subprocess.PIPE, stdout=subprocess.PIPE)
         self.number = 0
         self.versions = {}

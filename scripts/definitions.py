@@ -20,7 +20,8 @@ TOP = os.path.dirname(os.path.dirname(os.path.abspath(__file__)))
 THEOREMS = [
     ("What is promised of each edit", "gq_events", "laws", "edits_are_safe"),
     ("What driving a desk does", "gq_desk", "driving", "drive"),
-    ("What a run of the server writes", "gq_crew", "run", "run_one"),
+    ("What a run of the server writes", "gq_crew", "one_thread", "run_one"),
+    ("What a run with workers writes", "gq_crew", "crew", "run"),
     ("What a rename of a fragment is", "gq_rename", "renames", "rename_fragment"),
     ("What a rename of a variable is", "gq_rename", "renames", "rename_variable"),
     ("What an extract is", "gq_reshape", "extracting", "extract"),
@@ -30,7 +31,7 @@ THEOREMS = [
     ("What `gqls exec` prints", "gq_check", "executing", "exec"),
 ]
 # crate, source file, trait: what theorems say of any type that has one of these, they say by its members
-TRAITS = [("gq_rpc", "devices", "Source"), ("gq_rpc", "devices", "Sink"), ("gq_crew", "files", "Files"), ("gq_desk", "hands", "Hands")]
+TRAITS = [("gq_rpc", "devices", "Source"), ("gq_rpc", "devices", "Sink"), ("gq_reader", "files", "Files"), ("gq_desk", "hands", "Hands")]
 WORD = re.compile(r"[A-Za-z_][A-Za-z0-9_']*(?:\.[A-Za-z_][A-Za-z0-9_']*)?|◌[^\s◌,{}]+◌")
 START = re.compile(r"\s*(?:pub )?(abbrev|unfoldable|data|record|def|lemma)\b(?: pub)? ([A-Za-z_][A-Za-z0-9_']*)")
 MEMBER = re.compile(r"  (pub) ([A-Za-z_][A-Za-z0-9_']*) : ")

@@ -20,15 +20,12 @@ import re
 import subprocess
 import tempfile
 import threading
-import time
 
 from rows import bytes_of
 
 SECONDS = 600
 PATIENCE = 60
-STEP = 0.01
 FOLDER = b"file:///w"
-SERVE = ["serve", "--workers", "0", "--root"]
 
 
 class Session:
@@ -106,21 +103,27 @@ CHANGES = {
 
 
 class Server:
-    """A server that runs, with all that it has written so far."""
+    """A server that runs, with all that it has written so far. One that does not end in so many seconds is ended."""
 
-    def __init__(self, command):
+    def __init__(self, command, seconds=SECONDS):
         pipes = {"stdin": subprocess.PIPE, "stdout": subprocess.PIPE, "stderr": subprocess.PIPE}
         self.process = subprocess.Popen(command, **pipes)
         self.output, self.errors = bytearray(), bytearray()
-        pairs = [(self.process.stdout, self.output), (self.process.stderr, self.errors)]
-        self.readers = [threading.Thread(target=self.keep, args=pair, daemon=True) for pair in pairs]
-        self.ender = threading.Timer(SECONDS, self.process.kill)
+        self.growth, self.has_ended = threading.Condition(), False
+        errors = threading.Thread(target=lambda: self.errors.extend(self.process.stderr.read()), daemon=True)
+        self.readers = [threading.Thread(target=self.keep, daemon=True), errors]
+        self.ender = threading.Timer(seconds, self.process.kill)
         for thread in (*self.readers, self.ender):
             thread.start()
 
-    def keep(self, pipe, kept):
-        while piece := pipe.read1():
-            kept += piece
+    def keep(self):
+        while piece := self.process.stdout.read1():
+            with self.growth:
+                self.output += piece
+                self.growth.notify_all()
+        with self.growth:
+            self.has_ended = True
+            self.growth.notify_all()
 
     def write(self, data):
         try:
@@ -129,11 +132,11 @@ class Server:
         except OSError:
             pass
 
-    def await_bytes(self, count):
-        """Waits until so many bytes have come, or no more will come; for a minute at most."""
-        end = time.monotonic() + PATIENCE
-        while len(self.output) < count and self.readers[0].is_alive() and time.monotonic() < end:
-            time.sleep(STEP)
+    def await_that(self, is_so, seconds=PATIENCE):
+        """Waits until something is so of the output, or no more will come; for a minute at most, unless told otherwise."""
+        with self.growth:
+            self.growth.wait_for(lambda: self.has_ended or is_so(self.output), seconds)
+            return is_so(self.output)
 
     def end(self):
         try:
@@ -152,31 +155,41 @@ def framed(text, folder):
     return b"Content-Length: %d\r\n\r\n" % len(body) + body
 
 
+def prepared(session, folder):
+    """Does what comes before the first message, and gives the words that the server is started with and what is left to do."""
+    os.mkdir(folder)
+    first = next((at for at, step in enumerate(session.steps) if step[0] not in CHANGES), len(session.steps))
+    for word, rest in session.steps[:first]:
+        CHANGES[word](folder, rest)
+    return ["--root", session.root.replace("{}", folder)], session.steps[first:]
+
+
+def wanted_end(session, folder):
+    """The status, and what is said on standard error."""
+    status, fault = session.ending
+    said = [f"gqls: {fault}"] if fault else session.said
+    return status, "".join(f"{line}\n" for line in said).replace("{}", folder).encode()
+
+
 def judge_session(program, session, told_apart):
     """What is wrong with a session."""
     with tempfile.TemporaryDirectory() as outer:
         folder = os.path.join(os.path.realpath(outer), "w")
-        os.mkdir(folder)
-        first = next((at for at, step in enumerate(session.steps) if step[0] not in CHANGES), len(session.steps))
-        for word, rest in session.steps[:first]:
-            CHANGES[word](folder, rest)
-        server = Server([program, *SERVE, session.root.replace("{}", folder)])
+        words, steps = prepared(session, folder)
+        server = Server([program, "serve", "--workers", "0", *words])
         wanted = bytearray()
-        for word, rest in session.steps[first:]:
+        for word, rest in steps:
             if word == "->":
                 server.write(framed(rest, folder))
             elif word == "<-":
                 wanted += framed(rest, folder)
             else:
-                server.await_bytes(len(wanted))
+                server.await_that(lambda output: len(output) >= len(wanted))
                 CHANGES[word](folder, rest)
-        status = server.end()
-        wanted_status, fault = session.ending
-        said = [f"gqls: {fault}"] if fault else session.said
-        wanted_errors = "".join(f"{line}\n" for line in said).replace("{}", folder).encode()
+        end = server.end(), bytes(server.errors)
         wrong = []
-        if (status, bytes(server.errors)) != (wanted_status, wanted_errors):
-            wrong.append(f"the end is {status} {bytes(server.errors)!r}, wanted {wanted_status} {wanted_errors!r}")
+        if end != wanted_end(session, folder):
+            wrong.append(f"the end is {end}, wanted {wanted_end(session, folder)}")
         if server.output != wanted:
             wrong.append(told_apart(bytes(server.output), bytes(wanted)))
         return ". ".join(wrong).replace(folder, "/w") or None

@@ -3,9 +3,10 @@
 
     python3 scripts/replay.py PROGRAM        PROGRAM as crates/gqls/out/gqls
 
-Each scripts/sessions/NAME.jsonl has a message a line. It is sent at once, and then byte by byte. Wanted: each request has one reply, and none of
-these says that the server was at a loss (-32700, -32600, -32602, -32603, or -32601 for a method that it has announced); the same bytes however the
-input is cut; status 0. The last line is `N passed, M failed`."""
+Each scripts/sessions/NAME.jsonl has a message a line. With 0 workers it is sent at once, and then byte by byte; with as many workers as
+the program takes when it is told no number, at once. Wanted: each request has one reply, and none of these says that the server was at
+a loss (-32700, -32600, -32602, -32603, or -32601 for a method that it has announced); status 0; and with 0 workers the same bytes
+however the input is cut. The last line is `N passed, M failed`."""
 import glob
 import json
 import os
@@ -15,13 +16,27 @@ import sys
 import threading
 
 HERE = os.path.dirname(os.path.abspath(__file__))
+SESSIONS = sorted(glob.glob(os.path.join(HERE, "sessions", "*.jsonl")))
 AT_A_LOSS = (-32700, -32600, -32602, -32603)
 PROVIDERS = {"textDocument/codeAction": "codeActionProvider", "textDocument/rename": "renameProvider"}
 
 
-def served(program, data, size):
-    """What the server writes for the data, written in pieces of that size, and its status."""
-    process = subprocess.Popen([program, "serve", "--workers", "0"], stdin=subprocess.PIPE, stdout=subprocess.PIPE)
+def messages_of(path):
+    with open(path, encoding="utf-8") as file:
+        return [json.loads(line) for line in file]
+
+
+def framed_messages(messages):
+    bodies = [json.dumps(message, ensure_ascii=False).encode() for message in messages]
+    return b"".join(b"Content-Length: %d\r\n\r\n" % len(body) + body for body in bodies)
+
+
+def served(program, data, workers, size=None):
+    """What a server with so many workers writes for the data, written in pieces of that size, and its status. None stands for as many
+    workers as it takes by itself, and for the data at once."""
+    words = [] if workers is None else ["--workers", str(workers)]
+    process = subprocess.Popen([program, "serve", *words], stdin=subprocess.PIPE, stdout=subprocess.PIPE)
+    size = size or len(data)
 
     def feed():
         try:
@@ -65,24 +80,29 @@ def what_is_wrong(messages, written, status):
     return None
 
 
+def judgements(program, path):
+    """What is wrong with a recorded session, for each way to serve it."""
+    messages = messages_of(path)
+    data = framed_messages(messages)
+    written, status = served(program, data, 0)
+    wrong = what_is_wrong(messages, written, status)
+    if not wrong and served(program, data, 0, 1) != (written, status):
+        wrong = "other bytes when the input is cut"
+    yield "0 workers", wrong
+    yield "workers by default", what_is_wrong(messages, *served(program, data, None))
+
+
 def main():
     if len(sys.argv) != 2:
         sys.exit(__doc__)
     passed = failed = 0
-    for path in sorted(glob.glob(os.path.join(HERE, "sessions", "*.jsonl"))):
-        messages = [json.loads(line) for line in open(path, encoding="utf-8")]
-        data = b""
-        for message in messages:
-            body = json.dumps(message, ensure_ascii=False).encode()
-            data += b"Content-Length: %d\r\n\r\n" % len(body) + body
-        written, status = served(sys.argv[1], data, len(data))
-        wrong = what_is_wrong(messages, written, status)
-        if not wrong and served(sys.argv[1], data, 1) != (written, status):
-            wrong = "other bytes when the input is cut"
-        print(f"{os.path.basename(path)}: {wrong or 'ok'}")
-        passed, failed = passed + (not wrong), failed + bool(wrong)
+    for path in SESSIONS:
+        for how, wrong in judgements(sys.argv[1], path):
+            print(f"{os.path.basename(path)}, {how}: {wrong or 'ok'}")
+            passed, failed = passed + (not wrong), failed + bool(wrong)
     print(f"{passed} passed, {failed} failed")
     sys.exit(bool(failed))
 
 
-main()
+if __name__ == "__main__":
+    main()

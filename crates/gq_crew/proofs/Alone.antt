@@ -30,7 +30,8 @@ use Rattle.gq_events.proofs.Behind.{steps_tell_history, outputs_go_on}
 use Rattle.gq_desk.specs.Frames.{stop_in}
 use Rattle.gq_desk.proofs.Runs.{stop_in-append}
 use Rattle.gq_events.specs.declared.event.LoadedContent.TheVariants as content
-use Rattle.gq_crew.specs.Output.{Input, Body, File, event_of, load_of, AreTurnsOf}
+use Rattle.gq_reader.specs.Inputs.{Input, Body, File, event_of, load_of}
+use Rattle.gq_crew.specs.Output.{AreTurnsOf}
 
 -- ---- it stays without workers
 
@@ -40,7 +41,7 @@ reached_alone s (turn ∷ turns) = reached_alone (session_after s (effect_in (al
 
 -- ---- what stops
 
-answered_goes : (t : Task) (a : Answer) → stop_in (answered t a) ≡ None
+pub answered_goes : (t : Task) (a : Answer) → stop_in (answered t a) ≡ None
 answered_goes t (answer.Response message) = refl
 answered_goes t (answer.Report messages) = reports_go messages
   where
@@ -50,11 +51,11 @@ answered_goes t (answer.Report messages) = reports_go messages
 answered_goes (task.Ask encoding id q) answer.NoMemory = refl
 answered_goes (task.Check encoding) answer.NoMemory = refl
 
-brought_goes : (t : Option Task) (a : Answer) → stop_in (answer_to t a) ≡ None
+pub brought_goes : (t : Option Task) (a : Answer) → stop_in (answer_to t a) ≡ None
 brought_goes None a = refl
 brought_goes (Some t) a = answered_goes t a
 
-denied_goes : (id : Id) (denied : Option Denial) → stop_in (denied_with id denied) ≡ None
+pub denied_goes : (id : Id) (denied : Option Denial) → stop_in (denied_with id denied) ≡ None
 denied_goes id None = refl
 denied_goes id (Some how) = refl
 
@@ -62,13 +63,13 @@ closed_goes : (found : Option SessionDocument) → stop_in (option_to_list (opti
 closed_goes None = refl
 closed_goes (Some document) = refl
 
-cleared_goes : (documents : List SessionDocument) (c : Change) → stop_in (cleared documents c) ≡ None
+pub cleared_goes : (documents : List SessionDocument) (c : Change) → stop_in (cleared documents c) ≡ None
 cleared_goes documents (change.Open item) = refl
 cleared_goes documents (change.Edit params) = refl
 cleared_goes documents (change.Load load) = refl
 cleared_goes documents (change.Close key) = closed_goes (document_at key documents)
 
-where_goes : (b : Bool) (outs : List Out) → stop_in outs ≡ None → stop_in (cond b outs []) ≡ None
+pub where_goes : (b : Bool) (outs : List Out) → stop_in outs ≡ None → stop_in (cond b outs []) ≡ None
 where_goes true outs h = h
 where_goes false outs h = refl
 
@@ -76,7 +77,7 @@ change_goes : (s : Session) (c : Change) (document : Option SessionDocument) →
 change_goes s c document = stop_in-append (cond s.diagnostics (cleared s.documents c) []) [] (where_goes s.diagnostics (cleared s.documents c) (cleared_goes s.documents c))
 
 -- two that do not stop, though they are said to
-never : (xs ys : List Out) (status : ℕ) (P : Type 0) → stop_in xs ≡ None → stop_in ys ≡ None → stop_in (xs ++ ys) ≡ Some status → P
+pub never : (xs ys : List Out) (status : ℕ) (P : Type 0) → stop_in xs ≡ None → stop_in ys ≡ None → stop_in (xs ++ ys) ≡ Some status → P
 never xs ys status P first next h = let e : None ≡ Some status = sym (stop_in-append xs ys first ∙ next) ∙ h in absurd (cc)
 
 stops_by : (s : Session) (denied : Option Denial) (e : Effect) (document : Option SessionDocument) (t : Option Task) (a : Answer) (status : ℕ)

@@ -1,4 +1,4 @@
--- How a run ends, from what driving the desk over an inbox comes to.
+-- How a run ends, from what driving the desk over a reader comes to.
 use Rattle.std.proofs.Common.{◌≡◌, ◌⊎◌, inl, inr, ℕ, List, [], ◌∷◌, ◌++◌, map, length, Bool, true, false, Option, Some, None, ap, sym, refl, ◌∙◌, subst}
 use Rattle.std.specs.Iterator.{Yields, YieldsThen}
 use Rattle.std.specs.Prelude.{is_some}
@@ -22,21 +22,24 @@ use Rattle.gq_desk.specs.Standing.{AreAnswered}
 use Rattle.gq_desk.specs.Driving.{events_of, Drives, FailsAt, TakesTooMany, Fails}
 use Rattle.gq_desk.specs.declared.driving.DriveFault.{DriveFault}
 use Rattle.gq_desk.specs.declared.driving.DriveFault.TheVariants as drive
-use Rattle.gq_crew.specs.declared.inbox.NoMore.{NoMore}
-use Rattle.gq_crew.specs.declared.inbox.NoMore.TheVariants as no_more
-use Rattle.gq_crew.specs.declared.run.Ended.{Ended}
-use Rattle.gq_crew.specs.declared.run.RunFault.{RunFault}
-use Rattle.gq_crew.specs.declared.run.RunFault.TheVariants as fault
-use Rattle.gq_crew.specs.Output.{Input, File, AreTurnsOf, inputs_of}
-use Rattle.gq_crew.specs.Runs.{SourceAfter, SinkAfter, FilesAfter, RunsListed, is_more, turns_max}
+use Rattle.gq_reader.specs.declared.reader.NoMore.{NoMore}
+use Rattle.gq_reader.specs.declared.reader.NoMore.TheVariants as no_more
+use Rattle.gq_crew.specs.declared.one_thread.Ended.{Ended}
+use Rattle.gq_reader.specs.declared.fault.RunFault.{RunFault}
+use Rattle.gq_reader.specs.declared.fault.RunFault.TheVariants as fault
+use Rattle.gq_reader.specs.Inputs.{Input, File, inputs_of}
+use Rattle.gq_crew.specs.Output.{AreTurnsOf}
+use Rattle.gq_reader.specs.Reading.{SourceAfter, FilesAfter}
+use Rattle.gq_crew.specs.Runs.{SinkAfter, RunsListed, is_more, turns_max}
 use Rattle.gq_crew.specs.Helping.Claims.{AnswersHold}
-use Rattle.gq_crew.specs.Helping.Inbox.{View, unread, with_bodies, with_told, Finds, Tells, fault_of, fault_at, ended_as}
-use Rattle.gq_crew.specs.Helping.Loads.{IsToldOf}
-use Rattle.gq_crew.specs.Helping.Coming.{Box, Comes, ComesSo, LacksLoad, LacksKey, LacksMessage}
-use Rattle.gq_crew.proofs.Inboxes.{last_step, Stands, At-fills, At-body, not_failed}
-use Rattle.gq_crew.proofs.Outputs.{events_are}
+use Rattle.gq_crew.specs.Helping.Ends.{fault_at, ended_as}
+use Rattle.gq_reader.specs.Reader.{View, unread, with_bodies, with_told, Finds, Tells, fault_of}
+use Rattle.gq_reader.specs.Loads.{IsToldOf}
+use Rattle.gq_reader.specs.Coming.{Box, Comes, ComesSo, LacksLoad, LacksKey, LacksMessage}
+use Rattle.gq_reader.proofs.Readers.{last_step, Stands, At-fills, At-body, not_failed}
+use Rattle.gq_reader.proofs.Taken.{events_are}
 use Rattle.gq_crew.proofs.Alone.{load_stops}
-use Rattle.gq_crew.proofs.Comings.{Ground, Stage, waits, clean, owes, Waits, Clean, Owes, Came, Keeps, takes, took_all, clean_ground, owed_ground, waits_ground, came_ground, one_taken}
+use Rattle.gq_reader.proofs.Comings.{Ground, Stage, waits, clean, owes, Waits, Clean, Owes, Came, Keeps, takes, took_all, clean_ground, owed_ground, waits_ground, came_ground, one_taken}
 use Rattle.gq_crew.proofs.Endings.{Base, base_of, runs_without_memory, runs_lacking, runs_without_file, runs_too_long, runs_stopped, runs_too_many, runs_unwritten, runs_ended, answers_taken}
 
 -- a list of turns, and their events
@@ -192,6 +195,9 @@ module _ {F : Type 0} (reads : F → List ℕ → LoadedContent → F → Type 0
       told_device (no_more.Fault fault.NoMemory) rest f bad = absurd f
       told_device (no_more.Fault fault.TooDeep) rest f bad = absurd f
       told_device (no_more.Fault fault.TooMany) rest f bad = absurd f
+      told_device (no_more.Fault fault.Closed) rest f bad = absurd f
+      told_device (no_more.Fault fault.NoPlace) rest f bad = absurd f
+      told_device (no_more.Fault fault.NoThread) rest f bad = absurd f
 
       ends_for : (base : Runs_so turns turns []) (why : NoMore) → Finds (Some why) base.rest after [] → Listed_so status (fault_of why)
       ends_for base no_more.End f =
@@ -206,6 +212,9 @@ module _ {F : Type 0} (reads : F → List ℕ → LoadedContent → F → Type 0
       ends_for base (no_more.Fault fault.NoMemory) f = absurd f
       ends_for base (no_more.Fault fault.TooDeep) f = absurd f
       ends_for base (no_more.Fault fault.TooMany) f = absurd f
+      ends_for base (no_more.Fault fault.Closed) f = absurd f
+      ends_for base (no_more.Fault fault.NoPlace) f = absurd f
+      ends_for base (no_more.Fault fault.NoThread) f = absurd f
 
       ground_end : (given : List (List ℕ)) (rest : List ℕ) → taken ≡ map File keys ++ inputs_of has given → Stands start.left after.left given [] rest → (g : Ground has keys start.left after.left taken taken []) × (g.rest ≡ rest)
       ground_end given rest all st = (clean_ground reads failed has_of folder keys start sound after.left taken given [] rest all st, refl)
@@ -286,7 +295,7 @@ module _ {F : Type 0} (reads : F → List ℕ → LoadedContent → F → Type 0
       (subst (Appends held sink.held) (sym frames) (Appends-trans held held_then sink.held (frames_in (outputs 0 front)) (frames_in outs) first later)) in
       ended_well 3 (Some fault.TooMany) runs l.sound_after l.keeps.sound
 
--- the same of an inbox, whose steps are known by what they are of its plain data
+-- the same of a reader, whose steps are known by what they are of its plain data
 module _ {X N F H : Type 0} (reads : F → List ℕ → LoadedContent → F → Type 0) (failed : F → Bool) (has_of : F → List ℕ → Bool) (steps : X → Option Event → X → Type 0) (box : X → Box F) (name : X → N)
     (sees : (a : X) (r : Option Event) (b : X) → steps a r b → (name b ≡ name a) × Comes reads failed has_of (box a) r (box b))
     (takes_hand refuses : H → Handing → H → Type 0) (never : (h : H) (x : Handing) (h' : H) → refuses h x h' → ⊥)

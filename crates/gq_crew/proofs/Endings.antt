@@ -15,13 +15,15 @@ use Rattle.gq_events.specs.Machine.{start, run, reached}
 use Rattle.gq_desk.specs.Frames.{frame_in, frames_in, stop_in}
 use Rattle.gq_desk.specs.Standing.{AreAnswered}
 use Rattle.gq_crew.specs.Helping.Claims.{AnswersHold}
-use Rattle.gq_crew.specs.declared.run.Ended.{Ended}
-use Rattle.gq_crew.specs.declared.run.RunFault.TheVariants as fault
-use Rattle.gq_crew.specs.Output.{Input, File, AreTurnsOf, inputs_of}
-use Rattle.gq_crew.specs.Runs.{SourceAfter, SinkAfter, FilesAfter, Reached, StopsAt, AnswersTaken, Ends, AnswersEarlier, RunsListed, turns_max, piece_max, is_more}
+use Rattle.gq_crew.specs.declared.one_thread.Ended.{Ended}
+use Rattle.gq_reader.specs.declared.fault.RunFault.TheVariants as fault
+use Rattle.gq_reader.specs.Inputs.{Input, File, inputs_of}
+use Rattle.gq_crew.specs.Output.{AreTurnsOf}
+use Rattle.gq_reader.specs.Reading.{SourceAfter, FilesAfter, piece_max}
+use Rattle.gq_crew.specs.Runs.{SinkAfter, Reached, StopsAt, AnswersTaken, Ends, AnswersEarlier, RunsListed, turns_max, is_more}
 use Rattle.gq_crew.proofs.Alone.{outputs_more, goes_before}
 use Rattle.gq_crew.proofs.Outputs.{Parts, parts_of, Sent-behind}
-use Rattle.gq_crew.proofs.Comings.{EarlyOf, Ground}
+use Rattle.gq_reader.proofs.Comings.{EarlyOf, Ground}
 
 -- what a front puts out is written first
 frames_more : (turns more : List Turn) → frames_in (outputs 0 (turns ++ more)) ≡ frames_in (outputs 0 turns) ++ frames_in (run (reached (start 0) turns) more)

@@ -1,8 +1,9 @@
-pub mod Bounds
-pub mod Reading
 pub mod Alone
 pub mod Outputs
-pub mod Inboxes
-pub mod Comings
 pub mod Endings
 pub mod Driven
+pub mod Stopping
+pub mod Desking
+pub mod Posting
+pub mod Settling
+pub mod Crossing

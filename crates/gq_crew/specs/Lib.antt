@@ -1,4 +1,4 @@
-pub mod Folder
 pub mod Output
 pub mod Runs
+pub mod Crew
 pub mod Helping

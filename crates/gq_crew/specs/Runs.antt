@@ -1,46 +1,30 @@
 -- A run: the files that were loaded, the bytes that were read, the bodies that stand in them, and how it ended.
-use Rattle.std.specs.Prelude.{◌≡◌, ◌≢◌, ◌⊎◌, ℕ, ◌≤◌, ◌^◌, List, [], ◌∷◌, ◌++◌, map, length, Bool, true, false, Option, Some, None}
-use Rattle.std.specs.Io.KnownBytes.{Appends, Consumes, IsAtEnd}
+use Rattle.std.specs.Prelude.{◌≡◌, ◌⊎◌, ℕ, ◌≤◌, ◌^◌, List, [], ◌∷◌, ◌++◌, map, length, Bool, true, false, Option, Some, None}
+use Rattle.std.specs.Io.KnownBytes.{Appends, Consumes}
 use Rattle.gq_rpc.specs.Devices.{Sent}
 use Rattle.gq_rpc.specs.Frames.{Cuts, scan_of}
-use Rattle.gq_rpc.specs.declared.header.Scan.TheVariants.{Partial, Bad}
+use Rattle.gq_rpc.specs.declared.header.Scan.TheVariants.{Partial}
 use Rattle.gq_rpc.specs.declared.header.FrameFault.{FrameFault}
-use Rattle.gq_rpc.specs.declared.header.FrameFault.TheVariants as frame
 use Rattle.gq_events.specs.declared.event.LoadedContent.{LoadedContent}
 use Rattle.gq_events.specs.declared.event.Out.{Out}
 use Rattle.gq_events.specs.Rules.{Turn}
 use Rattle.gq_events.specs.History.{outputs}
 use Rattle.gq_events.specs.Lifecycle.{is_load}
 use Rattle.gq_events.specs.Headline.{Headline}
-use Rattle.gq_crew.specs.declared.run.Ended.{Ended}
-use Rattle.gq_crew.specs.declared.run.RunFault.{RunFault}
-use Rattle.gq_crew.specs.declared.run.RunFault.TheVariants.{Frame, Device, NoMemory, TooDeep, TooMany}
+use Rattle.gq_crew.specs.declared.one_thread.Ended.{Ended}
+use Rattle.gq_reader.specs.declared.fault.RunFault.{RunFault}
+use Rattle.gq_reader.specs.declared.fault.RunFault.TheVariants.{Frame, Device, NoMemory, TooDeep, TooMany, Closed, NoPlace, NoThread}
 use Rattle.gq_desk.specs.Frames.{frames_in, stop_in}
 use Rattle.gq_desk.specs.Standing.{AreAnswered}
 use Rattle.gq_desk.specs.Driving.{AreExact}
-use Rattle.gq_crew.specs.Output.{Input, File, inputs_of, AreTurnsOf, WroteAll}
-
--- how a source stands after a run: the bytes that it has left, where they are known, and whether a read has told the
--- end, or has failed
-pub record SourceAfter : Type 0 where
-  pub left : Option (List ℕ)
-  pub ended : Bool
-  pub failed : Bool
+use Rattle.gq_reader.specs.Inputs.{Input, File, inputs_of}
+use Rattle.gq_reader.specs.Reading.{SourceAfter, FilesAfter, TellsEnd, IsFrameFault, piece_max}
+use Rattle.gq_crew.specs.Output.{AreTurnsOf, WroteAll}
 
 -- how a sink stands after it: the bytes that were written, where they are known, and whether a write has failed
 pub record SinkAfter : Type 0 where
   pub held : Option (List ℕ)
   pub failed : Bool
-
--- how the files of the folder stand after it: whether a listing or a reading has failed, and whether a listing has found too many levels
-pub record FilesAfter : Type 0 where
-  pub failed : Bool
-  pub too_deep : Bool
-
--- a read has told the end, and nothing is left
-pub record TellsEnd (source : SourceAfter) : Type 0 where
-  pub told : source.ended ≡ true
-  pub nothing_left : IsAtEnd source.left
 
 -- what a run came to: what turns put out, the turns of what it took, what was left to be taken, the rest of the bytes read, how the source
 -- and the files stand, and what the sink held before and holds then
@@ -79,15 +63,6 @@ pub record EndsInput (run : Reached) (status : ℕ) : Type 0 where
   pub answers : AnswersAll run
   pub no_rest : run.rest ≡ []
   pub tells : TellsEnd run.source
-
--- why no frame can be read from the rest: it begins with none, or the input ended inside one, or a growth was refused
-abbrev pub IsFrameFault : FrameFault → List ℕ → SourceAfter → Type 0
-IsFrameFault frame.BadHeader rest source = scan_of rest ≡ Bad frame.BadHeader
-IsFrameFault frame.NoLength rest source = scan_of rest ≡ Bad frame.NoLength
-IsFrameFault frame.TooLong rest source = scan_of rest ≡ Bad frame.TooLong
-IsFrameFault frame.Truncated rest source = (rest ≢ []) × (scan_of rest ≡ Partial) × TellsEnd source
-IsFrameFault frame.NoMemory rest source = Unit {0}
-IsFrameFault frame.Failed rest source = ⊥
 
 -- it ended at what is no frame; the bodies before were answered
 pub record FindsNoFrame (run : Reached) (why : FrameFault) : Type 0 where
@@ -143,10 +118,9 @@ Ends run status (Some Device) = (status ≡ 3) × (SinkFails run ⊎ (SourceFail
 Ends run status (Some NoMemory) = (status ≡ 3) × LacksMemory run
 Ends run status (Some TooMany) = (status ≡ 3) × StopsAt run true 3
 Ends run status (Some TooDeep) = ⊥
-
--- so many bytes one read gives, at most
-abbrev pub piece_max : ℕ
-piece_max = 16384
+Ends run status (Some Closed) = ⊥
+Ends run status (Some NoPlace) = ⊥
+Ends run status (Some NoThread) = ⊥
 
 -- what stands in the bytes of all reads but the last one was answered, without a stop, behind all files that were loaded first, and what was
 -- written begins with that
@@ -199,6 +173,9 @@ IsListFault files (Some Device) = files.failed ≡ true
 IsListFault files (Some NoMemory) = Unit {0}
 IsListFault files (Some TooMany) = ⊥
 IsListFault files (Some TooDeep) = files.too_deep ≡ true
+IsListFault files (Some Closed) = ⊥
+IsListFault files (Some NoPlace) = ⊥
+IsListFault files (Some NoThread) = ⊥
 
 -- the folder could not be listed; nothing was read, and nothing was written
 pub record FindsNoList (files : FilesAfter) (left left' held held' : Option (List ℕ)) (ended : Ended) : Type 0 where

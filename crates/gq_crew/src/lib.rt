@@ -1,11 +1,14 @@
-//! The server on one thread: bytes in to bytes out.
+//! A run of the server, bytes in to bytes out: on one thread, or with workers.
 #![tactic(auto)]
 
-pub mod files;
-mod inbox;
+mod crew;
+mod desk_side;
+mod hands;
 pub mod laws;
-mod loads;
-pub mod run;
+pub mod one_thread;
+mod reader_side;
 
-pub use files::{Files, FilesFault, MemoryFile, MemoryFiles, NoFiles};
-pub use run::{Ended, RunFault, run_one};
+pub use crew::{Ran, run};
+pub use gq_reader::{Files, FilesFault, MemoryFile, MemoryFiles, NoFiles, RunFault};
+pub use gq_workers::{Gate, Open, Order, Sent, attend, work};
+pub use one_thread::{Ended, run_one};

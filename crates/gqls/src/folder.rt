@@ -1,6 +1,6 @@
 //! A folder of the disk, and the files of GraphQL in it.
 ghost use Rattle.std.specs.Prelude.{◌≡◌, ◌≢◌, ◌≤◌, ◌^◌, ◌++◌, ⊤, IfOk, IfSome, ◌||◌, ◌==◌, false, string_bytes, codes, take, length};
-ghost use Rattle.gq_crew.specs.Folder.{is_device};
+ghost use Rattle.gq_reader.specs.Folder.{is_device};
 ghost use Rattle.gqls.specs.Helping.Folder.{file_key, is_graphql, is_key_of, is_name, are_names, IsRoot, Holds};
 ghost use Rattle.std.specs.List.{starts_with};
 

@@ -1,5 +1,5 @@
-//! The program: `gqls serve --workers 0 --root DIR` serves the language server protocol on the standard streams, over the
-//! files of a folder, `gqls check FILE..` prints what is wrong with files, and `gqls exec --table FILE FILE..` executes an operation of them.
+//! The program: `gqls serve --root DIR` serves the language server protocol on the standard streams, over the files of a
+//! folder, `gqls check FILE..` prints what is wrong with files, and `gqls exec --table FILE FILE..` executes an operation of them.
 #![tactic(auto)]
 
 mod folder;
@@ -11,7 +11,7 @@ use clap::error::ErrorKind;
 use clap::{Arg, ArgAction, ArgMatches, Command, Error, value_parser};
 use gq_check::files::FILES_MAX;
 use gq_check::{File, check_by_threads, exec};
-use gq_crew::{Ended, Files, NoFiles, RunFault, run_one};
+use gq_crew::{Ended, Files, NoFiles, Open, Ran, RunFault};
 use gq_rpc::Flagged;
 use gq_text::text::TEXT_MAX;
 use gq_text::{NoMemory, OwnedText};
@@ -19,6 +19,7 @@ use std::alloc::{AllocError, Global};
 use std::collections::BTreeSet;
 use std::io;
 use std::process::ExitCode;
+use std::sync::Wait;
 use std::thread::Threads;
 
 /// The status where the words of the command line are no command.
@@ -28,7 +29,7 @@ const USAGE_STATUS: u8 = 2;
 const FAULT_STATUS: u8 = 3;
 
 const EXAMPLE: &str = "Examples:
-  gqls serve --workers 0 --root /shop
+  gqls serve --root /shop
   gqls check schema.graphql query.graphql
   gqls exec --table table.json schema.graphql query.graphql
 
@@ -36,7 +37,7 @@ An editor starts `serve`, and writes to its standard input and reads from its st
 `check` and `exec` are for a command line: `gqls check --help` and `gqls exec --help` say what they print.";
 
 const SERVE_EXAMPLE: &str = "Example:
-  gqls serve --workers 0 --root /shop
+  gqls serve --root /shop
 
 An editor starts this command, and writes to its standard input and reads from its standard output. The project is all
 files under the folder that end in `.graphql` or `.gql`, and the files that are open. Without a folder it is the files
@@ -65,17 +66,20 @@ The status is 0 where there is a response, also one with errors. Where the files
 printed as by `check`, and the status is 1. A bad table or bad variables give the status 2, and a file that cannot be
 read, or is too large, 3; standard error says why.";
 
+/// How many workers there are where the command line does not say.
+const WORKERS: &str = "2";
+
 /// How many bytes a table or variables may have.
 const INPUT_MAX: u64 = 1_073_741_824;
 
-/// The command `serve`, with 0 workers, and with the folder of the project.
+/// The command `serve`, with the number of workers, and with the folder of the project.
 fn serve_command<'a>(alloc: Global) -> Result<Command<'a>, AllocError> {
     let workers = Arg::new(alloc, "workers")
         .long("workers")
         .value_name("N")
-        .help("How many threads answer beside the one that reads: 0, for now")
-        .value_parser(value_parser!(u8).range(0..=0))
-        .required(true);
+        .help("How many threads answer beside the one that reads, 0 to 8; with 0 that one answers")
+        .value_parser(value_parser!(u8).range(0..=8))
+        .default_value(WORKERS);
     let root = Arg::new(alloc, "root").long("root").value_name("DIR").help(
         "The folder of the project: its whole path, from `/` on, without `.` and `..`",
     );
@@ -190,13 +194,19 @@ fn explain_unread(rt: &HostRuntime, error: &io::Error) -> u8 {
     }
 }
 
-/// Serves on the standard streams, over those files.
-fn serve_over<F: Files>(rt: &HostRuntime, files: &mut F) -> u8
-    requires { F.failed files.old ≡ false }
+/// Serves on the standard streams with so many workers, over those files.
+fn serve_over<R: Threads + Wait + Sync, F: Files + Send + Drop>(
+    threads: &R,
+    rt: &HostRuntime,
+    workers: u8,
+    files: F,
+) -> u8
+    requires { F.failed files ≡ false }
 {
-    let mut input = Flagged::new(rt.stdin());
-    let mut output = Flagged::new(rt.stdout());
-    let Ended { status, fault } = run_one(rt.alloc(), &mut input, &mut output, files);
+    let input = Flagged::new(rt.stdin());
+    let output = Flagged::new(rt.stdout());
+    let Ran { ended, .. } = gq_crew::run(threads, rt.alloc(), workers, input, output, &Open, files);
+    let Ended { status, fault } = ended;
     match fault {
         Some(fault) => tell_fault(rt, fault),
         None => status,
@@ -204,9 +214,14 @@ fn serve_over<F: Files>(rt: &HostRuntime, files: &mut F) -> u8
 }
 
 /// Serves over the files of the folder of that path.
-fn serve_folder(rt: &HostRuntime, path: &str) -> u8 {
+fn serve_folder<R: Threads + Wait + Sync>(
+    threads: &R,
+    rt: &HostRuntime,
+    workers: u8,
+    path: &str,
+) -> u8 {
     match Folder::new(rt, path) {
-        Ok(mut folder) => serve_over(rt, &mut folder),
+        Ok(folder) => serve_over(threads, rt, workers, folder),
         Err(NoMemory) => tell_fault(rt, RunFault::NoMemory),
     }
 }
@@ -220,11 +235,12 @@ fn explain_root(rt: &HostRuntime, word: &str) -> u8 {
 }
 
 /// Serves over the files of the folder that the words name, or over those alone that are open.
-fn serve(rt: &HostRuntime, words: &ArgMatches<'_>) -> u8 {
+fn serve<R: Threads + Wait + Sync>(threads: &R, rt: &HostRuntime, words: &ArgMatches<'_>) -> u8 {
+    let workers = words.get_one("workers").unwrap_or(0);
     match words.get_str("root") {
-        None => serve_over(rt, &mut NoFiles),
+        None => serve_over(threads, rt, workers, NoFiles),
         Some(word) => match read_root(word) {
-            Some(path) => serve_folder(rt, path),
+            Some(path) => serve_folder(threads, rt, workers, path),
             None => explain_root(rt, word),
         },
     }
@@ -331,13 +347,13 @@ fn exec_files(rt: &HostRuntime, words: &ArgMatches<'_>) -> u8 {
 }
 
 /// Does what the words say, and answers the status.
-fn run<R: Threads + Sync>(threads: &R, rt: &HostRuntime, matches: &ArgMatches<'_>) -> u8 {
+fn run<R: Threads + Wait + Sync>(threads: &R, rt: &HostRuntime, matches: &ArgMatches<'_>) -> u8 {
     match matches.subcommand() {
         Some(("check", words)) => {
             check_files(threads, rt, words.get_raw("files").unwrap_or(&[]))
         }
         Some(("exec", words)) => exec_files(rt, words),
-        Some((_, words)) => serve(rt, words),
+        Some((_, words)) => serve(threads, rt, words),
         None => USAGE_STATUS,
     }
 }

@@ -1,5 +1,5 @@
 use Rattle.std.proofs.Common.{refl}
-use Rattle.gq_crew.specs.declared.files.FilesFault.TheVariants.{TooDeep}
+use Rattle.gq_reader.specs.declared.files.FilesFault.TheVariants.{TooDeep}
 use Rattle.gqls.proofs.Faults.{same_fault}
 use Rattle.gqls.proofs.folder.FolderFiles.list.Goals as goal
 

@@ -1,6 +1,0 @@
-use Rattle.std.proofs.Common.{◌≡◌, drop}
-use Rattle.gq_crew.specs.Folder.{content_at}
-use Rattle.gq_crew.proofs.files.copy_file.Given as goal
-
-abbrev pub invariant-loop-file : goal.invariant-loop-file
-invariant-loop-file l = content_at l.key (drop l.file-index l.files) ≡ content_at l.key l.files

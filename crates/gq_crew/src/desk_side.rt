@@ -1,0 +1,131 @@
+//! What the desk's thread does: it drives a desk over what is collected.
+ghost use Rattle.std.specs.Prelude.{◌≡◌, [], false};
+ghost use Rattle.gq_crew.specs.Crew.{DeskRuns};
+ghost use Rattle.gq_workers.specs.Ends.{collected, collected_in, collected_on, desk_on};
+ghost use Rattle.gq_crew.specs.Helping.Ends as spec;
+
+use crate::hands::CrewHands;
+use crate::one_thread::{Ended, failed, fault_at};
+use gq_board::{Front, Room};
+use gq_desk::{Desk, Event, drive};
+use gq_reader::RunFault;
+use gq_rpc::Sink;
+use gq_workers::{Collected, Delivery, DeskEnd, JobsOut};
+use std::alloc::Global;
+use std::sync::Wait;
+
+/// What a desk takes, one after another: what was read, and what workers sent.
+#[derive(Drop)]
+pub struct Deliveries<'r, J: Room, R> {
+    pub rt: &'r R,
+    pub end: DeskEnd<J>,
+    /// Nobody is left who reads or answers.
+    pub ended: bool,
+}
+
+impl<J: Room, R: Wait> Iterator for Deliveries<'_, J, R> {
+    ghost use Rattle.std.specs.Prelude.{◌≡◌, []};
+    ghost use Rattle.gq_workers.specs.Ends.{collected, desk_on};
+    ghost use Rattle.gq_crew.specs.Helping.Delivered.{Delivers};
+
+    type Item = Event;
+
+    // The board opens with no documents.
+    ghost can_next = { λ _. J.base ≡ [] };
+
+    ghost next_gives = { λ s e t. Delivers (record { on = desk_on s.end; collected = collected s.end; ended = s.ended }) e
+        (record { on = desk_on t.end; collected = collected t.end; ended = t.ended }) };
+
+    fn next(&mut self) -> Option<Event> {
+        match self.end.collect(self.rt) {
+            Some(Delivery::Read(event)) => Some(event),
+            Some(Delivery::Sent(sent)) => Some(Event::Done(sent.into_done())),
+            None => {
+                self.ended = true;
+                None
+            }
+        }
+    }
+}
+
+/// Drives a new desk over what is collected, up to a stop, or until nobody is left or a fault comes.
+fn drive_desk<J: Room, R: Wait, K: Sink>(
+    alloc: Global,
+    workers: u8,
+    deliveries: &mut Deliveries<'_, J, R>,
+    hands: &mut CrewHands<'_, '_, J, R>,
+    output: &mut K,
+) -> Ended
+    requires base { J.base ≡ [] }
+    requires fresh { collected deliveries.old.end ≡ [] }
+    requires going { deliveries.old.ended ≡ false }
+    requires works { K.failed output.old ≡ false }
+    ensures on { desk_on deliveries.new.end ≡ desk_on deliveries.old.end }
+    ensures runs { DeskRuns workers (collected deliveries.new.end) (K.held output.old) (record { held = K.held output.new; failed = K.failed output.new }) result }
+{
+    let mut desk = Desk::new(alloc, workers);
+    match drive(alloc, &mut desk, deliveries, hands, output) {
+        Ok(_) if deliveries.ended => failed(RunFault::Closed),
+        Ok(status) => Ended {
+            status,
+            fault: None,
+        },
+        Err(fault) => failed(fault_at(fault)),
+    }
+}
+
+/// What the desk's thread owns: its end of the inbox, the channel of jobs, and the output; the front of the board is lent.
+#[derive(Drop)]
+pub struct DeskSide<'f, J: Room, K> {
+    pub end: DeskEnd<J>,
+    pub front: &'f mut Front<J>,
+    pub jobs: JobsOut<J>,
+    pub output: K,
+}
+
+/// What it leaves, and how it ended.
+#[derive(Drop)]
+pub struct DeskCame<J: Room, K> {
+    pub output: K,
+    pub collected: Collected<J>,
+    pub ended: Ended,
+}
+
+/// What the desk's thread does. In the end it lets go of its ends, so that whoever waits for it ends too.
+pub fn drive_side<J: Room, R: Wait, K: Sink>(
+    rt: &R,
+    alloc: Global,
+    workers: u8,
+    side: DeskSide<'_, J, K>,
+) -> DeskCame<J, K>
+    requires base { J.base ≡ [] }
+    requires fresh { collected side.end ≡ [] }
+    requires works { K.failed side.output ≡ false }
+    ensures on { collected_on result.collected ≡ desk_on side.entry.end }
+    ensures runs { DeskRuns workers (collected_in result.collected) (K.held side.entry.output) (record { held = K.held result.output; failed = K.failed result.output }) result.ended }
+{
+    let DeskSide {
+        end,
+        front,
+        jobs,
+        mut output,
+    } = side;
+    let mut deliveries = Deliveries {
+        rt,
+        end,
+        ended: false,
+    };
+    let mut hands = CrewHands {
+        rt,
+        front,
+        jobs,
+        closed: false,
+    };
+    let ended = drive_desk(alloc, workers, &mut deliveries, &mut hands, &mut output);
+    drop(hands);
+    DeskCame {
+        output,
+        collected: deliveries.end.close(),
+        ended,
+    }
+}

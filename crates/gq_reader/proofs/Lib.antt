@@ -1,0 +1,5 @@
+pub mod Bounds
+pub mod Reading
+pub mod Taken
+pub mod Readers
+pub mod Comings

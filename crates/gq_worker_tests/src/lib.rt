@@ -1,0 +1,5 @@
+//! Tests of runs with workers, and of the board between threads.
+#![tactic(auto)]
+
+#[cfg(test)]
+mod tests;

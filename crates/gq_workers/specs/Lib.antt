@@ -1,0 +1,5 @@
+pub mod Ends
+pub mod Inbox
+pub mod Jobs
+pub mod Orders
+pub mod Work

@@ -1,0 +1,120 @@
+//! What a worker makes of an order.
+ghost use Rattle.std.specs.Prelude.{◌≡◌, MatchResult, IfSome, true};
+ghost use mathlib.Core.List.{IsPrefix};
+ghost use Rattle.gq_edit.specs.Workspace.{AreTexts};
+ghost use Rattle.gq_board.specs.Published.{docs_after};
+
+use crate::order::Order;
+use gq_board::{Looker, Room, Told};
+use gq_events::{Done, copy_task};
+use gq_kept::Kept;
+use gq_project::Project;
+use gq_text::text::TEXT_MAX;
+use std::alloc::Global;
+
+/// What was made of an order, with what had been published as its worker saw it. `attend` alone makes one.
+#[derive(Drop)]
+#[non_exhaustive]
+pub struct Sent<J: Room> {
+    pub order: Order<J>,
+    pub seen: Told<J>,
+    pub done: Done,
+    /// It is about the task of the order, under its number.
+    pub ghost same: { (done.job ≡ order.job.number) × (done.task ≡ order.job.task) },
+    /// What the worker saw begins with all that had been published when the order was put.
+    pub ghost later: { ∥ IsPrefix order.told seen ∥₁ },
+    /// Its documents are those that the changes seen make.
+    pub ghost texts: { done.texts ≡ docs_after J.base seen },
+}
+
+impl<J: Room> Sent<J> {
+    /// What was made.
+    pub fn into_done(self) -> Done
+        ensures { result ≡ self.done }
+    {
+        let Sent {
+            order: _,
+            seen: _,
+            done,
+        } = self;
+        done
+    }
+}
+
+/// Whether each text has at most 4 MiB.
+fn texts_fit(texts: &Project) -> bool
+    ensures { result ≡ true → AreTexts texts.now }
+{
+    texts
+        .documents()
+        .iter()
+        .all(|doc| doc.text.as_str().len() <= TEXT_MAX)
+}
+
+/// Looks at the documents, no earlier than was told: a copy of them, where the look is let in and there is memory for it.
+fn see<J: Room>(
+    alloc: Global,
+    mut looker: Looker<J>,
+    told: &Told<J>,
+) -> (Looker<J>, Option<Project>)
+    ensures later { IsPrefix looker result.0 }
+    ensures told { IsPrefix told.now result.0 }
+    ensures texts { IfSome result.1 (λ texts. texts ≡ docs_after J.base result.0) }
+{
+    looker.learn(told);
+    match looker.look() {
+        Ok(seen) => {
+            let copy = seen.project().copied(alloc);
+            (seen.leave(), copy.ok())
+        }
+        Err(looker) => (looker, None),
+    }
+}
+
+/// Answers an order about the texts that were seen. It comes back where there is no memory for a copy of its task.
+fn answer_about<J: Room>(
+    alloc: Global,
+    order: Order<J>,
+    seen: Told<J>,
+    texts: Project,
+    kept: &mut Kept,
+) -> Result<Sent<J>, Order<J>>
+    requires later { IsPrefix order.told seen }
+    requires texts { texts ≡ docs_after J.base seen }
+    ensures { MatchResult result (λ s. (s.order ≡ order) × (s.seen ≡ seen)) (λ o. o ≡ order) }
+{
+    if !texts_fit(&texts) {
+        return Err(order);
+    }
+    let Ok(task) = copy_task(alloc, &order.job.task) else {
+        return Err(order);
+    };
+    let done = Done::of(
+        alloc,
+        order.job.number,
+        task,
+        texts,
+        &order.job.pieces,
+        kept,
+    );
+    Ok(Sent { order, seen, done })
+}
+
+/// Answers an order about documents as they are no earlier than when it was put. The order comes back where the look is refused, or there
+/// is no memory for a copy of the texts or of the task. It waits for nobody.
+pub fn attend<J: Room>(
+    alloc: Global,
+    looker: Looker<J>,
+    order: Order<J>,
+    kept: &mut Kept,
+) -> (Looker<J>, Result<Sent<J>, Order<J>>)
+    ensures later { IsPrefix looker result.0 }
+    ensures answer { MatchResult result.1 (λ s. (s.order ≡ order) × (s.seen ≡ result.0) × IsPrefix order.told result.0 × (s.done.texts ≡ docs_after J.base result.0)) (λ o. o ≡ order) }
+{
+    let (looker, texts) = see(alloc, looker, &order.told);
+    let Some(texts) = texts else {
+        return (looker, Err(order));
+    };
+    let answered = answer_about(alloc, order, looker.tell(), texts, kept);
+    (looker, answered)
+}
