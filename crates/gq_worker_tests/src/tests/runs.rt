@@ -33,14 +33,27 @@ const SHUTDOWN: &str = r#"{"jsonrpc":"2.0","id":4,"method":"shutdown"}"#;
 
 const EXIT: &str = r#"{"jsonrpc":"2.0","method":"exit"}"#;
 
+const INITIALIZED_HEADER: &str = "Content-Length: 152\r\n\r\n";
+
 const INITIALIZED: &str =
-    "Content-Length: 152\r\n\r\n{\"id\":1,\"jsonrpc\":\"2.0\",\"result\":{\"capabilities\":{\"renameProvider\":true,\"textDocumentSync\":{\"change\":2,\"openClose\":true}},\"serverInfo\":{\"name\":\"gqls\"}}}";
+    r#"{"id":1,"jsonrpc":"2.0","result":{"capabilities":{"renameProvider":true,"#;
+
+const INITIALIZED_REST: &str =
+    r#""textDocumentSync":{"change":2,"openClose":true}},"serverInfo":{"name":"gqls"}}}"#;
+
+const RENAMED_HEADER: &str = "Content-Length: 306\r\n\r\n";
 
 const RENAMED_TO_B: &str =
-    "Content-Length: 306\r\n\r\n{\"id\":2,\"jsonrpc\":\"2.0\",\"result\":{\"documentChanges\":[{\"edits\":[{\"newText\":\"B\",\"range\":{\"end\":{\"character\":12,\"line\":0},\"start\":{\"character\":11,\"line\":0}}},{\"newText\":\"B\",\"range\":{\"end\":{\"character\":24,\"line\":0},\"start\":{\"character\":23,\"line\":0}}}],\"textDocument\":{\"uri\":\"file:///q.graphql\",\"version\":1}}]}}";
+    r#"{"id":2,"jsonrpc":"2.0","result":{"documentChanges":[{"edits":[{"newText":"B","range":{"end":{"character":12,"line":0},"start":{"character":11,"line":0}}},"#;
+
+const RENAMED_TO_B_REST: &str =
+    r#"{"newText":"B","range":{"end":{"character":24,"line":0},"start":{"character":23,"line":0}}}],"textDocument":{"uri":"file:///q.graphql","version":1}}]}}"#;
 
 const RENAMED_TO_C: &str =
-    "Content-Length: 306\r\n\r\n{\"id\":3,\"jsonrpc\":\"2.0\",\"result\":{\"documentChanges\":[{\"edits\":[{\"newText\":\"C\",\"range\":{\"end\":{\"character\":12,\"line\":0},\"start\":{\"character\":11,\"line\":0}}},{\"newText\":\"C\",\"range\":{\"end\":{\"character\":24,\"line\":0},\"start\":{\"character\":23,\"line\":0}}}],\"textDocument\":{\"uri\":\"file:///q.graphql\",\"version\":1}}]}}";
+    r#"{"id":3,"jsonrpc":"2.0","result":{"documentChanges":[{"edits":[{"newText":"C","range":{"end":{"character":12,"line":0},"start":{"character":11,"line":0}}},"#;
+
+const RENAMED_TO_C_REST: &str =
+    r#"{"newText":"C","range":{"end":{"character":24,"line":0},"start":{"character":23,"line":0}}}],"textDocument":{"uri":"file:///q.graphql","version":1}}]}}"#;
 
 const MODIFIED: &str =
     "Content-Length: 77\r\n\r\n{\"error\":{\"code\":-32801,\"message\":\"content modified\"},\"id\":2,\"jsonrpc\":\"2.0\"}";
@@ -61,12 +74,8 @@ fn wait_for<C: Clock>(clock: &C, taken: &AtomicU64, frames: u64) -> bool {
     false
 }
 
-/// A body that is given once so many frames were taken.
-#[derive(Clone, Copy)]
-struct Cue {
-    body: &'static str,
-    after: u64,
-}
+/// A body, and how many frames are taken before it is given.
+type Cue = (&'static str, u64);
 
 /// Copies the frame of a body to the front of a buffer, and answers how long it is.
 fn copy_frame(alloc: Global, body: &str, buffer: &mut [u8]) -> Option<usize> {
@@ -99,13 +108,13 @@ impl<'s, C: Clock> Source for Script<'s, C> {
     ghost ended = { λ s. s.ended };
 
     fn read(&mut self, buffer: &mut [u8]) -> Reading {
-        let Some(cue) = self.cues.get(self.next) else {
+        let Some(&(body, after)) = self.cues.get(self.next) else {
             self.ended = true;
             return Reading::End;
         };
-        wait_for(self.clock, self.taken, cue.after);
+        wait_for(self.clock, self.taken, after);
         self.next = self.next.saturating_add(1);
-        match copy_frame(self.alloc, cue.body, buffer) {
+        match copy_frame(self.alloc, body, buffer) {
             Some(count) if count > 0 && count <= buffer.len() => Reading::Bytes(count),
             _ => {
                 self.failed = true;
@@ -215,39 +224,29 @@ fn joined(alloc: Global, texts: &[&str]) -> Result<String, Fail> {
 #[test]
 fn two_at_once(rt: HostRuntime) -> Result<(), Fail> {
     let cues = [
-        Cue {
-            body: INITIALIZE,
-            after: 0,
-        },
-        Cue {
-            body: OPEN_S,
-            after: 0,
-        },
-        Cue {
-            body: OPEN_Q,
-            after: 0,
-        },
-        Cue {
-            body: RENAME_TO_B,
-            after: 0,
-        },
-        Cue {
-            body: RENAME_TO_C,
-            after: 0,
-        },
-        Cue {
-            body: SHUTDOWN,
-            after: 3,
-        },
-        Cue {
-            body: EXIT,
-            after: 0,
-        },
+        (INITIALIZE, 0),
+        (OPEN_S, 0),
+        (OPEN_Q, 0),
+        (RENAME_TO_B, 0),
+        (RENAME_TO_C, 0),
+        (SHUTDOWN, 3),
+        (EXIT, 0),
     ];
     let (bytes, ended, late) = run_held(&rt, rt.alloc(), &cues, 2);
     let wanted = joined(
         rt.alloc(),
-        &[INITIALIZED, RENAMED_TO_C, RENAMED_TO_B, SHUT_DOWN],
+        &[
+            INITIALIZED_HEADER,
+            INITIALIZED,
+            INITIALIZED_REST,
+            RENAMED_HEADER,
+            RENAMED_TO_C,
+            RENAMED_TO_C_REST,
+            RENAMED_HEADER,
+            RENAMED_TO_B,
+            RENAMED_TO_B_REST,
+            SHUT_DOWN,
+        ],
     )?;
     assert_eq!(rt; bytes.as_slice(), wanted.as_bytes());
     assert_eq!(rt;
@@ -265,43 +264,28 @@ fn two_at_once(rt: HostRuntime) -> Result<(), Fail> {
 #[test]
 fn held_then_changed(rt: HostRuntime) -> Result<(), Fail> {
     let cues = [
-        Cue {
-            body: INITIALIZE,
-            after: 0,
-        },
-        Cue {
-            body: OPEN_S,
-            after: 0,
-        },
-        Cue {
-            body: OPEN_Q,
-            after: 0,
-        },
-        Cue {
-            body: RENAME_TO_B,
-            after: 0,
-        },
-        Cue {
-            body: CHANGE_S,
-            after: 0,
-        },
-        Cue {
-            body: RENAME_TO_C,
-            after: 2,
-        },
-        Cue {
-            body: SHUTDOWN,
-            after: 3,
-        },
-        Cue {
-            body: EXIT,
-            after: 0,
-        },
+        (INITIALIZE, 0),
+        (OPEN_S, 0),
+        (OPEN_Q, 0),
+        (RENAME_TO_B, 0),
+        (CHANGE_S, 0),
+        (RENAME_TO_C, 2),
+        (SHUTDOWN, 3),
+        (EXIT, 0),
     ];
     let (bytes, ended, late) = run_held(&rt, rt.alloc(), &cues, 2);
     let wanted = joined(
         rt.alloc(),
-        &[INITIALIZED, MODIFIED, RENAMED_TO_C, SHUT_DOWN],
+        &[
+            INITIALIZED_HEADER,
+            INITIALIZED,
+            INITIALIZED_REST,
+            MODIFIED,
+            RENAMED_HEADER,
+            RENAMED_TO_C,
+            RENAMED_TO_C_REST,
+            SHUT_DOWN,
+        ],
     )?;
     assert_eq!(rt; bytes.as_slice(), wanted.as_bytes());
     assert_eq!(rt;
