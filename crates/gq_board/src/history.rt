@@ -1,5 +1,5 @@
 //! The one history of the published changes, of which all ends have seen a beginning. Proofs see its changes; what runs is how many there are.
-ghost use Rattle.std.specs.Prelude.{◌≡◌, ◌+◌, ◌<◌, ◌^◌, ◌++◌, ◌∷◌, ◌⊎◌, [], length, MatchBool, IsTrue};
+ghost use Rattle.std.specs.Prelude.{◌≡◌, ◌↔◌, ◌+◌, ◌<◌, ◌^◌, ◌++◌, ◌∷◌, ◌⊎◌, [], length, MatchBool, IsTrue};
 ghost use mathlib.Core.List.{IsPrefix};
 ghost use Rattle.gq_board.specs.Helping.Counted.{head_of};
 
@@ -178,7 +178,7 @@ impl<J: Room> History<J> {
 
     /// Whether this one has all that the other has.
     pub(crate) fn has_all(&self, other: &History<J>) -> bool
-        ensures { IsTrue result → IsPrefix other.now self.now }
+        ensures { IsTrue result ↔ IsPrefix other.now self.now }
     {
         let mut both = self.log.again();
         both.learn(&other.log);
@@ -187,7 +187,7 @@ impl<J: Room> History<J> {
 
     /// Whether both are the same beginning.
     pub(crate) fn is(&self, other: &History<J>) -> bool
-        ensures { IsTrue result → self.now ≡ other.now }
+        ensures { IsTrue result ↔ (self.now ≡ other.now) }
     {
         let mut both = self.log.again();
         both.learn(&other.log);

@@ -1,5 +1,5 @@
 //! The ends that look.
-ghost use Rattle.std.specs.Prelude.{◌≡◌, ◌⊎◌, IsTrue, MatchResult};
+ghost use Rattle.std.specs.Prelude.{◌≡◌, ◌↔◌, ◌⊎◌, IsTrue, MatchResult};
 ghost use mathlib.Core.List.{IsPrefix};
 ghost use Rattle.gq_board.specs.Published.{docs_after};
 
@@ -33,7 +33,7 @@ impl<J: Room> Told<J> {
 
     /// Whether both tell the same changes.
     pub fn is(&self, other: &Told<J>) -> bool
-        ensures { IsTrue result → self.now ≡ other.now }
+        ensures { IsTrue result ↔ (self.now ≡ other.now) }
     {
         self.history.is(&other.history)
     }

@@ -155,9 +155,9 @@ module _ {F : Type 0} (reads : F → List ℕ → LoadedContent → F → Type 0
   }
 
 -- where the board could not be opened
-pub board_cause : (why : RunFault) (turns : List Turn) (sink : SinkAfter) → (why ≡ fault.NoMemory) ⊎ (why ≡ fault.NoPlace) → IsDeskFault why turns sink
-board_cause why turns sink (inl is) = subst (λ (w : RunFault). IsDeskFault w turns sink) (sym is) tt
-board_cause why turns sink (inr is) = subst (λ (w : RunFault). IsDeskFault w turns sink) (sym is) tt
+pub board_cause : (why : RunFault) (sink : SinkAfter) → (why ≡ fault.NoMemory) ⊎ (why ≡ fault.NoPlace) → IsDeskFault why [] sink
+board_cause why sink (inl is) = subst (λ (w : RunFault). IsDeskFault w [] sink) (sym is) tt
+board_cause why sink (inr is) = subst (λ (w : RunFault). IsDeskFault w [] sink) (sym is) refl
 
 -- of a folder that has the same documents
 pub runs_with : {F : Type 0} {reads : F → List ℕ → LoadedContent → F → Type 0} (f h : List ℕ → Bool) → ((key : List ℕ) → f key ≡ h key) → {folder : F} {keys : List (List ℕ)} {files : FilesAfter} {left : Option (List ℕ)} {source : SourceAfter}

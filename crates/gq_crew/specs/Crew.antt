@@ -105,7 +105,8 @@ pub record EndsAtLoad (turns : List Turn) : Type 0 where
   pub whole : turns ≡ before ++ last ∷ []
   pub is_load : is_load last ≡ true
 
--- why a desk ended early; that memory was refused, that nobody is left, and that a worker found no place or no thread, is told as it was found
+-- why a desk ended early; that a worker found no place or no thread is told before anything was taken, that memory was refused and that nobody is
+-- left as it was found
 abbrev pub IsDeskFault : RunFault → List Turn → SinkAfter → Type 0
 IsDeskFault (Frame why) turns sink = ⊥
 IsDeskFault Device turns sink = (sink.failed ≡ true) ⊎ (events_max ≤ length turns)
@@ -113,8 +114,8 @@ IsDeskFault TooMany turns sink = EndsAtLoad turns
 IsDeskFault TooDeep turns sink = ⊥
 IsDeskFault NoMemory turns sink = Unit {0}
 IsDeskFault Closed turns sink = Unit {0}
-IsDeskFault NoPlace turns sink = Unit {0}
-IsDeskFault NoThread turns sink = Unit {0}
+IsDeskFault NoPlace turns sink = turns ≡ []
+IsDeskFault NoThread turns sink = turns ≡ []
 
 -- how a desk ended: at a stop, or at a fault, where it wrote a front of the frames
 abbrev pub EndsDesk : ℕ → List Turn → Option (List ℕ) → SinkAfter → ℕ → Option RunFault → Type 0

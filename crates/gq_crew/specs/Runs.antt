@@ -26,6 +26,16 @@ pub record SinkAfter : Type 0 where
   pub held : Option (List ℕ)
   pub failed : Bool
 
+-- how a source, a folder and a sink stand, by what each of them tells
+abbrev pub source_after : {S : Type 0} → (S → Option (List ℕ)) → (S → Bool) → (S → Bool) → S → SourceAfter
+source_after left ended failed source = record { left = left source; ended = ended source; failed = failed source }
+
+abbrev pub files_after : {F : Type 0} → (F → Bool) → (F → Bool) → F → FilesAfter
+files_after failed too_deep files = record { failed = failed files; too_deep = too_deep files }
+
+abbrev pub sink_after : {K : Type 0} → (K → Option (List ℕ)) → (K → Bool) → K → SinkAfter
+sink_after held failed sink = record { held = held sink; failed = failed sink }
+
 -- what a run came to: what turns put out, the turns of what it took, what was left to be taken, the rest of the bytes read, how the source
 -- and the files stand, and what the sink held before and holds then
 pub record Reached : Type 0 where

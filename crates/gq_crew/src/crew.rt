@@ -1,7 +1,7 @@
 //! A run with workers: one thread reads, one is the desk, and the others answer.
 ghost use Rattle.std.specs.Prelude.{◌≡◌, ◌<◌, ◌⊎◌, [], Some, false, IfOk, IfErr};
 ghost use Rattle.std.specs.Thread.{IsSync};
-ghost use Rattle.gq_crew.specs.Runs.{Ran as RanAlone};
+ghost use Rattle.gq_crew.specs.Runs.{Ran as RanAlone, source_after, files_after, sink_after};
 ghost use Rattle.gq_crew.specs.Crew.{Posts, DeskRuns, RunsByThreads, RanByThreads};
 ghost use Rattle.gq_crew.specs.Helping.Settled.{settled};
 ghost use Rattle.gq_workers.specs.Ends.{posted, collected, collected_in, reader_on, desk_on, collected_on};
@@ -205,10 +205,10 @@ fn serve_crew<
     requires posted { posted reader.end ≡ [] }
     requires collected { collected desk.end ≡ [] }
     ensures reader { IfOk result (λ r. (reader_on r.0.end ≡ reader_on reader.end) × Posts F.reads (F.has reader.files) reader.files reader.keys.items
-        (record { failed = F.failed r.0.files; too_deep = F.too_deep r.0.files }) (S.left reader.input)
-        (record { left = S.left r.0.input; ended = S.ended r.0.input; failed = S.failed r.0.input }) r.0.told (posted r.0.end)) }
+        (files_after F.failed F.too_deep r.0.files) (S.left reader.input)
+        (source_after S.left S.ended S.failed r.0.input) r.0.told (posted r.0.end)) }
     ensures desk { IfOk result (λ r. (collected_on r.1.collected ≡ desk_on desk.entry.end) × DeskRuns workers (collected_in r.1.collected) (K.held desk.entry.output)
-        (record { held = K.held r.1.output; failed = K.failed r.1.output }) r.1.ended) }
+        (sink_after K.held K.failed r.1.output) r.1.ended) }
     ensures none { IfErr result (λ r. (r.ended ≡ record { status = 3; fault = Some RunFault.NoThread })
         × (r.input ≡ reader.input) × (r.output ≡ desk.entry.output) × (r.files ≡ reader.files)) }
 {
@@ -219,10 +219,10 @@ fn serve_crew<
             requires { IsSync R.row × IsSync G.row × (J.base ≡ []) × (S.failed reader.input ≡ false) × (K.failed desk.output ≡ false)
                 × (F.failed reader.files ≡ false) × (posted reader.end ≡ []) × (collected desk.end ≡ []) }
             ensures reader { IfOk result (λ r. (reader_on r.0.end ≡ reader_on reader.end) × Posts F.reads (F.has reader.files) reader.files reader.keys.items
-                (record { failed = F.failed r.0.files; too_deep = F.too_deep r.0.files }) (S.left reader.input)
-                (record { left = S.left r.0.input; ended = S.ended r.0.input; failed = S.failed r.0.input }) r.0.told (posted r.0.end)) }
+                (files_after F.failed F.too_deep r.0.files) (S.left reader.input)
+                (source_after S.left S.ended S.failed r.0.input) r.0.told (posted r.0.end)) }
             ensures desk { IfOk result (λ r. (collected_on r.1.collected ≡ desk_on desk.entry.end) × DeskRuns workers (collected_in r.1.collected) (K.held desk.entry.output)
-                (record { held = K.held r.1.output; failed = K.failed r.1.output }) r.1.ended) }
+                (sink_after K.held K.failed r.1.output) r.1.ended) }
             ensures none { IfErr result (λ r. (r.ended ≡ record { status = 3; fault = Some RunFault.NoThread })
                 × (r.input ≡ reader.input) × (r.output ≡ desk.entry.output) × (r.files ≡ reader.files)) }
         {
@@ -240,14 +240,14 @@ fn serve_crew<
                     requires { (S.failed reader.input ≡ false) × (F.failed reader.files ≡ false) × (posted reader.end ≡ []) }
                     ensures on { reader_on result.end ≡ reader_on reader.end }
                     ensures posts { Posts F.reads (F.has reader.files) reader.files reader.keys.items
-                        (record { failed = F.failed result.files; too_deep = F.too_deep result.files }) (S.left reader.input)
-                        (record { left = S.left result.input; ended = S.ended result.input; failed = S.failed result.input }) result.told (posted result.end) }
+                        (files_after F.failed F.too_deep result.files) (S.left reader.input)
+                        (source_after S.left S.ended S.failed result.input) result.told (posted result.end) }
                 { read_side(rt, alloc, reader) },
                 move || -> DeskCame<J, K>
                     requires { (J.base ≡ []) × (K.failed desk.output ≡ false) × (collected desk.end ≡ []) }
                     ensures on { collected_on result.collected ≡ desk_on desk.entry.end }
                     ensures runs { DeskRuns workers (collected_in result.collected) (K.held desk.entry.output)
-                        (record { held = K.held result.output; failed = K.failed result.output }) result.ended }
+                        (sink_after K.held K.failed result.output) result.ended }
                 { drive_side(rt, alloc, workers, desk) },
             ))
         },
@@ -279,9 +279,9 @@ fn run_equipped<
     requires works { K.failed output ≡ false }
     requires whole { F.failed files ≡ false }
     requires ends { (posted ends.reader ≡ []) × (collected ends.desk ≡ []) × (reader_on ends.reader ≡ desk_on ends.desk) }
-    ensures { RunsByThreads F.reads (F.has files) files keys.items (record { failed = F.failed result.files; too_deep = F.too_deep result.files })
-        (S.left input) (record { left = S.left result.input; ended = S.ended result.input; failed = S.failed result.input })
-        workers (K.held output) (record { held = K.held result.output; failed = K.failed result.output }) result.ended }
+    ensures { RunsByThreads F.reads (F.has files) files keys.items (files_after F.failed F.too_deep result.files)
+        (S.left input) (source_after S.left S.ended S.failed result.input)
+        workers (K.held output) (sink_after K.held K.failed result.output) result.ended }
 {
     let Ends {
         hires,
@@ -341,9 +341,9 @@ fn run_over<
     requires sound { S.failed input ≡ false }
     requires works { K.failed output ≡ false }
     requires whole { F.failed files ≡ false }
-    ensures { RunsByThreads F.reads (F.has files) files keys.items (record { failed = F.failed result.files; too_deep = F.too_deep result.files })
-        (S.left input) (record { left = S.left result.input; ended = S.ended result.input; failed = S.failed result.input })
-        workers (K.held output) (record { held = K.held result.output; failed = K.failed result.output }) result.ended }
+    ensures { RunsByThreads F.reads (F.has files) files keys.items (files_after F.failed F.too_deep result.files)
+        (S.left input) (source_after S.left S.ended S.failed result.input)
+        workers (K.held output) (sink_after K.held K.failed result.output) result.ended }
 {
     match equip(alloc, workers, lookers) {
         Ok(ends) => run_equipped(
@@ -377,9 +377,9 @@ fn run_opened<
     requires sound { S.failed input ≡ false }
     requires works { K.failed output ≡ false }
     requires whole { F.failed files ≡ false }
-    ensures { RunsByThreads F.reads (F.has files) files keys.items (record { failed = F.failed result.files; too_deep = F.too_deep result.files })
-        (S.left input) (record { left = S.left result.input; ended = S.ended result.input; failed = S.failed result.input })
-        workers (K.held output) (record { held = K.held result.output; failed = K.failed result.output }) result.ended }
+    ensures { RunsByThreads F.reads (F.has files) files keys.items (files_after F.failed F.too_deep result.files)
+        (S.left input) (source_after S.left S.ended S.failed result.input)
+        workers (K.held output) (sink_after K.held K.failed result.output) result.ended }
 {
     match open::<J, R>(rt, alloc, opened, Project::new(alloc)) {
         Ok((mut front, lookers)) => {
@@ -404,9 +404,9 @@ fn run_crew<
     requires sound { S.failed input ≡ false }
     requires works { K.failed output ≡ false }
     requires whole { F.failed files ≡ false }
-    ensures { RanByThreads F.lists F.reads (F.has files) files (record { failed = F.failed result.files; too_deep = F.too_deep result.files })
-        (S.left input) (record { left = S.left result.input; ended = S.ended result.input; failed = S.failed result.input })
-        workers (K.held output) (record { held = K.held result.output; failed = K.failed result.output }) result.ended }
+    ensures { RanByThreads F.lists F.reads (F.has files) files (files_after F.failed F.too_deep result.files)
+        (S.left input) (source_after S.left S.ended S.failed result.input)
+        workers (K.held output) (sink_after K.held K.failed result.output) result.ended }
 {
     match files.list(alloc) {
         Ok(keys) => run_opened::<Brand, S, K, F, G, R>(
@@ -434,9 +434,9 @@ fn run_alone<S: Source, K: Sink, F: Files>(
     requires sound { S.failed input ≡ false }
     requires works { K.failed output ≡ false }
     requires whole { F.failed files ≡ false }
-    ensures { RanAlone F.lists F.reads (F.has files) files (record { failed = F.failed result.files; too_deep = F.too_deep result.files })
-        (S.left input) (record { left = S.left result.input; ended = S.ended result.input; failed = S.failed result.input })
-        (K.held output) (record { held = K.held result.output; failed = K.failed result.output }) result.ended }
+    ensures { RanAlone F.lists F.reads (F.has files) files (files_after F.failed F.too_deep result.files)
+        (S.left input) (source_after S.left S.ended S.failed result.input)
+        (K.held output) (sink_after K.held K.failed result.output) result.ended }
 {
     let ended = run_one(alloc, &mut input, &mut output, &mut files);
     Ran {
@@ -465,12 +465,12 @@ pub fn run<
     requires sound { S.failed input ≡ false }
     requires works { K.failed output ≡ false }
     requires whole { F.failed files ≡ false }
-    ensures alone { workers ≡ 0 → RanAlone F.lists F.reads (F.has files) files (record { failed = F.failed result.files; too_deep = F.too_deep result.files })
-        (S.left input) (record { left = S.left result.input; ended = S.ended result.input; failed = S.failed result.input })
-        (K.held output) (record { held = K.held result.output; failed = K.failed result.output }) result.ended }
-    ensures by_threads { 0 < workers → RanByThreads F.lists F.reads (F.has files) files (record { failed = F.failed result.files; too_deep = F.too_deep result.files })
-        (S.left input) (record { left = S.left result.input; ended = S.ended result.input; failed = S.failed result.input })
-        workers (K.held output) (record { held = K.held result.output; failed = K.failed result.output }) result.ended }
+    ensures alone { workers ≡ 0 → RanAlone F.lists F.reads (F.has files) files (files_after F.failed F.too_deep result.files)
+        (S.left input) (source_after S.left S.ended S.failed result.input)
+        (K.held output) (sink_after K.held K.failed result.output) result.ended }
+    ensures by_threads { 0 < workers → RanByThreads F.lists F.reads (F.has files) files (files_after F.failed F.too_deep result.files)
+        (S.left input) (source_after S.left S.ended S.failed result.input)
+        workers (K.held output) (sink_after K.held K.failed result.output) result.ended }
 {
     if workers == 0 {
         return run_alone(alloc, input, output, files);

@@ -1,6 +1,7 @@
 //! What the desk's thread does: it drives a desk over what is collected.
 ghost use Rattle.std.specs.Prelude.{◌≡◌, [], false};
 ghost use Rattle.gq_crew.specs.Crew.{DeskRuns};
+ghost use Rattle.gq_crew.specs.Runs.{sink_after};
 ghost use Rattle.gq_workers.specs.Ends.{collected, collected_in, collected_on, desk_on};
 ghost use Rattle.gq_crew.specs.Helping.Ends as spec;
 
@@ -61,7 +62,7 @@ fn drive_desk<J: Room, R: Wait, K: Sink>(
     requires going { deliveries.old.ended ≡ false }
     requires works { K.failed output.old ≡ false }
     ensures on { desk_on deliveries.new.end ≡ desk_on deliveries.old.end }
-    ensures runs { DeskRuns workers (collected deliveries.new.end) (K.held output.old) (record { held = K.held output.new; failed = K.failed output.new }) result }
+    ensures runs { DeskRuns workers (collected deliveries.new.end) (K.held output.old) (sink_after K.held K.failed output.new) result }
 {
     let mut desk = Desk::new(alloc, workers);
     match drive(alloc, &mut desk, deliveries, hands, output) {
@@ -102,7 +103,7 @@ pub fn drive_side<J: Room, R: Wait, K: Sink>(
     requires fresh { collected side.end ≡ [] }
     requires works { K.failed side.output ≡ false }
     ensures on { collected_on result.collected ≡ desk_on side.entry.end }
-    ensures runs { DeskRuns workers (collected_in result.collected) (K.held side.entry.output) (record { held = K.held result.output; failed = K.failed result.output }) result.ended }
+    ensures runs { DeskRuns workers (collected_in result.collected) (K.held side.entry.output) (sink_after K.held K.failed result.output) result.ended }
 {
     let DeskSide {
         end,

@@ -1,6 +1,6 @@
 //! A run: the frames that come in, and the frames of the replies.
 ghost use Rattle.std.specs.Prelude.{◌≡◌, Option, true, false, Some};
-ghost use Rattle.gq_crew.specs.Runs.{Ran, RunsListed};
+ghost use Rattle.gq_crew.specs.Runs.{Ran, RunsListed, source_after, files_after, sink_after};
 ghost use Rattle.gq_crew.specs.Helping.Ends.{ended_as};
 ghost use Rattle.gq_reader.specs.Reader.{seen_in, unread};
 ghost use Rattle.gq_crew.specs.Helping.Ends as spec;
@@ -83,9 +83,9 @@ fn serve<S: Source, F: Files, K: Sink>(
     ensures same_input { reader.new.input.ghost_name ≡ reader.old.input.ghost_name }
     ensures same_files { reader.new.files.ghost_name ≡ reader.old.files.ghost_name }
     ensures runs { RunsListed F.reads (F.has reader.old.files.now) reader.old.files.now reader.old.loads.now.keys.items
-        (record { failed = F.failed reader.new.files.now; too_deep = F.too_deep reader.new.files.now })
+        (files_after F.failed F.too_deep reader.new.files.now)
         (S.left reader.old.input.now) (seen_in S.left S.ended S.failed reader.new).source
-        (K.held output.old) (record { held = K.held output.new; failed = K.failed output.new }) result }
+        (K.held output.old) (sink_after K.held K.failed output.new) result }
     ensures source { S.failed reader.new.input.now ≡ true → result.fault ≡ Some RunFault.Device }
     ensures files { F.failed reader.new.files.now ≡ true → result.fault ≡ Some RunFault.Device }
     ensures sink { K.failed output.new ≡ true → result.fault ≡ Some RunFault.Device }
@@ -110,9 +110,9 @@ fn run_listed<S: Source, F: Files, K: Sink>(
     requires works { K.failed output.old ≡ false }
     requires whole { F.failed files.old ≡ false }
     ensures runs { RunsListed F.reads (F.has files.old) files.old keys.items
-        (record { failed = F.failed files.new; too_deep = F.too_deep files.new })
-        (S.left input.old) (record { left = S.left input.new; ended = S.ended input.new; failed = S.failed input.new })
-        (K.held output.old) (record { held = K.held output.new; failed = K.failed output.new }) result }
+        (files_after F.failed F.too_deep files.new)
+        (S.left input.old) (source_after S.left S.ended S.failed input.new)
+        (K.held output.old) (sink_after K.held K.failed output.new) result }
     ensures source { S.failed input.new ≡ true → result.fault ≡ Some RunFault.Device }
     ensures files { F.failed files.new ≡ true → result.fault ≡ Some RunFault.Device }
     ensures sink { K.failed output.new ≡ true → result.fault ≡ Some RunFault.Device }
@@ -143,9 +143,9 @@ pub fn run_one<S: Source, K: Sink, F: Files>(
     requires works { K.failed output.old ≡ false }
     requires whole { F.failed files.old ≡ false }
     ensures runs { Ran F.lists F.reads (F.has files.old) files.old
-        (record { failed = F.failed files.new; too_deep = F.too_deep files.new })
-        (S.left input.old) (record { left = S.left input.new; ended = S.ended input.new; failed = S.failed input.new })
-        (K.held output.old) (record { held = K.held output.new; failed = K.failed output.new }) result }
+        (files_after F.failed F.too_deep files.new)
+        (S.left input.old) (source_after S.left S.ended S.failed input.new)
+        (K.held output.old) (sink_after K.held K.failed output.new) result }
     ensures source { S.failed input.new ≡ true → result.fault ≡ Some RunFault.Device }
     ensures sink { K.failed output.new ≡ true → result.fault ≡ Some RunFault.Device }
     ensures files { F.failed files.new ≡ true → result.fault ≡ Some RunFault.Device }

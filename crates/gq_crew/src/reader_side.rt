@@ -4,6 +4,7 @@ ghost use Rattle.gq_reader.specs.Reader.{seen_in, unread, Ready};
 ghost use Rattle.gq_reader.specs.Coming.{Steps};
 ghost use Rattle.gq_crew.specs.Helping.Posting.{PostsAll, PostsOne, end_by};
 ghost use Rattle.gq_crew.specs.Crew.{Posts, is_exit};
+ghost use Rattle.gq_crew.specs.Runs.{source_after, files_after};
 ghost use Rattle.gq_workers.specs.Ends.{posted, reader_on};
 
 use gq_board::Room;
@@ -108,7 +109,7 @@ fn post_to_end<J: Room, S: Source, F: Files, R: Wait>(
     ensures same_files { reader.new.files.ghost_name ≡ reader.old.files.ghost_name }
     ensures on { reader_on end.new ≡ reader_on end.old }
     ensures posts { Posts F.reads (F.has reader.old.files.now) reader.old.files.now reader.old.loads.now.keys.items
-        (record { failed = F.failed reader.new.files.now; too_deep = F.too_deep reader.new.files.now })
+        (files_after F.failed F.too_deep reader.new.files.now)
         (S.left reader.old.input.now) (seen_in S.left S.ended S.failed reader.new).source result (posted end.new) }
 {
     match post_all(rt, reader, end) {
@@ -157,8 +158,8 @@ fn read_and_post<J: Room, S: Source, F: Files, R: Wait>(
     requires whole { F.failed files.old ≡ false }
     requires fresh { posted end.old ≡ [] }
     ensures on { reader_on end.new ≡ reader_on end.old }
-    ensures posts { Posts F.reads (F.has files.old) files.old keys.items (record { failed = F.failed files.new; too_deep = F.too_deep files.new })
-        (S.left input.old) (record { left = S.left input.new; ended = S.ended input.new; failed = S.failed input.new }) result (posted end.new) }
+    ensures posts { Posts F.reads (F.has files.old) files.old keys.items (files_after F.failed F.too_deep files.new)
+        (S.left input.old) (source_after S.left S.ended S.failed input.new) result (posted end.new) }
 {
     let mut pending = Pending::new(alloc);
     let mut loads = Loads::new(alloc, keys);
@@ -181,8 +182,8 @@ pub fn read_side<J: Room, S: Source, F: Files, R: Wait>(
     requires whole { F.failed side.files ≡ false }
     requires fresh { posted side.end ≡ [] }
     ensures on { reader_on result.end ≡ reader_on side.end }
-    ensures posts { Posts F.reads (F.has side.files) side.files side.keys.items (record { failed = F.failed result.files; too_deep = F.too_deep result.files })
-        (S.left side.input) (record { left = S.left result.input; ended = S.ended result.input; failed = S.failed result.input }) result.told (posted result.end) }
+    ensures posts { Posts F.reads (F.has side.files) side.files side.keys.items (files_after F.failed F.too_deep result.files)
+        (S.left side.input) (source_after S.left S.ended S.failed result.input) result.told (posted result.end) }
 {
     let ReaderSide {
         mut input,

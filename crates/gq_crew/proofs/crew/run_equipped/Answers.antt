@@ -1,3 +1,4 @@
+use Rattle.std.proofs.Common.{refl}
 use Rattle.gq_workers.specs.Ends.{posted, collected_in}
 use Rattle.gq_crew.proofs.Settling.{settles, nothing_ran}
 use Rattle.gq_crew.proofs.crew.run_equipped.Goals as goal
@@ -22,4 +23,4 @@ returns-in-Err g c =
     (rw e.2
     (rw e.3
     (nothing_ran g.F.Files.reads (g.F.Files.has c.args.files) c.args.files c.args.keys.items (record { failed = g.F.Files.failed c.args.files; too_deep = g.F.Files.too_deep c.args.files })
-    (record { left = g.S.Source.left c.args.input; ended = g.S.Source.ended c.args.input; failed = g.S.Source.failed c.args.input }) c.args.workers (record { held = g.K.Sink.held c.args.output; failed = g.K.Sink.failed c.args.output }) _ tt))))
+    (record { left = g.S.Source.left c.args.input; ended = g.S.Source.ended c.args.input; failed = g.S.Source.failed c.args.input }) c.args.workers (record { held = g.K.Sink.held c.args.output; failed = g.K.Sink.failed c.args.output }) _ refl))))
