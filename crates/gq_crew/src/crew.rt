@@ -1,6 +1,6 @@
 //! A run with workers: one thread reads, one is the desk, and the others answer.
 ghost use Rattle.std.specs.Prelude.{◌≡◌, ◌<◌, ◌⊎◌, [], Some, false, IfOk, IfErr};
-ghost use Rattle.std.specs.Thread.{IsSync};
+ghost use Rattle.std.specs.Thread.{IsSend, IsSync};
 ghost use Rattle.gq_crew.specs.Runs.{Ran as RanAlone, source_after, files_after, sink_after};
 ghost use Rattle.gq_crew.specs.Crew.{Posts, DeskRuns, RunsByThreads, RanByThreads};
 ghost use Rattle.gq_crew.specs.Helping.Settled.{settled};
@@ -216,7 +216,7 @@ fn serve_crew<
         thread::scope_env(),
         rt,
         move |scope|
-            requires { IsSync R.row × IsSync G.row × (J.base ≡ []) × (S.failed reader.input ≡ false) × (K.failed desk.output ≡ false)
+            requires { IsSync R.row × IsSync G.row × IsSend S.row × IsSend F.row × (J.base ≡ []) × (S.failed reader.input ≡ false) × (K.failed desk.output ≡ false)
                 × (F.failed reader.files ≡ false) × (posted reader.end ≡ []) × (collected desk.end ≡ []) }
             ensures reader { IfOk result (λ r. (reader_on r.0.end ≡ reader_on reader.end) × Posts F.reads (F.has reader.files) reader.files reader.keys.items
                 (files_after F.failed F.too_deep r.0.files) (S.left reader.input)
