@@ -1,0 +1,4 @@
+pub mod Buffered
+pub mod Parted
+pub mod Ownership
+pub mod Helping

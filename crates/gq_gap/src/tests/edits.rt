@@ -1,0 +1,51 @@
+//! Edits of a gap buffer: what is put in is found again, and the block grows as it is told to.
+use crate::GapBuffer;
+use gq_text::{Buffer, Span, Text};
+use std::test::Fail;
+
+/// Whether the buffer has that capacity, and its two halves joined are these bytes.
+fn holds(buffer: &GapBuffer, bytes: &[u8], capacity: usize) -> bool {
+    let (front, back) = buffer.halves();
+    let cut = front.len();
+    cut <= bytes.len()
+        && front == &bytes[..cut]
+        && back == &bytes[cut..]
+        && buffer.capacity() == capacity
+}
+
+#[test]
+fn a_gap_moves_and_its_block_doubles(rt: HostRuntime) -> Result<(), Fail> {
+    let mut buffer = GapBuffer::with_capacity(rt.alloc(), 4)?;
+    buffer.insert(0, b"abcd")?;
+    assert!(rt; holds(&buffer, b"abcd", 4));
+    buffer.insert(2, b"XY")?;
+    assert!(rt; holds(&buffer, b"abXYcd", 8));
+    buffer.remove(1, 3);
+    assert!(rt; holds(&buffer, b"acd", 8));
+    buffer.insert(3, b"e")?;
+    assert!(rt; holds(&buffer, b"acde", 8));
+    let part = buffer.copy_out(rt.alloc(), 1, 3)?;
+    assert_eq!(rt; part.as_slice(), b"cd".as_slice());
+    Ok(())
+}
+
+#[test]
+fn a_buffer_with_no_room_takes_a_block_with_its_first_byte(rt: HostRuntime) -> Result<(), Fail> {
+    let mut buffer = GapBuffer::with_capacity(rt.alloc(), 0)?;
+    buffer.insert(0, b"")?;
+    assert!(rt; holds(&buffer, b"", 0));
+    buffer.insert(0, b"abc")?;
+    assert!(rt; holds(&buffer, b"abc", 3));
+    buffer.insert(1, b"d")?;
+    assert!(rt; holds(&buffer, b"adbc", 6));
+    Ok(())
+}
+
+#[test]
+fn a_text_in_a_gap_buffer_is_edited(rt: HostRuntime) -> Result<(), Fail> {
+    let alloc = rt.alloc();
+    let mut text = Text::<GapBuffer>::from_str(alloc, "{ a }")?;
+    text.splice(Span { start: 2, end: 3 }, "user")?;
+    assert_eq!(rt; text.to_string(alloc)?.as_str(), "{ user }");
+    Ok(())
+}
