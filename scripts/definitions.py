@@ -2,7 +2,8 @@
 """Writes docs/definitions.md: for each theorem the definitions that a reader must believe, from the top down.
 
 python3 scripts/definitions.py           writes it anew
-python3 scripts/definitions.py --check   says whether it is as it would be written, and changes nothing
+python3 scripts/definitions.py --check   says whether it is as it would be written, and changes nothing; and whether each block of docs/theorem.md
+                                         stands in the file that is named above it
 Either fails where a theorem, or the contract of any public call of a crate, uses a definition of a folder specs/Helping, since these only help
 proofs, and where a file of specs/ outside Helping is cited by no contract of a public call, directly or through other definitions, or brings in a
 file of Helping.
@@ -310,6 +311,19 @@ def misplaced():
                     yield f"stands outside Helping, and brings in what only helps proofs: {crate} {inside}, {module}"
 
 
+def misquoted():
+    """The blocks of docs/theorem.md that do not stand, line by line, in the file that is named last above them."""
+    named, block = None, []
+    for line in [*read(f"{TOP}/docs/theorem.md").split("\n"), "end"]:
+        if line.startswith("    "):
+            block.append(line[4:])
+        elif line or not block:
+            if block and "\n".join(block) not in read(f"{TOP}/{named}"):
+                yield f"docs/theorem.md has what {named} has not: {block[0]}"
+            block = []
+            named = (re.findall(r"crates/\w+/specs/\w+\.antt", line) or [named])[-1]
+
+
 def main():
     path, made = f"{TOP}/docs/definitions.md", page()
     named = [line.split("|")[1].strip() for line in made.split("\n") if line.startswith("| gq_")]
@@ -320,7 +334,9 @@ def main():
     if "--check" in sys.argv[1:]:
         same = os.path.isfile(path) and read(path) == made
         print("docs/definitions.md is as it would be written" if same else "docs/definitions.md differs: run scripts/definitions.py")
-        return 0 if same else 1
+        quoted = list(misquoted())
+        print("\n".join(quoted) or "docs/theorem.md quotes its files")
+        return 0 if same and not quoted else 1
     with open(path, "w", encoding="utf-8") as it:
         it.write(made)
     return 0
