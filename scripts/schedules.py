@@ -21,7 +21,8 @@ is for the documents as they are when it is asked, and what each change makes wr
 - After `shutdown` and `exit` the status is 0, and nothing is said on standard error.
 
 These are judged by a desk of its own: it takes the messages in order, each as late as what was written lets it, and between them what
-workers answered. Nothing may be left over."""
+workers answered. Where a list that was written can be that of one message, or the beginning of that of a later one, each is tried.
+Nothing may be left over."""
 import json
 import os
 import random
@@ -256,9 +257,13 @@ class Desk:
             self.pending[message.number] = message.answer
         return out + message.own
 
-    def by_workers(self, told):
+    def has_list(self, told):
+        """Whether these frames begin with the list of the last change."""
+        return bool(self.list) and told[: len(self.list)] == self.list
+
+    def by_workers(self, told, may_be_list):
         """How many of these frames a worker's result may have written, and why the first cannot be of one, if it looks so."""
-        if self.list and told[: len(self.list)] == self.list:
+        if may_be_list and self.has_list(told):
             self.list, count = [], len(self.list)
             return count, None
         body = json.loads(told[0].partition(b"\r\n\r\n")[2])
@@ -276,11 +281,30 @@ class Desk:
             return f"before shutdown there is no reply to {list(self.pending)}, and of lists there lacks\n    {shown(self.list)}"
         return None
 
+    def state(self):
+        return self.taken, dict(self.pending), list(self.list)
+
     def judge(self, told):
-        """What is wrong with the frames that were written, if something is."""
-        at = 0
+        """What is wrong with the frames that were written, if something is, by the first way of reading them."""
+        ways, seen, first = [(0, None, self.state())], set(), None
+        while ways:
+            at, barred, (self.taken, self.pending, self.list) = ways.pop()
+            why = self.follow(told, at, barred, ways, seen)
+            if not why:
+                return None
+            first = first or why
+        return first
+
+    def follow(self, told, at, barred, ways, seen):
+        """The same, from that frame on, where what is written there is not the list of the message at the barred place. Other ways are noted."""
         while at < len(told) or self.taken < len(self.messages):
-            count, why = self.by_workers(told[at:]) if at < len(told) else (0, None)
+            may_be_list = (at, self.taken) != barred
+            if may_be_list and self.has_list(told[at:]):
+                key = at, self.taken, tuple(map(str, self.pending))
+                if key not in seen:
+                    seen.add(key)
+                    ways.append((at, (at, self.taken), self.state()))
+            count, why = self.by_workers(told[at:], may_be_list) if at < len(told) else (0, None)
             at += count
             why = why or (None if count else self.must_have_come())
             if not count and not why and self.taken == len(self.messages):
