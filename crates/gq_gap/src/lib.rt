@@ -4,8 +4,6 @@
 mod block;
 mod buffer;
 mod gap;
-#[cfg(test)]
-mod tests;
 
 // A crate can name a buffer in a contract only if the types of its fields are exported.
 #[doc(hidden)]

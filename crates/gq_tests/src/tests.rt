@@ -1,5 +1,6 @@
 mod check;
 mod devices;
+mod gaps;
 mod kept;
 mod refactorings;
 mod reports;

@@ -1,5 +1,5 @@
 //! Edits of a gap buffer: what is put in is found again, and the block grows as it is told to.
-use crate::GapBuffer;
+use gq_gap::GapBuffer;
 use gq_text::{Buffer, Span, Text};
 use std::test::Fail;
 
