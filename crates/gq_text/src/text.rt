@@ -191,8 +191,8 @@ impl<B: Buffer> Text<B> {
         Ok(Text { buffer })
     }
 
-    /// Makes the changes in order, each in the result of the one before: all of them or none. Several changes are made
-    /// in a copy of the text, so `NoMemory` may come before `TooLarge`; one alone is made in place.
+    /// Makes the changes in order, each in the result of the one before: all of them or none, and all in place. For several a
+    /// copy of the text is made first, which is put back after a refusal, so `NoMemory` may come before `TooLarge`.
     pub fn apply_changes(
         &mut self,
         alloc: Global,
@@ -208,12 +208,12 @@ impl<B: Buffer> Text<B> {
         match changes {
             [] => Ok(()),
             [change] => self.apply(encoding, change),
-            _ => self.apply_each(alloc, encoding, changes),
+            _ => self.apply_all(alloc, encoding, changes),
         }
     }
 
-    /// Makes the changes in order, in a copy of the text.
-    fn apply_each(
+    /// Makes the changes in order, or puts a copy of the text back.
+    fn apply_all(
         &mut self,
         alloc: Global,
         encoding: PositionEncoding,
@@ -224,12 +224,35 @@ impl<B: Buffer> Text<B> {
         ensures too_large { result ≡ Err TextError.TooLarge → ¬ FitEach encoding self.old changes.now }
         ensures err { OnErr result (self.new ≡ self.old) }
     {
-        let mut copy = self.copy(alloc)?;
-        for change in changes {
-            copy.apply(encoding, change)?;
+        let before = self.copy(alloc)?;
+        let done = self.apply_each(encoding, changes);
+        if done.is_err() {
+            *self = before;
         }
-        *self = copy;
+        done
+    }
+
+    /// Makes the changes in order. Those before a refused one stay made.
+    fn apply_each(
+        &mut self,
+        encoding: PositionEncoding,
+        changes: &[Change],
+    ) -> Result<(), TextError>
+        ensures ok { OnOk result (self.new ≡ after_changes encoding self.old changes.now) }
+        ensures fits { OnOk result (FitEach encoding self.old changes.now) }
+        ensures too_large { result ≡ Err TextError.TooLarge → ¬ FitEach encoding self.old changes.now }
+    {
+        for change in changes {
+            self.apply(encoding, change)?;
+        }
         Ok(())
+    }
+
+    /// The buffer that it is kept in, lent.
+    pub fn buffer(&self) -> &B
+        ensures { B.contents result.now ≡ self.now }
+    {
+        &self.buffer
     }
 
     /// The text as a `String` of its own.

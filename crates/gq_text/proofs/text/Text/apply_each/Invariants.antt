@@ -3,4 +3,4 @@ use Rattle.gq_text.proofs.Splices.{Made}
 use Rattle.gq_text.proofs.text.Text.apply_each.Given as goal
 
 abbrev pub invariant-loop-change : goal.invariant-loop-change
-invariant-loop-change g l = Made l.encoding l.self l.changes l.copy (drop l.change-index l.changes)
+invariant-loop-change g l = Made l.encoding l.fn.self l.changes l.self (drop l.change-index l.changes)
