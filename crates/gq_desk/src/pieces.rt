@@ -39,7 +39,7 @@ impl Pieces {
     /// it is dropped.
     fn take(&mut self, documents: &SessionDocuments, piece: &Arc<Piece>) {
         match documents.get(piece.key()) {
-            Some(document) if document.text.as_str() == piece.text() => {}
+            Some(document) if document.text.is(piece.text()) => {}
             _ => return,
         }
         let Ok(one) = Arc::try_clone(piece) else {

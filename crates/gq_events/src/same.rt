@@ -171,7 +171,7 @@ pub fn same_task(a: &Task, b: &Task) -> bool
 pub(crate) fn same_document(a: &Doc, b: &SessionDocument) -> bool
     ensures { result ≡ spec.same_doc a.now (doc_of b.now) }
 {
-    a.key == b.key && a.uri == b.uri && a.version == b.version && a.text.as_str() == b.text.as_str()
+    a.key == b.key && a.uri == b.uri && a.version == b.version && b.text.is(a.text.as_str())
 }
 
 fn are_same(texts: &[Doc], documents: &[SessionDocument]) -> bool

@@ -1,54 +1,74 @@
-//! Texts of open documents.
-ghost use Rattle.std.specs.Prelude.{◌≡◌, ◌<◌, ◌≤◌, ◌^◌, ◌↔◌, [], length, IsErr, IfOk, OnOk, OnErr};
+//! Texts of the documents of a session.
+ghost use Rattle.std.specs.Prelude.{◌≡◌, ◌<◌, ◌≤◌, ◌^◌, ◌↔◌, [], length, IsErr, IsTrue, IfOk, OnOk, OnErr};
 ghost use Rattle.gq_text.specs.Change.{FitEach, after_changes};
+ghost use Rattle.gq_events.specs.Helping.Texts.{held_bytes};
 
+use gq_gap::GapBuffer;
 use gq_text::text::TEXT_MAX;
-use gq_text::{
-    Change, NoMemory, OwnedText, PositionEncoding, Text, TextError, TooLarge, VecBuffer,
-};
+use gq_text::{Change, NoMemory, OwnedText, PositionEncoding, Text, TextError, TooLarge};
 use std::alloc::Global;
 use std::marker::Model;
-use std::mem;
 
-/// The text of an open document, seen as its bytes: at most 4 MiB, in one piece that can be lent.
+/// Where a text lies.
+#[derive(Drop)]
+pub(crate) enum Held {
+    /// In one piece, as it came.
+    Whole(OwnedText),
+    /// In a gap buffer, since it was changed.
+    Edited(Text<GapBuffer>),
+}
+
+/// The text of a document, seen as its bytes: at most 4 MiB. From its first change on it lies in a gap buffer.
 #[derive(Drop)]
 pub struct OpenText {
-    text: OwnedText,
+    held: Held,
 }
 
 impl Model for OpenText {
     ghost use Rattle.std.specs.Prelude.{ℕ, ◌≤◌, ◌^◌, List, length};
+    ghost use Rattle.gq_events.specs.Helping.Texts.{held_bytes};
 
     ghost Value = { List ℕ };
 
-    ghost view = { λ t. t.text };
+    ghost view = { λ t. held_bytes t.held };
 
-    ghost invariant = { λ t. length t.text ≤ 2 ^ 22 };
+    ghost invariant = { λ t. length (held_bytes t.held) ≤ 2 ^ 22 };
 }
 
-/// A text without characters. It takes no memory.
-fn empty_text(alloc: Global) -> OwnedText
-    ensures { result ≡ [] }
-{
-    OwnedText::from_string(String::new(alloc))
-}
-
-/// The text after the changes, each in the result of the one before.
-fn change_text(
+/// A text with the changes made, in a gap buffer of its own.
+fn edited(
     alloc: Global,
     encoding: PositionEncoding,
-    text: OwnedText,
+    text: &str,
     changes: &[Change],
-) -> Result<OwnedText, TextError>
-    ensures changed { IfOk result (λ t. t ≡ after_changes encoding text changes.now) }
+) -> Result<Text<GapBuffer>, TextError>
+    ensures changed { IfOk result (λ t. t ≡ after_changes encoding text.now changes.now) }
     ensures short { IfOk result (λ t. length t ≤ 2 ^ 22) }
-    ensures fits { OnOk result (FitEach encoding text changes.now) }
+    ensures fits { OnOk result (FitEach encoding text.now changes.now) }
 {
-    let mut text: Text<VecBuffer> = Text::from_owned(text)?;
+    let mut text = Text::<GapBuffer>::from_str(alloc, text)?;
     text.apply_changes(alloc, encoding, changes)?;
     let len = text.len();
     prove!(len <= TEXT_MAX);
-    Ok(OwnedText::from_string(text.to_string(alloc)?))
+    Ok(text)
+}
+
+/// Makes the changes of a text in a gap buffer, where it lies.
+fn edit(
+    alloc: Global,
+    encoding: PositionEncoding,
+    text: &mut Text<GapBuffer>,
+    changes: &[Change],
+) -> Result<(), TextError>
+    ensures ok { OnOk result (text.new ≡ after_changes encoding text.old changes.now) }
+    ensures short { length text.new ≤ 2 ^ 22 }
+    ensures fits { OnOk result (FitEach encoding text.old changes.now) }
+    ensures err { OnErr result (text.new ≡ text.old) }
+{
+    let done = text.apply_changes(alloc, encoding, changes);
+    let len = text.len();
+    prove!(len <= TEXT_MAX);
+    done
 }
 
 impl OpenText {
@@ -57,7 +77,7 @@ impl OpenText {
         ensures { result ≡ [] }
     {
         OpenText {
-            text: empty_text(alloc),
+            held: Held::Whole(OwnedText::from_string(String::new(alloc))),
         }
     }
 
@@ -69,32 +89,41 @@ impl OpenText {
         if text.as_str().len() > TEXT_MAX {
             return Err(TooLarge);
         }
-        Ok(OpenText { text })
+        Ok(OpenText {
+            held: Held::Whole(text),
+        })
     }
 
-    /// The text, lent.
-    pub fn as_str(&self) -> &str
-        ensures { result.now ≡ self.now }
+    /// Whether this is the text. It is compared where it lies.
+    pub fn is(&self, text: &str) -> bool
+        ensures { IsTrue result ↔ (text.now ≡ self.now) }
     {
-        self.text.as_str()
+        match &self.held {
+            Held::Whole(whole) => text == whole.as_str(),
+            Held::Edited(edited) => edited.buffer().has_bytes(text.as_bytes()),
+        }
     }
 
     /// It has at most 4 MiB.
     pub(crate) fn fits(&self)
         ensures { length self.now ≤ 2 ^ 22 }
     {
-        let _text = &self.text;
+        let _held = &self.held;
     }
 
-    /// A copy of the text.
+    /// A copy of the text, in one piece.
     pub fn copied(&self, alloc: Global) -> Result<OwnedText, NoMemory>
         ensures same { IfOk result (λ t. t ≡ self.now) }
         ensures short { IfOk result (λ t. length t ≤ 2 ^ 22) }
     {
-        self.text.copied(alloc)
+        match &self.held {
+            Held::Whole(whole) => whole.copied(alloc),
+            Held::Edited(edited) => Ok(OwnedText::from_string(edited.to_string(alloc)?)),
+        }
     }
 
-    /// Makes the changes in order, each in the result of the one before. After an error the text is empty.
+    /// Makes the changes in order, each in the result of the one before: all of them or none. The first time it takes memory for
+    /// a gap buffer, and after that only where the text outgrows it, or for several changes at once.
     pub fn apply_changes(
         &mut self,
         alloc: Global,
@@ -103,10 +132,13 @@ impl OpenText {
     ) -> Result<(), TextError>
         ensures ok { OnOk result (self.new ≡ after_changes encoding self.old changes.now) }
         ensures fits { OnOk result (FitEach encoding self.old changes.now) }
-        ensures err { OnErr result (self.new ≡ []) }
+        ensures err { OnErr result (self.new ≡ self.old) }
     {
-        let text = mem::replace(&mut self.text, empty_text(alloc));
-        self.text = change_text(alloc, encoding, text, changes)?;
+        let text = match &mut self.held {
+            Held::Edited(text) => return edit(alloc, encoding, text, changes),
+            Held::Whole(whole) => edited(alloc, encoding, whole.as_str(), changes)?,
+        };
+        self.held = Held::Edited(text);
         Ok(())
     }
 }

@@ -1,5 +1,5 @@
 //! `GapBuffer`: bytes that are edited where the gap is. A clause sees its `bytes` and its `capacity`.
-ghost use Rattle.std.specs.Prelude.{◌≡◌, ◌+◌, ◌*◌, ◌^◌, ◌≤◌, ◌<◌, max, [], ◌++◌, length, take, drop, slice_range, IfOk, OnOk, OnErr, IsOk};
+ghost use Rattle.std.specs.Prelude.{◌≡◌, ◌↔◌, ◌+◌, ◌*◌, ◌^◌, ◌≤◌, ◌<◌, max, [], ◌++◌, length, take, drop, slice_range, IfOk, OnOk, OnErr, IsOk, IsTrue};
 ghost use Rattle.gq_gap.specs.Buffered.{buffered};
 
 use crate::gap::Gap;
@@ -60,6 +60,18 @@ impl GapBuffer {
             None => (&[], &[]),
             Some(gap) => gap.halves(),
         }
+    }
+
+    /// Whether these are its bytes, compared where they lie. It takes no memory.
+    pub fn has_bytes(&self, bytes: &[u8]) -> bool
+        ensures { IsTrue result ↔ (bytes.now ≡ self.now.bytes) }
+    {
+        let (front, back) = self.halves();
+        if bytes.len() < front.len() {
+            return false;
+        }
+        let (first, rest) = bytes.split_at(front.len());
+        first == front && rest == back
     }
 
     /// Moves the bytes to a larger block. The gap stays where it is, and an error leaves all as it was.
