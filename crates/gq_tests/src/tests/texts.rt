@@ -1,4 +1,5 @@
 //! Texts: positions of many offsets at once, limits, and texts as keys and in lists.
+use gq_gap::GapBuffer;
 use gq_text::{
     Buffer, Bytes, Change, Items, OwnedText, Position, PositionEncoding, Range, SmallText, Span,
     Text, TextError, TooLarge, VecBuffer,
@@ -38,25 +39,36 @@ fn characters_are_counted_in_bytes(rt: HostRuntime) -> Result<(), Fail> {
     Ok(())
 }
 
+/// What is answered where a text of 4 MiB would pass that by a byte, by the second of two changes and by a splice, and its
+/// length then.
+fn refused<B: Buffer>(
+    alloc: Global,
+    text: &mut Text<B>,
+    more: OwnedText,
+) -> Result<(Result<(), TextError>, Result<(), TextError>, usize), Fail> {
+    let changes = [
+        Change::Whole(OwnedText::from_str(alloc, "z")?),
+        Change::Whole(more),
+    ];
+    let whole = text.apply_changes(alloc, PositionEncoding::Utf16, &changes);
+    let start = text.offset_of(PositionEncoding::Utf16, at(0, 0));
+    let spliced = text.splice(Span { start, end: start }, "y");
+    Ok((whole, spliced, text.len()))
+}
+
 #[test]
 fn a_text_has_at_most_4_mib(rt: HostRuntime) -> Result<(), Fail> {
     let alloc = rt.alloc();
     let most = OwnedText::from_string("x".repeat(alloc, 4_194_304)?);
     let more = OwnedText::from_string("x".repeat(alloc, 4_194_305)?);
-    let changes = [
-        Change::Whole(OwnedText::from_str(alloc, "z")?),
-        Change::Whole(more.copied(alloc)?),
-    ];
-    let mut text = Text::from_owned(most)?;
-    let start = text.offset_of(PositionEncoding::Utf16, at(0, 0));
-    let spliced = text.splice(Span { start, end: start }, "y");
-    let whole = text.apply_changes(alloc, PositionEncoding::Utf16, &changes);
-    let made = Text::from_owned(more).err();
-    let refused = Err(TextError::TooLarge);
-    assert_eq!(rt;
-        (spliced, whole, text.len(), made),
-        (refused, refused, 4_194_304, Some(TooLarge))
-    );
+    let too_large = Err(TextError::TooLarge);
+    let mut gapped = Text::<GapBuffer>::from_str(alloc, most.as_str())?;
+    let mut plain = Text::from_owned(most)?;
+    let told = refused(alloc, &mut gapped, more.copied(alloc)?)?;
+    assert_eq!(rt; told, (too_large, too_large, 4_194_304));
+    let told = refused(alloc, &mut plain, more.copied(alloc)?)?;
+    assert_eq!(rt; told, (too_large, too_large, 4_194_304));
+    assert_eq!(rt; Text::from_owned(more).err(), Some(TooLarge));
     Ok(())
 }
 
