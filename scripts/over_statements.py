@@ -4,8 +4,8 @@
     python3 scripts/over_statements.py NAME [--only PATH].. [--work DIR] [--jobs N] [FLAG..]
 
 It writes a copy of each crate below NAME to DIR/crates, in which the body of each function is a call of `gq_lie::absurd`, which returns `!`
-and proves anything, as the C function that it calls promises `⊥`. What is seen so is proved GIVEN the statements of the crates below, whether or not those hold: the gate alone says that a
-crate is proved. Each crate's contracts, types, specs and lemmas stay as they are. Without --only, all of NAME is checked. Each other FLAG, as
+and proves anything, as the C function that it calls promises `⊥`. What is seen so is proved GIVEN the statements of the crates below,
+whether or not those hold: the gate alone says that a crate is proved. Each crate's contracts, types, specs and lemmas stay as they are. Without --only, all of NAME is checked. Each other FLAG, as
 --allow-holes or --short-goals, goes on to `rattle check`, whose output and status are those of this script.
 
 NAME is checked where it lies, and nothing is written there. DIR, by default a folder of this checkout's among the temporary files, keeps what was
