@@ -1,0 +1,168 @@
+#!/usr/bin/env python3
+"""Measures what keystrokes in a text of 4 MB cost, in a gap buffer and in a `Vec`.
+
+    python3 bench/texts.py [--keep FOLDER]
+
+It copies the repository, adds a program to the copy, proves that and what it stands on, and runs it as compiled. Printed are, in
+microseconds, the middle one of nine each:
+
+- reading the text byte by byte, from a `Vec` and from a gap buffer, and reading it in one piece and by its halves;
+- 10,000 bytes put in near one place, and at as many places in no order, in each of the two;
+- 100 texts of half a megabyte compared with a copy, by halves.
+
+What is wanted: 10,000 keystrokes near one place take no longer than reading the text three times, those in no order no longer than in a
+`Vec`, and reading by halves takes at most 1.1 times as long as reading in one piece. docs/PERFORMANCE.md has what was seen."""
+import argparse
+import os
+import re
+import shutil
+import subprocess
+import sys
+import tempfile
+
+ROOT = os.path.dirname(os.path.dirname(os.path.abspath(__file__)))
+NAME = "gq_text_bench"
+PROGRAM = """//! Times edits and readings of a text of 4 MB.
+#![tactic(auto)]
+
+use gq_gap::GapBuffer;
+use gq_text::{Buffer, Bytes, NoMemory, VecBuffer};
+use std::alloc::Global;
+use std::io;
+use std::rt::Clock;
+use std::time::Instant;
+
+const LEN: usize = 4_000_000;
+
+/// The text, in a buffer of that kind.
+fn filled<B: Buffer>(alloc: Global) -> Result<B, NoMemory> {
+    let mut buffer = B::empty(alloc);
+    let bytes = Vec::from_elem(alloc, b'a', LEN)?;
+    if buffer.len() == 0 {
+        buffer.insert(0, &bytes)?;
+    }
+    Ok(buffer)
+}
+
+/// Puts a byte in at each of the places.
+fn type_at<B: Buffer>(buffer: &mut B, places: &[usize]) -> Result<(), NoMemory> {
+    for place in places {
+        if *place <= buffer.len() && buffer.len() < 536_870_912 {
+            buffer.insert(*place, b"x")?;
+        }
+    }
+    Ok(())
+}
+
+/// All bytes, one after the other.
+fn read_each<B: Buffer>(buffer: &B) -> u64 {
+    let mut sum = 0u64;
+    for index in 0..buffer.len() {
+        sum = sum.wrapping_mul(31).wrapping_add(buffer.byte(index) as u64);
+    }
+    sum
+}
+
+/// All bytes of a slice.
+fn read(bytes: &[u8], before: u64) -> u64 {
+    let mut sum = before;
+    for byte in bytes {
+        sum = sum.wrapping_mul(31).wrapping_add(*byte as u64);
+    }
+    sum
+}
+
+/// Ten thousand places, each behind the one before.
+fn near(alloc: Global) -> Result<Vec<usize>, NoMemory> {
+    let mut places = Vec::new(alloc);
+    for number in 0..10_000usize {
+        places.push(2_000_000 + number)?;
+    }
+    Ok(places)
+}
+
+/// Ten thousand places in no order.
+fn apart(alloc: Global) -> Result<Vec<usize>, NoMemory> {
+    let mut places = Vec::new(alloc);
+    let mut seed = 1u64;
+    for _ in 0..10_000usize {
+        seed = seed.wrapping_mul(6_364_136_223_846_793_005).wrapping_add(1_442_695_040_888_963_407);
+        places.push(((seed >> 33) % 4_000_000) as usize)?;
+    }
+    Ok(places)
+}
+
+fn time_typing<B: Buffer, R: Print + Clock + AllocGlobal>(rt: &R, name: &str, places: &[usize]) -> io::Result<()> {
+    let Ok(mut buffer) = filled::<B>(rt.alloc()) else {
+        return Ok(());
+    };
+    let start = Instant::now(rt)?;
+    let done = type_at(&mut buffer, places).is_ok();
+    let took = start.elapsed(rt)?.as_micros();
+    println!(rt; "{name} {took} {done}")
+}
+
+fn time_reading<B: Buffer, R: Print + Clock + AllocGlobal>(rt: &R, name: &str) -> io::Result<()> {
+    let Ok(buffer) = filled::<B>(rt.alloc()) else {
+        return Ok(());
+    };
+    let start = Instant::now(rt)?;
+    let sum = read_each(&buffer);
+    let took = start.elapsed(rt)?.as_micros();
+    println!(rt; "{name} {took} {sum}")
+}
+
+fn time_slice<R: Print + Clock + AllocGlobal>(rt: &R) -> io::Result<()> {
+    let Ok(bytes) = Vec::from_elem(rt.alloc(), b'a', LEN) else {
+        return Ok(());
+    };
+    let start = Instant::now(rt)?;
+    let sum = read(&bytes, 0);
+    let took = start.elapsed(rt)?.as_micros();
+    println!(rt; "one_piece {took} {sum}")
+}
+
+fn time_halves<R: Print + Clock + AllocGlobal>(rt: &R) -> io::Result<()> {
+    let Ok(mut buffer) = filled::<GapBuffer>(rt.alloc()) else {
+        return Ok(());
+    };
+    let _ = type_at(&mut buffer, &[2_000_000]);
+    let start = Instant::now(rt)?;
+    let (front, back) = buffer.halves();
+    let sum = read(back, read(front, 0));
+    let took = start.elapsed(rt)?.as_micros();
+    println!(rt; "halves {took} {sum}")
+}
+
+fn time_comparing<R: Print + Clock + AllocGlobal>(rt: &R) -> io::Result<()> {
+    let Ok(bytes) = Vec::from_elem(rt.alloc(), b'a', LEN) else {
+        return Ok(());
+    };
+    let Ok(buffer) = filled::<GapBuffer>(rt.alloc()) else {
+        return Ok(());
+    };
+    let start = Instant::now(rt)?;
+    let same = buffer.has_bytes(&bytes);
+    let took = start.elapsed(rt)?.as_micros();
+    println!(rt; "compared {took} {same}")
+}
+
+fn measure<R: Print + Clock + AllocGlobal>(rt: &R, near: &[usize], apart: &[usize]) -> io::Result<()> {
+    time_reading::<VecBuffer, R>(rt, "read_vec")?;
+    time_reading::<GapBuffer, R>(rt, "read_gap")?;
+    time_slice(rt)?;
+    time_halves(rt)?;
+    time_comparing(rt)?;
+    time_typing::<GapBuffer, R>(rt, "near_gap", near)?;
+    time_typing::<GapBuffer, R>(rt, "apart_gap", apart)?;
+    time_typing::<VecBuffer, R>(rt, "near_vec", near)?;
+    time_typing::<VecBuffer, R>(rt, "apart_vec", apart)
+}
+
+fn main(rt: HostRuntime) -> io::Result<()> {
+    let (Ok(near), Ok(apart)) = (near(rt.alloc()), apart(rt.alloc())) else {
+        return Ok(());
+    };
+    measure(&rt, &near, &apart)
+}
+"""
