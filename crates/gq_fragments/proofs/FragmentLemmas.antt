@@ -1,6 +1,7 @@
 -- What is told of fragments is what the rules demand.
 use Rattle.std.proofs.Common.{◌≡◌, ◌↔◌, ℕ, Bool, true, false, if◌then◌else◌, is_some, not, ◌&&◌, List, [], ◌∷◌, ◌++◌, Option, Some, None, Contains, refl, sym, ap, subst, inl, inr}
-use Rattle.std.specs.Option.{option_map_or}
+use Rattle.std.specs.Str.{bytes_eq}
+use Rattle.std.specs.Cmp.Lexicographic.{bytes_decides}
 use Rattle.std.proofs.lemmas.List.Elements.{Contains-append_left, Contains-append_right, Contains-append_cases}
 use Rattle.gq_text.specs.declared.place.Span.{Span}
 use Rattle.gq_tree.specs.Plain.{NameOf, Head, field, spread, inline}
@@ -12,11 +13,10 @@ use Rattle.gq_types.specs.declared.entry.TypeKind.{TypeKind}
 use Rattle.gq_types.specs.Entries.{Text, EntryOf}
 use Rattle.gq_types.specs.Kinds.{is_composite}
 use Rattle.gq_types.specs.Joined.{kind_named}
-use Rattle.gq_types.proofs.Gathered.{from_flat, to_flat, and_parts, and_both, not_true, only, from_if, to_if, from_map_as as from_map, to_map_as as to_map}
+use Rattle.gq_types.proofs.Gathered.{from_flat, to_flat, from_any, to_any, and_parts, and_both, not_true, only, from_if, to_if, from_map_as as from_map, to_map_as as to_map}
 use Rattle.gq_document.specs.Definitions.{FragmentOf}
 use Rattle.gq_document.specs.Selections.{SelectedOf}
 use Rattle.gq_document.specs.Executable.{ExecutableOf, Selects}
-use Rattle.gq_spreads.specs.Spreads.{places_from}
 use Rattle.gq_fault.specs.FaultPlaces.{fault_over, fault_at, first_bytes}
 use Rattle.gq_fragments.specs.TypeConditions.{IsTypeCondition}
 use Rattle.gq_fragments.specs.TypeConditions as condition
@@ -27,10 +27,10 @@ use Rattle.gq_fragments.specs.FragmentSpreadIsPossible.{HaveNoObject, IsSpread, 
 use Rattle.gq_fragments.specs.FragmentSpreadIsPossible as spreads
 use Rattle.gq_fragments.specs.FragmentFaults.{IsFragmentFault}
 use Rattle.gq_fragments.specs.FragmentFaults as fault
-use Rattle.gq_fragments.specs.Helping.FragmentPlaces.{name_texts, repeated_names, condition_of_kind, condition_faults, conditions_in, condition_of_selected, conditions_of_selections, condition_of_fragment, conditions_of_fragments, share_object, is_impossible, impossible_under, impossible_in, impossible_numbered, impossible_by, impossible_at, impossible_spreads, selections, faults_of_selections, fragment_faults}
-use Rattle.gq_fragments.proofs.FoundLemmas.{found_some, number_of, contained}
+use Rattle.gq_fragments.specs.Helping.FragmentPlaces.{repeated_names, condition_of_kind, condition_faults, conditions_in, condition_of_selected, conditions_of_selections, condition_of_fragment, conditions_of_fragments, share_object, is_impossible, impossible_under, impossible_in, is_on, some_condition, impossible_once, impossible_by, impossible_at, impossible_spreads, selections, faults_of_selections, fragment_faults}
+use Rattle.gq_fragments.proofs.FoundLemmas.{found_some}
 use Rattle.gq_fragments.proofs.SharedLemmas.{share_decides}
-use Rattle.gq_fragments.proofs.SpreadLemmas.{from_places, to_places, from_selections, to_selections}
+use Rattle.gq_fragments.proofs.SpreadLemmas.{from_selections, to_selections}
 
 -- two types without an object type in common
 have_no_object : (es : List EntryOf) (parent condition : Text) → is_impossible es parent condition ≡ true → HaveNoObject es parent condition
@@ -150,12 +150,18 @@ module _ (x : ExecutableOf) (item : Fault) where
 
   spread_is_fault : (s : SelectedOf) → Selects x s → (h : Head Span) → s.selection.label ≡ h → Contains (impossible_by x.entries x.fragments s h) item → IsFragmentFault x item
   spread_is_fault s selects (field alias name arguments directives braces place) is found = absurd (contains_none item found)
-  spread_is_fault s selects (spread name directives place) is found =
-      let one = from_flat (impossible_numbered x.entries x.fragments s name) (places_from 0 name.text (name_texts x.fragments)) item found in
-      let numbered = from_places name.text x.fragments one.0 one.1 in
-      let told = subst (λ o. Contains (option_map_or (λ (f : FragmentOf). impossible_in x.entries s name.place f.on.text) o []) item) numbered.at one.2 in
-      let spread_is = spreads.of_fragment {directives = directives} {place = place} (contained x.fragments one.0 numbered.fragment numbered.at) numbered.has_name in
-      impossible_is_fault s selects numbered.fragment.on.text name.place (subst (λ h. IsSpread x.fragments h numbered.fragment.on.text name.place) (sym is) spread_is) s.parent refl told
+  spread_is_fault s selects (spread name directives place) is found = by_parent s.parent refl found
+    where
+      by_parent : (o : Option Text) → s.parent ≡ o → Contains (impossible_once x.entries x.fragments s.file name o) item → IsFragmentFault x item
+      by_parent None below told = absurd (contains_none item told)
+      by_parent (Some parent) below told =
+          let told_at = from_if (some_condition (is_impossible x.entries parent) x.fragments name.text) (fault_over s.file SpreadNotPossible name.place) item told in
+          let one = from_any (is_on name.text (is_impossible x.entries parent)) x.fragments told_at.0 in
+          let parts = and_parts (bytes_eq name.text one.0.name.text) (is_impossible x.entries parent one.0.on.text) one.2 in
+          let has_name = sym ((bytes_decides name.text one.0.name.text).0 parts.0) in
+          let spread_is = spreads.of_fragment {directives = directives} {place = place} one.1 has_name in
+          impossible_is_fault s selects one.0.on.text name.place (subst (λ h. IsSpread x.fragments h one.0.on.text name.place) (sym is) spread_is) (Some parent) below
+          (to_if (is_impossible x.entries parent one.0.on.text) (fault_over s.file SpreadNotPossible name.place) item parts.1 told_at.1)
   spread_is_fault s selects (inline None directives braces place) is found = absurd (contains_none item found)
   spread_is_fault s selects (inline (Some name) directives braces place) is found =
       impossible_is_fault s selects name.text (first_bytes 3 place) (subst (λ h. IsSpread x.fragments h name.text (first_bytes 3 place)) (sym is) spreads.of_inline_fragment) s.parent refl found
@@ -165,13 +171,18 @@ module _ (x : ExecutableOf) (item : Fault) where
       let one = from_flat (impossible_at x.entries x.fragments) (selections x) item found in
       spread_is_fault one.0 (from_selections x one.0 one.1) one.0.selection.label refl one.2
 
+  to_once : (file : ℕ) (name : NameOf Span) (f : FragmentOf) → Contains x.fragments f → f.name.text ≡ name.text → (o : Option Text) →
+      Contains (impossible_under x.entries file name.place o f.on.text) item → Contains (impossible_once x.entries x.fragments file name o) item
+  to_once file name f stands has_name None told = told
+  to_once file name f stands has_name (Some parent) told =
+      let one = from_if (is_impossible x.entries parent f.on.text) (fault_over file SpreadNotPossible name.place) item told in
+      let both = and_both (bytes_eq name.text f.name.text) (is_impossible x.entries parent f.on.text) ((bytes_decides name.text f.name.text).1 (sym has_name)) one.0 in
+      to_if (some_condition (is_impossible x.entries parent) x.fragments name.text) (fault_over file SpreadNotPossible name.place) item
+      (to_any (is_on name.text (is_impossible x.entries parent)) x.fragments f stands both) one.1
+
   to_by_head : (s : SelectedOf) {h : Head Span} {type_name : Text} {place : Span} → IsSpread x.fragments h type_name place → Contains (impossible_in x.entries s place type_name) item →
       Contains (impossible_by x.entries x.fragments s h) item
-  to_by_head s (spreads.of_fragment {f} {name} {directives} {place} stands has_name) told =
-      let number = number_of x.fragments f stands in
-      let one = subst (λ o. Contains (option_map_or (λ (f : FragmentOf). impossible_in x.entries s name.place f.on.text) o []) item) (sym number.1) told in
-      to_flat (impossible_numbered x.entries x.fragments s name) (places_from 0 name.text (name_texts x.fragments)) number.0 item
-      (to_places name.text x.fragments number.0 (record { fragment = f; at = number.1; has_name = has_name })) one
+  to_by_head s (spreads.of_fragment {f} {name} {directives} {place} stands has_name) told = to_once s.file name f stands has_name s.parent told
   to_by_head s spreads.of_inline_fragment told = told
 
   to_spread : IsSpreadNotPossible x item → Contains (fragment_faults x) item

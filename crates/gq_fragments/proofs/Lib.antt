@@ -3,4 +3,5 @@ pub mod RepeatedNames
 pub mod OperationLemmas
 pub mod SharedLemmas
 pub mod SpreadLemmas
+pub mod ConditionLemmas
 pub mod FragmentLemmas

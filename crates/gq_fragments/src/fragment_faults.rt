@@ -6,13 +6,13 @@ ghost use Rattle.gq_fault.specs.Adds.{AddsExactly};
 ghost use Rattle.gq_fragments.specs.FragmentFaults.{IsFragmentFault};
 ghost use Rattle.gq_fragments.specs.Helping.FragmentPlaces.{faults_of_selections, fragment_faults};
 
+use crate::conditions_by_name::conditions_by_name;
 use crate::fragment_name_uniqueness::add_repeated_names;
 use crate::fragment_spread_is_possible::add_impossible_spreads;
 use crate::selections::selections;
 use crate::type_conditions::{add_conditions_of_fragments, add_conditions_of_selections};
 use gq_document::{Executable, Selected};
 use gq_fault::Fault;
-use gq_spreads::FragmentNames;
 use gq_text::NoMemory;
 use std::alloc::Global;
 
@@ -53,7 +53,7 @@ fn add_of_selections(
 ) -> Result<(), NoMemory>
     ensures { OnOk result (faults.new.items ≡ faults.old.items ++ faults_of_selections (executable_view executable.now) (selections_view selections.now)) }
 {
-    let names = FragmentNames::of(alloc, executable.fragments)?;
+    let conditions = conditions_by_name(alloc, executable.fragments)?;
     add_conditions_of_selections(executable.types, selections, faults)?;
-    add_impossible_spreads(alloc, executable, &names, selections, faults)
+    add_impossible_spreads(alloc, executable, &conditions, selections, faults)
 }

@@ -1,17 +1,20 @@
 //! Spreads where the type of the parent and the type condition have no possible object type in common (GraphQL, October
 //! 2021, section 5.5.2.3).
 ghost use Rattle.std.specs.Prelude.{◌≡◌, ◌++◌, IfOk, OnOk};
+ghost use Rattle.std.specs.List.{list_any};
 ghost use Rattle.gq_tree.specs.Views.{name_of};
 ghost use Rattle.gq_types.specs.Look.{types_view};
+ghost use Rattle.gq_types.specs.LookUps.{texts_of};
 ghost use Rattle.gq_document.specs.Definitions.{fragments_view};
 ghost use Rattle.gq_document.specs.Views.{selected_view, selections_view};
-ghost use Rattle.gq_fragments.specs.Helping.FragmentPlaces.{name_texts, is_impossible, impossible_in, impossible_numbered, impossible_among, impossible_spread, impossible_at, impossible_spreads};
+ghost use Rattle.gq_fragments.specs.Helping.ConditionsPlaces.{HoldConditions};
+ghost use Rattle.gq_fragments.specs.Helping.FragmentPlaces.{is_impossible, impossible_in, impossible_spread, impossible_at, impossible_spreads};
 ghost use Rattle.gq_fragments.specs.Helping.SharedObjectsPlaces.{AreAnswers};
 
 use crate::shared_objects::SharedObjects;
 use gq_document::{Executable, Selected};
 use gq_fault::{Code, Fault, add_fault, fault_over, first_bytes};
-use gq_spreads::FragmentNames;
+use gq_names::ByName;
 use gq_text::{NoMemory, Span};
 use gq_tree::{Name, Selection};
 use gq_types::Types;
@@ -64,78 +67,56 @@ fn add_if_impossible(
     }
 }
 
-/// The fault of a spread of the fragment with that number.
-fn add_of_numbered(
+/// Whether one of the conditions is impossible below the parent.
+fn is_one_impossible(
     alloc: Global,
-    executable: &Executable<'_>,
+    types: &Types,
     shared: &mut SharedObjects,
-    selected: &Selected<'_>,
-    name: &Name,
-    number: usize,
-    faults: &mut Vec<Fault>,
-) -> Result<(), NoMemory>
-    requires { AreAnswers (types_view executable.now.types.now) shared.old.answers }
-    ensures answers { AreAnswers (types_view executable.now.types.now) shared.new.answers }
-    ensures faults { OnOk result (faults.new.items ≡ faults.old.items ++ impossible_numbered (types_view executable.now.types.now)
-        (fragments_view executable.now.fragments.now) (selected_view selected.now) (name_of name.now) number) }
+    parent: &str,
+    conditions: &[&str],
+) -> Result<bool, NoMemory>
+    requires { AreAnswers (types_view types.now) shared.old.answers }
+    ensures answers { AreAnswers (types_view types.now) shared.new.answers }
+    ensures found { IfOk result (λ found. found ≡ list_any (is_impossible (types_view types.now) parent.now) (texts_of conditions.now)) }
 {
-    match executable.fragments.get(number) {
-        Some(fragment) => {
-            let condition = fragment.definition.on.text.as_str();
-            add_if_impossible(
-                alloc,
-                executable.types,
-                shared,
-                selected,
-                name.span,
-                condition,
-                faults,
-            )
+    for condition in conditions {
+        if is_impossible(alloc, types, shared, parent, condition)? {
+            return Ok(true);
         }
-        None => Ok(()),
     }
+    Ok(false)
 }
 
-/// The faults of a spread of the fragments with these numbers.
-fn add_of_all_numbered(
-    alloc: Global,
-    executable: &Executable<'_>,
-    shared: &mut SharedObjects,
-    selected: &Selected<'_>,
-    name: &Name,
-    numbers: &[usize],
-    faults: &mut Vec<Fault>,
-) -> Result<(), NoMemory>
-    requires { AreAnswers (types_view executable.now.types.now) shared.old.answers }
-    ensures answers { AreAnswers (types_view executable.now.types.now) shared.new.answers }
-    ensures faults { OnOk result (faults.new.items ≡ faults.old.items ++ impossible_among (types_view executable.now.types.now)
-        (fragments_view executable.now.fragments.now) (selected_view selected.now) (name_of name.now) numbers.now) }
-{
-    for number in numbers {
-        add_of_numbered(alloc, executable, shared, selected, name, *number, faults)?;
-    }
-    Ok(())
-}
-
-/// The faults of a spread of the fragments of that name.
+/// The fault of a spread of the fragments of that name, if one of their type conditions has no object type in common with
+/// its parent. The type conditions are those of the fragments.
 fn add_of_spread(
     alloc: Global,
     executable: &Executable<'_>,
-    names: &FragmentNames,
+    conditions: &ByName<&str>,
     shared: &mut SharedObjects,
     selected: &Selected<'_>,
     name: &Name,
     faults: &mut Vec<Fault>,
 ) -> Result<(), NoMemory>
-    requires names { names.now.names.items ≡ name_texts (fragments_view executable.now.fragments.now) }
+    requires conditions { HoldConditions (fragments_view executable.now.fragments.now) conditions.now }
     requires answers { AreAnswers (types_view executable.now.types.now) shared.old.answers }
     ensures answers { AreAnswers (types_view executable.now.types.now) shared.new.answers }
     ensures faults { OnOk result (faults.new.items ≡ faults.old.items ++ impossible_spread (types_view executable.now.types.now)
         (fragments_view executable.now.fragments.now) (selected_view selected.now) (name_of name.now)) }
 {
-    let mut numbers = Vec::new(alloc);
-    names.put_numbers(name.text.as_str(), &mut numbers)?;
-    add_of_all_numbered(alloc, executable, shared, selected, name, &numbers, faults)
+    match selected.parent {
+        Some(parent) => {
+            let of_name = conditions.get(name.text.as_str());
+            if is_one_impossible(alloc, executable.types, shared, parent, of_name)? {
+                add_fault(
+                    fault_over(selected.file, Code::SpreadNotPossible, name.span),
+                    faults,
+                )?;
+            }
+            Ok(())
+        }
+        None => Ok(()),
+    }
 }
 
 /// The faults of a selection, if it is a spread or an inline fragment.
@@ -143,12 +124,12 @@ fn add_of_spread(
 fn add_of_selected(
     alloc: Global,
     executable: &Executable<'_>,
-    names: &FragmentNames,
+    conditions: &ByName<&str>,
     shared: &mut SharedObjects,
     selected: &Selected<'_>,
     faults: &mut Vec<Fault>,
 ) -> Result<(), NoMemory>
-    requires names { names.now.names.items ≡ name_texts (fragments_view executable.now.fragments.now) }
+    requires conditions { HoldConditions (fragments_view executable.now.fragments.now) conditions.now }
     requires answers { AreAnswers (types_view executable.now.types.now) shared.old.answers }
     ensures answers { AreAnswers (types_view executable.now.types.now) shared.new.answers }
     ensures faults { OnOk result (faults.new.items ≡ faults.old.items ++ impossible_at (types_view executable.now.types.now)
@@ -160,7 +141,7 @@ fn add_of_selected(
             add_of_spread(
                 alloc,
                 executable,
-                names,
+                conditions,
                 shared,
                 selected,
                 &spread.name,
@@ -190,17 +171,17 @@ fn add_of_selected(
 pub(crate) fn add_impossible_spreads(
     alloc: Global,
     executable: &Executable<'_>,
-    names: &FragmentNames,
+    conditions: &ByName<&str>,
     selections: &[Selected<'_>],
     faults: &mut Vec<Fault>,
 ) -> Result<(), NoMemory>
-    requires { names.now.names.items ≡ name_texts (fragments_view executable.now.fragments.now) }
+    requires { HoldConditions (fragments_view executable.now.fragments.now) conditions.now }
     ensures { OnOk result (faults.new.items ≡ faults.old.items ++ impossible_spreads (types_view executable.now.types.now)
         (fragments_view executable.now.fragments.now) (selections_view selections.now)) }
 {
     let mut shared = SharedObjects::new(alloc);
     for selected in selections {
-        add_of_selected(alloc, executable, names, &mut shared, selected, faults)?;
+        add_of_selected(alloc, executable, conditions, &mut shared, selected, faults)?;
     }
     Ok(())
 }

@@ -1,6 +1,7 @@
 //! Operations and fragments by themselves, and where fragments may be spread (GraphQL, October 2021, sections 5.2 and 5.5).
 #![tactic(auto)]
 
+mod conditions_by_name;
 pub mod fragment_faults;
 mod fragment_name_uniqueness;
 mod fragment_spread_is_possible;

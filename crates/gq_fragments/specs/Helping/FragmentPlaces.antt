@@ -1,7 +1,7 @@
 -- What is told of fragments, computed.
-use Rattle.std.specs.Prelude.{ℕ, Bool, List, [], ◌∷◌, ◌++◌, Option, Some, None, map, flat_map, is_some, not, slice_get, if◌then◌else◌, ◌&&◌}
+use Rattle.std.specs.Prelude.{ℕ, Bool, List, [], ◌∷◌, ◌++◌, Option, Some, None, map, flat_map, is_some, not, if◌then◌else◌, ◌&&◌}
 use Rattle.std.specs.List.{list_any}
-use Rattle.std.specs.Option.{option_map_or}
+use Rattle.std.specs.Str.{bytes_eq}
 use Rattle.gq_text.specs.declared.place.Span.{Span}
 use Rattle.gq_tree.specs.Plain.{NameOf, Head, field, spread, inline}
 use Rattle.gq_names.specs.Repeats.{repeated_after}
@@ -16,11 +16,7 @@ use Rattle.gq_types.specs.SubtypesTests.{is_possible}
 use Rattle.gq_document.specs.Definitions.{FragmentOf}
 use Rattle.gq_document.specs.Selections.{SelectedOf, operation_selections, fragment_selections}
 use Rattle.gq_document.specs.Executable.{ExecutableOf}
-use Rattle.gq_spreads.specs.Spreads.{places_from}
 use Rattle.gq_fault.specs.FaultPlaces.{fault_over, fault_at, first_bytes}
-
-abbrev pub name_texts : List FragmentOf → List Text
-name_texts fs = map (λ f. f.name.text) fs
 
 abbrev pub repeated_names : (before : List Text) → List FragmentOf → List Fault
 repeated_names before fs = map (λ f. fault_at f.file FragmentNameNotUnique f.name) (repeated_after (λ f. f.name.text) before fs)
@@ -68,14 +64,20 @@ impossible_under es file place (Some parent) condition = if is_impossible es par
 abbrev pub impossible_in : List EntryOf → SelectedOf → Span → Text → List Fault
 impossible_in es s place condition = impossible_under es s.file place s.parent condition
 
-abbrev pub impossible_numbered : List EntryOf → List FragmentOf → SelectedOf → NameOf Span → ℕ → List Fault
-impossible_numbered es fs s name number = option_map_or (λ f. impossible_in es s name.place f.on.text) (slice_get fs number) []
+-- whether a fragment has that name, and a type condition that passes a test
+abbrev pub is_on : (name : Text) → (Text → Bool) → FragmentOf → Bool
+is_on name test f = bytes_eq name f.name.text && test f.on.text
 
-abbrev pub impossible_among : List EntryOf → List FragmentOf → SelectedOf → NameOf Span → List ℕ → List Fault
-impossible_among es fs s name numbers = flat_map (impossible_numbered es fs s name) numbers
+abbrev pub some_condition : (Text → Bool) → List FragmentOf → (name : Text) → Bool
+some_condition test fs name = list_any (is_on name test) fs
+
+-- However many fragments have the name, there is one fault.
+abbrev pub impossible_once : List EntryOf → List FragmentOf → ℕ → NameOf Span → Option Text → List Fault
+impossible_once es fs file name None = []
+impossible_once es fs file name (Some parent) = if some_condition (is_impossible es parent) fs name.text then fault_over file SpreadNotPossible name.place ∷ [] else []
 
 abbrev pub impossible_spread : List EntryOf → List FragmentOf → SelectedOf → NameOf Span → List Fault
-impossible_spread es fs s name = impossible_among es fs s name (places_from 0 name.text (name_texts fs))
+impossible_spread es fs s name = impossible_once es fs s.file name s.parent
 
 abbrev pub impossible_by : List EntryOf → List FragmentOf → SelectedOf → Head Span → List Fault
 impossible_by es fs s (field alias name arguments directives braces place) = []
