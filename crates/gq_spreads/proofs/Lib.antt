@@ -1,7 +1,8 @@
 pub mod PlaceLemmas
 pub mod RowLemmas
 pub mod ReachLemmas
-pub mod MarkLemmas
+pub mod NameRowLemmas
+pub mod NameWays
 pub mod UnusedLemmas
 pub mod UnknownLemmas
 pub mod CycleLemmas

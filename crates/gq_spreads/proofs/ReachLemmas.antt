@@ -13,7 +13,7 @@ use Rattle.gq_spreads.specs.declared.spreads.Spreads.{Spreads}
 use Rattle.gq_spreads.proofs.RowLemmas.{stands, number_of, at_number, starts_below}
 
 -- a fragment that is reached is one of the fragments
-reached_stands : (fs : List FragmentOf) (set : Sels Span) (f : FragmentOf) → Reaches fs set f → Contains fs f
+pub reached_stands : (fs : List FragmentOf) (set : Sels Span) (f : FragmentOf) → Reaches fs set f → Contains fs f
 reached_stands fs set f (at_once there spread) = there
 reached_stands fs set f (through way there spread) = there
 

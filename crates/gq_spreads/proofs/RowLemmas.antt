@@ -61,10 +61,10 @@ map_at f [] n x at = absurd (none-some x at)
 map_at f (y ∷ ys) zero x at = ap f (same_Some y x at)
 map_at f (y ∷ ys) (suc n) x at = map_at f ys n x at
 
-row_of : {X : Type 0} (f : X → List ℕ) (rows : List (Vec ℕ Global)) (xs : List X) → row_items rows ≡ map f xs → (n : ℕ) (x : X) → slice_get xs n ≡ Some x → row rows n ≡ f x
+pub row_of : {X : Type 0} (f : X → List ℕ) (rows : List (Vec ℕ Global)) (xs : List X) → row_items rows ≡ map f xs → (n : ℕ) (x : X) → slice_get xs n ≡ Some x → row rows n ≡ f x
 row_of f rows xs is n x at = row_is rows n ∙ ap (λ ns. get_or ns n []) is ∙ map_at f xs n x at
 
-rows_count : {X : Type 0} (f : X → List ℕ) (rows : List (Vec ℕ Global)) (xs : List X) → row_items rows ≡ map f xs → length rows ≡ length xs
+pub rows_count : {X : Type 0} (f : X → List ℕ) (rows : List (Vec ℕ Global)) (xs : List X) → row_items rows ≡ map f xs → length rows ≡ length xs
 rows_count f rows xs is = sym (length-map rows (λ v. v.items)) ∙ ap length is ∙ length-map xs f
 
 pub are_spreads : (x : ExecutableOf) (s : Spreads) (ts : List Text) → ts ≡ texts x.fragments → row_items s.of_operations.items ≡ map (operation_numbers ts) x.operations
@@ -79,7 +79,7 @@ are_spreads x s ts are os fs = record {
 }
 
 -- the numbers in the rows are those of fragments
-rows_below : (rows : List (Vec ℕ Global)) (count : ℕ) → ((m n : ℕ) → m < length rows → Contains (row rows m) n → n < count) → All (λ v. All (λ n. n < count) v.items) rows
+pub rows_below : (rows : List (Vec ℕ Global)) (count : ℕ) → ((m n : ℕ) → m < length rows → Contains (row rows m) n → n < count) → All (λ v. All (λ n. n < count) v.items) rows
 rows_below rows count below k d inside k' d' inside' =
     below k (get_or (get_or rows k d).items k' d') inside
     (subst (λ ns. Contains ns (get_or (get_or rows k d).items k' d')) (sym (row_at rows k d inside)) (Contains-get_or (get_or rows k d).items k' d' inside'))

@@ -2,4 +2,5 @@
 pub mod FragmentSpreadTargetDefinedPlaces
 pub mod FragmentSpreadsMustNotFormCyclesPlaces
 pub mod FragmentsMustBeUsedPlaces
+pub mod NameRows
 pub mod Rows

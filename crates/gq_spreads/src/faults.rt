@@ -27,8 +27,8 @@ pub fn add_spread_faults(
     requires spreads { AreSpreads (executable_view executable.now) spreads.now }
     ensures { OnOk result (AddsExactly (IsSpreadFault (executable_view executable.now)) faults.old.items faults.new.items) }
 {
-    add_unused_fragments(alloc, executable, spreads, faults)?;
+    add_unused_fragments(alloc, executable, faults)?;
     let names = FragmentNames::of(alloc, executable.fragments)?;
     add_unknown_fragments(alloc, executable, &names, faults)?;
-    add_fragment_cycles(alloc, executable, spreads, &names, faults)
+    add_fragment_cycles(alloc, executable, &names, faults)
 }

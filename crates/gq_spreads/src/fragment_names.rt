@@ -1,10 +1,11 @@
 //! The names of fragments, in which all fragments of a name are found.
-ghost use Rattle.std.specs.Prelude.{◌≡◌, ◌++◌, ◌∷◌, [], OnOk, IfOk, map};
+ghost use Rattle.std.specs.Prelude.{◌≡◌, ◌<◌, ◌++◌, ◌∷◌, [], OnOk, IfOk, IfSome, length, map};
 ghost use Rattle.std.specs.List.{list_any};
 ghost use Rattle.std.specs.Str.{bytes_eq};
 ghost use Rattle.gq_names.specs.UnderNames.{items_under};
 ghost use Rattle.gq_types.specs.Entries.{Text};
 ghost use Rattle.gq_document.specs.Definitions.{fragments_view};
+ghost use Rattle.gq_spreads.specs.Helping.NameRows.{first_number};
 ghost use Rattle.gq_spreads.specs.Spreads.{places_from};
 
 use gq_document::FragmentEntry;
@@ -46,6 +47,14 @@ impl FragmentNames {
         ensures { result.now ≡ places_from 0 name.now self.now.names.items }
     {
         self.numbers.get(name)
+    }
+
+    /// The number of the first fragment of that name. It takes no memory.
+    pub(crate) fn first_number(&self, name: &str) -> Option<usize>
+        ensures is { result ≡ first_number self.now.names.items name.now }
+        ensures within { IfSome result (λ number. number < length self.now.names.items) }
+    {
+        self.numbers(name).first().copied()
     }
 
     /// Puts the numbers of the fragments of that name behind the others, in order. Takes time for these alone.

@@ -1,83 +1,115 @@
 //! Fragments must be used (section 5.5.1.4).
-ghost use Rattle.std.specs.Prelude.{◌≡◌, ◌<◌, ◌++◌, length, All, IfOk, OnOk};
+ghost use Rattle.std.specs.Prelude.{◌≡◌, ◌++◌, flat_map, map, IfOk, OnOk};
 ghost use Rattle.gq_fault.specs.Adds.{AddsExactly};
-ghost use Rattle.gq_graph.specs.Components.{Also};
-ghost use Rattle.gq_document.specs.Definitions.{fragment_view, fragments_view};
+ghost use Rattle.gq_tree.specs.Names.{names_at};
+ghost use Rattle.gq_tree.specs.Views.{sels_view};
+ghost use Rattle.gq_document.specs.Definitions.{operations_view, fragment_view, fragments_view};
 ghost use Rattle.gq_document.specs.Executable.{executable_view};
 ghost use Rattle.gq_spreads.specs.FragmentsMustBeUsed.{IsUnusedFragment};
-ghost use Rattle.gq_spreads.specs.Helping.FragmentsMustBeUsedPlaces.{all_numbers, MarksRows, unused_if, unused_fragments};
-ghost use Rattle.gq_spreads.specs.Spreads.{AreSpreads};
+ghost use Rattle.gq_spreads.specs.Helping.FragmentsMustBeUsedPlaces.{spread_texts, texts_of_operation, texts_of_fragment, all_spread_texts, unused_if, unused_fragments};
 
-use crate::spreads::Spreads;
-use gq_document::{Executable, FragmentEntry};
+use gq_document::{Executable, FragmentEntry, OperationEntry};
 use gq_fault::{Code, Fault};
-use gq_graph::mark_all;
+use gq_names::NameList;
 use gq_text::NoMemory;
+use gq_tree::{Name, Selection, spread_names};
 use std::alloc::Global;
 
 /// Adds a fault at the name of each fragment that is spread nowhere.
 pub fn add_unused_fragments(
     alloc: Global,
     executable: &Executable<'_>,
-    spreads: &Spreads,
     faults: &mut Vec<Fault>,
 ) -> Result<(), NoMemory>
-    requires spreads { AreSpreads (executable_view executable.now) spreads.now }
     ensures { OnOk result (AddsExactly (IsUnusedFragment (executable_view executable.now)) faults.old.items faults.new.items) }
 {
-    let marks = spread_marks(alloc, spreads, executable.fragments.len())?;
-    add_unmarked(&marks, executable.fragments, faults)
+    let spread = all_spread_names(alloc, executable)?;
+    add_unspread(executable.fragments, &spread, faults)
 }
 
-/// A mark at each number that is spread somewhere.
-fn spread_marks(alloc: Global, spreads: &Spreads, count: usize) -> Result<Vec<bool>, NoMemory>
-    requires operations { All (λ v. All (λ n. n < count) v.items) spreads.now.of_operations.items }
-    requires fragments { All (λ v. All (λ n. n < count) v.items) spreads.now.of_fragments.items }
-    ensures count { IfOk result (λ marks. length marks.items ≡ count) }
-    ensures marks { IfOk result (λ marks. MarksRows spreads.now.of_operations.items spreads.now.of_fragments.items marks.items) }
+/// The names of all spreads.
+fn all_spread_names(alloc: Global, executable: &Executable<'_>) -> Result<NameList, NoMemory>
+    ensures { IfOk result (λ spread. spread ≡ all_spread_texts (executable_view executable.now)) }
 {
-    let mut marks = vec![in alloc; false; count]?;
-    mark_rows(&mut marks, &spreads.of_operations);
-    mark_rows(&mut marks, &spreads.of_fragments);
-    Ok(marks)
+    let mut spread = NameList::new(alloc);
+    put_of_operations(alloc, executable.operations, &mut spread)?;
+    put_of_fragments(alloc, executable.fragments, &mut spread)?;
+    Ok(spread)
 }
 
-/// Marks the numbers in the table.
-fn mark_rows(marks: &mut Vec<bool>, rows: &[Vec<usize>])
-    requires range { All (λ v. All (λ n. n < length marks.old.items) v.items) rows.now }
-    ensures count { length marks.new.items ≡ length marks.old.items }
-    ensures also { Also (all_numbers rows.now) marks.old.items marks.new.items }
-{
-    for row in rows {
-        mark_all(marks, row);
-    }
-}
-
-/// Adds a fault for each fragment whose number is not marked.
-fn add_unmarked(
-    marks: &[bool],
-    fragments: &[FragmentEntry<'_>],
-    faults: &mut Vec<Fault>,
+/// Puts the names that are spread in operations behind the others.
+fn put_of_operations(
+    alloc: Global,
+    operations: &[OperationEntry<'_>],
+    spread: &mut NameList,
 ) -> Result<(), NoMemory>
-    requires count { length marks.now ≡ length fragments.now }
-    ensures { OnOk result (faults.new.items ≡ faults.old.items ++ unused_fragments marks.now (fragments_view fragments.now)) }
+    ensures { OnOk result (spread.new ≡ spread.old ++ flat_map texts_of_operation (operations_view operations.now)) }
 {
-    for (number, fragment) in fragments.iter().enumerate() {
-        add_unless(marks[number], fragment, faults)?;
+    for operation in operations {
+        put_of_selections(alloc, &operation.definition.set.items, spread)?;
     }
     Ok(())
 }
 
-/// Adds the fragment's fault, unless it is marked.
-fn add_unless(
-    marked: bool,
-    fragment: &FragmentEntry<'_>,
+/// Puts the names that are spread in fragments behind the others.
+fn put_of_fragments(
+    alloc: Global,
+    fragments: &[FragmentEntry<'_>],
+    spread: &mut NameList,
+) -> Result<(), NoMemory>
+    ensures { OnOk result (spread.new ≡ spread.old ++ flat_map texts_of_fragment (fragments_view fragments.now)) }
+{
+    for fragment in fragments {
+        put_of_selections(alloc, &fragment.definition.set.items, spread)?;
+    }
+    Ok(())
+}
+
+/// Puts the names that are spread in selections behind the others.
+fn put_of_selections(
+    alloc: Global,
+    selections: &[Selection],
+    spread: &mut NameList,
+) -> Result<(), NoMemory>
+    ensures { OnOk result (spread.new ≡ spread.old ++ spread_texts (sels_view selections.now)) }
+{
+    put_names(&spread_names(alloc, selections)?, spread)
+}
+
+/// Puts these names behind the others.
+fn put_names(names: &[&Name], spread: &mut NameList) -> Result<(), NoMemory>
+    ensures { OnOk result (spread.new ≡ spread.old ++ map (λ n. n.text) (names_at names.now)) }
+{
+    for name in names {
+        let _ = spread.push(name.text.as_str())?;
+    }
+    Ok(())
+}
+
+/// Adds a fault for each fragment whose name is not among those that are spread.
+fn add_unspread(
+    fragments: &[FragmentEntry<'_>],
+    spread: &NameList,
     faults: &mut Vec<Fault>,
 ) -> Result<(), NoMemory>
-    ensures { OnOk result (faults.new.items ≡ faults.old.items ++ unused_if marked (fragment_view fragment.now)) }
+    ensures { OnOk result (faults.new.items ≡ faults.old.items ++ unused_fragments spread.now (fragments_view fragments.now)) }
+{
+    for fragment in fragments {
+        add_unless_spread(fragment, spread, faults)?;
+    }
+    Ok(())
+}
+
+/// Adds the fragment's fault, unless its name is among those that are spread.
+fn add_unless_spread(
+    fragment: &FragmentEntry<'_>,
+    spread: &NameList,
+    faults: &mut Vec<Fault>,
+) -> Result<(), NoMemory>
+    ensures { OnOk result (faults.new.items ≡ faults.old.items ++ unused_if spread.now (fragment_view fragment.now)) }
 {
     let name = &fragment.definition.name;
-    if !marked {
+    if !spread.contains(name.text.as_str()) {
         faults.push(Fault {
             file: fragment.file,
             start: name.span.start,

@@ -1,29 +1,33 @@
 -- What is told of fragments that are not used, in their order, computed.
-use Rattle.std.specs.Prelude.{◌≡◌, ℕ, Bool, true, false, List, [], ◌∷◌, ◌⊎◌, if◌then◌else◌, Contains, flat_map, slice_index_or}
-use Rattle.std.specs.List.{enumerate_from}
-use Rattle.std.specs.declared.vec.Vec.{Vec}
-use Rattle.std.specs.declared.alloc.Global.{Global}
+use Rattle.std.specs.Prelude.{List, [], ◌∷◌, ◌++◌, if◌then◌else◌, flat_map, map}
+use Rattle.std.specs.List.{list_any}
+use Rattle.std.specs.Str.{bytes_eq}
+use Rattle.gq_text.specs.declared.place.Span.{Span}
+use Rattle.gq_tree.specs.Names.{spread_names}
+use Rattle.gq_tree.specs.Plain.{Sels}
 use Rattle.gq_fault.specs.declared.code.Code.TheVariants.{FragmentNotUsed}
 use Rattle.gq_fault.specs.declared.fault.Fault.{Fault}
-use Rattle.gq_document.specs.Definitions.{FragmentOf}
+use Rattle.gq_types.specs.Entries.{Text}
+use Rattle.gq_document.specs.Definitions.{OperationOf, FragmentOf}
+use Rattle.gq_document.specs.Executable.{ExecutableOf}
 use Rattle.gq_fault.specs.FaultPlaces.{fault_at}
 
--- the numbers in a table, row by row
-abbrev pub all_numbers : List (Vec ℕ Global) → List ℕ
-all_numbers rows = flat_map (λ v. v.items) rows
+-- the names that are spread, each as often as it is
+abbrev pub spread_texts : Sels Span → List Text
+spread_texts set = map (λ n. n.text) (spread_names set)
 
--- exactly the numbers in the two tables are marked
-pub record MarksRows (first second : List (Vec ℕ Global)) (marks : List Bool) : Type 0 where
-  pub put : (n : ℕ) → Contains (all_numbers first) n ⊎ Contains (all_numbers second) n → slice_index_or marks n false ≡ true
-  pub only : (n : ℕ) → slice_index_or marks n false ≡ true → Contains (all_numbers first) n ⊎ Contains (all_numbers second) n
+abbrev pub texts_of_operation : OperationOf → List Text
+texts_of_operation o = spread_texts o.set
 
--- the fault of a fragment that is not marked
-abbrev pub unused_if : Bool → FragmentOf → List Fault
-unused_if marked f = if marked then [] else fault_at f.file FragmentNotUsed f.name ∷ []
+abbrev pub texts_of_fragment : FragmentOf → List Text
+texts_of_fragment f = spread_texts f.set
 
--- the fragments by their numbers
-abbrev pub unused_fragment : List Bool → ℕ × FragmentOf → List Fault
-unused_fragment marks p = unused_if (slice_index_or marks p.0 false) p.1
+abbrev pub all_spread_texts : ExecutableOf → List Text
+all_spread_texts x = flat_map texts_of_operation x.operations ++ flat_map texts_of_fragment x.fragments
 
-abbrev pub unused_fragments : List Bool → List FragmentOf → List Fault
-unused_fragments marks fs = flat_map (unused_fragment marks) (enumerate_from 0 fs)
+-- the fault of a fragment whose name is not spread
+abbrev pub unused_if : List Text → FragmentOf → List Fault
+unused_if spread f = if list_any (bytes_eq f.name.text) spread then [] else fault_at f.file FragmentNotUsed f.name ∷ []
+
+abbrev pub unused_fragments : List Text → List FragmentOf → List Fault
+unused_fragments spread fs = flat_map (unused_if spread) fs
