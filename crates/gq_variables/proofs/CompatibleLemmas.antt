@@ -32,7 +32,7 @@ from_compatible (both_lists c) = from_compatible c
 from_compatible (same_name {variable = v} {location = l} e) = (bytes_decides v.text l.text).1 e
 
 -- only a type without null may stand at one
-is_without_null : (v l : TypeOf Span) → are_compatible v (non_null l) ≡ true → is_non_null v ≡ true
+pub is_without_null : (v l : TypeOf Span) → are_compatible v (non_null l) ≡ true → is_non_null v ≡ true
 is_without_null (named v) l h = absurd (cc)
 is_without_null (list_of v) l h = absurd (cc)
 is_without_null (non_null v) l h = refl
@@ -48,7 +48,7 @@ to_allowed v place_has_default (non_null l) h = by_test (defaults v place_has_de
         by_default (not_true (is_non_null v.type_ref) p.0) p.1 (to_compatible v.type_ref l fit)
     by_test false e fit = by_type (to_compatible v.type_ref (non_null l) fit)
 
-by_types : (v : VariableOf Span) (place_has_default : Bool) (t : TypeOf Span) → are_compatible v.type_ref t ≡ true → is_allowed v place_has_default t ≡ true
+pub by_types : (v : VariableOf Span) (place_has_default : Bool) (t : TypeOf Span) → are_compatible v.type_ref t ≡ true → is_allowed v place_has_default t ≡ true
 by_types v place_has_default (named l) h = h
 by_types v place_has_default (list_of l) h = h
 by_types v place_has_default (non_null l) h =

@@ -1,6 +1,7 @@
 pub mod LiteralUseLemmas
 pub mod UseLemmas
 pub mod CompatibleLemmas
+pub mod AgainLemmas
 pub mod RuleLemmas
 pub mod FaultLemmas
 pub mod LeadingLemmas

@@ -1,4 +1,5 @@
 -- What only helps to prove that the code does what the definitions say. No contract of a public call is about it.
+pub mod Again
 pub mod Leading
 pub mod UsesPlaces
 pub mod VariablePlaces

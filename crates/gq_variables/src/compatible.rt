@@ -32,7 +32,7 @@ pub(crate) fn are_compatible(variable: &TypeRef, location: &TypeRef) -> bool
 }
 
 /// Whether it is there, and not the literal null.
-fn is_value(default: &Option<Value>) -> bool
+pub(crate) fn is_value(default: &Option<Value>) -> bool
     ensures { result ≡ is_value (option_map value_view default.now) }
 {
     match default {

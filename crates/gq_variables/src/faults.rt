@@ -58,7 +58,7 @@ fn add_use_faults(
 {
     add_not_defined(variables, uses, faults)?;
     add_not_used(alloc, file, variables.all, uses, faults)?;
-    add_not_allowed(types, variables, repeated, uses, faults)
+    add_not_allowed(alloc, types, variables, repeated, uses, faults)
 }
 
 /// Puts what is wrong with the variables of an operation, which reaches the fragments of these numbers. For each fragment

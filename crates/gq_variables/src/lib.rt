@@ -1,6 +1,7 @@
 //! The variables of operations, and what is wrong with them (GraphQL, October 2021, section 5.8).
 #![tactic(auto)]
 
+mod again;
 mod all_variable_usages_are_allowed;
 mod all_variable_uses_defined;
 mod all_variables_used;

@@ -1,0 +1,68 @@
+//! Variables whose names stand earlier too, found by their names.
+ghost use Rattle.std.specs.Prelude.{◌≡◌, ◌||◌, IfOk, OnOk};
+ghost use Rattle.std.specs.List.{list_any};
+ghost use Rattle.gq_tree.specs.Views.{variable_view};
+ghost use Rattle.gq_types.specs.Look.{types_view};
+ghost use Rattle.gq_variables.specs.Uses.{UseOf};
+ghost use Rattle.gq_variables.specs.Helping.Again.{covers, any_under};
+ghost use Rattle.gq_variables.specs.Helping.VariablePlaces.{is_wrong_for};
+ghost use Rattle.gq_variables.specs.Helping.Views.{variables_view};
+
+use crate::all_variable_usages_are_allowed::is_known;
+use crate::compatible::{are_compatible, is_value};
+use gq_names::ByName;
+use gq_text::NoMemory;
+use gq_tree::VariableDefinition;
+use gq_types::Types;
+use std::alloc::Global;
+
+/// Whether the first variable is wrong wherever the other one is: that may stand where the type of the first is wanted, and
+/// has a default value where the first has one.
+fn covers(one: &VariableDefinition, other: &VariableDefinition) -> bool
+    ensures { result ≡ covers (variable_view one.now) (variable_view other.now) }
+{
+    are_compatible(&other.type_ref, &one.type_ref)
+        && (is_value(&other.default) || !is_value(&one.default))
+}
+
+#[tactic(auto, using(gq_tree::proofs::Trees::gathers))]
+fn is_covered(known: &[&VariableDefinition], other: &VariableDefinition) -> bool
+    ensures { result ≡ list_any (λ one. covers one (variable_view other.now)) (variables_view known.now) }
+{
+    for one in known {
+        if covers(one, other) {
+            return true;
+        }
+    }
+    false
+}
+
+/// Puts the variable under its name, unless one there is wrong wherever it is.
+fn put<'a>(
+    types: &Types,
+    variable: &'a VariableDefinition,
+    again: &mut ByName<&'a VariableDefinition>,
+) -> Result<(), NoMemory>
+    ensures { OnOk result ((u : UseOf) → any_under (types_view types.now) again.new u ≡ (any_under (types_view types.now) again.old u || is_wrong_for (types_view types.now) u (variable_view variable.now))) }
+{
+    let name = variable.variable.name.text.as_str();
+    if is_known(types, &variable.type_ref) && !is_covered(again.get(name), variable) {
+        again.put(name, variable)?;
+    }
+    Ok(())
+}
+
+/// The variables by their names, without those that are wrong only where another one is.
+pub(crate) fn by_name<'a>(
+    alloc: Global,
+    types: &Types,
+    variables: &[&'a VariableDefinition],
+) -> Result<ByName<&'a VariableDefinition>, NoMemory>
+    ensures { IfOk result (λ again. (u : UseOf) → any_under (types_view types.now) again u ≡ list_any (is_wrong_for (types_view types.now) u) (variables_view variables.now)) }
+{
+    let mut again = ByName::new(alloc);
+    for variable in variables {
+        put(types, variable, &mut again)?;
+    }
+    Ok(again)
+}
