@@ -11,6 +11,7 @@ use Rattle.gq_fault.proofs.PutLemmas.{puts_both, puts_as, puts_list}
 use Rattle.gq_text.specs.declared.place.Span.{Span}
 use Rattle.gq_tree.specs.Plain.{VariableOf}
 use Rattle.gq_types.specs.Entries.{EntryOf}
+use Rattle.gq_types.proofs.Gathered.{nothing_in}
 use Rattle.gq_values.proofs.Steps.{both_done}
 use Rattle.gq_document.specs.Definitions.{OperationOf, FragmentOf, operation_view}
 use Rattle.gq_document.specs.declared.definitions.OperationEntry.{OperationEntry}
@@ -132,6 +133,18 @@ module _ (x : ExecutableOf) where
           | inr w ↦ record { earlier = number; is_earlier = omega arith; fault = w }
         ],
         λ w. by_place fault w (below_or_at w.earlier number w.is_earlier),
+      )
+
+  -- the same where what was found is put in order
+  pub finds_none : (found : List Fault) → found ≡ [] → (fault : Fault) → Contains found fault ↔ IsFaultBefore x 0 fault
+  finds_none found is fault = (λ c. nothing_in fault (subst (λ faults. Contains faults fault) is c), λ w. absurd (omega (arith, w.is_earlier)))
+
+  pub finds_more : (number : ℕ) (old middle new : List Fault) → ((fault : Fault) → Contains old fault ↔ IsFaultBefore x number fault) → AddsExactly (IsFaultAt x number) old middle →
+      ((fault : Fault) → Contains new fault ↔ Contains middle fault) → (fault : Fault) → Contains new fault ↔ IsFaultBefore x (number + 1) fault
+  finds_more number old middle new before now same fault =
+      let all = puts_more number [] old middle (puts_list (IsFaultBefore x number) [] old old refl before) now in (
+        λ c. (all.exactly fault).0 (subst (λ faults. Contains faults fault) all.is ((same fault).0 c)),
+        λ w. (same fault).1 (subst (λ faults. Contains faults fault) (sym all.is) ((all.exactly fault).1 w)),
       )
 
   -- those of all operations

@@ -1,5 +1,5 @@
 //! What is wrong with variables (GraphQL, October 2021, section 5.8).
-ghost use Rattle.std.specs.Prelude.{◌≡◌, ◌++◌, ◌<◌, OnOk, map, flat_map, length};
+ghost use Rattle.std.specs.Prelude.{◌≡◌, ◌↔◌, ◌++◌, ◌<◌, Contains, OnOk, map, flat_map, length};
 ghost use Rattle.gq_fault.specs.Adds.{AddsExactly};
 ghost use Rattle.gq_tree.specs.Views.{variable_view};
 ghost use Rattle.gq_types.specs.Look.{types_view};
@@ -22,7 +22,7 @@ use crate::variable_uniqueness::add_not_unique;
 use crate::variables::Variables;
 use crate::variables_are_input_types::add_not_of_input_type;
 use gq_document::{Executable, OperationEntry};
-use gq_fault::Fault;
+use gq_fault::{Fault, put_in_order};
 use gq_graph::reach_rows;
 use gq_spreads::Spreads;
 use gq_text::NoMemory;
@@ -102,6 +102,21 @@ fn add_faults_at(
     add_faults_of_operation(alloc, executable.types, operation, rows, &numbers, faults)
 }
 
+/// So many faults are put in order at the least.
+const MANY: usize = 1024;
+
+/// Puts the faults in order, each once, where there are so many as `most`. Returns how many there have to be the next time,
+/// twice as many as are left, so that each is gone over a few times at the most.
+fn put_once(most: usize, faults: &mut Vec<Fault>) -> usize
+    ensures { (fault : Fault) → Contains faults.new.items fault ↔ Contains faults.old.items fault }
+{
+    if faults.len() < most {
+        return most;
+    }
+    put_in_order(faults);
+    faults.len().saturating_mul(2).saturating_add(MANY)
+}
+
 /// Adds each fault of the variables of operations: a variable that is there twice, or of no input type, or not
 /// used; a use of a variable that an operation does not define, or at a type that does not allow it. The uses in a fragment
 /// belong to each operation that reaches it. Each fault stands at a variable's name, without the `$`, in bytes.
@@ -116,8 +131,12 @@ pub fn add_variable_faults(
 {
     let rows = uses_of_fragments(alloc, executable.types, executable.fragments)?;
     let leading = leading_spreads(alloc, executable, spreads, &rows)?;
+    let mut found = Vec::new(alloc);
+    let mut most = MANY;
     for number in 0..executable.operations.len() {
-        add_faults_at(alloc, executable, &leading, &rows, number, faults)?;
+        add_faults_at(alloc, executable, &leading, &rows, number, &mut found)?;
+        most = put_once(most, &mut found);
     }
+    faults.extend_from_slice(&found)?;
     Ok(())
 }
