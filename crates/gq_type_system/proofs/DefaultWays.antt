@@ -1,24 +1,24 @@
 -- The types that are marked are those one of whose input fields leads back to itself by default values.
-use Rattle.std.proofs.Common.{◌≡◌, ℕ, zero, suc, ◌<◌, Bool, true, false, ◌||◌, List, [], ◌∷◌, length, get_or, map, refl, ap, sym, ◌∙◌, subst, arith, Contains, ◌↔◌, Vec, Global, Option, Some, None, is_some}
+use Rattle.std.proofs.Common.{◌≡◌, ℕ, zero, suc, ◌+◌, ◌<◌, Bool, true, false, ◌||◌, List, [], ◌∷◌, length, get_or, map, refl, ap, sym, ◌∙◌, subst, arith, Contains, ◌↔◌, ◌⊎◌, inl, inr, ⊎_elim, Vec, Global, Option, Some, None, is_some}
 use Rattle.std.specs.Prelude.{slice_get, slice_index_or}
 use Rattle.std.specs.List.{list_any}
 use Rattle.std.specs.Option.{option_map_or}
-use Rattle.std.proofs.lemmas.List.{length-map}
+use Rattle.std.proofs.lemmas.List.{length-map, length-append}
 use Rattle.gq_text.specs.declared.place.Span.{Span}
 use Rattle.gq_graph.specs.Reach.{row, InRange, LeadsBack}
 use Rattle.gq_tree.specs.Plain.{InputOf}
-use Rattle.gq_types.specs.Entries.{Text, EntryOf}
+use Rattle.gq_types.specs.Entries.{Text, EntryOf, numbered}
 use Rattle.gq_types.specs.Joined.{type_number}
 use Rattle.gq_types.specs.Look.{joined_numbers}
 use Rattle.gq_types.specs.Names.{input_named}
-use Rattle.gq_type_system.specs.EndlessInputs.{InputField, Way, LeadsByDefault}
+use Rattle.gq_type_system.specs.EndlessInputs.{InputField, Way, step, further, LeadsByDefault}
 use Rattle.gq_type_system.specs.Helping.EndlessInputsPlaces.{row_items, inputs_at, type_name_at, MarksByDefault}
-use Rattle.gq_type_system.specs.Helping.DefaultValuesPlaces.{has_default, numbers_of, field_leads, any_marked, named_field, named_fields_at, fields_at, all_fields, field_rows, field_numbers}
-use Rattle.gq_type_system.proofs.Ways.{Next, ways_lead_back, first_step, carried, carried_back}
-use Rattle.gq_type_system.proofs.EntryRows.{row_is, in_range, rows_are}
+use Rattle.gq_type_system.specs.Helping.DefaultValuesPlaces.{has_default, absent_number, numbers_of, all_with_defaults, led_at, field_leads, lead_table, any_marked, named_field, named_fields_at, fields_at, all_fields, field_rows, field_numbers}
+use Rattle.gq_type_system.proofs.Ways.{Next, joined, ways_lead_back, first_step, carried, carried_back}
+use Rattle.gq_type_system.proofs.EntryRows.{row_is, in_range, rows_are, length_numbered}
 use Rattle.gq_type_system.proofs.RequiredLemmas.{number_below, from_inputs, input_of_name, type_name_is}
-use Rattle.gq_type_system.proofs.Numbering.{numbered_item, item_numbered}
-use Rattle.gq_type_system.proofs.DefaultLemmas.{Graph, from_leads, to_leads}
+use Rattle.gq_type_system.proofs.Numbering.{numbered_item, item_numbered, length_number_rows, front_row, behind_row, part_cases}
+use Rattle.gq_type_system.proofs.DefaultLemmas.{Graph, from_number, each_absent, from_led, to_led, from_leads, to_leads}
 use Rattle.gq_types.proofs.Gathered.{nothing_in as in_none, first as in_first, later as in_later, from_flat, to_flat, from_map, to_map}
 
 module _ {A : Type 0} where
@@ -136,13 +136,13 @@ module _ (es : List EntryOf) where
         a.field,
         record { number = row_in.0; meant = ap (type_number es) (sym type_is) ∙ row_in.1; at = a.is_field; in_row = row_in.2 },
         record {
-          field = leads.field;
-          default = leads.default;
-          is_field = leads.is_field;
-          has_default = leads.has_default_value;
-          literal = leads.literal;
-          literal_type = leads.literal_type;
-          holds = leads.holds;
+          field = leads.read.field;
+          default = leads.read.default;
+          is_field = leads.read.is_field;
+          has_default = leads.read.has_default_value;
+          literal = leads.read.literal;
+          literal_type = leads.read.literal_type;
+          holds = leads.read.holds;
           is_object = a.is_object;
           is_at = a.is_at ∙ ap Some type_is;
           is_absent = a.is_absent;
@@ -154,13 +154,15 @@ module _ (es : List EntryOf) where
 
   from_named : (f g : InputField) (j : ℕ) → Named j g → LeadsByDefault es f g → Graph es (all_fields es) (field_numbers es) f j
   from_named f g j named leads = record {
-    field = leads.field;
-    default = leads.default;
-    is_field = leads.is_field;
-    has_default_value = leads.has_default;
-    literal = leads.literal;
-    literal_type = leads.literal_type;
-    holds = leads.holds;
+    read = record {
+      field = leads.field;
+      default = leads.default;
+      is_field = leads.is_field;
+      has_default_value = leads.has_default;
+      literal = leads.literal;
+      literal_type = leads.literal_type;
+      holds = leads.holds;
+    };
     absent = record {
       is_object = leads.is_object;
       type_name = g.type_name;
@@ -173,26 +175,159 @@ module _ (es : List EntryOf) where
     };
   }
 
-  module _ (rows : List (Vec ℕ Global)) (is : row_items rows ≡ map (field_leads es (all_fields es) (field_numbers es)) (all_fields es)) where
-    rows_length : length rows ≡ length (all_fields es)
-    rows_length = sym (length-map rows (λ v. v.items)) ∙ ap length is ∙ length-map (all_fields es) (field_leads es (all_fields es) (field_numbers es))
+  numbers_length : length (field_numbers es) ≡ length es
+  numbers_length = length_number_rows 0 (field_rows es) ∙ length-map (numbered es) (λ n. fields_at es n.number) ∙ length_numbered es
 
-    row_of : (i : ℕ) (f : InputField) → slice_get (all_fields es) i ≡ Some f → row rows i ≡ field_leads es (all_fields es) (field_numbers es) f
-    row_of i f at = row_is rows i ∙ ap (λ xss. get_or xss i []) is ∙ get_mapped (field_leads es (all_fields es) (field_numbers es)) (all_fields es) i f [] at
+  -- a field leads to another, by their numbers
+  record Leads (i j : ℕ) : Type 0 where
+    field : InputField
+    at : slice_get (all_fields es) i ≡ Some field
+    graph : Graph es (all_fields es) (field_numbers es) field j
+
+  from_inside : (i j : ℕ) → Leads i j → i < length (all_fields es)
+  from_inside i j l = get_inside (all_fields es) i l.field l.at
+
+  to_inside : (i j : ℕ) → Leads i j → j < length (all_fields es)
+  to_inside i j l = get_inside (all_fields es) j l.graph.absent.field l.graph.absent.is_field
+
+  all_inside : (numbers : List ℕ) (i : ℕ) → Contains (all_with_defaults es (all_fields es) numbers) i → i < length (all_fields es)
+  all_inside numbers i found =
+      let number = from_flat (absent_number es (all_fields es) []) numbers i found in
+      let at = from_number es (all_fields es) (field_numbers es) [] number.0 i number.2 in
+      get_inside (all_fields es) i at.1 at.2
+
+  leads_by_name : (i j : ℕ) (f : InputField) → Named i f → Leads i j → (g : InputField) × Named j g × LeadsByDefault es f g
+  leads_by_name i j f named l =
+      let some : Some l.field ≡ Some f = sym l.at ∙ named.at in
+      let same : l.field ≡ f = cc in
+      to_named f j (subst (λ f. Graph es (all_fields es) (field_numbers es) f j) same l.graph)
+
+  leads_by_number : (i j : ℕ) (f g : InputField) → Named i f → Named j g → LeadsByDefault es f g → Leads i j
+  leads_by_number i j f g named other leads = record { field = f; at = named.at; graph = from_named f g j other leads }
+
+  module _ (rows : List (Vec ℕ Global)) (is : row_items rows ≡ lead_table es (all_fields es) (field_numbers es)) where
+    rows_length : length rows ≡ length (all_fields es) + length (field_numbers es)
+    rows_length = sym (length-map rows (λ v. v.items)) ∙ ap length is
+        ∙ length-append (map (field_leads es (all_fields es) (field_numbers es)) (all_fields es)) (map (all_with_defaults es (all_fields es)) (field_numbers es))
+        ∙ (λ i. length-map (all_fields es) (field_leads es (all_fields es) (field_numbers es)) i + length-map (field_numbers es) (all_with_defaults es (all_fields es)) i)
+
+    at_row : (n : ℕ) → row rows n ≡ get_or (lead_table es (all_fields es) (field_numbers es)) n []
+    at_row n = row_is rows n ∙ ap (λ xss. get_or xss n []) is
+
+    field_row : (i : ℕ) (f : InputField) → slice_get (all_fields es) i ≡ Some f → row rows i ≡ field_leads es (all_fields es) (field_numbers es) f
+    field_row i f at = at_row i ∙ front_row (field_leads es (all_fields es) (field_numbers es)) (all_fields es) (map (all_with_defaults es (all_fields es)) (field_numbers es)) i f at
+
+    type_row : (k n : ℕ) → n ≡ length (all_fields es) + k → row rows n ≡ all_with_defaults es (all_fields es) (get_or (field_numbers es) k [])
+    type_row k n at = at_row n ∙ behind_row (field_leads es (all_fields es) (field_numbers es)) (all_fields es) (map (all_with_defaults es (all_fields es)) (field_numbers es)) k n at
+        ∙ default_mapped (all_with_defaults es (all_fields es)) (field_numbers es) k []
+
+    in_type_row : (k n x : ℕ) → n ≡ length (all_fields es) + k → Contains (row rows n) x → x < length (all_fields es)
+    in_type_row k n x at found = all_inside (get_or (field_numbers es) k []) x (subst (λ ns. Contains ns x) (type_row k n at) found)
+
+    -- the number of an entry, whose row holds only what a field leads to
+    record Between (i x : ℕ) : Type 0 where
+      number : ℕ
+      inside : number < length (field_numbers es)
+      at : x ≡ length (all_fields es) + number
+      each : (j : ℕ) → Contains (row rows x) j → Leads i j
+
+    one_step : (i x : ℕ) (f : InputField) → slice_get (all_fields es) i ≡ Some f → Contains (row rows i) x → Leads i x ⊎ Between i x
+    one_step i x f at found =
+        let led = from_leads es (all_fields es) (field_numbers es) f x (subst (λ ns. Contains ns x) (field_row i f at) found) in
+        let says = led.0.literal.label.says in
+        ⊎_elim
+        (λ absent. inl (record { field = f; at = at; graph = record { read = led.0; absent = absent } }))
+        (λ all. inr (record {
+          number = all.number;
+          inside = all.inside;
+          at = all.is;
+          each = λ j there. record {
+            field = f;
+            at = at;
+            graph = record {
+              read = led.0;
+              absent = each_absent es (all_fields es) (field_numbers es) led.0.literal_type says led.0.literal.below x j all (subst (λ ns. Contains ns j) (type_row all.number x all.is) there);
+            };
+          };
+        }))
+        (from_led es (all_fields es) (field_numbers es) led.0.literal_type says led.0.literal.below x led.1)
 
     pub defaults_in_range : InRange rows
-    defaults_in_range = in_range rows (λ m n below found.
-        let f = inside_get (all_fields es) m (omega (arith, rows_length)) in
-        let leads = from_leads es (all_fields es) (field_numbers es) f.0 n (subst (λ ns. Contains ns n) (row_of m f.0 f.1) found) in
-        let inside = get_inside (all_fields es) n leads.absent.field leads.absent.is_field in
-        omega (arith, rows_length))
+    defaults_in_range = in_range rows (λ m n below found. ⊎_elim
+        (λ a. ⊎_elim
+        (λ l. let inside = to_inside m n l in omega (arith, rows_length))
+        (λ (b : Between m n). let inside = b.inside in let at = b.at in omega (arith, rows_length))
+        (one_step m n a.0 a.1 found))
+        (λ b. let inside = in_type_row b.0 m n b.1 found in omega (arith, rows_length))
+        (part_cases (all_fields es) m))
 
-    leads_by_name : (i j : ℕ) (f : InputField) → Named i f → Next (row rows) i j → (g : InputField) × Named j g × LeadsByDefault es f g
-    leads_by_name i j f named found = to_named f j (from_leads es (all_fields es) (field_numbers es) f j (subst (λ ns. Contains ns j) (row_of i f named.at) found))
+    -- what a way over the rows comes to, from a field or from an entry
+    abbrev Rest : ℕ → ℕ → Type 0
+    Rest y j = (y ≡ j) ⊎ Way Leads y j
 
-    leads_by_number : (i j : ℕ) (f g : InputField) → Named i f → Named j g → LeadsByDefault es f g → Next (row rows) i j
-    leads_by_number i j f g named other leads =
-        subst (λ ns. Contains ns j) (sym (row_of i f named.at)) (to_leads es (all_fields es) (field_numbers es) f j (from_named f g j other leads))
+    record FromEntry (x j : ℕ) : Type 0 where
+      number : ℕ
+      at : x ≡ length (all_fields es) + number
+      field : ℕ
+      in_row : Contains (row rows x) field
+      rest : Rest field j
+
+    abbrev Ends : ℕ → ℕ → Type 0
+    Ends x j = Way Leads x j ⊎ FromEntry x j
+
+    onward : (i y j : ℕ) → Leads i y → Rest y j → Way Leads i j
+    onward i y j l (inl same) = step (subst (Leads i) same l)
+    onward i y j l (inr way) = further l way
+
+    way_inside : (y j : ℕ) → Way Leads y j → y < length (all_fields es)
+    way_inside y j way = let first = first_step Leads way in from_inside y first.0 first.1
+
+    field_first : (i y j : ℕ) → j < length (all_fields es) → Leads i y ⊎ Between i y → (y ≡ j) ⊎ Ends y j → Way Leads i j
+    field_first i y j below (inl l) (inl same) = onward i y j l (inl same)
+    field_first i y j below (inl l) (inr (inl way)) = onward i y j l (inr way)
+    field_first i y j below (inl l) (inr (inr entry)) = let inside = to_inside i y l in let at = entry.at in absurd (omega (arith, inside, at))
+    field_first i y j below (inr b) (inl same) = let at = b.at in absurd (omega (arith, at, same))
+    field_first i y j below (inr b) (inr (inl way)) = let inside = way_inside y j way in let at = b.at in absurd (omega (arith, inside, at))
+    field_first i y j below (inr b) (inr (inr entry)) = onward i entry.field j (b.each entry.field entry.in_row) entry.rest
+
+    entry_first : (k x y j : ℕ) → x ≡ length (all_fields es) + k → Contains (row rows x) y → (y ≡ j) ⊎ Ends y j → FromEntry x j
+    entry_first k x y j at found (inl same) = record { number = k; at = at; field = y; in_row = found; rest = inl same }
+    entry_first k x y j at found (inr (inl way)) = record { number = k; at = at; field = y; in_row = found; rest = inr way }
+    entry_first k x y j at found (inr (inr entry)) = let inside = in_type_row k x y at found in let other = entry.at in absurd (omega (arith, inside, other))
+
+    ends : (x y j : ℕ) → j < length (all_fields es) → Next (row rows) x y → (y ≡ j) ⊎ Ends y j → Ends x j
+    ends x y j below found rest = ⊎_elim
+        (λ a. inl (field_first x y j below (one_step x y a.0 a.1 found) rest))
+        (λ b. inr (entry_first b.0 x y j b.1 found rest))
+        (part_cases (all_fields es) x)
+
+    ways_end : (x j : ℕ) → j < length (all_fields es) → Way (Next (row rows)) x j → Ends x j
+    ways_end x j below (step found) = ends x j j below found (inl refl)
+    ways_end x j below (further {y = y} found rest) = ends x y j below found (inr (ways_end y j below rest))
+
+    from_rows_back : (i : ℕ) → i < length (all_fields es) → Way (Next (row rows)) i i → Way Leads i i
+    from_rows_back i below way = by (ways_end i i below way)
+      where
+        by : Ends i i → Way Leads i i
+        by (inl back) = back
+        by (inr entry) = let at = entry.at in absurd (omega (arith, below, at))
+
+    one_lead : (i j : ℕ) → Leads i j → Way (Next (row rows)) i j
+    one_lead i j l =
+        let a = l.graph.absent in
+        let r = l.graph.read in
+        let meant = in_numbers a.type_name j a.in_row in
+        let node = length (all_fields es) + meant.0 in
+        let put : (x : ℕ) → Contains (led_at es (all_fields es) (field_numbers es) r.literal_type r.literal.label.says r.literal.below) x → Next (row rows) i x =
+        (λ x led. subst (λ ns. Contains ns x) (sym (field_row i l.field l.at)) (to_leads es (all_fields es) (field_numbers es) l.field x r led)) in
+        ⊎_elim
+        (λ led. step (put j led))
+        (λ both. further (put node both.0) (step (subst (λ ns. Contains ns j) (sym (type_row meant.0 node refl)) both.1)))
+        (to_led es (all_fields es) (field_numbers es) r.literal_type r.literal.label.says r.literal.below meant.0 j a meant.1 (omega (arith, numbers_length, number_below es a.type_name meant.0 meant.1)))
+
+    to_rows_way : (i j : ℕ) → Way Leads i j → Way (Next (row rows)) i j
+    to_rows_way i j (step l) = one_lead i j l
+    to_rows_way i j (further {y = y} l rest) = joined (Next (row rows)) (one_lead i y l) (to_rows_way y j rest)
 
     pub marks_by_default : (marks : List Bool) → ((n : ℕ) → n < length rows → (slice_index_or marks n false ≡ true) ↔ LeadsBack (row rows) n) → MarksByDefault es (map (any_marked marks) (field_numbers es))
     marks_by_default marks exact text number meant = (from, to)
@@ -207,7 +342,7 @@ module _ (es : List EntryOf) where
             let named : Named any.0 fault.0 = record { number = number; meant = ap (type_number es) fault.2 ∙ meant; at = fault.1; in_row = any.1 } in
             let inside = get_inside (all_fields es) any.0 fault.0 fault.1 in
             let back = (exact any.0 (omega (arith, rows_length))).0 any.2 in
-            (fault.0, fault.2, carried (Next (row rows)) (LeadsByDefault es) Named (λ i j f. leads_by_name i j f) (λ i f g. one_field i f g) any.0 any.0 fault.0 fault.0 ((ways_lead_back (row rows) any.0).0 back) named named)
+            (fault.0, fault.2, carried Leads (LeadsByDefault es) Named (λ i j f. leads_by_name i j f) (λ i f g. one_field i f g) any.0 any.0 fault.0 fault.0 (from_rows_back any.0 inside ((ways_lead_back (row rows) any.0).0 back)) named named)
 
         to : (field : InputField) × (field.type_name ≡ text) × Way (LeadsByDefault es) field field → slice_index_or (map (any_marked marks) (field_numbers es)) number false ≡ true
         to (field, of_type, way) =
@@ -217,7 +352,7 @@ module _ (es : List EntryOf) where
             let some : Some named.number ≡ Some number = sym named.meant ∙ ap (type_number es) of_type ∙ meant in
             let same : named.number ≡ number = cc in
             let inside = get_inside (all_fields es) numbered.0 field named.at in
-            let back = carried_back (Next (row rows)) (LeadsByDefault es) Named (λ i j f g. leads_by_number i j f g) (λ f g leads. has_number f g leads) numbered.0 numbered.0 field field way named named in
-            let marked = (exact numbered.0 (omega (arith, rows_length))).1 ((ways_lead_back (row rows) numbered.0).1 back) in
+            let back = carried_back Leads (LeadsByDefault es) Named (λ i j f g. leads_by_number i j f g) (λ f g leads. has_number f g leads) numbered.0 numbered.0 field field way named named in
+            let marked = (exact numbered.0 (omega (arith, rows_length))).1 ((ways_lead_back (row rows) numbered.0).1 (to_rows_way numbered.0 numbered.0 back)) in
             let in_row : Contains (get_or (field_numbers es) number []) numbered.0 = subst (λ n. Contains (get_or (field_numbers es) n []) numbered.0) same named.in_row in
             mark_is ∙ any_at (λ n. slice_index_or marks n false) (get_or (field_numbers es) number []) in_row.0 numbered.0 in_row.1 in_row.2 marked

@@ -1,5 +1,5 @@
 -- Numbers that are counted from one on.
-use Rattle.std.proofs.Common.{◌≡◌, ℕ, zero, suc, ◌+◌, ◌<◌, List, [], ◌∷◌, ◌++◌, length, get_or, map, flat_map, refl, ap, sym, ◌∙◌, subst, arith, Contains, ⊎_elim, Option, Some, None, append-nil, append_assoc}
+use Rattle.std.proofs.Common.{◌≡◌, ℕ, zero, suc, ◌+◌, ◌<◌, List, [], ◌∷◌, ◌++◌, length, get_or, map, flat_map, refl, ap, sym, ◌∙◌, subst, arith, Contains, ◌⊎◌, inl, inr, ⊎_elim, Option, Some, None, append-nil, append_assoc}
 use Rattle.std.specs.Prelude.{slice_get}
 use Rattle.std.proofs.lemmas.List.{length-append, length-map, map-append}
 use Rattle.std.proofs.lemmas.Grind.{flat_map-append}
@@ -86,3 +86,25 @@ module _ {A : Type 0} where
   pub item_numbered : (xss : List (List A)) (m : ℕ) (x : A) → Contains (get_or xss m []) x → (i : ℕ) × (slice_get (flat_map (λ xs. xs) xss) i ≡ Some x) × Contains (get_or (number_rows 0 xss) m []) i
   item_numbered xss m x found =
       let at = to_rows 0 xss m x found in (at.0, ap (slice_get (flat_map (λ xs. xs) xss)) (omega (arith, at.2)) ∙ at.3, at.4)
+
+  pub length_number_rows : (k : ℕ) (xss : List (List A)) → length (number_rows k xss) ≡ length xss
+  length_number_rows k [] = refl
+  length_number_rows k (xs ∷ xss) = ap suc (length_number_rows (k + length xs) xss)
+
+  -- an item's number, or one behind them
+  pub part_cases : (xs : List A) (n : ℕ) → ((x : A) × (slice_get xs n ≡ Some x)) ⊎ ((k : ℕ) × (n ≡ length xs + k))
+  part_cases [] n = inr (n, omega arith)
+  part_cases (w ∷ xs) zero = inl (w, refl)
+  part_cases (w ∷ xs) (suc n) = ⊎_elim (λ a. inl a) (λ b. inr (b.0, omega (arith, b.1))) (part_cases xs n)
+
+  -- a table of the rows of items, and rows behind them
+  module _ {Y : Type 0} (g : A → List Y) where
+    pub front_row : (xs : List A) (rows : List (List Y)) (n : ℕ) (x : A) → slice_get xs n ≡ Some x → get_or (map g xs ++ rows) n [] ≡ g x
+    front_row [] rows n x is = absurd (cc)
+    front_row (w ∷ xs) rows zero x is = let same : w ≡ x = cc in ap g same
+    front_row (w ∷ xs) rows (suc n) x is = front_row xs rows n x is
+
+    pub behind_row : (xs : List A) (rows : List (List Y)) (k n : ℕ) → n ≡ length xs + k → get_or (map g xs ++ rows) n [] ≡ get_or rows k []
+    behind_row [] rows k n is = ap (λ i. get_or rows i []) (omega arith)
+    behind_row (w ∷ xs) rows k zero is = absurd (omega arith)
+    behind_row (w ∷ xs) rows k (suc n) is = behind_row xs rows k n (omega arith)

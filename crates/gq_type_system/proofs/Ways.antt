@@ -8,6 +8,10 @@ module _ {V : Type 0} (Graph : V → V → Type 0) where
   one_more (step first) last = further first (step last)
   one_more (further first rest) last = further first (one_more rest last)
 
+  pub joined : {x y z : V} → Way Graph x y → Way Graph y z → Way Graph x z
+  joined (step first) way = further first way
+  joined (further first rest) way = further first (joined rest way)
+
   -- the step that a way begins with
   pub first_step : {x y : V} → Way Graph x y → (z : V) × Graph x z
   first_step {x} {y} (step first) = (y, first)

@@ -1,7 +1,7 @@
 //! The types one of whose input fields leads back to itself by default values (section 3.10).
 ghost use Rattle.std.specs.Prelude.{◌≡◌, ◌++◌, map, flat_map, IfOk, OnOk};
 ghost use Rattle.gq_tree.specs.Views.{type_view, value_view, values_view, entries_view};
-ghost use Rattle.gq_type_system.specs.Helping.DefaultValuesPlaces.{field_view, fields_view, type_at, field_type, keys_in, has_default, numbers_of, absent_number, absent_numbers, absent_in, below_of, gathered, gathered_of, field_leads, any_marked};
+ghost use Rattle.gq_type_system.specs.Helping.DefaultValuesPlaces.{field_view, fields_view, type_at, field_type, keys_in, has_default, numbers_of, absent_number, type_node, led_to, led_in, below_of, gathered, gathered_of, field_leads, all_with_defaults, lead_table, any_marked};
 ghost use Rattle.gq_type_system.specs.Helping.EndlessInputsPlaces.{MarksByDefault, row_items};
 ghost use Rattle.gq_types.specs.Look.{types_view, text_of};
 
@@ -99,8 +99,29 @@ fn put_all_absent(
     Ok(())
 }
 
-/// Puts the numbers of the fields of an input object that are absent in an object literal and have default values.
-fn put_absent(
+/// Puts the number that stands for all fields with default values of the type of that name.
+#[tactic(auto, using(crate::proofs::Numbering::counts))]
+fn put_type_node(
+    types: &Types,
+    all: &InputFields<'_>,
+    type_name: &str,
+    row: &mut Vec<usize>,
+) -> Result<(), NoMemory>
+    ensures { OnOk result (row.new.items ≡ row.old.items ++ type_node (types_view types.now) (fields_view all.now.fields.items)
+        (row_items all.now.numbers.items) type_name.now) }
+{
+    if let Some(number) = types.type_number(type_name) {
+        if number < all.numbers.len() {
+            row.push(all.fields.len() + number)?;
+        }
+    }
+    Ok(())
+}
+
+/// Puts what an object literal leads to: the numbers of the fields of its type that are absent in it and have default
+/// values. Where all are absent it puts the one number for all of them, so that many such literals cost no more than
+/// their text.
+fn put_led(
     alloc: Global,
     types: &Types,
     all: &InputFields<'_>,
@@ -108,15 +129,18 @@ fn put_absent(
     given: &[ObjectField],
     row: &mut Vec<usize>,
 ) -> Result<(), NoMemory>
-    ensures { OnOk result (row.new.items ≡ row.old.items ++ absent_numbers (types_view types.now) (fields_view all.now.fields.items)
+    ensures { OnOk result (row.new.items ≡ row.old.items ++ led_to (types_view types.now) (fields_view all.now.fields.items)
         (row_items all.now.numbers.items) type_name.now (keys_in (entries_view given.now))) }
 {
     let names = names_in(alloc, given)?;
+    if names.len() == 0 {
+        return put_type_node(types, all, type_name, row);
+    }
     let numbers = numbers_of(types, all, type_name);
     put_all_absent(types, &all.fields, &names, numbers, row)
 }
 
-/// Puts what is absent in the object literals of a value that is read at that type, if it is read at one.
+/// Puts what the object literals of a value lead to that is read at that type, if it is read at one.
 #[cycle(defaults)]
 #[tactic(auto, using(gq_tree::proofs::Trees::gathers))]
 fn put_value(
@@ -127,7 +151,7 @@ fn put_value(
     expected: Option<&TypeRef>,
     row: &mut Vec<usize>,
 ) -> Result<(), NoMemory>
-    ensures { OnOk result (row.new.items ≡ row.old.items ++ gathered_of (types_view types.now) (absent_in (types_view types.now) all.now) (type_at expected.entry) (value_view value.now)) }
+    ensures { OnOk result (row.new.items ≡ row.old.items ++ gathered_of (types_view types.now) (led_in (types_view types.now) all.now) (type_at expected.entry) (value_view value.now)) }
 {
     let Some(expected) = expected else {
         return Ok(());
@@ -136,7 +160,7 @@ fn put_value(
         Value::List { items, .. } => put_items(alloc, types, all, items, expected, row),
         Value::Object { fields, .. } => {
             if let Some(type_name) = input_object_at(types, expected) {
-                put_absent(alloc, types, all, type_name, fields, row)?;
+                put_led(alloc, types, all, type_name, fields, row)?;
             }
             put_fields(alloc, types, all, fields, expected, row)
         }
@@ -146,7 +170,7 @@ fn put_value(
     }
 }
 
-/// Puts what is absent in the items of a list literal that is read at that type.
+/// Puts what the items of a list literal lead to that is read at that type.
 #[cycle(defaults)]
 #[tactic(auto, using(gq_tree::proofs::Trees::gathers))]
 fn put_items(
@@ -157,7 +181,7 @@ fn put_items(
     expected: &TypeRef,
     row: &mut Vec<usize>,
 ) -> Result<(), NoMemory>
-    ensures { OnOk result (row.new.items ≡ row.old.items ++ gathered (types_view types.now) (absent_in (types_view types.now) all.now)
+    ensures { OnOk result (row.new.items ≡ row.old.items ++ gathered (types_view types.now) (led_in (types_view types.now) all.now)
         (below_of (types_view types.now) (type_view expected.now)) (values_view items.now)) }
 {
     let item = expected.item_type();
@@ -167,7 +191,7 @@ fn put_items(
     Ok(())
 }
 
-/// Puts what is absent in the fields of an object literal that is read at that type.
+/// Puts what the fields of an object literal lead to that is read at that type.
 #[cycle(defaults)]
 #[tactic(auto, using(gq_tree::proofs::Trees::gathers))]
 fn put_fields(
@@ -178,7 +202,7 @@ fn put_fields(
     expected: &TypeRef,
     row: &mut Vec<usize>,
 ) -> Result<(), NoMemory>
-    ensures { OnOk result (row.new.items ≡ row.old.items ++ gathered (types_view types.now) (absent_in (types_view types.now) all.now)
+    ensures { OnOk result (row.new.items ≡ row.old.items ++ gathered (types_view types.now) (led_in (types_view types.now) all.now)
         (below_of (types_view types.now) (type_view expected.now)) (entries_view given.now)) }
 {
     let type_name = input_object_at(types, expected);
@@ -189,7 +213,7 @@ fn put_fields(
     Ok(())
 }
 
-/// The numbers of the fields that a field leads to.
+/// The numbers that a field leads to.
 fn field_leads(
     alloc: Global,
     types: &Types,
@@ -207,7 +231,7 @@ fn field_leads(
     Ok(row)
 }
 
-/// For each input field the numbers of the fields that it leads to.
+/// For each input field the numbers that it leads to.
 #[tactic(auto, using(gq_tree::proofs::Trees::gathers))]
 fn field_rows(
     alloc: Global,
@@ -222,6 +246,50 @@ fn field_rows(
     for field in &all.fields {
         rows.push(field_leads(alloc, types, all, field)?)?;
     }
+    Ok(rows)
+}
+
+/// Those of the numbers whose fields have default values.
+fn with_defaults(
+    alloc: Global,
+    types: &Types,
+    fields: &[Field<'_>],
+    numbers: &[usize],
+) -> Result<Vec<usize>, NoMemory>
+    ensures { IfOk result (λ row. row.items ≡ all_with_defaults (types_view types.now) (fields_view fields.now) numbers.now) }
+{
+    let mut row = Vec::new(alloc);
+    let names = NameList::new(alloc);
+    put_all_absent(types, fields, &names, numbers, &mut row)?;
+    Ok(row)
+}
+
+/// Puts for each entry the numbers of the fields with default values of its type.
+fn put_type_rows(
+    alloc: Global,
+    types: &Types,
+    all: &InputFields<'_>,
+    rows: &mut Vec<Vec<usize>>,
+) -> Result<(), NoMemory>
+    ensures { OnOk result (row_items rows.new.items ≡ row_items rows.old.items ++ map (all_with_defaults (types_view types.now) (fields_view all.now.fields.items))
+        (row_items all.now.numbers.items)) }
+{
+    for numbers in &all.numbers {
+        rows.push(with_defaults(alloc, types, &all.fields, numbers)?)?;
+    }
+    Ok(())
+}
+
+/// The rows of the fields, and behind them those of the entries.
+fn lead_rows(
+    alloc: Global,
+    types: &Types,
+    all: &InputFields<'_>,
+) -> Result<Vec<Vec<usize>>, NoMemory>
+    ensures { IfOk result (λ rows. row_items rows.items ≡ lead_table (types_view types.now) (fields_view all.now.fields.items) (row_items all.now.numbers.items)) }
+{
+    let mut rows = field_rows(alloc, types, all)?;
+    put_type_rows(alloc, types, all, &mut rows)?;
     Ok(rows)
 }
 
@@ -253,7 +321,7 @@ pub fn marked_by_default(alloc: Global, types: &Types) -> Result<Vec<bool>, NoMe
     ensures { IfOk result (λ marks. MarksByDefault (types_view types.now) marks.items) }
 {
     let all = input_fields(alloc, types)?;
-    let rows = field_rows(alloc, types, &all)?;
+    let rows = lead_rows(alloc, types, &all)?;
     let marks = on_cycles(alloc, &rows)?;
     marked_rows(alloc, &marks, &all.numbers)
 }

@@ -1,5 +1,5 @@
 -- What is computed of the ways between input fields by default values, computed.
-use Rattle.std.specs.Prelude.{ℕ, ◌+◌, Bool, false, List, [], ◌∷◌, ◌++◌, if◌then◌else◌, Option, Some, None, map, flat_map, slice_get, slice_index_or, length, is_some, drop}
+use Rattle.std.specs.Prelude.{ℕ, ◌+◌, Bool, false, List, [], ◌∷◌, ◌++◌, if◌then◌else◌, Option, Some, None, map, flat_map, slice_get, slice_index_or, length, is_some, drop, nat_eq, nat_lt}
 use Rattle.std.specs.Borrow.{Bor}
 use Rattle.std.specs.List.{list_any}
 use Rattle.std.specs.Option.{option_map, option_map_or}
@@ -90,17 +90,32 @@ numbers_of es rows type_name = option_map_or (λ number. slice_index_or rows num
 abbrev pub absent_numbers : List EntryOf → List InputField → List (List ℕ) → Text → List Text → List ℕ
 absent_numbers es fields rows type_name keys = flat_map (absent_number es fields keys) (numbers_of es rows type_name)
 
--- what is absent in a literal that is read at a type
-abbrev pub absent_at : List EntryOf → List InputField → List (List ℕ) → TypeOf Span → Says Span → Vals Span → List ℕ
-absent_at es fields rows t (object place) below = option_map_or (λ type_name. absent_numbers es fields rows type_name (keys_in below)) (input_object_at es t) []
-absent_at es fields rows t (list place) below = []
-absent_at es fields rows t (variable name place) below = []
-absent_at es fields rows t (int text place) below = []
-absent_at es fields rows t (float text place) below = []
-absent_at es fields rows t (string text place) below = []
-absent_at es fields rows t (boolean value place) below = []
-absent_at es fields rows t (null place) below = []
-absent_at es fields rows t (enum name) below = []
+-- all fields among these numbers that have default values
+abbrev pub all_with_defaults : List EntryOf → List InputField → List ℕ → List ℕ
+all_with_defaults es fields numbers = flat_map (absent_number es fields []) numbers
+
+-- Behind the numbers of fields each entry has one for all fields with default values of its type.
+abbrev pub number_behind : List InputField → List (List ℕ) → ℕ → List ℕ
+number_behind fields rows number = if nat_lt number (length rows) then (length fields + number) ∷ [] else []
+
+abbrev pub type_node : List EntryOf → List InputField → List (List ℕ) → Text → List ℕ
+type_node es fields rows type_name = option_map_or (number_behind fields rows) (type_number es type_name) []
+
+-- what a literal of that type with these keys leads to: the number for all fields, where it has no key
+abbrev pub led_to : List EntryOf → List InputField → List (List ℕ) → Text → List Text → List ℕ
+led_to es fields rows type_name keys = if nat_eq (length keys) 0 then type_node es fields rows type_name else absent_numbers es fields rows type_name keys
+
+-- what a literal that is read at a type leads to
+abbrev pub led_at : List EntryOf → List InputField → List (List ℕ) → TypeOf Span → Says Span → Vals Span → List ℕ
+led_at es fields rows t (object place) below = option_map_or (λ type_name. led_to es fields rows type_name (keys_in below)) (input_object_at es t) []
+led_at es fields rows t (list place) below = []
+led_at es fields rows t (variable name place) below = []
+led_at es fields rows t (int text place) below = []
+led_at es fields rows t (float text place) below = []
+led_at es fields rows t (string text place) below = []
+led_at es fields rows t (boolean value place) below = []
+led_at es fields rows t (null place) below = []
+led_at es fields rows t (enum name) below = []
 
 -- what stands in the braces or brackets of a literal at a type
 abbrev pub below_of : List EntryOf → TypeOf Span → Option (NameOf Span) → Expected
@@ -120,16 +135,20 @@ gathered es at read (more part below rest) =
 abbrev pub gathered_of : List EntryOf → (TypeOf Span → Says Span → Vals Span → List ℕ) → Option (TypeOf Span) → Val Span → List ℕ
 gathered_of es at o value = option_map_or (λ t. at t value.label.says value.below ++ gathered es at (below_of es t) value.below) o []
 
--- what is absent by the fields as the code has them
-abbrev pub absent_in : List EntryOf → InputFields → TypeOf Span → Says Span → Vals Span → List ℕ
-absent_in es all = absent_at es (fields_view all.fields.items) (row_items all.numbers.items)
+-- what a literal leads to by the fields as the code has them
+abbrev pub led_in : List EntryOf → InputFields → TypeOf Span → Says Span → Vals Span → List ℕ
+led_in es all = led_at es (fields_view all.fields.items) (row_items all.numbers.items)
 
--- the numbers of the fields that a field leads to
+-- the numbers that a field leads to
 abbrev pub default_leads : List EntryOf → List InputField → List (List ℕ) → InputOf Span → List ℕ
-default_leads es fields rows input = option_map_or (gathered_of es (absent_at es fields rows) (Some input.type_ref)) input.default []
+default_leads es fields rows input = option_map_or (gathered_of es (led_at es fields rows) (Some input.type_ref)) input.default []
 
 abbrev pub field_leads : List EntryOf → List InputField → List (List ℕ) → InputField → List ℕ
 field_leads es fields rows field = option_map_or (default_leads es fields rows) (input_named es field.type_name field.name) []
+
+-- what each number leads to: fields, and behind them the entries
+abbrev pub lead_table : List EntryOf → List InputField → List (List ℕ) → List (List ℕ)
+lead_table es fields rows = map (field_leads es fields rows) fields ++ map (all_with_defaults es fields) rows
 
 -- whether one of these numbers is marked
 abbrev pub any_marked : List Bool → List ℕ → Bool

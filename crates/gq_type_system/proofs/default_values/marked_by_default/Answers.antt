@@ -2,16 +2,16 @@ use Rattle.std.proofs.Common.{◌≡◌, List, Vec, Global, ℕ, map, ap, sym, �
 use Rattle.std.proofs.lemmas.Result.{IfOk-weaker}
 use Rattle.gq_type_system.specs.EndlessInputs.{InputField}
 use Rattle.gq_type_system.specs.Helping.EndlessInputsPlaces.{row_items, MarksByDefault}
-use Rattle.gq_type_system.specs.Helping.DefaultValuesPlaces.{fields_view, field_leads, all_fields, field_numbers, any_marked}
+use Rattle.gq_type_system.specs.Helping.DefaultValuesPlaces.{fields_view, lead_table, all_fields, field_numbers, any_marked}
 use Rattle.gq_types.specs.Entries.{EntryOf}
 use Rattle.gq_types.specs.Look.{types_view}
 use Rattle.gq_type_system.proofs.DefaultWays.{defaults_in_range, marks_by_default}
 use Rattle.gq_type_system.proofs.default_values.marked_by_default.Goals as goal
 
 -- the rows by the fields and numbers that were found
-known_rows : (es : List EntryOf) (rows : List (Vec ℕ Global)) (fields : List InputField) (numbers : List (List ℕ)) → row_items rows ≡ map (field_leads es fields numbers) fields
-    → fields ≡ all_fields es → numbers ≡ field_numbers es → row_items rows ≡ map (field_leads es (all_fields es) (field_numbers es)) (all_fields es)
-known_rows es rows fields numbers is fields_are numbers_are = is ∙ (λ i. map (field_leads es (fields_are i) (numbers_are i)) (fields_are i))
+known_rows : (es : List EntryOf) (rows : List (Vec ℕ Global)) (fields : List InputField) (numbers : List (List ℕ)) → row_items rows ≡ lead_table es fields numbers
+    → fields ≡ all_fields es → numbers ≡ field_numbers es → row_items rows ≡ lead_table es (all_fields es) (field_numbers es)
+known_rows es rows fields numbers is fields_are numbers_are = is ∙ (λ i. lead_table es (fields_are i) (numbers_are i))
 
 pub on_cycles-requires : goal.on_cycles-requires
 on_cycles-requires c =
