@@ -6,8 +6,9 @@ crates/gqls/folders.
 
 A case is served twice: its input at once, and byte by byte where it is short. Wanted are what NAME.stdout holds, and the status and
 the fault that its line of the file `endings` beside the folder has; without a line the status 0, and nothing said of a fault. Of a
-case that holds many rows each is judged, by its URIs (scripts/make_cases.py says how rows become cases). A row of check.rows, check.*.rows or exec.rows is files that lie where
-the program runs, and what is wanted is what it writes to standard output and then to standard error, and its status. A session of
+case that holds many rows each is judged, by its URIs (scripts/make_cases.py says how rows become cases). A row of check.rows,
+check.*.rows or exec.rows is files that lie where the program runs, and what is wanted is what it writes to standard output and then to
+standard error, and its status; with `--root: DIR` they are not named, and DIR is the folder that they lie in. A session of
 folders/*.sessions is served over a folder that is made for it (scripts/folders.py says how it is written).
 
 Each row that differs is printed with its file and line. The last line is `N passed, M failed`; the status is 1 where one failed."""
@@ -158,6 +159,9 @@ def judge_row(program, row, command):
             if name == "--op":
                 words += [name, entry.bytes.decode()]
                 continue
+            if name == "--root":
+                words += [name, entry.bytes.decode().replace("DIR", folder)]
+                continue
             if name.startswith("--"):
                 name = f"{name[2:]}.json"
                 words += [entry.key, name]
@@ -165,10 +169,12 @@ def judge_row(program, row, command):
                 names.append(name)
             path = os.path.join(folder, name)
             if entry.bytes is not None and not os.path.exists(path):
+                os.makedirs(os.path.dirname(path), exist_ok=True)
                 with open(path, "wb") as file:
                     file.write(entry.bytes)
+        names = [] if "--root" in words else names
         output, errors, status = run([program, *words, *names], b"", 1, folder)
-    told = (output + errors).decode(errors="replace") + str(status)
+    told = (output + errors).decode(errors="replace").replace(folder, "DIR") + str(status)
     return None if told == row.wanted else f"told\n    {shown([told.encode()])}\n  wanted\n    {shown([row.wanted.encode()])}"
 
 

@@ -107,6 +107,8 @@ def commands():
     for path in sorted(glob.glob(os.path.join(CRATE, "commands", "*.rows"))):
         command = os.path.basename(path).split(".")[0]
         for row in read_rows(path):
+            if any(entry.key == "--root" for entry in row.entries):
+                continue
             words, names, files = [command], [], {}
             for entry in row.entries:
                 if entry.key == "--op":

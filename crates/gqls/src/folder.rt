@@ -353,6 +353,31 @@ impl<'a> Folder<'a> {
     }
 }
 
+/// The path of the file with that key, or none.
+fn path_at(alloc: Global, key: &OwnedText) -> Result<Option<String>, NoMemory> {
+    Ok(path_of_key(alloc, key.as_str())?)
+}
+
+/// The paths of all files of GraphQL in the folder of that path, as they are listed for a server.
+pub fn paths_in(rt: &HostRuntime, path: &str) -> Result<Vec<String>, FilesFault> {
+    let alloc = rt.alloc();
+    let mut folder = Folder::new(rt, path)?;
+    let keys = folder.list(alloc)?;
+    let mut paths = Vec::new(alloc);
+    for key in keys.iter() {
+        if let Some(path) = path_at(alloc, key)? {
+            put_path(&mut paths, path)?;
+        }
+    }
+    Ok(paths)
+}
+
+/// Puts a path behind the others.
+fn put_path(paths: &mut Vec<String>, path: String) -> Result<(), NoMemory> {
+    paths.push(path)?;
+    Ok(())
+}
+
 impl Files for Folder<'_> {
     ghost failed = { λ f. f.failed };
 

@@ -6,12 +6,13 @@ mod folder;
 
 ghost use Rattle.std.specs.Prelude.{◌≡◌, ◌≤◌, ◌^◌, false};
 
-use crate::folder::{Folder, read_front, read_root};
+use crate::folder::{Folder, paths_in, read_front, read_root};
 use clap::error::ErrorKind;
 use clap::{Arg, ArgAction, ArgMatches, Command, Error, value_parser};
 use gq_check::files::FILES_MAX;
 use gq_check::{File, check_by_threads, exec};
 use gq_crew::{Ended, Files, NoFiles, Open, Ran, RunFault};
+use gq_reader::loads::fault_of;
 use gq_rpc::Flagged;
 use gq_text::text::TEXT_MAX;
 use gq_text::{NoMemory, OwnedText};
@@ -30,6 +31,7 @@ const FAULT_STATUS: u8 = 3;
 
 const EXAMPLE: &str = "Examples:
   gqls serve --root /shop
+  gqls check --root /shop
   gqls check schema.graphql query.graphql
   gqls exec --table table.json schema.graphql query.graphql
 
@@ -52,7 +54,12 @@ const CHECK_EXAMPLE: &str = "Example:
 The files are one project: its type system, operations and fragments. Each fault is a line: the file, the line
 and the column of its start, counted from 1, the code of the rule and a few words; the status is then 1.
 Where there is none, it prints `ok`, and the status is 0. At most 4,096 files are read, of at most 4 MiB each.
-Where there are more, or a file is larger or cannot be read, the status is 3, and standard error says why.";
+Where there are more, or a file is larger or cannot be read, the status is 3, and standard error says why.
+
+  $ gqls check --root /shop
+  /shop/queries/cart.graphql:8:7: V4 unknown field
+
+Here the project is all files under the folder that end in `.graphql` or `.gql`, found as by `gqls serve --root`.";
 
 const EXEC_EXAMPLE: &str = "Example:
   $ gqls exec --table table.json schema.graphql query.graphql
@@ -65,6 +72,9 @@ A result is null, {\"error\":true}, {\"leaf\":VALUE}, {\"object\":[TYPE,NUMBER]}
 The status is 0 where there is a response, also one with errors. Where the files are no valid project, the faults are
 printed as by `check`, and the status is 1. A bad table or bad variables give the status 2, and a file that cannot be
 read, or is too large, 3; standard error says why.";
+
+/// The version of the program.
+const VERSION: &str = "0.1.0";
 
 /// How many workers there are where the command line does not say.
 const WORKERS: &str = "2";
@@ -80,27 +90,38 @@ fn serve_command<'a>(alloc: Global) -> Result<Command<'a>, AllocError> {
         .help("How many threads answer beside the one that reads, 0 to 8; with 0 that one answers")
         .value_parser(value_parser!(u8).range(0..=8))
         .default_value(WORKERS);
-    let root = Arg::new(alloc, "root").long("root").value_name("DIR").help(
-        "The folder of the project: its whole path, from `/` on, without `.` and `..`",
-    );
+    let stdio = Arg::new(alloc, "stdio")
+        .long("stdio")
+        .help("Serves on the standard streams, as it does without this word")
+        .action(ArgAction::SetTrue);
     Command::new(alloc, "serve")
         .about("Serves the language server protocol on the standard streams")
         .after_help(SERVE_EXAMPLE)
         .arg(workers)?
-        .arg(root)
+        .arg(root_argument(alloc))?
+        .arg(stdio)
 }
 
-/// The command `check`, with the names of files.
+/// The folder of the project.
+fn root_argument<'a>(alloc: Global) -> Arg<'a> {
+    Arg::new(alloc, "root").long("root").value_name("DIR").help(
+        "The folder of the project: its whole path, from `/` on, without `.` and `..`",
+    )
+}
+
+/// The command `check`, with the names of files, or with the folder that they lie in.
 fn check_command<'a>(alloc: Global) -> Result<Command<'a>, AllocError> {
     let files = Arg::new(alloc, "files")
         .value_name("FILE")
         .help("The files of the project, schema and queries in any order")
         .action(ArgAction::Append)
         .num_args(1..)
-        .required(true);
+        .required_unless_present("root")?
+        .conflicts_with("root")?;
     Command::new(alloc, "check")
         .about("Checks files as one project, and prints what is wrong with it")
         .after_help(CHECK_EXAMPLE)
+        .arg(root_argument(alloc))?
         .arg(files)
 }
 
@@ -137,6 +158,7 @@ fn exec_command<'a>(alloc: Global) -> Result<Command<'a>, AllocError> {
 /// The program, with its commands.
 fn gqls_command<'a>(alloc: Global) -> Result<Command<'a>, AllocError> {
     Command::new(alloc, "gqls")
+        .version(VERSION)
         .about("A language server for GraphQL")
         .after_help(EXAMPLE)
         .subcommand_required(true)
@@ -311,6 +333,38 @@ fn check_files<R: Threads + Sync>(threads: &R, rt: &HostRuntime, names: &[&str])
     check_by_threads(threads, rt.alloc(), &files, &mut output, &mut errors)
 }
 
+/// The texts, lent.
+fn lent<'a>(alloc: Global, texts: &'a [String]) -> Result<Vec<&'a str>, NoMemory> {
+    let mut all = Vec::new(alloc);
+    for text in texts {
+        all.push(text.as_str())?;
+    }
+    Ok(all)
+}
+
+/// Checks the files of the folder of that path, by threads.
+fn check_folder<R: Threads + Sync>(threads: &R, rt: &HostRuntime, path: &str) -> u8 {
+    let paths = match paths_in(rt, path) {
+        Ok(paths) => paths,
+        Err(fault) => return tell_fault(rt, fault_of(fault)),
+    };
+    match lent(rt.alloc(), &paths) {
+        Ok(names) => check_files(threads, rt, &names),
+        Err(NoMemory) => tell_fault(rt, RunFault::NoMemory),
+    }
+}
+
+/// Checks the files that the words name, or those of the folder that they name.
+fn check<R: Threads + Sync>(threads: &R, rt: &HostRuntime, words: &ArgMatches<'_>) -> u8 {
+    match words.get_str("root") {
+        None => check_files(threads, rt, words.get_raw("files").unwrap_or(&[])),
+        Some(word) => match read_root(word) {
+            Some(path) => check_folder(threads, rt, path),
+            None => explain_root(rt, word),
+        },
+    }
+}
+
 /// What is given to an execution beside the name of the operation.
 #[derive(Drop)]
 struct Inputs {
@@ -349,9 +403,7 @@ fn exec_files(rt: &HostRuntime, words: &ArgMatches<'_>) -> u8 {
 /// Does what the words say, and answers the status.
 fn run<R: Threads + Wait + Sync>(threads: &R, rt: &HostRuntime, matches: &ArgMatches<'_>) -> u8 {
     match matches.subcommand() {
-        Some(("check", words)) => {
-            check_files(threads, rt, words.get_raw("files").unwrap_or(&[]))
-        }
+        Some(("check", words)) => check(threads, rt, words),
         Some(("exec", words)) => exec_files(rt, words),
         Some((_, words)) => serve(threads, rt, words),
         None => USAGE_STATUS,
