@@ -9,4 +9,4 @@ pub mod Laws
 pub mod Lifecycle
 pub mod Headline
 pub mod Keeping
-pub mod Helping
+pub mod Texts

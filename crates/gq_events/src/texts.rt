@@ -1,7 +1,7 @@
 //! Texts of the documents of a session.
 ghost use Rattle.std.specs.Prelude.{◌≡◌, ◌<◌, ◌≤◌, ◌^◌, ◌↔◌, [], length, IsErr, IsTrue, IfOk, OnOk, OnErr};
 ghost use Rattle.gq_text.specs.Change.{FitEach, after_changes};
-ghost use Rattle.gq_events.specs.Helping.Texts.{held_bytes};
+ghost use Rattle.gq_events.specs.Texts.{held_bytes};
 
 use gq_gap::GapBuffer;
 use gq_text::text::TEXT_MAX;
@@ -26,7 +26,7 @@ pub struct OpenText {
 
 impl Model for OpenText {
     ghost use Rattle.std.specs.Prelude.{ℕ, ◌≤◌, ◌^◌, List, length};
-    ghost use Rattle.gq_events.specs.Helping.Texts.{held_bytes};
+    ghost use Rattle.gq_events.specs.Texts.{held_bytes};
 
     ghost Value = { List ℕ };
 
