@@ -8,7 +8,7 @@ use Rattle.gq_board.specs.declared.history.Room.{Ghosts}
 use Rattle.gq_board.proofs.looker.Looker.TheSendSync as Looker
 use Rattle.gq_reader.proofs.fault.RunFault.TheSendSync as RunFault
 use Rattle.gq_workers.proofs.Crossing.{JobsIn-send, Outbox-send, ReaderEnd-field_send}
-use Rattle.gq_crew.specs.contracts.crew.Hire as HireType
+use Rattle.gq_crew.specs.contracts.staff.Hire as HireType
 use Rattle.gq_crew.specs.contracts.reader_side.ReaderSide as ReaderSideType
 use Rattle.gq_crew.specs.contracts.reader_side.ReaderCame as ReaderCameType
 

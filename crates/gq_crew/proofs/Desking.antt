@@ -1,5 +1,5 @@
 -- What a desk with workers comes to, from what driving it does.
-use Rattle.std.proofs.Common.{◌≡◌, ◌⊎◌, inl, inr, ℕ, ◌≤◌, Bool, true, false, List, [], ◌∷◌, ◌++◌, map, length, Option, Some, None, ap, sym, refl, ◌∙◌, subst, append-nil, append_assoc, arith}
+use Rattle.std.proofs.Common.{◌≡◌, ◌⊎◌, inl, inr, ℕ, true, false, List, [], ◌∷◌, ◌++◌, Option, Some, None, ap, sym, refl, ◌∙◌, subst, append-nil, append_assoc, arith}
 use Rattle.std.specs.Iterator.{Yields, YieldsThen}
 use Rattle.std.specs.Io.KnownBytes.{Appends}
 use Rattle.std.proofs.lemmas.List.{map-append}
@@ -9,7 +9,6 @@ use Rattle.gq_rpc.proofs.Sends.{Appends-trans}
 use Rattle.gq_events.specs.declared.event.Event.{Event}
 use Rattle.gq_events.specs.declared.event.Event.TheVariants as event
 use Rattle.gq_events.specs.declared.event.Out.{Out}
-use Rattle.gq_events.specs.Jobs.{DoneOf}
 use Rattle.gq_events.specs.Rules.{Turn}
 use Rattle.gq_events.specs.History.{outputs, outputs_behind}
 use Rattle.gq_events.specs.Laws.{Handing}
@@ -18,14 +17,13 @@ use Rattle.gq_events.specs.Lifecycle.{is_load}
 use Rattle.gq_events.specs.Machine.{State}
 use Rattle.gq_events.proofs.Behind.{outputs_go_on}
 use Rattle.gq_desk.specs.Frames.{frame_in, frames_in, stop_in}
-use Rattle.gq_desk.specs.Driving.{AreExact, events_of, events_max, Drives, FailsAt, TakesTooMany, Fails, Breaks}
+use Rattle.gq_desk.specs.Driving.{AreExact, events_of, Drives, FailsAt, TakesTooMany, Fails, Breaks}
 use Rattle.gq_desk.specs.declared.driving.DriveFault.{DriveFault}
 use Rattle.gq_desk.specs.declared.driving.DriveFault.TheVariants as drive
-use Rattle.gq_reader.specs.declared.fault.RunFault.{RunFault}
 use Rattle.gq_reader.specs.declared.fault.RunFault.TheVariants as fault
 use Rattle.gq_crew.specs.declared.one_thread.Ended.{Ended}
 use Rattle.gq_crew.specs.Runs.{SinkAfter}
-use Rattle.gq_crew.specs.Crew.{AreTaken, IsSent, StopsCrew, EndsAtLoad, IsDeskFault, EndsDesk, DeskRuns}
+use Rattle.gq_crew.specs.Crew.{AreTaken, IsDeskFault, EndsDesk, DeskRuns}
 use Rattle.gq_crew.specs.Helping.Ends.{fault_at}
 use Rattle.gq_crew.specs.Helping.Delivered.{Box, Gives, Delivers}
 use Rattle.gq_crew.proofs.Outputs.{Sent-behind}

@@ -1,13 +1,12 @@
 -- Turns of what a run takes, and what is written of what they put out.
-use Rattle.std.proofs.Common.{◌≡◌, ℕ, Bool, List, [], ◌∷◌, ◌++◌, map, Option, refl, ap, sym, ◌∙◌, subst, append_assoc}
+use Rattle.std.proofs.Common.{◌≡◌, ℕ, List, [], ◌∷◌, ◌++◌, Option, refl, ap, sym, ◌∙◌, append_assoc}
 use Rattle.std.specs.Io.KnownBytes.{Appends}
 use Rattle.gq_rpc.specs.Devices.{Sent}
 use Rattle.gq_rpc.proofs.Sends.{Appends-trans}
-use Rattle.gq_events.specs.declared.event.Event.{Event}
 use Rattle.gq_events.specs.declared.event.LoadedContent.{LoadedContent}
 use Rattle.gq_events.specs.Rules.{Turn}
 use Rattle.gq_events.specs.Machine.{start}
-use Rattle.gq_reader.specs.Inputs.{Input, Body, File, event_of, load_of, AreEventsOf, files_behind, inputs_of}
+use Rattle.gq_reader.specs.Inputs.{Input, Body, File, event_of, load_of}
 use Rattle.gq_crew.specs.Output.{AreTurnsOf, TurnsExist}
 use Rattle.gq_events.proofs.Behind.{answered_all}
 use Rattle.gq_crew.proofs.Alone.{quiet, quiet_of, quiet_fits}

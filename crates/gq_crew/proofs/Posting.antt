@@ -1,11 +1,10 @@
 -- What a reader posted, from the steps by which it came.
-use Rattle.std.proofs.Common.{◌≡◌, ◌⊎◌, inl, inr, ℕ, Bool, true, false, List, [], ◌∷◌, ◌++◌, map, length, Option, Some, None, ap, sym, refl, ◌∙◌, subst, append-nil, append_assoc, length-append, ◌+◌, arith}
-use Rattle.std.specs.Iterator.{Yields, YieldsThen}
+use Rattle.std.proofs.Common.{◌≡◌, inl, inr, ℕ, Bool, true, false, List, [], ◌∷◌, ◌++◌, map, length, Option, Some, None, ap, sym, refl, ◌∙◌, subst, append-nil, append_assoc, length-append, ◌+◌, arith}
+use Rattle.std.specs.Iterator.{Yields}
 use Rattle.std.specs.Option.{option_or}
 use mathlib.Core.List.{IsPrefix}
 use Rattle.gq_events.specs.declared.event.Event.{Event}
 use Rattle.gq_events.specs.declared.event.Event.TheVariants as event
-use Rattle.gq_events.specs.declared.event.InputEnd.{InputEnd}
 use Rattle.gq_events.specs.declared.event.InputEnd.TheVariants.{Border, Fault}
 use Rattle.gq_events.specs.declared.event.LoadedContent.{LoadedContent}
 use Rattle.gq_desk.specs.Driving.{events_max}
@@ -21,7 +20,7 @@ use Rattle.gq_reader.specs.Coming.{Box, Comes, ComesSo, LacksLoad, LacksKey, Lac
 use Rattle.gq_reader.proofs.Readers.{Stands, At-fills, At-body}
 use Rattle.gq_reader.proofs.Taken.{events_are}
 use Rattle.gq_reader.proofs.Comings.{Ground, Stage, waits, clean, owes, Waits, Clean, Owes, Came, took_all, clean_ground, owed_ground, waits_ground, came_ground}
-use Rattle.gq_crew.specs.Crew.{IsReadFault, EndsReading, Posts, IsAllRead}
+use Rattle.gq_crew.specs.Crew.{IsReadFault, EndsReading, Posts}
 use Rattle.gq_crew.specs.declared.reader_side.Posting.{Posting}
 use Rattle.gq_crew.specs.declared.reader_side.Posting.TheVariants.{Stopped, Ended, TooMany}
 use Rattle.gq_crew.specs.Helping.Posting.{PostsOne, PostsAll, end_by}

@@ -1,15 +1,13 @@
 -- How a run with workers ends, from what its reader and its desk came to.
-use Rattle.std.proofs.Common.{◌≡◌, ◌⊎◌, inl, inr, ℕ, Bool, true, false, cond, List, [], ◌∷◌, ◌++◌, map, length, Option, Some, None, ap, sym, refl, ◌∙◌, subst, append-nil, append_assoc, arith}
+use Rattle.std.proofs.Common.{◌≡◌, ◌⊎◌, inl, inr, ℕ, Bool, true, false, List, [], ◌∷◌, ◌++◌, map, Option, Some, None, ap, sym, refl, ◌∙◌, subst, append-nil, append_assoc, arith}
 use Rattle.std.proofs.lemmas.List.{map-append}
 use mathlib.Core.List.{IsPrefix}
-use Rattle.gq_rpc.specs.Devices.{Sent}
 use Rattle.gq_rpc.proofs.Sends.{Appends-nil, Consumes-nil}
 use Rattle.gq_events.specs.declared.event.Event.{Event}
 use Rattle.gq_events.specs.declared.event.Event.TheVariants as event
 use Rattle.gq_events.specs.declared.event.InputEnd.{InputEnd}
-use Rattle.gq_events.specs.declared.event.InputEnd.TheVariants.{Border, Fault}
+use Rattle.gq_events.specs.declared.event.InputEnd.TheVariants.{Border}
 use Rattle.gq_events.specs.declared.event.LoadedContent.{LoadedContent}
-use Rattle.gq_rpc.specs.declared.messages.Incoming.{Incoming}
 use Rattle.gq_events.specs.Rules.{Turn}
 use Rattle.gq_events.specs.History.{outputs}
 use Rattle.gq_events.specs.Lifecycle.{is_stop}
@@ -21,9 +19,8 @@ use Rattle.gq_reader.specs.Inputs.{Input, Body, File, AreEventsOf}
 use Rattle.gq_reader.specs.Reading.{SourceAfter, FilesAfter}
 use Rattle.gq_crew.specs.declared.one_thread.Ended.{Ended}
 use Rattle.gq_crew.specs.Runs.{SinkAfter}
-use Rattle.gq_crew.specs.Helping.Ends.{ended_as}
 use Rattle.gq_crew.specs.Helping.Settled.{settled}
-use Rattle.gq_crew.specs.Crew.{AreTaken, IsSent, EndsReading, Posts, StopsCrew, DeskRuns, EndsDesk, is_exit, IsAllRead, IsDeskFault, EndsAtStop, EndsRun, RunsByThreads}
+use Rattle.gq_crew.specs.Crew.{AreTaken, Posts, DeskRuns, EndsDesk, is_exit, IsAllRead, IsDeskFault, EndsRun, RunsByThreads}
 
 -- ---- the end of the input
 
@@ -158,6 +155,11 @@ module _ {F : Type 0} (reads : F → List ℕ → LoadedContent → F → Type 0
 pub board_cause : (why : RunFault) (sink : SinkAfter) → (why ≡ fault.NoMemory) ⊎ (why ≡ fault.NoPlace) → IsDeskFault why [] sink
 board_cause why sink (inl is) = subst (λ (w : RunFault). IsDeskFault w [] sink) (sym is) tt
 board_cause why sink (inr is) = subst (λ (w : RunFault). IsDeskFault w [] sink) (sym is) refl
+
+-- where workers could not be started
+pub start_cause : (why : RunFault) (sink : SinkAfter) → (why ≡ fault.NoMemory) ⊎ (why ≡ fault.NoThread) → IsDeskFault why [] sink
+start_cause why sink (inl is) = subst (λ (w : RunFault). IsDeskFault w [] sink) (sym is) tt
+start_cause why sink (inr is) = subst (λ (w : RunFault). IsDeskFault w [] sink) (sym is) refl
 
 -- of a folder that has the same documents
 pub runs_with : {F : Type 0} {reads : F → List ℕ → LoadedContent → F → Type 0} (f h : List ℕ → Bool) → ((key : List ℕ) → f key ≡ h key) → {folder : F} {keys : List (List ℕ)} {files : FilesAfter} {left : Option (List ℕ)} {source : SourceAfter}

@@ -5,10 +5,8 @@ use Rattle.gq_rpc.specs.declared.messages.Id.{Id}
 use Rattle.gq_rpc.specs.declared.messages.ResponseError.{ResponseError}
 use Rattle.gq_rpc.specs.declared.messages.Request.{Request}
 use Rattle.gq_rpc.specs.declared.messages.Request.TheVariants as request
-use Rattle.gq_rpc.specs.declared.messages.Notification.{Notification}
 use Rattle.gq_rpc.specs.declared.messages.Notification.TheVariants as notification
 use Rattle.gq_rpc.specs.declared.messages.Incoming.TheVariants as incoming
-use Rattle.gq_project.specs.declared.document.Doc.{Doc}
 use Rattle.gq_project.specs.declared.document.DocChange.{DocChange}
 use Rattle.gq_events.specs.declared.documents.SessionDocument.{SessionDocument}
 use Rattle.gq_events.specs.declared.event.Task.{Task}
@@ -28,9 +26,9 @@ use Rattle.gq_events.specs.declared.refusals.Denial.{Denial}
 use Rattle.gq_events.specs.Documents.{docs_of, is_change, key_of, published}
 use Rattle.gq_events.specs.Jobs.{JobOf}
 use Rattle.gq_events.specs.Lifecycle.{is_load, is_stop}
-use Rattle.gq_events.specs.Rules.{Turn, Session, effect_of, effect_of_request, decides, verdict, refused_as, cleared, shown, own_of_change, own, answer_to}
+use Rattle.gq_events.specs.Rules.{Turn, Session, effect_of, effect_of_request, decides, verdict, refused_as, cleared, shown, own, answer_to}
 use Rattle.gq_events.specs.History.{outputs, outputs_behind}
-use Rattle.gq_events.specs.Machine.{State, Table, start, reached, writes, effect_in, changed_in, taken_by, denied_in, verdicts, replies_to, brings, next_jobs, jobs_then}
+use Rattle.gq_events.specs.Machine.{State, start, reached, writes, effect_in, changed_in, taken_by, denied_in, verdicts, brings, next_jobs, jobs_then}
 use Rattle.gq_events.proofs.Behind.{steps_tell_history, outputs_go_on}
 use Rattle.gq_desk.specs.Frames.{stop_in}
 use Rattle.gq_desk.proofs.Runs.{stop_in-append}

@@ -5,3 +5,4 @@ pub mod Settled
 pub mod Posting
 pub mod Delivered
 pub mod Handing
+pub mod Sides

@@ -1,27 +1,29 @@
 //! A run with workers: one thread reads, one is the desk, and the others answer.
-ghost use Rattle.std.specs.Prelude.{◌≡◌, ◌<◌, ◌⊎◌, [], Some, false, IfOk, IfErr};
+ghost use Rattle.std.specs.Prelude.{◌≡◌, ◌<◌, ◌⊎◌, [], Some, false, IfOk};
 ghost use Rattle.std.specs.Thread.{IsSend, IsSync};
 ghost use Rattle.gq_crew.specs.Runs.{Ran as RanAlone, source_after, files_after, sink_after};
-ghost use Rattle.gq_crew.specs.Crew.{Posts, DeskRuns, RunsByThreads, RanByThreads};
+ghost use Rattle.gq_crew.specs.Crew.{RanByThreads};
 ghost use Rattle.gq_crew.specs.Helping.Settled.{settled};
+ghost use Rattle.gq_crew.specs.Helping.Sides.{Given, GivenSides, devices_of, GivenReader, GivenDesk, ReaderComes, DeskComes, Comes};
 ghost use Rattle.gq_workers.specs.Ends.{posted, collected, collected_in, reader_on, desk_on, collected_on};
 ghost use mathlib.Core.List.{IsPrefix};
 
 use crate::desk_side::{DeskCame, DeskSide, drive_side};
 use crate::one_thread::{Ended, failed, run_one, stopped};
 use crate::reader_side::{ReaderCame, ReaderSide, read_side};
+use crate::staff::start_all;
 use gq_board::{BoardFault, Front, Looker, Opened, Room, open};
 use gq_project::Project;
 use gq_reader::loads::fault_of;
 use gq_reader::{Files, RunFault};
 use gq_rpc::{Sink, Source};
 use gq_text::{NoMemory, OwnedText};
-use gq_workers::{DeskEnd, Gate, Jobs, JobsIn, JobsOut, Outbox, ReaderEnd, compare, inbox, work};
+use gq_workers::{DeskEnd, Gate, Jobs, ReaderEnd, compare, inbox};
 use std::alloc::Global;
 use std::marker::Brand;
 use std::sync::Wait;
 use std::thread;
-use std::thread::{Threads, join};
+use std::thread::{Scope, Threads, join};
 
 /// A run that has ended, with the devices that it was given.
 #[derive(Drop)]
@@ -32,68 +34,12 @@ pub struct Ran<S, K, F> {
     pub files: F,
 }
 
-/// What one worker's thread owns.
+/// The devices of a run.
 #[derive(Drop)]
-pub struct Hire<J: Room> {
-    looker: Looker<J>,
-    jobs: JobsIn<J>,
-    outbox: Outbox<J>,
-}
-
-/// What a worker's thread does.
-fn serve<J: Room, G: Gate, R: Wait>(rt: &R, alloc: Global, hire: Hire<J>, gate: &G) {
-    let Hire {
-        looker,
-        mut jobs,
-        mut outbox,
-    } = hire;
-    work(rt, alloc, looker, &mut jobs, &mut outbox, gate);
-}
-
-/// All ends of the channels, with what each worker needs.
-#[derive(Drop)]
-pub struct Ends<J: Room> {
-    hires: Vec<Hire<J>>,
-    jobs: JobsOut<J>,
-    reader: ReaderEnd<J>,
-    desk: DeskEnd<J>,
-}
-
-/// What so many workers need, as far as there are lookers.
-fn hire_all<J: Room>(
-    alloc: Global,
-    workers: u8,
-    lookers: Vec<Looker<J>>,
-    jobs: &mut Jobs<J>,
-    reader: &mut ReaderEnd<J>,
-) -> Result<Vec<Hire<J>>, NoMemory>
-    ensures posted { posted reader.new ≡ posted reader.old }
-    ensures on { reader_on reader.new ≡ reader_on reader.old }
-{
-    let mut hires = Vec::new(alloc);
-    for (looker, _) in lookers.into_iter().zip(0..workers) {
-        hires.push(Hire {
-            looker,
-            jobs: jobs.worker()?,
-            outbox: reader.outbox()?,
-        })?;
-    }
-    Ok(hires)
-}
-
-/// Makes the channels.
-fn equip<J: Room>(alloc: Global, workers: u8, lookers: Vec<Looker<J>>) -> Result<Ends<J>, NoMemory>
-    ensures { IfOk result (λ ends. (posted ends.reader ≡ []) × (collected ends.desk ≡ []) × (reader_on ends.reader ≡ desk_on ends.desk)) }
-{
-    let mut jobs = Jobs::new(alloc)?;
-    let (mut reader, desk) = inbox(alloc)?;
-    let hires = hire_all(alloc, workers, lookers, &mut jobs, &mut reader)?;
-    Ok(Ends {
-        hires,
-        jobs: jobs.into_out(),
-        reader,
-        desk,
-    })
+pub struct Devices<S, K, F> {
+    pub input: S,
+    pub output: K,
+    pub files: F,
 }
 
 /// How a run ended: as the desk did; where that stopped, at the fault that the reader told.
@@ -139,15 +85,18 @@ fn settle<J: Room, S, K, F>(came: (ReaderCame<J, S, F>, DeskCame<J, K>)) -> Ran<
 /// A run that could not begin: nothing was read, and nothing was written.
 fn unserved<S: Source, K: Sink, F: Files>(
     fault: RunFault,
-    input: S,
-    output: K,
-    files: F,
+    devices: Devices<S, K, F>,
 ) -> Ran<S, K, F>
     ensures ended { result.ended ≡ record { status = 3; fault = Some fault } }
-    ensures input { result.input ≡ input }
-    ensures output { result.output ≡ output }
-    ensures files { result.files ≡ files }
+    ensures input { result.input ≡ devices.input }
+    ensures output { result.output ≡ devices.output }
+    ensures files { result.files ≡ devices.files }
 {
+    let Devices {
+        input,
+        output,
+        files,
+    } = devices;
     Ran {
         ended: failed(fault),
         input,
@@ -156,12 +105,13 @@ fn unserved<S: Source, K: Sink, F: Files>(
     }
 }
 
-/// The same, where a thread could not be made. The ends go, so that the threads that were made end too.
+/// The same, where not all workers could be started. The ends go, so that the threads that were made end too.
 fn let_go<J: Room, S: Source, K: Sink, F: Files>(
+    fault: RunFault,
     reader: ReaderSide<J, S, F>,
     desk: DeskSide<'_, J, K>,
 ) -> Ran<S, K, F>
-    ensures ended { result.ended ≡ record { status = 3; fault = Some RunFault.NoThread } }
+    ensures ended { result.ended ≡ record { status = 3; fault = Some fault } }
     ensures input { result.input ≡ reader.input }
     ensures output { result.output ≡ desk.entry.output }
     ensures files { result.files ≡ reader.files }
@@ -178,10 +128,85 @@ fn let_go<J: Room, S: Source, K: Sink, F: Files>(
         jobs: _,
         output,
     } = desk;
-    unserved(RunFault::NoThread, input, output, files)
+    Ran {
+        ended: failed(fault),
+        input,
+        output,
+        files,
+    }
 }
 
-/// Starts the workers' threads, and then reads in one thread and drives the desk in this one.
+/// Reads in one thread, and drives the desk in this one.
+fn serve_both<
+    J: Room + Send + Sync,
+    S: Source + Send + Drop,
+    K: Sink + Drop,
+    F: Files + Send + Drop,
+    R: Threads + Wait + Sync,
+>(
+    rt: &R,
+    alloc: Global,
+    workers: u8,
+    reader: ReaderSide<J, S, F>,
+    desk: DeskSide<'_, J, K>,
+) -> Ran<S, K, F>
+    requires base { J.base ≡ [] }
+    requires given { GivenSides S.failed K.failed F.failed reader desk }
+    ensures { Comes F.reads F.has F.failed F.too_deep S.left S.ended S.failed K.held K.failed workers reader.keys.items (devices_of reader desk.entry) result }
+{
+    settle(join(
+        rt,
+        move || -> ReaderCame<J, S, F>
+            requires { GivenReader S.failed F.failed reader }
+            ensures { ReaderComes F.reads F.has F.failed F.too_deep S.left S.ended S.failed reader result }
+        { read_side(rt, alloc, reader) },
+        move || -> DeskCame<J, K>
+            requires { (J.base ≡ []) × GivenDesk K.failed desk }
+            ensures { DeskComes K.held K.failed workers desk.entry result }
+        { drive_side(rt, alloc, workers, desk) },
+    ))
+}
+
+/// Starts the workers' threads, and then serves beside them.
+fn serve_beside<
+    's,
+    E,
+    J: Room + Send + Sync + 's,
+    S: Source + Send + Drop,
+    K: Sink + Drop,
+    F: Files + Send + Drop,
+    G: Gate + Sync + 's,
+    R: Threads + Wait + Sync + 's,
+>(
+    scope: &Scope<'s, E>,
+    rt: &'s R,
+    alloc: Global,
+    workers: u8,
+    lookers: Vec<Looker<J>>,
+    mut reader: ReaderSide<J, S, F>,
+    mut desk: DeskSide<'_, J, K>,
+    gate: &'s G,
+) -> Ran<S, K, F>
+    requires base { J.base ≡ [] }
+    requires given { GivenSides S.failed K.failed F.failed reader desk }
+    ensures { Comes F.reads F.has F.failed F.too_deep S.left S.ended S.failed K.held K.failed workers reader.keys.items (devices_of reader desk.entry) result }
+{
+    match start_all(
+        scope,
+        rt,
+        alloc,
+        workers,
+        lookers,
+        &mut desk.jobs,
+        &mut reader.end,
+        gate,
+    ) {
+        Ok(()) => serve_both(rt, alloc, workers, reader, desk),
+        Err(fault) => let_go(fault, reader, desk),
+    }
+}
+
+/// Serves with workers: their threads end before it does.
 fn serve_crew<
     J: Room + Send + Sync,
     S: Source + Send + Drop,
@@ -193,128 +218,33 @@ fn serve_crew<
     rt: &R,
     alloc: Global,
     workers: u8,
-    hires: Vec<Hire<J>>,
+    lookers: Vec<Looker<J>>,
     reader: ReaderSide<J, S, F>,
     desk: DeskSide<'_, J, K>,
     gate: &G,
-) -> Result<(ReaderCame<J, S, F>, DeskCame<J, K>), Ran<S, K, F>>
+) -> Ran<S, K, F>
     requires base { J.base ≡ [] }
-    requires sound { S.failed reader.input ≡ false }
-    requires works { K.failed desk.output ≡ false }
-    requires whole { F.failed reader.files ≡ false }
-    requires posted { posted reader.end ≡ [] }
-    requires collected { collected desk.end ≡ [] }
-    ensures reader { IfOk result (λ r. (reader_on r.0.end ≡ reader_on reader.end) × Posts F.reads (F.has reader.files) reader.files reader.keys.items
-        (files_after F.failed F.too_deep r.0.files) (S.left reader.input)
-        (source_after S.left S.ended S.failed r.0.input) r.0.told (posted r.0.end)) }
-    ensures desk { IfOk result (λ r. (collected_on r.1.collected ≡ desk_on desk.entry.end) × DeskRuns workers (collected_in r.1.collected) (K.held desk.entry.output)
-        (sink_after K.held K.failed r.1.output) r.1.ended) }
-    ensures none { IfErr result (λ r. (r.ended ≡ record { status = 3; fault = Some RunFault.NoThread })
-        × (r.input ≡ reader.input) × (r.output ≡ desk.entry.output) × (r.files ≡ reader.files)) }
+    requires given { GivenSides S.failed K.failed F.failed reader desk }
+    ensures { Comes F.reads F.has F.failed F.too_deep S.left S.ended S.failed K.held K.failed workers reader.keys.items (devices_of reader desk.entry) result }
 {
     thread::scope(
         thread::scope_env(),
         rt,
         move |scope|
-            requires { IsSync R.row × IsSync G.row × IsSend S.row × IsSend F.row × (J.base ≡ []) × (S.failed reader.input ≡ false) × (K.failed desk.output ≡ false)
-                × (F.failed reader.files ≡ false) × (posted reader.end ≡ []) × (collected desk.end ≡ []) }
-            ensures reader { IfOk result (λ r. (reader_on r.0.end ≡ reader_on reader.end) × Posts F.reads (F.has reader.files) reader.files reader.keys.items
-                (files_after F.failed F.too_deep r.0.files) (S.left reader.input)
-                (source_after S.left S.ended S.failed r.0.input) r.0.told (posted r.0.end)) }
-            ensures desk { IfOk result (λ r. (collected_on r.1.collected ≡ desk_on desk.entry.end) × DeskRuns workers (collected_in r.1.collected) (K.held desk.entry.output)
-                (sink_after K.held K.failed r.1.output) r.1.ended) }
-            ensures none { IfErr result (λ r. (r.ended ≡ record { status = 3; fault = Some RunFault.NoThread })
-                × (r.input ≡ reader.input) × (r.output ≡ desk.entry.output) × (r.files ≡ reader.files)) }
-        {
-            let mut started = true;
-            for hire in hires {
-                let made = scope.spawn(move || serve(rt, alloc, hire, gate)).is_ok();
-                started = started && made;
-            }
-            if !started {
-                return Err(let_go(reader, desk));
-            }
-            Ok(join(
-                rt,
-                move || -> ReaderCame<J, S, F>
-                    requires { (S.failed reader.input ≡ false) × (F.failed reader.files ≡ false) × (posted reader.end ≡ []) }
-                    ensures on { reader_on result.end ≡ reader_on reader.end }
-                    ensures posts { Posts F.reads (F.has reader.files) reader.files reader.keys.items
-                        (files_after F.failed F.too_deep result.files) (S.left reader.input)
-                        (source_after S.left S.ended S.failed result.input) result.told (posted result.end) }
-                { read_side(rt, alloc, reader) },
-                move || -> DeskCame<J, K>
-                    requires { (J.base ≡ []) × (K.failed desk.output ≡ false) × (collected desk.end ≡ []) }
-                    ensures on { collected_on result.collected ≡ desk_on desk.entry.end }
-                    ensures runs { DeskRuns workers (collected_in result.collected) (K.held desk.entry.output)
-                        (sink_after K.held K.failed result.output) result.ended }
-                { drive_side(rt, alloc, workers, desk) },
-            ))
-        },
+            requires { IsSync R.row × IsSync G.row × IsSend J.row × IsSync J.row × IsSend S.row × IsSend F.row
+                × (J.base ≡ []) × GivenSides S.failed K.failed F.failed reader desk }
+            ensures { Comes F.reads F.has F.failed F.too_deep S.left S.ended S.failed K.held K.failed workers reader.keys.items (devices_of reader desk.entry) result }
+        { serve_beside(scope, rt, alloc, workers, lookers, reader, desk, gate) },
     )
 }
 
-/// Serves with all ends made.
-fn run_equipped<
-    J: Room + Send + Sync,
-    S: Source + Send + Drop,
-    K: Sink + Drop,
-    F: Files + Send + Drop,
-    G: Gate + Sync,
-    R: Threads + Wait + Sync,
->(
-    rt: &R,
-    alloc: Global,
-    workers: u8,
-    ends: Ends<J>,
-    front: &mut Front<J>,
-    keys: Vec<OwnedText>,
-    input: S,
-    output: K,
-    gate: &G,
-    files: F,
-) -> Ran<S, K, F>
-    requires base { J.base ≡ [] }
-    requires sound { S.failed input ≡ false }
-    requires works { K.failed output ≡ false }
-    requires whole { F.failed files ≡ false }
-    requires ends { (posted ends.reader ≡ []) × (collected ends.desk ≡ []) × (reader_on ends.reader ≡ desk_on ends.desk) }
-    ensures { RunsByThreads F.reads (F.has files) files keys.items (files_after F.failed F.too_deep result.files)
-        (S.left input) (source_after S.left S.ended S.failed result.input)
-        workers (K.held output) (sink_after K.held K.failed result.output) result.ended }
+/// The ends of a new inbox, and the channel of jobs.
+fn channels<J: Room>(alloc: Global) -> Result<(ReaderEnd<J>, DeskEnd<J>, Jobs<J>), NoMemory>
+    ensures { IfOk result (λ c. (posted c.0 ≡ []) × (collected c.1 ≡ []) × (reader_on c.0 ≡ desk_on c.1)) }
 {
-    let Ends {
-        hires,
-        jobs,
-        reader,
-        desk,
-    } = ends;
-    let reader = ReaderSide {
-        input,
-        files,
-        keys,
-        end: reader,
-    };
-    let desk = DeskSide {
-        end: desk,
-        front,
-        jobs,
-        output,
-    };
-    match serve_crew(rt, alloc, workers, hires, reader, desk, gate) {
-        Ok(came) => settle(came),
-        Err(ran) => ran,
-    }
-}
-
-/// The fault of a run at one of the board.
-fn board_fault(fault: BoardFault) -> RunFault
-    ensures { (result ≡ RunFault.NoMemory) ⊎ (result ≡ RunFault.NoPlace) }
-{
-    match fault {
-        BoardFault::NoPlace => RunFault::NoPlace,
-        BoardFault::NoMemory | BoardFault::Failed => RunFault::NoMemory,
-    }
+    let (reader, desk) = inbox(alloc)?;
+    let jobs = Jobs::new(alloc)?;
+    Ok((reader, desk, jobs))
 }
 
 /// Makes the channels, and serves over a board.
@@ -332,24 +262,43 @@ fn run_over<
     front: &mut Front<J>,
     lookers: Vec<Looker<J>>,
     keys: Vec<OwnedText>,
-    input: S,
-    output: K,
+    devices: Devices<S, K, F>,
     gate: &G,
-    files: F,
 ) -> Ran<S, K, F>
     requires base { J.base ≡ [] }
-    requires sound { S.failed input ≡ false }
-    requires works { K.failed output ≡ false }
-    requires whole { F.failed files ≡ false }
-    ensures { RunsByThreads F.reads (F.has files) files keys.items (files_after F.failed F.too_deep result.files)
-        (S.left input) (source_after S.left S.ended S.failed result.input)
-        workers (K.held output) (sink_after K.held K.failed result.output) result.ended }
+    requires given { Given S.failed K.failed F.failed devices }
+    ensures { Comes F.reads F.has F.failed F.too_deep S.left S.ended S.failed K.held K.failed workers keys.items devices result }
 {
-    match equip(alloc, workers, lookers) {
-        Ok(ends) => run_equipped(
-            rt, alloc, workers, ends, front, keys, input, output, gate, files,
-        ),
-        Err(NoMemory) => unserved(RunFault::NoMemory, input, output, files),
+    let Ok((end, desk, jobs)) = channels(alloc) else {
+        return unserved(RunFault::NoMemory, devices);
+    };
+    let Devices {
+        input,
+        output,
+        files,
+    } = devices;
+    let reader = ReaderSide {
+        input,
+        files,
+        keys,
+        end,
+    };
+    let desk = DeskSide {
+        end: desk,
+        front,
+        jobs,
+        output,
+    };
+    serve_crew(rt, alloc, workers, lookers, reader, desk, gate)
+}
+
+/// The fault of a run at one of the board.
+fn board_fault(fault: BoardFault) -> RunFault
+    ensures { (result ≡ RunFault.NoMemory) ⊎ (result ≡ RunFault.NoPlace) }
+{
+    match fault {
+        BoardFault::NoPlace => RunFault::NoPlace,
+        BoardFault::NoMemory | BoardFault::Failed => RunFault::NoMemory,
     }
 }
 
@@ -367,29 +316,21 @@ fn run_opened<
     workers: u8,
     opened: Opened,
     keys: Vec<OwnedText>,
-    input: S,
-    output: K,
+    devices: Devices<S, K, F>,
     gate: &G,
-    files: F,
 ) -> Ran<S, K, F>
     requires book { opened.log.book ≡ J.book }
     requires base { J.base ≡ [] }
-    requires sound { S.failed input ≡ false }
-    requires works { K.failed output ≡ false }
-    requires whole { F.failed files ≡ false }
-    ensures { RunsByThreads F.reads (F.has files) files keys.items (files_after F.failed F.too_deep result.files)
-        (S.left input) (source_after S.left S.ended S.failed result.input)
-        workers (K.held output) (sink_after K.held K.failed result.output) result.ended }
+    requires given { Given S.failed K.failed F.failed devices }
+    ensures { Comes F.reads F.has F.failed F.too_deep S.left S.ended S.failed K.held K.failed workers keys.items devices result }
 {
     match open::<J, R>(rt, alloc, opened, Project::new(alloc)) {
         Ok((mut front, lookers)) => {
-            let ran = run_over(
-                rt, alloc, workers, &mut front, lookers, keys, input, output, gate, files,
-            );
+            let ran = run_over(rt, alloc, workers, &mut front, lookers, keys, devices, gate);
             front.close(rt);
             ran
         }
-        Err(fault) => unserved(board_fault(fault), input, output, files),
+        Err(fault) => unserved(board_fault(fault), devices),
     }
 }
 
@@ -400,27 +341,23 @@ fn run_crew<
     F: Files + Send + Drop,
     G: Gate + Sync,
     R: Threads + Wait + Sync,
->(rt: &R, alloc: Global, workers: u8, input: S, output: K, gate: &G, mut files: F) -> Ran<S, K, F>
-    requires sound { S.failed input ≡ false }
-    requires works { K.failed output ≡ false }
-    requires whole { F.failed files ≡ false }
-    ensures { RanByThreads F.lists F.reads (F.has files) files (files_after F.failed F.too_deep result.files)
-        (S.left input) (source_after S.left S.ended S.failed result.input)
-        workers (K.held output) (sink_after K.held K.failed result.output) result.ended }
+>(rt: &R, alloc: Global, workers: u8, mut devices: Devices<S, K, F>, gate: &G) -> Ran<S, K, F>
+    requires given { Given S.failed K.failed F.failed devices }
+    ensures { RanByThreads F.lists F.reads (F.has devices.files) devices.files (files_after F.failed F.too_deep result.files)
+        (S.left devices.input) (source_after S.left S.ended S.failed result.input)
+        workers (K.held devices.output) (sink_after K.held K.failed result.output) result.ended }
 {
-    match files.list(alloc) {
+    match devices.files.list(alloc) {
         Ok(keys) => run_opened::<Brand, S, K, F, G, R>(
             rt,
             alloc,
             workers,
             Opened::new(),
             keys,
-            input,
-            output,
+            devices,
             gate,
-            files,
         ),
-        Err(fault) => unserved(fault_of(fault), input, output, files),
+        Err(fault) => unserved(fault_of(fault), devices),
     }
 }
 
@@ -475,5 +412,10 @@ pub fn run<
     if workers == 0 {
         return run_alone(alloc, input, output, files);
     }
-    run_crew(rt, alloc, workers, input, output, gate, files)
+    let devices = Devices {
+        input,
+        output,
+        files,
+    };
+    run_crew(rt, alloc, workers, devices, gate)
 }

@@ -2,8 +2,9 @@
 ghost use Rattle.std.specs.Prelude.{◌≡◌, [], false};
 ghost use Rattle.gq_crew.specs.Crew.{DeskRuns};
 ghost use Rattle.gq_crew.specs.Runs.{sink_after};
-ghost use Rattle.gq_workers.specs.Ends.{collected, collected_in, collected_on, desk_on};
+ghost use Rattle.gq_workers.specs.Ends.{collected, desk_on};
 ghost use Rattle.gq_crew.specs.Helping.Ends as spec;
+ghost use Rattle.gq_crew.specs.Helping.Sides.{GivenDesk, DeskComes};
 
 use crate::hands::CrewHands;
 use crate::one_thread::{Ended, failed, fault_at};
@@ -11,7 +12,7 @@ use gq_board::{Front, Room};
 use gq_desk::{Desk, Event, drive};
 use gq_reader::RunFault;
 use gq_rpc::Sink;
-use gq_workers::{Collected, Delivery, DeskEnd, JobsOut};
+use gq_workers::{Collected, Delivery, DeskEnd, Jobs};
 use std::alloc::Global;
 use std::sync::Wait;
 
@@ -80,7 +81,7 @@ fn drive_desk<J: Room, R: Wait, K: Sink>(
 pub struct DeskSide<'f, J: Room, K> {
     pub end: DeskEnd<J>,
     pub front: &'f mut Front<J>,
-    pub jobs: JobsOut<J>,
+    pub jobs: Jobs<J>,
     pub output: K,
 }
 
@@ -100,10 +101,8 @@ pub fn drive_side<J: Room, R: Wait, K: Sink>(
     side: DeskSide<'_, J, K>,
 ) -> DeskCame<J, K>
     requires base { J.base ≡ [] }
-    requires fresh { collected side.end ≡ [] }
-    requires works { K.failed side.output ≡ false }
-    ensures on { collected_on result.collected ≡ desk_on side.entry.end }
-    ensures runs { DeskRuns workers (collected_in result.collected) (K.held side.entry.output) (sink_after K.held K.failed result.output) result.ended }
+    requires given { GivenDesk K.failed side }
+    ensures { DeskComes K.held K.failed workers side.entry result }
 {
     let DeskSide {
         end,
@@ -119,7 +118,7 @@ pub fn drive_side<J: Room, R: Wait, K: Sink>(
     let mut hands = CrewHands {
         rt,
         front,
-        jobs,
+        jobs: jobs.into_out(),
         closed: false,
     };
     let ended = drive_desk(alloc, workers, &mut deliveries, &mut hands, &mut output);

@@ -7,6 +7,7 @@ mod hands;
 pub mod laws;
 pub mod one_thread;
 mod reader_side;
+mod staff;
 
 pub use crew::{Ran, run};
 pub use gq_reader::{Files, FilesFault, MemoryFile, MemoryFiles, NoFiles, RunFault};

@@ -3,6 +3,7 @@ ghost use Rattle.std.specs.Prelude.{◌≡◌, ◌++◌, ◌∷◌, [], ℕ, Lis
 ghost use Rattle.gq_reader.specs.Reader.{seen_in, unread, Ready};
 ghost use Rattle.gq_reader.specs.Coming.{Steps};
 ghost use Rattle.gq_crew.specs.Helping.Posting.{PostsAll, PostsOne, end_by};
+ghost use Rattle.gq_crew.specs.Helping.Sides.{GivenReader, ReaderComes};
 ghost use Rattle.gq_crew.specs.Crew.{Posts, is_exit};
 ghost use Rattle.gq_crew.specs.Runs.{source_after, files_after};
 ghost use Rattle.gq_workers.specs.Ends.{posted, reader_on};
@@ -50,6 +51,14 @@ fn end_by(told: Option<RunFault>) -> InputEnd
     }
 }
 
+/// Posts an event, once. Answers whether it was taken.
+fn post_once<J: Room, R: Wait>(rt: &R, end: &mut ReaderEnd<J>, event: Event) -> bool
+    ensures on { reader_on end.new ≡ reader_on end.old }
+    ensures posted { PostsOne event result (posted end.old) (posted end.new) }
+{
+    end.post(rt, event).is_ok()
+}
+
 /// Posts an event, and tries once more where that is refused. Answers whether it was taken.
 fn post<J: Room, R: Wait>(rt: &R, end: &mut ReaderEnd<J>, event: Event) -> bool
     ensures on { reader_on end.new ≡ reader_on end.old }
@@ -57,7 +66,7 @@ fn post<J: Room, R: Wait>(rt: &R, end: &mut ReaderEnd<J>, event: Event) -> bool
 {
     match end.post(rt, event) {
         Ok(()) => true,
-        Err(event) => end.post(rt, event).is_ok(),
+        Err(event) => post_once(rt, end, event),
     }
 }
 
@@ -178,12 +187,8 @@ pub fn read_side<J: Room, S: Source, F: Files, R: Wait>(
     alloc: Global,
     side: ReaderSide<J, S, F>,
 ) -> ReaderCame<J, S, F>
-    requires sound { S.failed side.input ≡ false }
-    requires whole { F.failed side.files ≡ false }
-    requires fresh { posted side.end ≡ [] }
-    ensures on { reader_on result.end ≡ reader_on side.end }
-    ensures posts { Posts F.reads (F.has side.files) side.files side.keys.items (files_after F.failed F.too_deep result.files)
-        (S.left side.input) (source_after S.left S.ended S.failed result.input) result.told (posted result.end) }
+    requires given { GivenReader S.failed F.failed side }
+    ensures { ReaderComes F.reads F.has F.failed F.too_deep S.left S.ended S.failed side result }
 {
     let ReaderSide {
         mut input,

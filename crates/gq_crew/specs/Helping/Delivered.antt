@@ -1,6 +1,5 @@
 -- Events that are collected, one after another. Only contracts of private functions speak of it.
 use Rattle.std.specs.Prelude.{◌≡◌, ◌⊎◌, Bool, true, List, [], ◌∷◌, ◌++◌, Option, Some, None}
-use Rattle.gq_project.specs.declared.document.Doc.{Doc}
 use Rattle.gq_events.specs.declared.event.Event.{Event}
 use Rattle.gq_events.specs.declared.event.Event.TheVariants as event
 use Rattle.gq_events.specs.Jobs.{DoneOf}

@@ -1,5 +1,5 @@
 -- What the hands of a crew do with what a desk hands on.
-use Rattle.std.specs.Prelude.{◌≡◌, List, [], ◌∷◌, ◌++◌}
+use Rattle.std.specs.Prelude.{List, [], ◌∷◌, ◌++◌}
 use Rattle.gq_project.specs.declared.document.DocChange.{DocChange}
 use Rattle.gq_events.specs.Laws.{Handing, Published, Given}
 use Rattle.gq_workers.specs.declared.order.OrderOf.{OrderOf}

@@ -1,5 +1,5 @@
 -- Events that are posted, one after another. Only contracts of private functions speak of it.
-use Rattle.std.specs.Prelude.{◌≡◌, ◌⊎◌, Bool, true, false, List, [], ◌∷◌, ◌++◌, length, Option, Some, None}
+use Rattle.std.specs.Prelude.{◌≡◌, Bool, true, false, List, [], ◌∷◌, ◌++◌, length, Option, Some, None}
 use Rattle.std.specs.Iterator.{Yields, YieldsThen}
 use mathlib.Core.List.{IsPrefix}
 use Rattle.gq_events.specs.declared.event.Event.{Event}

@@ -1,7 +1,6 @@
-use Rattle.std.proofs.Common.{◌≡◌, inl, inr, [], Err, Some, ap, refl, ◌∙◌}
+use Rattle.std.proofs.Common.{◌≡◌, inl, inr, [], Err, Some, ap, ◌∙◌}
 use Rattle.gq_desk.proofs.Standing.{stands_new}
 use Rattle.gq_workers.specs.Ends.{collected, desk_on}
-use Rattle.gq_crew.specs.declared.one_thread.Ended.{Ended}
 use Rattle.gq_crew.specs.Helping.Ends.{fault_at}
 use Rattle.gq_crew.proofs.Desking.{drives, closes, fails}
 use Rattle.gq_crew.proofs.desk_side.drive_desk.Goals as goal

@@ -5,7 +5,6 @@ use Rattle.gq_events.specs.declared.event.InputEnd.{InputEnd}
 use Rattle.gq_reader.specs.Reader.{seen_in}
 use Rattle.gq_reader.specs.Coming.{boxed, Steps}
 use Rattle.gq_workers.specs.Ends.{posted}
-use Rattle.gq_crew.specs.declared.reader_side.Posting.{Posting}
 use Rattle.gq_crew.specs.declared.reader_side.Posting.TheVariants.{Stopped, Ended, TooMany}
 use Rattle.gq_crew.specs.Helping.Posting.{PostsAll, PostsOne, end_by}
 use Rattle.gq_crew.proofs.Driven.{pair_is}
