@@ -5,6 +5,7 @@ use gq_text::{
     Text, TextError, TooLarge, VecBuffer,
 };
 use indexmap::IndexMap;
+use std::alloc::Global;
 use std::test::Fail;
 
 fn at(line: u32, character: u32) -> Position {
