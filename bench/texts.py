@@ -1,21 +1,23 @@
 #!/usr/bin/env python3
 """Measures what keystrokes in a text of 4 MB cost, in a gap buffer and in a `Vec`.
 
-    python3 bench/texts.py [--keep FOLDER]
+    python3 bench/texts.py [--rounds N]
 
-It copies the repository, adds a program to the copy, proves that and what it stands on, and runs it as compiled. Printed are, in
-microseconds, the middle one of nine each:
+It copies the repository, adds a program to the copy, proves that and what it stands on, and runs it as compiled. It prints, of so many
+rounds the middle one each:
 
-- reading the text byte by byte, from a `Vec` and from a gap buffer, and reading it in one piece and by its halves;
-- 10,000 bytes put in near one place, and at as many places in no order, in each of the two;
-- 100 texts of half a megabyte compared with a copy, by halves.
+- read_vec, read_gap: the text is read byte by byte from a `Vec` and from a gap buffer; one_piece, halves: as a slice, and by its halves;
+- compared: the text in a gap buffer is compared with a copy;
+- near_gap, near_vec: 10,000 bytes are put in, each behind the one before; apart_gap, apart_vec: at as many places in no order;
+  apart_close: the same in a gap buffer that was made with room for 100,000 bytes more, and so has not doubled.
 
-What is wanted: 10,000 keystrokes near one place take no longer than reading the text three times, those in no order no longer than in a
-`Vec`, and reading by halves takes at most 1.1 times as long as reading in one piece. docs/PERFORMANCE.md has what was seen."""
+Wanted is that 10,000 keystrokes near one place take no longer than reading the text three times, those in no order no longer than in a
+`Vec`, and reading by halves at most 1.1 times as long as reading in one piece; else the status is 1. docs/PERFORMANCE.md has what was
+seen."""
 import argparse
 import os
-import re
 import shutil
+import statistics
 import subprocess
 import sys
 import tempfile
@@ -92,6 +94,26 @@ fn apart(alloc: Global) -> Result<Vec<usize>, NoMemory> {
     Ok(places)
 }
 
+/// The text in a buffer with room for a hundred thousand bytes more.
+fn filled_closely(alloc: Global) -> Result<GapBuffer, NoMemory> {
+    let mut buffer = GapBuffer::with_capacity(alloc, LEN + 100_000)?;
+    let bytes = Vec::from_elem(alloc, b'a', LEN)?;
+    if buffer.len() == 0 {
+        buffer.insert(0, &bytes)?;
+    }
+    Ok(buffer)
+}
+
+fn time_close<R: Print + Clock + AllocGlobal>(rt: &R, places: &[usize]) -> io::Result<()> {
+    let Ok(mut buffer) = filled_closely(rt.alloc()) else {
+        return Ok(());
+    };
+    let start = Instant::now(rt)?;
+    let done = type_at(&mut buffer, places).is_ok();
+    let took = start.elapsed(rt)?.as_micros();
+    println!(rt; "apart_close {took} {done}")
+}
+
 fn time_typing<B: Buffer, R: Print + Clock + AllocGlobal>(rt: &R, name: &str, places: &[usize]) -> io::Result<()> {
     let Ok(mut buffer) = filled::<B>(rt.alloc()) else {
         return Ok(());
@@ -155,6 +177,7 @@ fn measure<R: Print + Clock + AllocGlobal>(rt: &R, near: &[usize], apart: &[usiz
     time_comparing(rt)?;
     time_typing::<GapBuffer, R>(rt, "near_gap", near)?;
     time_typing::<GapBuffer, R>(rt, "apart_gap", apart)?;
+    time_close(rt, apart)?;
     time_typing::<VecBuffer, R>(rt, "near_vec", near)?;
     time_typing::<VecBuffer, R>(rt, "apart_vec", apart)
 }
@@ -166,3 +189,44 @@ fn main(rt: HostRuntime) -> io::Result<()> {
     measure(&rt, &near, &apart)
 }
 """
+
+
+def copied(folder):
+    """A copy of the repository with the program among its crates."""
+    place = os.path.join(folder, "copy")
+    shutil.copytree(ROOT, place, ignore=shutil.ignore_patterns(".git", "out"))
+    source = os.path.join(place, "crates", NAME, "src")
+    os.makedirs(source)
+    with open(os.path.join(source, "main.rt"), "w", encoding="utf-8") as file:
+        file.write(PROGRAM)
+    with open(os.path.join(place, "crates.txt"), "a", encoding="utf-8") as file:
+        file.write(f"\n{NAME}: gq_gap gq_text\n")
+    return os.path.dirname(source)
+
+
+def main():
+    parser = argparse.ArgumentParser(description=__doc__, formatter_class=argparse.RawDescriptionHelpFormatter)
+    parser.add_argument("--rounds", type=int, default=9)
+    asked = parser.parse_args()
+    with tempfile.TemporaryDirectory() as folder:
+        crate = copied(folder)
+        subprocess.run(["rt", "fmt"], cwd=crate, check=True, stdout=subprocess.DEVNULL)
+        subprocess.run(["rt", "run"], cwd=crate, check=True, stdout=subprocess.DEVNULL)
+        seen = {}
+        for _ in range(asked.rounds):
+            ran = subprocess.run([os.path.join(crate, "out", NAME)], check=True, capture_output=True, text=True)
+            for name, took, _ in map(str.split, ran.stdout.splitlines()):
+                seen.setdefault(name, []).append(int(took))
+    middle = {name: statistics.median(times) for name, times in seen.items()}
+    for name, took in middle.items():
+        print(f"{name:12} {took / 1000:9.1f} ms")
+    wanted = (
+        middle["near_gap"] <= 3 * middle["read_gap"],
+        middle["apart_gap"] <= middle["apart_vec"],
+        middle["halves"] <= 1.1 * middle["one_piece"],
+    )
+    return 0 if all(wanted) else 1
+
+
+if __name__ == "__main__":
+    sys.exit(main())
