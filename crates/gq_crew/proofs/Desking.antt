@@ -26,6 +26,7 @@ use Rattle.gq_crew.specs.Runs.{SinkAfter}
 use Rattle.gq_crew.specs.Crew.{AreTaken, IsDeskFault, EndsDesk, DeskRuns}
 use Rattle.gq_crew.specs.Helping.Ends.{fault_at}
 use Rattle.gq_crew.specs.Helping.Delivered.{Box, Gives, Delivers}
+use Rattle.gq_crew.specs.Helping.Sides.{DeskDrives}
 use Rattle.gq_crew.proofs.Outputs.{Sent-behind}
 use Rattle.gq_crew.proofs.Stopping.{last_stops}
 
@@ -108,12 +109,16 @@ module _ {H : Type 0} (takes refuses : H → Handing → H → Type 0) (workers 
 
 -- ---- the endings
 
+-- it came to what it is said to have come to
+pub said : {I : Type 0} (workers : ℕ) (on on' : I) (taken : List Event) (held : Option (List ℕ)) (sink : SinkAfter) (ended told : Ended) → told ≡ ended → DeskDrives workers on on' taken held sink ended
+    → DeskDrives workers on on' taken held sink told
+said workers on on' taken held sink ended told is d = subst (DeskDrives workers on on' taken held sink) (sym is) d
+
 module _ {X I H : Type 0} (steps : X → Option Event → X → Type 0) (box : X → Box I) (sees : (a : X) (r : Option Event) (b : X) → steps a r b → Delivers (box a) r (box b)) (takes refuses : H → Handing → H → Type 0)
     (workers : ℕ) (it it' : X) (fresh : (box it).collected ≡ []) (going : (box it).ended ≡ false) (desk' : Option State) (h h' : H) (held : Option (List ℕ)) (sink : SinkAfter) where
   -- it kept its inbox, and came to this
-  pub record Came_to (ended : Ended) : Type 0 where
-    pub same : (box it').on ≡ (box it).on
-    pub runs : DeskRuns workers (box it').collected held sink ended
+  abbrev Came_to : Ended → Type 0
+  Came_to ended = DeskDrives workers (box it).on (box it').on (box it').collected held sink ended
 
   collected_is : (events : List Event) → (t : Took (box it) events (box it')) → AreTaken events (box it').collected
   collected_is events t = subst (AreTaken events) (sym (t.collects ∙ ap (λ (l : List Event). l ++ t.read) fresh)) t.are
@@ -130,7 +135,7 @@ module _ {X I H : Type 0} (steps : X → Option Event → X → Type 0) (box : X
 
   came_to : (turns : List Turn) (ended : Ended) → Took (box it) (events_of turns) (box it') → AreExact workers turns → Headline workers turns → EndsDesk workers turns held sink ended.status ended.fault → Came_to ended
   came_to turns ended t exact headline ends =
-      record { same = t.same; runs = record { turns = turns; are_taken = collected_is (events_of turns) t; exact = exact; headline = headline; ends = ends } }
+      (t.same, record { turns = turns; are_taken = collected_is (events_of turns) t; exact = exact; headline = headline; ends = ends })
 
   -- it stopped, where somebody was left
   pub drives : (status : ℕ) → (box it').ended ≡ false → Drives steps takes workers [] it h held it' desk' h' sink.held status → Came_to (record { status = status; fault = None })

@@ -1,10 +1,10 @@
 //! What the desk's thread does: it drives a desk over what is collected.
-ghost use Rattle.std.specs.Prelude.{◌≡◌, [], false};
-ghost use Rattle.gq_crew.specs.Crew.{DeskRuns};
+ghost use Rattle.std.specs.Prelude.{◌≡◌, ◌≤◌, ◌^◌, ℕ, [], false, Some, IfSome};
+ghost use Rattle.gq_events.specs.Machine.{start};
 ghost use Rattle.gq_crew.specs.Runs.{sink_after};
 ghost use Rattle.gq_workers.specs.Ends.{collected, desk_on};
 ghost use Rattle.gq_crew.specs.Helping.Ends as spec;
-ghost use Rattle.gq_crew.specs.Helping.Sides.{GivenDesk, DeskComes};
+ghost use Rattle.gq_crew.specs.Helping.Sides.{GivenDesk, DeskComes, DeskDrives};
 
 use crate::hands::CrewHands;
 use crate::one_thread::{Ended, failed, fault_at};
@@ -50,10 +50,10 @@ impl<J: Room, R: Wait> Iterator for Deliveries<'_, J, R> {
     }
 }
 
-/// Drives a new desk over what is collected, up to a stop, or until nobody is left or a fault comes.
+/// Drives a desk, which is a new one, over what is collected, up to a stop, or until nobody is left or a fault comes.
 fn drive_desk<J: Room, R: Wait, K: Sink>(
     alloc: Global,
-    workers: u8,
+    desk: &mut Desk,
     deliveries: &mut Deliveries<'_, J, R>,
     hands: &mut CrewHands<'_, '_, J, R>,
     output: &mut K,
@@ -62,11 +62,10 @@ fn drive_desk<J: Room, R: Wait, K: Sink>(
     requires fresh { collected deliveries.old.end ≡ [] }
     requires going { deliveries.old.ended ≡ false }
     requires works { K.failed output.old ≡ false }
-    ensures on { desk_on deliveries.new.end ≡ desk_on deliveries.old.end }
-    ensures runs { DeskRuns workers (collected deliveries.new.end) (K.held output.old) (sink_after K.held K.failed output.new) result }
+    requires next { IfSome desk.old (λ s. s.jobs.next ≤ 2 ^ 61) }
+    ensures { (workers : ℕ) → desk.old ≡ Some (start workers) → DeskDrives workers (desk_on deliveries.old.end) (desk_on deliveries.new.end) (collected deliveries.new.end) (K.held output.old) (sink_after K.held K.failed output.new) result }
 {
-    let mut desk = Desk::new(alloc, workers);
-    match drive(alloc, &mut desk, deliveries, hands, output) {
+    match drive(alloc, desk, deliveries, hands, output) {
         Ok(_) if deliveries.ended => failed(RunFault::Closed),
         Ok(status) => Ended {
             status,
@@ -121,7 +120,9 @@ pub fn drive_side<J: Room, R: Wait, K: Sink>(
         jobs: jobs.into_out(),
         closed: false,
     };
-    let ended = drive_desk(alloc, workers, &mut deliveries, &mut hands, &mut output);
+    let mut desk = Desk::new(alloc, workers);
+    let ended = drive_desk(alloc, &mut desk, &mut deliveries, &mut hands, &mut output);
+    drop(desk);
     drop(hands);
     DeskCame {
         output,

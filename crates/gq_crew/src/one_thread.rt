@@ -5,6 +5,7 @@ ghost use Rattle.gq_crew.specs.Helping.Ends.{ended_as};
 ghost use Rattle.gq_reader.specs.Reader.{seen_in, unread};
 ghost use Rattle.gq_crew.specs.Helping.Ends as spec;
 ghost use Rattle.gq_crew.specs.Helping.Claims.{AnswersHold};
+ghost use Rattle.gq_events.specs.Machine.{start};
 
 use gq_desk::{Desk, DriveFault, NoHands, drive};
 use gq_events::laws::{edits_are_safe, modified_at_change, results_are_their_questions};
@@ -69,9 +70,10 @@ fn know_claims()
     edits_are_safe();
 }
 
-/// Serves what a reader gives of which nothing was read.
+/// Serves what a reader gives of which nothing was read, by a desk that is a new one.
 fn serve<S: Source, F: Files, K: Sink>(
     alloc: Global,
+    desk: &mut Desk,
     reader: &mut Reader<'_, '_, '_, S, F>,
     output: &mut K,
 ) -> Ended
@@ -80,6 +82,7 @@ fn serve<S: Source, F: Files, K: Sink>(
     requires sound { S.failed reader.old.input.now ≡ false }
     requires whole { F.failed reader.old.files.now ≡ false }
     requires works { K.failed output.old ≡ false }
+    requires new { desk.old ≡ Some (start 0) }
     ensures same_input { reader.new.input.ghost_name ≡ reader.old.input.ghost_name }
     ensures same_files { reader.new.files.ghost_name ≡ reader.old.files.ghost_name }
     ensures runs { RunsListed F.reads (F.has reader.old.files.now) reader.old.files.now reader.old.loads.now.keys.items
@@ -91,8 +94,7 @@ fn serve<S: Source, F: Files, K: Sink>(
     ensures sink { K.failed output.new ≡ true → result.fault ≡ Some RunFault.Device }
 {
     know_claims();
-    let mut desk = Desk::new(alloc, 0);
-    match drive(alloc, &mut desk, reader, &mut NoHands, output) {
+    match drive(alloc, desk, reader, &mut NoHands, output) {
         Ok(status) => stopped(status, reader.told()),
         Err(fault) => failed(fault_at(fault)),
     }
@@ -125,7 +127,10 @@ fn run_listed<S: Source, F: Files, K: Sink>(
         pending: &mut pending,
         loads: &mut loads,
     };
-    serve(alloc, &mut reader, output)
+    let mut desk = Desk::new(alloc, 0);
+    let ended = serve(alloc, &mut desk, &mut reader, output);
+    drop(desk);
+    ended
 }
 
 /// Loads the files of a folder, in order of key. Then it reads the input up to `exit`, its end or a fault, and writes the frames

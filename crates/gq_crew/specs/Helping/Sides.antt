@@ -1,5 +1,6 @@
 -- What a run with workers and its two sides are given, and what they come to. Only contracts of private functions speak of it.
 use Rattle.std.specs.Prelude.{◌≡◌, ◌⊎◌, ℕ, Bool, false, List, [], Option}
+use Rattle.gq_events.specs.declared.event.Event.{Event}
 use Rattle.gq_events.specs.declared.event.LoadedContent.{LoadedContent}
 use Rattle.gq_board.specs.declared.history.Room.{Ghosts}
 use Rattle.gq_workers.specs.Ends.{posted, collected, collected_in, reader_on, desk_on, collected_on}
@@ -11,7 +12,8 @@ use Rattle.gq_crew.specs.declared.reader_side.ReaderSide.{ReaderSide}
 use Rattle.gq_crew.specs.declared.reader_side.ReaderCame.{ReaderCame}
 use Rattle.gq_crew.specs.declared.desk_side.DeskSide.{DeskSide}
 use Rattle.gq_crew.specs.declared.desk_side.DeskCame.{DeskCame}
-use Rattle.gq_crew.specs.Runs.{source_after, files_after, sink_after}
+use Rattle.gq_crew.specs.declared.one_thread.Ended.{Ended}
+use Rattle.gq_crew.specs.Runs.{SinkAfter, source_after, files_after, sink_after}
 use Rattle.gq_crew.specs.Crew.{Posts, DeskRuns, RunsByThreads}
 
 -- why workers could not be started
@@ -54,6 +56,10 @@ module _ {J : Type 0} {g : Ghosts J} where
   abbrev pub DeskComes : {K : Type 0} → (K → Option (List ℕ)) → (K → Bool) → ℕ → DeskSide J K g → DeskCame J K g → Type 0
   DeskComes held sink_failed workers side came = (collected_on came.collected ≡ desk_on side.end)
       × DeskRuns workers (collected_in came.collected) (held side.output) (sink_after held sink_failed came.output) came.ended
+
+-- what a desk came to over what it took, and that its end is of the same inbox
+abbrev pub DeskDrives : {I : Type 0} → ℕ → I → I → List Event → Option (List ℕ) → SinkAfter → Ended → Type 0
+DeskDrives workers on on' taken held sink ended = (on' ≡ on) × DeskRuns workers taken held sink ended
 
 -- what a run with workers came to, over the files of these keys and with these devices
 abbrev pub Comes : {S K F : Type 0} → (F → List ℕ → LoadedContent → F → Type 0) → (F → List ℕ → Bool) → (F → Bool) → (F → Bool) → (S → Option (List ℕ)) → (S → Bool) → (S → Bool)
