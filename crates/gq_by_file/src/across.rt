@@ -47,7 +47,8 @@ fn found_over(
 ) -> Result<Vec<Fault>, NoMemory>
     ensures kept { (es : List EntryOf) (rs : List ParsedOf) → executable_view executable.now ≡ together es rs → AreNames rs names.now → AreCovers (together es rs) covers.old.items
         → AreCovers (together es rs) covers.new.items }
-    ensures faults { IfOk result (λ faults. (es : List EntryOf) (rs : List ParsedOf) → executable_view executable.now ≡ together es rs → AreNames rs names.now → AreCovers (together es rs) covers.old.items
+    ensures faults { IfOk result (λ faults. (es : List EntryOf) (rs : List ParsedOf) → executable_view executable.now ≡ together es rs
+        → AreNames rs names.now → AreCovers (together es rs) covers.old.items
         → (fault : Fault) → Contains faults.items fault ↔ IsFaultAcross (together es rs) fault) }
 {
     faults_across_are_by_names_or_spreads();

@@ -72,7 +72,8 @@ fn cover_if_clean(
 ) -> Result<(), NoMemory>
     requires rows { InRange rows.now }
     requires range { file < length rows.now }
-    ensures kept { (x : ExecutableOf) (all : List ℕ) → AreLinks x rows.now → AreFaulty x all faulty.now → LeadsInto rows.now (file ∷ []) all → AreCovers x covers.old.items → AreCovers x covers.new.items }
+    ensures kept { (x : ExecutableOf) (all : List ℕ) → AreLinks x rows.now → AreFaulty x all faulty.now
+        → LeadsInto rows.now (file ∷ []) all → AreCovers x covers.old.items → AreCovers x covers.new.items }
     ensures old { (n : ℕ) → IsCovered covers.old.items n → IsCovered covers.new.items n }
 {
     faults_stay_in_larger_sets();
@@ -102,7 +103,8 @@ fn cover_clean(
 ) -> Result<(), NoMemory>
     requires rows { InRange rows.now }
     requires range { All (λ n. n < length rows.now) rest.now }
-    ensures kept { (x : ExecutableOf) (all : List ℕ) → AreLinks x rows.now → AreFaulty x all faulty.now → LeadsInto rows.now rest.now all → AreCovers x covers.old.items → AreCovers x covers.new.items }
+    ensures kept { (x : ExecutableOf) (all : List ℕ) → AreLinks x rows.now → AreFaulty x all faulty.now
+        → LeadsInto rows.now rest.now all → AreCovers x covers.old.items → AreCovers x covers.new.items }
     ensures old { (n : ℕ) → IsCovered covers.old.items n → IsCovered covers.new.items n }
 {
     for file in rest {

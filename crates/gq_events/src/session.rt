@@ -185,7 +185,15 @@ impl Model for ClientSession {
 
     ghost Value = { Session };
 
-    ghost view = { λ s. record { phase = s.phase; position_encoding = s.position_encoding; document_changes = s.document_changes; code_actions = s.code_actions; diagnostics = s.diagnostics; documents = s.documents; behind = s.behind } };
+    ghost view = { λ s. record {
+      phase = s.phase;
+      position_encoding = s.position_encoding;
+      document_changes = s.document_changes;
+      code_actions = s.code_actions;
+      diagnostics = s.diagnostics;
+      documents = s.documents;
+      behind = s.behind;
+    } };
 }
 
 impl ClientSession {

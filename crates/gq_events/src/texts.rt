@@ -35,6 +35,9 @@ impl Model for OpenText {
     ghost invariant = { λ t. length (held_bytes t.held) ≤ 2 ^ 22 };
 }
 
+/// For how many bytes more a gap buffer is made than the text has when it comes into it.
+const ROOM: usize = 65_536;
+
 /// A text with the changes made, in a gap buffer of its own.
 fn edited(
     alloc: Global,
@@ -46,7 +49,8 @@ fn edited(
     ensures short { IfOk result (λ t. length t ≤ 2 ^ 22) }
     ensures fits { OnOk result (FitEach encoding text.now changes.now) }
 {
-    let mut text = Text::<GapBuffer>::from_str(alloc, text)?;
+    let buffer = GapBuffer::with_capacity(alloc, text.len().min(TEXT_MAX) + ROOM)?;
+    let mut text = Text::from_str_in(buffer, text)?;
     text.apply_changes(alloc, encoding, changes)?;
     let len = text.len();
     prove!(len <= TEXT_MAX);

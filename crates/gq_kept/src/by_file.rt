@@ -47,7 +47,8 @@ impl ByFile {
     ) -> Result<Vec<Fault>, NoMemory>
         ensures kept { AreByFileOver types.now readings.now self.old → AreByFileOver types.now readings.now self.new }
         ensures faults { IfOk result (λ faults. AreByFileOver types.now readings.now self.old
-            → (fault : Fault) → Contains faults.items fault ↔ (IsOfItsFile (types_view types.now) (readings_view readings.now) fault ⊎ IsFaultAcross (together (types_view types.now) (readings_view readings.now)) fault)) }
+            → (fault : Fault) → Contains faults.items fault ↔ (IsOfItsFile (types_view types.now) (readings_view readings.now) fault
+                    ⊎ IsFaultAcross (together (types_view types.now) (readings_view readings.now)) fault)) }
     {
         let mut all = own_faults(alloc, types, readings, &mut self.own)?;
         let mut across = self.across.found(alloc, types, readings)?;

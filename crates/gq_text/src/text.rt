@@ -93,10 +93,20 @@ impl<B: Buffer> Text<B> {
         ensures ok { IfOk result (λ t. t ≡ text.now) }
         ensures too_large { (result ≡ Err TextError.TooLarge) ↔ (2 ^ 22 < length text.now) }
     {
+        Text::from_str_in(B::empty(alloc), text)
+    }
+
+    /// The text of a `&str`, where that has at most 4 MiB, in a buffer of the caller's, which may have room for more. What was in
+    /// the buffer is taken out.
+    pub fn from_str_in(mut buffer: B, text: &str) -> Result<Self, TextError>
+        ensures ok { IfOk result (λ t. t ≡ text.now) }
+        ensures too_large { (result ≡ Err TextError.TooLarge) ↔ (2 ^ 22 < length text.now) }
+    {
         if text.len() > TEXT_MAX {
             return Err(TextError::TooLarge);
         }
-        let mut buffer = B::empty(alloc);
+        let len = buffer.len();
+        buffer.remove(0, len);
         buffer.insert(0, text.as_bytes())?;
         Ok(Text { buffer })
     }

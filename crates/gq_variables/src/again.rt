@@ -43,7 +43,8 @@ fn put<'a>(
     variable: &'a VariableDefinition,
     again: &mut ByName<&'a VariableDefinition>,
 ) -> Result<(), NoMemory>
-    ensures { OnOk result ((u : UseOf) → any_under (types_view types.now) again.new u ≡ (any_under (types_view types.now) again.old u || is_wrong_for (types_view types.now) u (variable_view variable.now))) }
+    ensures { OnOk result ((u : UseOf) → any_under (types_view types.now) again.new u
+        ≡ (any_under (types_view types.now) again.old u || is_wrong_for (types_view types.now) u (variable_view variable.now))) }
 {
     let name = variable.variable.name.text.as_str();
     if is_known(types, &variable.type_ref) && !is_covered(again.get(name), variable) {

@@ -58,6 +58,19 @@ fn refused<B: Buffer>(
 }
 
 #[test]
+fn a_text_comes_into_a_buffer_with_room(rt: HostRuntime) -> Result<(), Fail> {
+    let alloc = rt.alloc();
+    let mut buffer = GapBuffer::with_capacity(alloc, 9)?;
+    buffer.insert(0, b"before")?;
+    let mut text = Text::from_str_in(buffer, "abc")?;
+    let end = text.offset_of(PositionEncoding::Utf8, at(1, 0));
+    text.splice(Span { start: end, end }, "defghi")?;
+    assert_eq!(rt; text.to_string(alloc)?.as_str(), "abcdefghi");
+    assert_eq!(rt; text.buffer().capacity(), 9);
+    Ok(())
+}
+
+#[test]
 fn a_text_has_at_most_4_mib(rt: HostRuntime) -> Result<(), Fail> {
     let alloc = rt.alloc();
     let most = OwnedText::from_string("x".repeat(alloc, 4_194_304)?);
