@@ -7,8 +7,9 @@ crates/gqls/folders.
 A case is served twice: its input at once, and byte by byte where it is short. Wanted are what NAME.stdout holds, and the status and
 the fault that its line of the file `endings` beside the folder has; without a line the status 0, and nothing said of a fault. Of a
 case that holds many rows each is judged, by its URIs (scripts/make_cases.py says how rows become cases). A row of check.rows,
-check.*.rows or exec.rows is files that lie where the program runs, and what is wanted is what it writes to standard output and then to
-standard error, and its status; with `--root: DIR` they are not named, and DIR is the folder that they lie in. A session of
+check.*.rows, exec.rows or rename.rows is files that lie where the program runs, and what is wanted is what it writes to standard output
+and then to standard error, the files that `--shown` names as they are then, and its status; with `--root: DIR` they are not named, and
+DIR is the folder that they lie in. `--words` are more words of the command line. A session of
 folders/*.sessions is served over a folder that is made for it (scripts/folders.py says how it is written).
 
 Each row that differs is printed with its file and line. The last line is `N passed, M failed`; the status is 1 where one failed."""
@@ -152,12 +153,18 @@ def judge_case(program, path, ending):
 
 def judge_row(program, row, command):
     """What is wrong with a row of files."""
-    words, names = [command], []
+    words, names, shown_after = [command], [], []
     with tempfile.TemporaryDirectory() as folder:
         for entry in row.entries:
             name = entry.key
             if name == "--op":
                 words += [name, entry.bytes.decode()]
+                continue
+            if name == "--words":
+                words += entry.bytes.decode().replace("DIR", folder).split(" ")
+                continue
+            if name == "--shown":
+                shown_after.append(entry.bytes.decode())
                 continue
             if name == "--root":
                 words += [name, entry.bytes.decode().replace("DIR", folder)]
@@ -174,7 +181,10 @@ def judge_row(program, row, command):
                     file.write(entry.bytes)
         names = [] if "--root" in words else names
         output, errors, status = run([program, *words, *names], b"", 1, folder)
-    told = (output + errors).decode(errors="replace").replace(folder, "DIR") + str(status)
+        output += errors
+        for name in shown_after:
+            output += contents(os.path.join(folder, name), b"")
+    told = output.decode(errors="replace").replace(folder, "DIR") + str(status)
     return None if told == row.wanted else f"told\n    {shown([told.encode()])}\n  wanted\n    {shown([row.wanted.encode()])}"
 
 
@@ -208,7 +218,7 @@ def main(arguments):
                     if is_asked(place):
                         why = judge_session(program, session, told_apart)
                         tell(1, {place: why} if why else {})
-            elif name.startswith(("check.", "exec.")) and name.endswith(".rows"):
+            elif name.startswith(("check.", "exec.", "rename.")) and name.endswith(".rows"):
                 for row in read_rows(path):
                     place = f"{name}:{row.line}"
                     if is_asked(place):

@@ -1,5 +1,5 @@
 -- An execution that is answered, and one that is refused.
-use Rattle.std.proofs.Common.{◌≡◌, ℕ, Bool, false, List, Option, Some, None, Result, Ok, Err, IfOk, cond, inl, inr, refl, ap, ◌∙◌}
+use Rattle.std.proofs.Common.{◌≡◌, ℕ, Bool, List, Option, Some, None, Result, Ok, Err, IfOk, cond, inl, inr, refl, ap, ◌∙◌}
 use Rattle.std.specs.Prelude.{is_none, option_and_then}
 use Rattle.std.specs.Option.{option_map, option_or}
 use Rattle.gq_project.specs.declared.document.Doc.{Doc}
@@ -10,11 +10,9 @@ use Rattle.gq_check.specs.declared.files.File.{File}
 use Rattle.gq_check.specs.declared.exec_fault.ExecFault.{ExecFault}
 use Rattle.gq_check.specs.declared.exec_fault.ExecFault.TheVariants.{BadTable, BadVariables, Check}
 use Rattle.gq_check.specs.declared.judging.Verdict.{Verdict}
-use Rattle.gq_check.specs.Checks.{SinkAfter, all_written, error_fails}
-use Rattle.gq_check.specs.Execution.{rows_in, variables_in, table_fault, variables_fault, exec_fault, IsExecFaultOr, refused, told, responded, Executes}
-use Rattle.gq_check.specs.Helping.ExecVerdicts.{IsExecVerdict, IsAnswered, TellsFault, in_full, in_part}
+use Rattle.gq_check.specs.Execution.{rows_in, variables_in, table_fault, variables_fault, exec_fault, told, responded}
+use Rattle.gq_check.specs.Helping.ExecVerdicts.{IsExecVerdict, IsAnswered}
 use Rattle.gq_check.specs.Files.{files_fault, documents_of}
-use Rattle.gq_check.proofs.WriteLemmas.{wrote_nothing}
 
 table_fine : (table : Option (List ℕ)) (rows : List RowOf) → option_and_then rows_in table ≡ Some rows → table_fault table ≡ None
 table_fine None rows e = absurd (cc)
@@ -50,8 +48,3 @@ exec_verdict name table variables files rows raw verdict t v f (inr i) = record 
 pub same_as : (judged : Result (List Doc) Invalid) (project documents : List Doc) → IfOk judged (λ v. v ≡ project) → project ≡ documents → IfOk judged (λ v. v ≡ documents)
 same_as (Ok v) project documents e f = e ∙ f
 same_as (Err i) project documents e f = tt
-
-pub refused_execution : (name : Option Text) (table variables : Option (List ℕ)) (files : List File) (fault : ExecFault) (out_held err_held : Option (List ℕ)) (out_failed : Bool) (err : SinkAfter) (status : ℕ) → IsExecFaultOr (exec_fault table variables files) fault → out_failed ≡ false →
-    TellsFault err_held err fault status → Executes name table variables files out_held (record { held = out_held; failed = out_failed }) err_held err status
-refused_execution name table variables files fault out_held err_held out_failed err status is works (in_full w s) = record { outcome = refused fault; is_outcome = is; ends = all_written (wrote_nothing out_held out_failed works) w s }
-refused_execution name table variables files fault out_held err_held out_failed err status is works (in_part w s) = record { outcome = refused fault; is_outcome = is; ends = error_fails (wrote_nothing out_held out_failed works) w s }

@@ -1,8 +1,7 @@
 -- What a sink was sent.
-use Rattle.std.proofs.Common.{◌≡◌, ℕ, Bool, true, false, not, List, [], Option, Result, Ok, Err, is_ok, subst}
+use Rattle.std.proofs.Common.{◌≡◌, ℕ, Bool, true, false, not, List, Option, Result, Ok, Err, is_ok, subst}
 use Rattle.std.specs.Io.KnownBytes.{Appends}
 use Rattle.std.specs.Prelude.{OnOk, OnErr}
-use Rattle.gq_rpc.proofs.Sends.{Appends-nil}
 use Rattle.gq_rpc.specs.Devices.{Sent}
 use Rattle.gq_rpc.specs.declared.devices.SinkFailed.{SinkFailed}
 use Rattle.gq_check.specs.Checks.{Wrote, WroteInPart, Tells, in_full, in_part}
@@ -28,7 +27,3 @@ pub tells : (r : Result (Unit {0}) SinkFailed) (held held' : Option (List ℕ)) 
     → Tells held (record { held = held'; failed = failed }) bytes
 tells (Ok u) held held' failed bytes shown is flag ok err = in_full (wrote held held' failed bytes shown is flag ok)
 tells (Err e) held held' failed bytes shown is flag ok err = in_part (wrote_in_part held held' failed bytes shown is flag err)
-
--- a sink that nothing was sent to
-pub wrote_nothing : (held : Option (List ℕ)) (failed : Bool) → failed ≡ false → Wrote held (record { held = held; failed = failed }) []
-wrote_nothing held failed e = record { works = e; written = Appends-nil held }

@@ -1,5 +1,5 @@
 -- A check of files: what it comes to, what is written, and the status of the process.
-use Rattle.std.specs.Prelude.{◌≡◌, ℕ, List, [], Bool, true, false, Option, None, codes}
+use Rattle.std.specs.Prelude.{◌≡◌, ℕ, List, [], Bool, true, false, Option, None}
 use Rattle.std.specs.Io.KnownBytes.{Appends}
 use Rattle.gq_rpc.specs.Devices.{Sent}
 use Rattle.gq_fault.specs.declared.found.Found.{Found}
@@ -9,7 +9,8 @@ use Rattle.gq_check.specs.declared.fault.CheckFault.TheVariants.{Device}
 use Rattle.gq_check.specs.declared.files.File.{File}
 use Rattle.gq_check.specs.Faults.{fault_line, IsFaultOr}
 use Rattle.gq_check.specs.Files.{files_fault, documents_of}
-use Rattle.gq_check.specs.Lines.{lines_of}
+use Rattle.gq_check.specs.declared.formats.Format.{Format}
+use Rattle.gq_check.specs.Formats.{printed_all, valid_text}
 
 -- what files come to: they are refused, or their project is valid, or what was found is told
 pub data Outcome : Type 0 where
@@ -24,10 +25,10 @@ IsOutcome files valid = (files_fault files ≡ None) × ∥ IsValid (documents_o
 IsOutcome files (told found) = (files_fault files ≡ None) × IsInvalid (documents_of files) × IsReportOf (documents_of files) found
 
 -- what is written to standard output, and to standard error
-abbrev pub output_of : List File → Outcome → List ℕ
-output_of files (refused fault) = []
-output_of files valid = codes "ok\n"
-output_of files (told found) = lines_of (documents_of files) found
+abbrev pub output_of : Format → List File → Outcome → List ℕ
+output_of format files (refused fault) = []
+output_of format files valid = valid_text format
+output_of format files (told found) = printed_all format (documents_of files) found
 
 abbrev pub error_of : Outcome → List ℕ
 error_of (refused fault) = fault_line fault
@@ -67,11 +68,11 @@ pub data EndsWith (output error : List ℕ) (wanted : ℕ) (out_held : Option (L
   error_fails : Wrote out_held out output → WroteInPart err_held err error → status ≡ 3 → EndsWith output error wanted out_held out err_held err status
 
 -- the same of an outcome
-abbrev pub Ends : List File → Outcome → Option (List ℕ) → SinkAfter → Option (List ℕ) → SinkAfter → ℕ → Type 0
-Ends files outcome = EndsWith (output_of files outcome) (error_of outcome) (status_of outcome)
+abbrev pub Ends : Format → List File → Outcome → Option (List ℕ) → SinkAfter → Option (List ℕ) → SinkAfter → ℕ → Type 0
+Ends format files outcome = EndsWith (output_of format files outcome) (error_of outcome) (status_of outcome)
 
 -- a check of files: an outcome, and what was written of it
-pub record Checks (files : List File) (out_held : Option (List ℕ)) (out : SinkAfter) (err_held : Option (List ℕ)) (err : SinkAfter) (status : ℕ) : Type 0 where
+pub record Checks (format : Format) (files : List File) (out_held : Option (List ℕ)) (out : SinkAfter) (err_held : Option (List ℕ)) (err : SinkAfter) (status : ℕ) : Type 0 where
   pub outcome : Outcome
   pub is_outcome : IsOutcome files outcome
-  pub ends : Ends files outcome out_held out err_held err status
+  pub ends : Ends format files outcome out_held out err_held err status

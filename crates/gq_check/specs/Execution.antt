@@ -17,7 +17,8 @@ use Rattle.gq_check.specs.declared.files.File.{File}
 use Rattle.gq_check.specs.Checks.{SinkAfter, EndsWith}
 use Rattle.gq_check.specs.Faults.{fault_line}
 use Rattle.gq_check.specs.Files.{files_fault, documents_of}
-use Rattle.gq_check.specs.Lines.{lines_of}
+use Rattle.gq_check.specs.declared.formats.Format.TheVariants as format
+use Rattle.gq_check.specs.Formats.{printed_all}
 
 -- the table and the variables that bytes hold as JSON
 abbrev pub rows_in : List ℕ → Option (List RowOf)
@@ -81,7 +82,7 @@ IsExecOutcome name table variables files (responded response) = (exec_fault tabl
 -- what is written to standard output, and to standard error
 abbrev pub exec_output : List File → ExecOutcome → List ℕ
 exec_output files (refused fault) = []
-exec_output files (told found) = lines_of (documents_of files) found
+exec_output files (told found) = printed_all format.Text (documents_of files) found
 exec_output files (responded response) = response_text response ++ codes "\n"
 
 abbrev pub exec_error : ExecOutcome → List ℕ

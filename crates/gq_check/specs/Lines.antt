@@ -1,8 +1,5 @@
 -- The lines that tell what was found: `FILE:LINE:COLUMN: CODE WORDS`.
 use Rattle.std.specs.Prelude.{ℕ, ◌+◌, List, [], ◌++◌, Option, Some, None, find, codes, decimal}
-use Rattle.std.specs.List.{flat_map}
-use Rattle.gq_text.specs.Place.{pos}
-use Rattle.gq_text.specs.declared.place.PositionEncoding.TheVariants.{Utf16}
 use Rattle.gq_text.specs.declared.place.Position.{Position}
 use Rattle.gq_project.specs.Documents.{has_key}
 use Rattle.gq_project.specs.declared.document.Doc.{Doc}
@@ -23,11 +20,3 @@ abbrev pub line_at : Found → Position → List ℕ
 line_at found position =
     found.key ++ codes ":" ++ decimal (position.line + 1) ++ codes ":" ++ decimal (position.character + 1) ++ codes ": "
     ++ text_of found.code ++ codes " " ++ words_of found.code ++ codes "\n"
-
--- the line of a fault, at the position of its start in UTF-16 code units (LSP 3.17, "Position")
-abbrev pub line_of : List Doc → Found → List ℕ
-line_of documents found = line_at found (pos Utf16 (text_at documents found.key) found.span.start)
-
--- a line for each fault, in order
-abbrev pub lines_of : List Doc → List Found → List ℕ
-lines_of documents found = flat_map (line_of documents) found

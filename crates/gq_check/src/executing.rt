@@ -6,19 +6,20 @@ ghost use Rattle.gq_table.specs.Views.{entries_view, rows_view};
 ghost use Rattle.gq_check.specs.declared.files.File.{File};
 ghost use Rattle.gq_check.specs.declared.fault.CheckFault.TheVariants as check_fault;
 ghost use Rattle.gq_check.specs.Execution.{Executes, IsExecFaultOr, exec_fault};
-ghost use Rattle.gq_check.specs.Helping.ExecVerdicts.{IsExecVerdict, IsAnswered, IsResponded, TellsFault};
+ghost use Rattle.gq_check.specs.Helping.ExecVerdicts.{IsExecVerdict, IsAnswered, IsResponded};
 ghost use Rattle.gq_project.specs.declared.document.Doc.{Doc};
 
-use crate::checking::tell;
 use crate::exec_fault::ExecFault;
 use crate::fault::CheckFault;
 use crate::files::{File, read_project};
+use crate::formats::Format;
 use crate::inputs::{read_table, read_variables};
 use crate::judging::{Verdict, verdict_against};
+use crate::printing::print;
 use gq_exec::{Table, Variables, execute};
-use gq_rpc::{Sink, send};
+use gq_rpc::Sink;
 use gq_rules::{Invalid, Valid};
-use gq_text::{NoMemory, OwnedText};
+use gq_text::NoMemory;
 use std::alloc::Global;
 
 /// The status where an operation is answered.
@@ -59,22 +60,8 @@ fn tell_answer<O: Sink, E: Sink>(
         (E.held err.old) (record { held = E.held err.new; failed = E.failed err.new }) result }
 {
     match answered {
-        Ok(verdict) => match send(out, verdict.text.as_str().as_bytes()) {
-            Ok(()) => verdict.status,
-            Err(_) => tell(CheckFault::Device, err),
-        },
-        Err(fault) => tell_fault(fault, err),
-    }
-}
-
-/// Tells a fault, and answers the status: 3 where even that fails.
-fn tell_fault<E: Sink>(fault: ExecFault, err: &mut E) -> u8
-    requires { E.failed err.old ≡ false }
-    ensures { TellsFault (E.held err.old) (record { held = E.held err.new; failed = E.failed err.new }) fault result }
-{
-    match send(err, fault.line().as_bytes()) {
-        Ok(()) => fault.status(),
-        Err(_) => 3,
+        Ok(verdict) => print(&verdict.text, &[], verdict.status, out, err),
+        Err(fault) => print(&[], fault.line().as_bytes(), fault.status(), out, err),
     }
 }
 
@@ -112,7 +99,7 @@ fn answer_in(
     match judged {
         Ok(valid) => Ok(response_of(alloc, name, table, variables, &valid)?),
         Err(invalid) => {
-            let verdict = verdict_against(alloc, &invalid)?;
+            let verdict = verdict_against(alloc, Format::Text, &invalid)?;
             Ok(verdict)
         }
     }
@@ -133,7 +120,7 @@ fn response_of(
     let mut text = response.text(alloc)?;
     text.push_str("\n")?;
     Ok(Verdict {
-        text: OwnedText::from_string(text),
+        text: text.into_bytes(),
         status: ANSWERED_STATUS,
     })
 }

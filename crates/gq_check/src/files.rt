@@ -22,7 +22,7 @@ pub struct File {
 }
 
 /// The project of the files: a document of each name, of the file that stands first.
-pub(crate) fn read_project(alloc: Global, files: &[File]) -> Result<Project, CheckFault>
+pub fn read_project(alloc: Global, files: &[File]) -> Result<Project, CheckFault>
     ensures accepted { OnOk result (files_fault files.now ≡ None) }
     ensures documents { IfOk result (λ project. project ≡ documents_of files.now) }
     ensures texts { IfOk result (λ project. All (λ doc. length doc.text ≤ 2 ^ 22) project) }

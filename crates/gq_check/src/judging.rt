@@ -11,9 +11,9 @@ ghost use Rattle.gq_check.specs.Helping.Verdicts.{IsVerdict, IsTold};
 
 use crate::fault::CheckFault;
 use crate::files::{File, read_project};
-use crate::lines::write_lines;
+use crate::formats::Format;
+use crate::lines::print_all;
 use gq_rules::{Invalid, Valid, Why};
-use gq_text::OwnedText;
 use std::alloc::Global;
 use std::thread::Threads;
 
@@ -26,57 +26,66 @@ const INVALID_STATUS: u8 = 1;
 /// What is told of files that are not refused, and the status.
 #[derive(Debug, Drop)]
 pub struct Verdict {
-    pub text: OwnedText,
+    pub text: Vec<u8>,
     pub status: u8,
 }
 
 /// Reads the files and validates their project.
-pub(crate) fn judge(alloc: Global, files: &[File]) -> Result<Verdict, CheckFault>
-    ensures ok { IfOk result (IsVerdict files.now) }
+pub(crate) fn judge(alloc: Global, format: Format, files: &[File]) -> Result<Verdict, CheckFault>
+    ensures ok { IfOk result (IsVerdict format files.now) }
     ensures err { IfErr result (IsFaultOr (files_fault files.now)) }
 {
     let project = read_project(alloc, files)?;
-    verdict_on(alloc, Valid::new(alloc, project))
+    verdict_on(alloc, format, Valid::new(alloc, project))
 }
 
 /// The same, by threads.
 pub(crate) fn judge_by_threads<R: Threads + Sync>(
     rt: &R,
     alloc: Global,
+    format: Format,
     files: &[File],
 ) -> Result<Verdict, CheckFault>
-    ensures ok { IfOk result (IsVerdict files.now) }
+    ensures ok { IfOk result (IsVerdict format files.now) }
     ensures err { IfErr result (IsFaultOr (files_fault files.now)) }
 {
     let project = read_project(alloc, files)?;
-    verdict_on(alloc, Valid::new_by_threads(rt, alloc, project))
+    verdict_on(alloc, format, Valid::new_by_threads(rt, alloc, project))
 }
 
 /// What is told of files whose project was judged so. Nothing but want of memory refuses them.
-fn verdict_on(alloc: Global, judged: Result<Valid, Invalid>) -> Result<Verdict, CheckFault>
+fn verdict_on(
+    alloc: Global,
+    format: Format,
+    judged: Result<Valid, Invalid>,
+) -> Result<Verdict, CheckFault>
     requires { IfErr judged (λ invalid. All (λ doc. length doc.text ≤ 2 ^ 22) invalid.project) }
     ensures ok { (files : List File) → files_fault files ≡ None → IfOk judged (λ valid. ∥ IsValid (documents_of files) ∥₁)
-        → IfErr judged (λ invalid. (invalid.project ≡ documents_of files) × IsWhy (documents_of files) invalid.why) → IfOk result (IsVerdict files) }
+        → IfErr judged (λ invalid. (invalid.project ≡ documents_of files) × IsWhy (documents_of files) invalid.why) → IfOk result (IsVerdict format files) }
     ensures err { IfErr result (λ fault. fault ≡ NoMemory) }
 {
     match judged {
         Ok(_) => Ok(Verdict {
-            text: OwnedText::from_str(alloc, "ok\n")?,
+            text: format.valid_text(alloc)?,
             status: VALID_STATUS,
         }),
-        Err(invalid) => verdict_against(alloc, &invalid),
+        Err(invalid) => verdict_against(alloc, format, &invalid),
     }
 }
 
 /// What is told of documents that are no valid project.
-pub(crate) fn verdict_against(alloc: Global, invalid: &Invalid) -> Result<Verdict, CheckFault>
+pub(crate) fn verdict_against(
+    alloc: Global,
+    format: Format,
+    invalid: &Invalid,
+) -> Result<Verdict, CheckFault>
     requires { All (λ doc. length doc.text ≤ 2 ^ 22) invalid.now.project }
-    ensures ok { (documents : List Doc) → invalid.now.project ≡ documents → IsWhy documents invalid.now.why → IfOk result (IsTold documents) }
+    ensures ok { (documents : List Doc) → invalid.now.project ≡ documents → IsWhy documents invalid.now.why → IfOk result (IsTold format documents) }
     ensures err { IfErr result (λ fault. fault ≡ NoMemory) }
 {
     match &invalid.why {
         Why::Report(report) => Ok(Verdict {
-            text: OwnedText::from_string(write_lines(alloc, &invalid.project, &report.found)?),
+            text: print_all(alloc, format, &invalid.project, &report.found)?,
             status: INVALID_STATUS,
         }),
         Why::NoMemory => Err(CheckFault::NoMemory),

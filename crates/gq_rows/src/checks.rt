@@ -4,7 +4,7 @@ ghost use Rattle.std.specs.Prelude.{◌≡◌, false};
 use crate::no_answer::NoAnswer;
 use crate::row::{Row, project_of};
 use crate::telling::Telling;
-use gq_check::{File, check, check_by_threads};
+use gq_check::{File, Format, check, check_by_threads};
 use gq_diagnostics::words;
 use gq_fault::Found;
 use gq_rpc::Sink;
@@ -85,7 +85,7 @@ impl Outcome {
 fn outcome_of(alloc: Global, files: &[File]) -> Outcome {
     let mut output = Page::new(alloc);
     let mut errors = Page::new(alloc);
-    let status = check(alloc, files, &mut output, &mut errors);
+    let status = check(alloc, Format::Text, files, &mut output, &mut errors);
     Outcome {
         output,
         errors,
@@ -96,7 +96,7 @@ fn outcome_of(alloc: Global, files: &[File]) -> Outcome {
 fn outcome_by_threads<R: Threads + Sync>(threads: &R, alloc: Global, files: &[File]) -> Outcome {
     let mut output = Page::new(alloc);
     let mut errors = Page::new(alloc);
-    let status = check_by_threads(threads, alloc, files, &mut output, &mut errors);
+    let status = check_by_threads(threads, alloc, Format::Text, files, &mut output, &mut errors);
     Outcome {
         output,
         errors,

@@ -1,23 +1,30 @@
 //! The program: `gqls serve --root DIR` serves the language server protocol on the standard streams, over the files of a
-//! folder, `gqls check FILE..` prints what is wrong with files, and `gqls exec --table FILE FILE..` executes an operation of them.
+//! folder, `gqls check FILE..` prints what is wrong with files, `gqls exec --table FILE FILE..` executes an operation of them, and
+//! `gqls rename FILE:LINE:COLUMN NAME FILE..` renames a fragment or a variable in them.
 #![tactic(auto)]
 
+mod commands;
+mod disk;
 mod folder;
+mod rewriting;
+mod tables;
 
-ghost use Rattle.std.specs.Prelude.{◌≡◌, ◌≤◌, ◌^◌, false};
+ghost use Rattle.std.specs.Prelude.{◌≡◌, false};
 
-use crate::folder::{Folder, paths_in, read_front, read_root};
+use crate::commands::{no_folder, no_place, not_utf8, parse_words};
+use crate::disk::Disk;
+use crate::folder::{Folder, paths_in, read_root};
+use crate::rewriting::write_files;
+use crate::tables::{flaw_of_table, flaw_of_variables};
 use clap::error::ErrorKind;
-use clap::{Arg, ArgAction, ArgMatches, Command, Error, value_parser};
-use gq_check::files::FILES_MAX;
-use gq_check::{File, check_by_threads, exec};
+use clap::{ArgMatches, Error};
+use gq_check::{CheckFault, File, Format, check_by_threads, exec, print};
+use gq_codemod::{Renaming, rename_by_threads};
 use gq_crew::{Ended, Files, NoFiles, Open, Ran, RunFault};
 use gq_reader::loads::fault_of;
 use gq_rpc::Flagged;
-use gq_text::text::TEXT_MAX;
-use gq_text::{NoMemory, OwnedText};
-use std::alloc::{AllocError, Global};
-use std::collections::BTreeSet;
+use gq_text::{NoMemory, Position};
+use std::alloc::Global;
 use std::io;
 use std::process::ExitCode;
 use std::sync::Wait;
@@ -29,166 +36,14 @@ const USAGE_STATUS: u8 = 2;
 /// The status where memory or a standard stream fails.
 const FAULT_STATUS: u8 = 3;
 
-const EXAMPLE: &str = "Examples:
-  gqls serve --root /shop
-  gqls check --root /shop
-  gqls check schema.graphql query.graphql
-  gqls exec --table table.json schema.graphql query.graphql
-
-An editor starts `serve`, and writes to its standard input and reads from its standard output.
-`check` and `exec` are for a command line: `gqls check --help` and `gqls exec --help` say what they print.";
-
-const SERVE_EXAMPLE: &str = "Example:
-  gqls serve --root /shop
-
-An editor starts this command, and writes to its standard input and reads from its standard output. The project is all
-files under the folder that end in `.graphql` or `.gql`, and the files that are open. Without a folder it is the files
-that are open. Files are read at the start, and each that is closed is read again; start anew after others changed.
-Links are passed over. At most 32 levels of folders are read, and 4,096 files. Where there are more, or the folder or a
-file cannot be read, the status is 3, and standard error says why.";
-
-const CHECK_EXAMPLE: &str = "Example:
-  $ gqls check schema.graphql query.graphql
-  query.graphql:1:11: V4 unknown field
-
-The files are one project: its type system, operations and fragments. Each fault is a line: the file, the line
-and the column of its start, counted from 1, the code of the rule and a few words; the status is then 1.
-Where there is none, it prints `ok`, and the status is 0. At most 4,096 files are read, of at most 4 MiB each.
-Where there are more, or a file is larger or cannot be read, the status is 3, and standard error says why.
-
-  $ gqls check --root /shop
-  /shop/queries/cart.graphql:8:7: V4 unknown field
-
-Here the project is all files under the folder that end in `.graphql` or `.gql`, found as by `gqls serve --root`.";
-
-const EXEC_EXAMPLE: &str = "Example:
-  $ gqls exec --table table.json schema.graphql query.graphql
-  {\"data\":{\"x\":1}}
-
-Here table.json says what the resolver of each field answers for each object, `Query` being object 0:
-  {\"rows\":[{\"type\":\"Query\",\"object\":0,\"field\":\"x\",\"args\":{},\"result\":{\"leaf\":1}}]}
-A result is null, {\"error\":true}, {\"leaf\":VALUE}, {\"object\":[TYPE,NUMBER]} or {\"list\":[RESULT,..]}.
-
-The status is 0 where there is a response, also one with errors. Where the files are no valid project, the faults are
-printed as by `check`, and the status is 1. A bad table or bad variables give the status 2, and a file that cannot be
-read, or is too large, 3; standard error says why.";
-
-/// The version of the program.
-const VERSION: &str = "0.1.0";
-
-/// How many workers there are where the command line does not say.
-const WORKERS: &str = "2";
-
-/// How many bytes a table or variables may have.
-const INPUT_MAX: u64 = 1_073_741_824;
-
-/// The command `serve`, with the number of workers, and with the folder of the project.
-fn serve_command<'a>(alloc: Global) -> Result<Command<'a>, AllocError> {
-    let workers = Arg::new(alloc, "workers")
-        .long("workers")
-        .value_name("N")
-        .help("How many threads answer beside the one that reads, 0 to 8; with 0 that one answers")
-        .value_parser(value_parser!(u8).range(0..=8))
-        .default_value(WORKERS);
-    let stdio = Arg::new(alloc, "stdio")
-        .long("stdio")
-        .help("Serves on the standard streams, as it does without this word")
-        .action(ArgAction::SetTrue);
-    Command::new(alloc, "serve")
-        .about("Serves the language server protocol on the standard streams")
-        .after_help(SERVE_EXAMPLE)
-        .arg(workers)?
-        .arg(root_argument(alloc))?
-        .arg(stdio)
-}
-
-/// The folder of the project.
-fn root_argument<'a>(alloc: Global) -> Arg<'a> {
-    Arg::new(alloc, "root").long("root").value_name("DIR").help(
-        "The folder of the project: its whole path, from `/` on, without `.` and `..`",
-    )
-}
-
-/// The command `check`, with the names of files, or with the folder that they lie in.
-fn check_command<'a>(alloc: Global) -> Result<Command<'a>, AllocError> {
-    let files = Arg::new(alloc, "files")
-        .value_name("FILE")
-        .help("The files of the project, schema and queries in any order")
-        .action(ArgAction::Append)
-        .num_args(1..)
-        .required_unless_present("root")?
-        .conflicts_with("root")?;
-    Command::new(alloc, "check")
-        .about("Checks files as one project, and prints what is wrong with it")
-        .after_help(CHECK_EXAMPLE)
-        .arg(root_argument(alloc))?
-        .arg(files)
-}
-
-/// The command `exec`, with what is executed, over which table and with which variables.
-fn exec_command<'a>(alloc: Global) -> Result<Command<'a>, AllocError> {
-    let name = Arg::new(alloc, "op")
-        .long("op")
-        .value_name("NAME")
-        .help("The operation, where the files have more than one");
-    let table = Arg::new(alloc, "table")
-        .long("table")
-        .value_name("FILE")
-        .help("What resolvers answer, as JSON")
-        .required(true);
-    let variables = Arg::new(alloc, "vars")
-        .long("vars")
-        .value_name("FILE")
-        .help("Values for the operation's variables, as a JSON object");
-    let files = Arg::new(alloc, "files")
-        .value_name("FILE")
-        .help("The files of the project, schema and queries in any order")
-        .action(ArgAction::Append)
-        .num_args(1..)
-        .required(true);
-    Command::new(alloc, "exec")
-        .about("Executes an operation of files over a table, and prints the response")
-        .after_help(EXEC_EXAMPLE)
-        .arg(name)?
-        .arg(table)?
-        .arg(variables)?
-        .arg(files)
-}
-
-/// The program, with its commands.
-fn gqls_command<'a>(alloc: Global) -> Result<Command<'a>, AllocError> {
-    Command::new(alloc, "gqls")
-        .version(VERSION)
-        .about("A language server for GraphQL")
-        .after_help(EXAMPLE)
-        .subcommand_required(true)
-        .subcommand(serve_command(alloc)?)?
-        .subcommand(check_command(alloc)?)?
-        .subcommand(exec_command(alloc)?)
-}
-
-/// What the words say.
-fn parse_words<'a>(alloc: Global, words: &'a [String]) -> Result<ArgMatches<'a>, Error> {
-    gqls_command(alloc)?.try_get_matches_from(words)
-}
-
-/// That a word is no text, with how the program is called.
-fn not_utf8(alloc: Global) -> Result<Error, AllocError> {
-    let mut command = gqls_command(alloc)?;
-    command.error(ErrorKind::UnknownArgument, "a word is not UTF-8")
-}
-
-/// That a word names no folder, with how the program is called.
-fn no_folder(alloc: Global, word: &str) -> Result<Error, AllocError> {
-    let message = format!(in alloc;
-        "invalid value '{word}' for '--root <DIR>': no whole path from `/` on, without `.` and `..`"
-    )?;
-    let mut command = gqls_command(alloc)?;
-    command.error(ErrorKind::ValueValidation, message.as_str())
-}
-
 /// Tells a fault on the standard error, and answers the status.
 fn tell_fault(rt: &HostRuntime, fault: RunFault) -> u8 {
+    let _ = eprintln!(rt; "gqls: {fault}");
+    FAULT_STATUS
+}
+
+/// Tells a fault of files on the standard error, and answers the status.
+fn tell_check_fault(rt: &HostRuntime, fault: CheckFault) -> u8 {
     let _ = eprintln!(rt; "gqls: {fault}");
     FAULT_STATUS
 }
@@ -268,71 +123,6 @@ fn serve<R: Threads + Wait + Sync>(threads: &R, rt: &HostRuntime, words: &ArgMat
     }
 }
 
-/// Up to that many bytes of a file, or none where it cannot be read.
-fn read_file(rt: &HostRuntime, name: &str, limit: u64) -> Result<Option<Vec<u8>>, NoMemory>
-    requires { limit ≤ 2 ^ 32 }
-{
-    match read_front(rt, name, limit) {
-        Ok(bytes) => Ok(Some(bytes)),
-        Err(error) if error.kind() == io::ErrorKind::OutOfMemory => Err(NoMemory),
-        Err(_) => Ok(None),
-    }
-}
-
-/// The bytes of a table or of variables, or none where they cannot be read or are too many.
-fn read_input(rt: &HostRuntime, name: &str) -> Result<Option<Vec<u8>>, NoMemory> {
-    match read_file(rt, name, INPUT_MAX + 1)? {
-        Some(bytes) if bytes.len() as u64 <= INPUT_MAX => Ok(Some(bytes)),
-        _ => Ok(None),
-    }
-}
-
-/// The bytes of the variables; those of no variables where no file of them is named.
-fn read_variables(rt: &HostRuntime, name: Option<&str>) -> Result<Option<Vec<u8>>, NoMemory> {
-    match name {
-        Some(name) => read_input(rt, name),
-        None => Ok(Some(Vec::from_slice(rt.alloc(), b"{}")?)),
-    }
-}
-
-/// Whether there are more names than may be given.
-fn are_too_many(alloc: Global, names: &[&str]) -> Result<bool, NoMemory> {
-    let mut seen = BTreeSet::new(alloc);
-    for name in names {
-        seen.insert(*name)?;
-    }
-    Ok(seen.len() > FILES_MAX)
-}
-
-/// The files of these names, each read where its name first stands. None is read where there are too many, nor any behind
-/// one that is absent or too large, since what is told is known then.
-fn read_files(rt: &HostRuntime, names: &[&str]) -> Result<Vec<File>, NoMemory> {
-    let alloc = rt.alloc();
-    let mut goes_on = !are_too_many(alloc, names)?;
-    let mut seen = BTreeSet::new(alloc);
-    let mut files = Vec::new(alloc);
-    for name in names {
-        let mut bytes = None;
-        if seen.insert(*name)? && goes_on {
-            bytes = read_file(rt, name, TEXT_MAX as u64 + 1)?;
-            goes_on = bytes.as_ref().is_some_and(|bytes| bytes.len() <= TEXT_MAX);
-        }
-        let name = OwnedText::from_str(alloc, name)?;
-        files.push(File { name, bytes })?;
-    }
-    Ok(files)
-}
-
-/// Checks the files of these names, by threads.
-fn check_files<R: Threads + Sync>(threads: &R, rt: &HostRuntime, names: &[&str]) -> u8 {
-    let Ok(files) = read_files(rt, names) else {
-        return tell_fault(rt, RunFault::NoMemory);
-    };
-    let mut output = Flagged::new(rt.stdout());
-    let mut errors = Flagged::new(rt.stderr());
-    check_by_threads(threads, rt.alloc(), &files, &mut output, &mut errors)
-}
-
 /// The texts, lent.
 fn lent<'a>(alloc: Global, texts: &'a [String]) -> Result<Vec<&'a str>, NoMemory> {
     let mut all = Vec::new(alloc);
@@ -342,27 +132,73 @@ fn lent<'a>(alloc: Global, texts: &'a [String]) -> Result<Vec<&'a str>, NoMemory
     Ok(all)
 }
 
-/// Checks the files of the folder of that path, by threads.
-fn check_folder<R: Threads + Sync>(threads: &R, rt: &HostRuntime, path: &str) -> u8 {
-    let paths = match paths_in(rt, path) {
-        Ok(paths) => paths,
-        Err(fault) => return tell_fault(rt, fault_of(fault)),
-    };
-    match lent(rt.alloc(), &paths) {
-        Ok(names) => check_files(threads, rt, &names),
-        Err(NoMemory) => tell_fault(rt, RunFault::NoMemory),
+/// The disk, and whether the words ask for what is wrong with a file.
+fn disk_of<'a>(rt: &'a HostRuntime, words: &ArgMatches<'_>) -> Disk<'a> {
+    Disk {
+        rt,
+        is_verbose: words.get_flag("verbose"),
     }
 }
 
-/// Checks the files that the words name, or those of the folder that they name.
-fn check<R: Threads + Sync>(threads: &R, rt: &HostRuntime, words: &ArgMatches<'_>) -> u8 {
+/// The files of the folder of that path, or the status where they cannot be read.
+fn folder_files(disk: Disk<'_>, path: &str) -> Result<Vec<File>, u8> {
+    let paths = match paths_in(disk.rt, path) {
+        Ok(paths) => paths,
+        Err(fault) => {
+            disk.explain(path, "the folder cannot be read");
+            return Err(tell_fault(disk.rt, fault_of(fault)));
+        }
+    };
+    match lent(disk.rt.alloc(), &paths) {
+        Ok(names) => named_files(disk, &names),
+        Err(NoMemory) => Err(tell_fault(disk.rt, RunFault::NoMemory)),
+    }
+}
+
+/// The files of these names, or the status where there is no memory for them.
+fn named_files(disk: Disk<'_>, names: &[&str]) -> Result<Vec<File>, u8> {
+    match disk.read_files(names) {
+        Ok(files) => Ok(files),
+        Err(NoMemory) => Err(tell_fault(disk.rt, RunFault::NoMemory)),
+    }
+}
+
+/// The files that the words name, or those of the folder that they name, or the status where they cannot be read.
+fn files_of(disk: Disk<'_>, words: &ArgMatches<'_>) -> Result<Vec<File>, u8> {
     match words.get_str("root") {
-        None => check_files(threads, rt, words.get_raw("files").unwrap_or(&[])),
+        None => named_files(disk, words.get_raw("files").unwrap_or(&[])),
         Some(word) => match read_root(word) {
-            Some(path) => check_folder(threads, rt, path),
-            None => explain_root(rt, word),
+            Some(path) => folder_files(disk, path),
+            None => Err(explain_root(disk.rt, word)),
         },
     }
+}
+
+/// The form in which the words ask for faults.
+fn format_of(words: &ArgMatches<'_>) -> Format {
+    match words.get_str("format") {
+        Some("json") => Format::Json,
+        Some("github") => Format::Github,
+        _ => Format::Text,
+    }
+}
+
+/// Checks the files that the words name, by threads.
+fn check<R: Threads + Sync>(threads: &R, rt: &HostRuntime, words: &ArgMatches<'_>) -> u8 {
+    let files = match files_of(disk_of(rt, words), words) {
+        Ok(files) => files,
+        Err(status) => return status,
+    };
+    let mut output = Flagged::new(rt.stdout());
+    let mut errors = Flagged::new(rt.stderr());
+    check_by_threads(
+        threads,
+        rt.alloc(),
+        format_of(words),
+        &files,
+        &mut output,
+        &mut errors,
+    )
 }
 
 /// What is given to an execution beside the name of the operation.
@@ -373,20 +209,30 @@ struct Inputs {
     files: Vec<File>,
 }
 
+/// The bytes of the variables; those of no variables where no file of them is named.
+fn read_variables(disk: Disk<'_>, name: Option<&str>) -> Result<Option<Vec<u8>>, NoMemory> {
+    match name {
+        Some(name) => disk.read_input(name),
+        None => Ok(Some(Vec::from_slice(disk.rt.alloc(), b"{}")?)),
+    }
+}
+
 /// Reads the table, the variables and the files that the words name.
-fn read_inputs(rt: &HostRuntime, words: &ArgMatches<'_>) -> Result<Inputs, NoMemory> {
+fn read_inputs(disk: Disk<'_>, words: &ArgMatches<'_>) -> Result<Inputs, NoMemory> {
     Ok(Inputs {
-        table: read_input(rt, words.get_str("table").unwrap_or(""))?,
-        variables: read_variables(rt, words.get_str("vars"))?,
-        files: read_files(rt, words.get_raw("files").unwrap_or(&[]))?,
+        table: disk.read_input(words.get_str("table").unwrap_or(""))?,
+        variables: read_variables(disk, words.get_str("vars"))?,
+        files: disk.read_files(words.get_raw("files").unwrap_or(&[]))?,
     })
 }
 
 /// Executes an operation of the files that the words name.
 fn exec_files(rt: &HostRuntime, words: &ArgMatches<'_>) -> u8 {
-    let Ok(inputs) = read_inputs(rt, words) else {
+    let disk = disk_of(rt, words);
+    let Ok(inputs) = read_inputs(disk, words) else {
         return tell_fault(rt, RunFault::NoMemory);
     };
+    explain_inputs(disk, words, &inputs);
     let mut output = Flagged::new(rt.stdout());
     let mut errors = Flagged::new(rt.stderr());
     exec(
@@ -400,11 +246,89 @@ fn exec_files(rt: &HostRuntime, words: &ArgMatches<'_>) -> u8 {
     )
 }
 
+/// Says what is wrong with the table, or else with the variables, where that is asked for.
+fn explain_inputs(disk: Disk<'_>, words: &ArgMatches<'_>, inputs: &Inputs) {
+    if !disk.is_verbose {
+        return;
+    }
+    let alloc = disk.rt.alloc();
+    let table = words.get_str("table").unwrap_or("");
+    let variables = words.get_str("vars").unwrap_or("");
+    if let Some(Ok(Some(why))) = inputs.table.as_deref().map(|bytes| flaw_of_table(alloc, bytes)) {
+        disk.explain(table, why.as_str());
+    } else if let Some(Ok(Some(why))) = inputs.variables.as_deref().map(|bytes| flaw_of_variables(alloc, bytes)) {
+        disk.explain(variables, why.as_str());
+    }
+}
+
+/// The file and the position that a word names as `FILE:LINE:COLUMN`. The position is counted from 0.
+fn read_place(word: &str) -> Option<(&str, Position)> {
+    let (front, column) = word.rsplit_once(':')?;
+    let (file, line) = front.rsplit_once(':')?;
+    let line = line.parse::<u32>().ok()?.checked_sub(1)?;
+    let character = column.parse::<u32>().ok()?.checked_sub(1)?;
+    Some((file, Position { line, character }))
+}
+
+/// Tells that a word names no place, and answers the status.
+fn explain_place(rt: &HostRuntime, word: &str) -> u8 {
+    match no_place(rt.alloc(), word) {
+        Ok(error) => explain(rt, &error),
+        Err(_) => tell_fault(rt, RunFault::NoMemory),
+    }
+}
+
+/// Renames what is at the place that the words name.
+fn rename_files<R: Threads + Sync>(threads: &R, rt: &HostRuntime, words: &ArgMatches<'_>) -> u8 {
+    let word = words.get_str("place").unwrap_or("");
+    match read_place(word) {
+        Some((file, position)) => rename_at(threads, rt, words, file, position),
+        None => explain_place(rt, word),
+    }
+}
+
+/// Renames what is at that place, in the files that the words name.
+fn rename_at<R: Threads + Sync>(
+    threads: &R,
+    rt: &HostRuntime,
+    words: &ArgMatches<'_>,
+    file: &str,
+    position: Position,
+) -> u8 {
+    let disk = disk_of(rt, words);
+    let files = match files_of(disk, words) {
+        Ok(files) => files,
+        Err(status) => return status,
+    };
+    let name = words.get_str("name").unwrap_or("");
+    match rename_by_threads(threads, rt.alloc(), &files, file, position, name) {
+        Ok(renaming) => end_rename(disk, words.get_flag("write"), &renaming),
+        Err(fault) => tell_check_fault(rt, fault),
+    }
+}
+
+/// Writes the edited files where that is asked for, prints what the rename comes to, and answers the status.
+fn end_rename(disk: Disk<'_>, writes: bool, renaming: &Renaming) -> u8 {
+    if writes && write_files(disk, &renaming.edited).is_err() {
+        return tell_fault(disk.rt, RunFault::Device);
+    }
+    let mut output = Flagged::new(disk.rt.stdout());
+    let mut errors = Flagged::new(disk.rt.stderr());
+    print(
+        &renaming.output,
+        &renaming.error,
+        renaming.status,
+        &mut output,
+        &mut errors,
+    )
+}
+
 /// Does what the words say, and answers the status.
 fn run<R: Threads + Wait + Sync>(threads: &R, rt: &HostRuntime, matches: &ArgMatches<'_>) -> u8 {
     match matches.subcommand() {
         Some(("check", words)) => check(threads, rt, words),
         Some(("exec", words)) => exec_files(rt, words),
+        Some(("rename", words)) => rename_files(threads, rt, words),
         Some((_, words)) => serve(threads, rt, words),
         None => USAGE_STATUS,
     }

@@ -12,14 +12,14 @@ use Rattle.gq_rules.specs.Validity.{IsValid}
 use Rattle.gq_response.specs.Responses.{ResponseOf}
 use Rattle.gq_response.specs.Texts.{response_text}
 use Rattle.gq_law_rewrites.specs.Executed.{IsExecuted}
-use Rattle.gq_check.specs.Checks.{SinkAfter, Wrote, WroteInPart}
+use Rattle.gq_check.specs.declared.formats.Format.TheVariants as format
 use Rattle.gq_check.specs.Helping.Verdicts.{IsTold}
-use Rattle.gq_check.specs.Execution.{exec_fault_line, exec_fault_status, ExecOutcome, IsExecOutcome, exec_output, exec_error, exec_status}
+use Rattle.gq_check.specs.Execution.{ExecOutcome, IsExecOutcome, exec_output, exec_error, exec_status}
 
 pub record IsExecVerdict (name : Option Text) (table variables : Option (List ℕ)) (files : List File) (verdict : Verdict) : Type 0 where
   pub outcome : ExecOutcome
   pub is_outcome : IsExecOutcome name table variables files outcome
-  pub text : verdict.text ≡ exec_output files outcome
+  pub text : verdict.text.items ≡ exec_output files outcome
   pub no_error : exec_error outcome ≡ []
   pub status : verdict.status ≡ exec_status outcome
 
@@ -45,13 +45,8 @@ pub record IsResponded (name : Option Text) (rows : List RowOf) (raw : Values) (
   pub response : ResponseOf
   pub valid : ∥ IsValid documents ∥₁
   pub executed : IsExecuted documents rows name raw response
-  pub text : verdict.text ≡ response_text response ++ codes "\n"
+  pub text : verdict.text.items ≡ response_text response ++ codes "\n"
   pub status : verdict.status ≡ 0
 
 abbrev pub IsAnswered : Option Text → List RowOf → Values → List Doc → Verdict → Type 0
-IsAnswered name rows raw documents verdict = IsResponded name rows raw documents verdict ⊎ IsTold documents verdict
-
--- a fault is told, with its status, or a front of it, with the status 3
-pub data TellsFault (held : Option (List ℕ)) (sink : SinkAfter) (fault : ExecFault) (status : ℕ) : Type 0 where
-  in_full : Wrote held sink (exec_fault_line fault) → status ≡ exec_fault_status fault → TellsFault held sink fault status
-  in_part : WroteInPart held sink (exec_fault_line fault) → status ≡ 3 → TellsFault held sink fault status
+IsAnswered name rows raw documents verdict = IsResponded name rows raw documents verdict ⊎ IsTold format.Text documents verdict

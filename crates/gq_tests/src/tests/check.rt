@@ -1,7 +1,7 @@
 //! The check of files where a write fails, and of more files than may be given.
 ghost use Rattle.std.specs.Prelude.{◌≡◌, false};
 
-use gq_check::{File, check_by_threads};
+use gq_check::{File, Format, check_by_threads};
 use gq_rpc::Sink;
 use gq_text::OwnedText;
 use std::alloc::Global;
@@ -88,7 +88,7 @@ fn written(
 ) -> Result<String, Fail> {
     let mut out = sink_of(alloc, writes.0);
     let mut err = sink_of(alloc, writes.1);
-    let status = check_by_threads(rt, alloc, files, &mut out, &mut err);
+    let status = check_by_threads(rt, alloc, Format::Text, files, &mut out, &mut err);
     let mut all = String::from_utf8(out.bytes).map_err(|_| "no text")?;
     all.push_str(str::from_utf8(&err.bytes).map_err(|_| "no text")?)?;
     write!(all, "{status}")?;

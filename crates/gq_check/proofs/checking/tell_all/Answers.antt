@@ -1,22 +1,23 @@
-use Rattle.std.proofs.Common.{IfOk, IfErr, ◌∙◌, subst}
+use Rattle.std.proofs.Common.{IfOk, IfErr, refl, sym, ◌∙◌, subst}
 use Rattle.gq_check.specs.Faults.{IsFaultOr}
 use Rattle.gq_check.specs.Files.{files_fault}
+use Rattle.gq_check.specs.Checks.{refused}
 use Rattle.gq_check.specs.Helping.Verdicts.{IsVerdict}
-use Rattle.gq_check.proofs.VerdictLemmas.{told_ends, untold_ends, refused_ends}
-use Rattle.gq_check.proofs.WriteLemmas.{wrote, wrote_in_part}
+use Rattle.gq_check.proofs.VerdictLemmas.{ends_as}
 use Rattle.gq_check.proofs.checking.tell_all.Goals as goal
 
-pub returns-in-Ok-send : goal.returns-in-Ok-send
-returns-in-Ok-send g c files ok err =
-    told_ends files c.in-Ok.verdict _ _ _ _ (subst (λ r. IfOk r (IsVerdict files)) c.in-Ok.is ok)
-    (wrote _ _ _ _ _ (c.as_bytes.ensures.value ∙ c.as_str.ensures) c.in-Ok-send.ensures.flag c.in-Ok-send.ensures.ok) c.requires.err_works
-
 pub returns-in-Ok : goal.returns-in-Ok
-returns-in-Ok g c files ok err =
-    untold_ends files c.in-Ok.verdict _ _ _ _ _ (subst (λ r. IfOk r (IsVerdict files)) c.in-Ok.is ok)
-    (wrote_in_part _ _ _ _ _ (c.as_bytes.ensures.value ∙ c.as_str.ensures) c.in-Err-send.ensures.flag c.in-Err-send.ensures.err) c.tell.ensures.told c.tell.ensures.status
+returns-in-Ok g c format files ok err =
+    let is : IsVerdict format files c.in-Ok.verdict = subst (λ r. IfOk r (IsVerdict format files)) c.in-Ok.is ok in
+    record {
+      outcome = is.outcome;
+      is_outcome = is.is_outcome;
+      ends = ends_as _ _ _ _ _ _ _ _ _ _ _ (c.deref.ensures.value ∙ is.text) (sym is.no_error) is.status c.print-in-Ok.ensures;
+    }
 
-pub returns : goal.returns
-returns g c files ok err =
-    refused_ends files c.in-Err.fault _ _ _ _ _ (subst (λ r. IfErr r (IsFaultOr (files_fault files))) c.in-Err.is err) c.requires.out_works c.tell-in-Err.ensures.told
-    c.tell-in-Err.ensures.status
+pub returns-in-Err : goal.returns-in-Err
+returns-in-Err g c format files ok err = record {
+  outcome = refused c.in-Err.fault;
+  is_outcome = subst (λ r. IfErr r (IsFaultOr (files_fault files))) c.in-Err.is err;
+  ends = ends_as _ _ _ _ _ _ _ _ _ _ _ refl (c.as_bytes.ensures.value ∙ c.line.ensures) refl c.print-in-Err.ensures;
+}

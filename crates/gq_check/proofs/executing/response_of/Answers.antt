@@ -7,6 +7,6 @@ returns c = record {
   response = response_view c.in_ok-response.response;
   valid = c.project-project.ensures.valid;
   executed = c.in_ok-response.ensures;
-  text = c.from_string.ensures ∙ c.in_ok-push_str.ensures.bytes ∙ ap (λ (t : List ℕ). t ++ codes "\n") c.in_ok-text.ensures;
+  text = c.into_bytes.ensures ∙ c.in_ok-push_str.ensures.bytes ∙ ap (λ (t : List ℕ). t ++ codes "\n") c.in_ok-text.ensures;
   status = refl;
 }

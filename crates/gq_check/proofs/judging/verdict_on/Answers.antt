@@ -8,4 +8,4 @@ use Rattle.gq_check.proofs.judging.verdict_on.Goals as goal
 pub returns-clause-ok : goal.returns-clause-ok
 returns-clause-ok c files fine valid invalid =
     let both = subst (λ r. IfErr r (λ i. (i.project ≡ documents_of files) × IsWhy (documents_of files) i.why)) c.in-Err.is invalid in
-    IfOk-weaker c.verdict_against.result _ _ (λ v t. verdict_told files v fine t) (c.verdict_against.ensures.ok (documents_of files) both.0 both.1)
+    IfOk-weaker c.verdict_against.result _ _ (λ v t. verdict_told c.args.format files v fine t) (c.verdict_against.ensures.ok (documents_of files) both.0 both.1)
