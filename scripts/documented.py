@@ -3,9 +3,10 @@
 
     python3 scripts/documented.py PROGRAM [TEXT]        PROGRAM as crates/gqls/out/gqls; TEXT: only pages that have it in their name
 
-A shown command is a line `$ COMMAND` of an indented block (four spaces) whose first line is such a line. The lines behind it, up to
-the next such line or the end of the block, are what it writes to standard output and then to standard error. The commands of a page
-run one after the other in a copy of crates/gqls that holds its examples and nothing else, so a command may write there.
+A shown command is a line `$ COMMAND` of an indented block (four spaces) whose first line is such a line, and the lines behind it as
+long as each ends in `\\`. The lines behind that, up to the next command or the end of the block, are what it writes to standard output
+and then to standard error; its status is not looked at. The commands of a page run one after the other in a copy of crates/gqls that
+holds its examples and nothing else, so a command may write there.
 
 The first word says what is done with a command: `gqls`, cat and diff are run, and `rt try -- WORDS` as `gqls WORDS`. What else `rt`
 does, what cd, git and python3 do and what starts an editor is not run, and is listed. Any other first word is a failure, so that no
@@ -63,11 +64,16 @@ def read_shown(path):
     for first, block in blocks_of(lines):
         if not block[0].startswith(PROMPT):
             continue
+        goes_on = False
         for number, line in enumerate(block, first):
-            if line.startswith(PROMPT):
-                all_shown.append(Shown(number, line.removeprefix(PROMPT).strip()))
+            if goes_on:
+                all_shown[-1].command += " " + line.strip().removesuffix("\\").rstrip()
+            elif line.startswith(PROMPT):
+                all_shown.append(Shown(number, line.removeprefix(PROMPT).removesuffix("\\").strip()))
             else:
                 all_shown[-1].wanted.append(line.removeprefix(INDENT).rstrip())
+                continue
+            goes_on = line.endswith("\\")
     for shown in all_shown:
         while shown.wanted and not shown.wanted[-1]:
             shown.wanted.pop()
