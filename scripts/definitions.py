@@ -30,6 +30,7 @@ THEOREMS = [
     ("What a remove is", "gq_reshape", "removing", "remove_redundant"),
     ("What `gqls check` prints", "gq_check", "checking", "check"),
     ("What `gqls exec` prints", "gq_check", "executing", "exec"),
+    ("What `gqls rename` prints and writes", "gq_codemod", "renaming", "rename"),
 ]
 # crate, source file, trait: what theorems say of any type that has one of these, they say by its members
 TRAITS = [("gq_rpc", "devices", "Source"), ("gq_rpc", "devices", "Sink"), ("gq_reader", "files", "Files"), ("gq_desk", "hands", "Hands")]
@@ -263,12 +264,11 @@ def part(what, starts, told):
     text = [f"{what}: {len(seen)} definitions in {len(order)} files. To be read, in order:", ""]
     text += textwrap.wrap(in_order(order) + ".", 118, break_long_words=False)
     text += ["", "What they hold:" if not told else f"{len(new)} of the definitions are not told above" + (":" if new else "."), ""]
-    text += ["| File | What it holds | Definitions |", "|---|---|---|"] if new else []
+    text += ["| File | What it holds |", "|---|---|"] if new else []
     for one in order:
-        names = [name for name in specs(*one).defined if (*one, name) in new]
-        if names:
+        if any((*one, name) in new for name in specs(*one).defined):
             head = " ".join(specs(*one).head).replace("|", "\\|")
-            text.append(f"| {one[0]} {one[1]} | {head} | {', '.join(f'`{name}`' for name in names)} |")
+            text.append(f"| {one[0]} {one[1]} | {head} |")
     told |= seen
     return text if new else text[:-1]
 
