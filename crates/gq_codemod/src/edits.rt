@@ -2,11 +2,13 @@
 ghost use Rattle.std.specs.Prelude.{◌≡◌, ◌++◌, IfOk, OnOk, string_bytes};
 ghost use Rattle.gq_edit.specs.Edits.{FitDocuments};
 ghost use Rattle.gq_edit.specs.Replacements.{FitText};
-ghost use Rattle.gq_codemod.specs.Edits.{edit_line, document_lines, edit_lines, edited_file, edited_files};
+ghost use Rattle.gq_codemod.specs.Edits.{place_of, edit_line, document_lines, edit_lines, edited_file, edited_files};
 
-use gq_edit::{DocumentEdit, Edit, TextDocumentEdit, TextEdit, WorkspaceEdit, document, replaced_text};
+use gq_edit::{
+    DocumentEdit, Edit, TextDocumentEdit, TextEdit, WorkspaceEdit, document, replaced_text,
+};
 use gq_project::{Doc, Project};
-use gq_text::{NoMemory, OwnedText};
+use gq_text::{NoMemory, OwnedText, Position};
 use std::alloc::Global;
 
 /// A file that is edited, and its new text.
@@ -52,31 +54,44 @@ pub(crate) fn edit_lines(alloc: Global, edit: &WorkspaceEdit) -> Result<Vec<u8>,
 {
     let mut lines = String::new(alloc);
     for changes in edit.document_changes.as_slice() {
-        put_document(changes, &mut lines)?;
+        put_document(alloc, changes, &mut lines)?;
     }
     Ok(lines.into_bytes())
 }
 
 /// The lines of a document's edits.
-fn put_document(changes: &TextDocumentEdit, lines: &mut String) -> Result<(), NoMemory>
+fn put_document(
+    alloc: Global,
+    changes: &TextDocumentEdit,
+    lines: &mut String,
+) -> Result<(), NoMemory>
     ensures { OnOk result (string_bytes lines.new ≡ string_bytes lines.old ++ document_lines changes.now) }
 {
     let name = changes.uri.as_str();
     for edit in changes.edits.as_slice() {
-        put_edit(name, edit, lines)?;
+        put_edit(alloc, name, edit, lines)?;
     }
     Ok(())
 }
 
 /// The line of an edit of the document of that name.
-fn put_edit(name: &str, edit: &TextEdit, lines: &mut String) -> Result<(), NoMemory>
+fn put_edit(alloc: Global, name: &str, edit: &TextEdit, lines: &mut String) -> Result<(), NoMemory>
     ensures { OnOk result (string_bytes lines.new ≡ string_bytes lines.old ++ edit_line name.now edit.now) }
 {
-    let line = u64::from(edit.range.start.line) + 1;
-    let column = u64::from(edit.range.start.character) + 1;
-    let end_line = u64::from(edit.range.end.line) + 1;
-    let end_column = u64::from(edit.range.end.character) + 1;
+    let start = place_text(alloc, edit.range.start)?;
+    let end = place_text(alloc, edit.range.end)?;
+    let (start, end) = (start.as_str(), end.as_str());
     let text = edit.new_text.as_str();
-    write!(lines, "{name}:{line}:{column}-{end_line}:{end_column}: {text}\n")?;
+    write!(lines, "{name}:{start}-{end}: {text}\n")?;
     Ok(())
+}
+
+/// A line and a column, counted from 1.
+fn place_text(alloc: Global, position: Position) -> Result<String, NoMemory>
+    ensures { IfOk result (λ text. string_bytes text ≡ place_of position) }
+{
+    let line = u64::from(position.line) + 1;
+    let column = u64::from(position.character) + 1;
+    let text = format!(in alloc; "{line}:{column}")?;
+    Ok(text)
 }

@@ -64,7 +64,7 @@ fn drive_desk<J: Room, R: Wait, K: Sink>(
     requires works { K.failed output.old ≡ false }
     requires next { IfSome desk.old (λ s. s.jobs.next ≤ 2 ^ 61) }
     ensures { (workers : ℕ) → desk.old ≡ Some (start workers)
-            → DeskDrives workers (desk_on deliveries.old.end) (desk_on deliveries.new.end) (collected deliveries.new.end) (K.held output.old) (sink_after K.held K.failed output.new) result }
+        → DeskDrives workers (desk_on deliveries.old.end) (desk_on deliveries.new.end) (collected deliveries.new.end) (K.held output.old) (sink_after K.held K.failed output.new) result }
 {
     match drive(alloc, desk, deliveries, hands, output) {
         Ok(_) if deliveries.ended => failed(RunFault::Closed),

@@ -48,7 +48,7 @@ impl ByFile {
         ensures kept { AreByFileOver types.now readings.now self.old → AreByFileOver types.now readings.now self.new }
         ensures faults { IfOk result (λ faults. AreByFileOver types.now readings.now self.old
             → (fault : Fault) → Contains faults.items fault ↔ (IsOfItsFile (types_view types.now) (readings_view readings.now) fault
-                    ⊎ IsFaultAcross (together (types_view types.now) (readings_view readings.now)) fault)) }
+            ⊎ IsFaultAcross (together (types_view types.now) (readings_view readings.now)) fault)) }
     {
         let mut all = own_faults(alloc, types, readings, &mut self.own)?;
         let mut across = self.across.found(alloc, types, readings)?;

@@ -96,7 +96,14 @@ fn outcome_of(alloc: Global, files: &[File]) -> Outcome {
 fn outcome_by_threads<R: Threads + Sync>(threads: &R, alloc: Global, files: &[File]) -> Outcome {
     let mut output = Page::new(alloc);
     let mut errors = Page::new(alloc);
-    let status = check_by_threads(threads, alloc, Format::Text, files, &mut output, &mut errors);
+    let status = check_by_threads(
+        threads,
+        alloc,
+        Format::Text,
+        files,
+        &mut output,
+        &mut errors,
+    );
     Outcome {
         output,
         errors,

@@ -91,7 +91,7 @@ fn add_wrong_over(
     faults: &mut Vec<Fault>,
 ) -> Result<(), NoMemory>
     ensures { OnOk result ((has_schema ≡ true → (fault : Fault) → IsSchemaFault (types_view executable.now.types.now) fault → ⊥)
-            → PutsWrong (executable_view executable.now) faults.old.items faults.new.items) }
+        → PutsWrong (executable_view executable.now) faults.old.items faults.new.items) }
 {
     if !has_schema {
         add_wrong_in(alloc, executable, faults)?;

@@ -254,9 +254,17 @@ fn explain_inputs(disk: Disk<'_>, words: &ArgMatches<'_>, inputs: &Inputs) {
     let alloc = disk.rt.alloc();
     let table = words.get_str("table").unwrap_or("");
     let variables = words.get_str("vars").unwrap_or("");
-    if let Some(Ok(Some(why))) = inputs.table.as_deref().map(|bytes| flaw_of_table(alloc, bytes)) {
+    if let Some(Ok(Some(why))) = inputs
+        .table
+        .as_deref()
+        .map(|bytes| flaw_of_table(alloc, bytes))
+    {
         disk.explain(table, why.as_str());
-    } else if let Some(Ok(Some(why))) = inputs.variables.as_deref().map(|bytes| flaw_of_variables(alloc, bytes)) {
+    } else if let Some(Ok(Some(why))) = inputs
+        .variables
+        .as_deref()
+        .map(|bytes| flaw_of_variables(alloc, bytes))
+    {
         disk.explain(variables, why.as_str());
     }
 }

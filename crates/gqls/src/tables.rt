@@ -75,11 +75,19 @@ fn flaw_of_row(row: &Json) -> &'static str {
     };
     if row.get("type").and_then(|name| name.as_str()).is_none() {
         "`type` is no string"
-    } else if row.get("object").and_then(|number| number.as_u64()).is_none() {
+    } else if row
+        .get("object")
+        .and_then(|number| number.as_u64())
+        .is_none()
+    {
         "`object` is no number from 0 on"
     } else if row.get("field").and_then(|name| name.as_str()).is_none() {
         "`field` is no string"
-    } else if row.get("args").and_then(|arguments| arguments.as_object()).is_none() {
+    } else if row
+        .get("args")
+        .and_then(|arguments| arguments.as_object())
+        .is_none()
+    {
         "`args` is no object"
     } else if row.get("result").is_none() {
         "no `result`"
