@@ -59,7 +59,7 @@ fn run_len(found: &[Found]) -> usize
 }
 
 /// The text of the document of that key. Where there is none, nothing.
-fn text_of<'a>(project: &'a Project, key: &str) -> &'a str
+pub fn text_of<'a>(project: &'a Project, key: &str) -> &'a str
     ensures { result.now ≡ text_at project.now key.now }
 {
     project.text(key).unwrap_or("")

@@ -1,22 +1,22 @@
 //! A rename: files in, an edit or a refusal out.
-ghost use Rattle.std.specs.Prelude.{◌≡◌, ◌≤◌, ◌^◌, All, List, IfOk, IfErr, length};
+ghost use Rattle.std.specs.Prelude.{◌≡◌, ◌≤◌, ◌^◌, ℕ, All, List, Err, IfOk, IfErr, length};
 ghost use Rattle.gq_edit.specs.Edits.{FitDocuments};
-ghost use Rattle.gq_edit.specs.Workspace.{AreTexts};
 ghost use Rattle.gq_rules.specs.Validity.{IsValid};
 ghost use Rattle.gq_rules.specs.ValidityViews.{IsWhy};
 ghost use Rattle.gq_project.specs.declared.document.Doc.{Doc};
+ghost use Rattle.gq_text.specs.declared.place.Position.{Position};
 ghost use Rattle.gq_check.specs.declared.fault.CheckFault.TheVariants as check_fault;
 ghost use Rattle.gq_check.specs.Faults.{IsFaultOr};
 ghost use Rattle.gq_check.specs.Files.{files_fault};
-ghost use Rattle.gq_codemod.specs.Renames.{IsRenaming, IsRenamingOf, IsRenamed, refusal_line};
+ghost use Rattle.gq_rename.specs.Rename.{IsRenameAnswer};
+ghost use Rattle.gq_codemod.specs.Renames.{IsRenaming, IsRenamingOf, IsRenamed, offset_at, refusal_line};
 
 use crate::edits::{EditedFile, edit_lines, edited_files};
 use gq_check::files::read_project;
-use gq_check::lines::print_all;
+use gq_check::lines::{print_all, text_of};
 use gq_check::{CheckFault, File, Format};
 use gq_edit::{Edit, to_positions};
 use gq_project::Project;
-use gq_rename::checking::documents_are_texts;
 use gq_rename::{Refusal, rename as rename_in};
 use gq_rules::{Invalid, Valid, Why};
 use gq_text::{NoMemory, Position, PositionEncoding, offset_in};
@@ -83,7 +83,8 @@ fn rename_judged(
     position: Position,
     new_name: &str,
 ) -> Result<Renaming, CheckFault>
-    requires { IfErr judged (λ invalid. All (λ doc. length doc.text ≤ 2 ^ 22) invalid.project) }
+    requires valid { IfOk judged (λ valid. All (λ doc. length doc.text ≤ 2 ^ 22) valid) }
+    requires invalid { IfErr judged (λ invalid. All (λ doc. length doc.text ≤ 2 ^ 22) invalid.project) }
     ensures ok { (documents : List Doc) → IfOk judged (λ valid. valid ≡ documents) → IfErr judged (λ invalid. (invalid.project ≡ documents) × IsWhy documents invalid.why)
         → IfOk result (IsRenamingOf documents file.now position new_name.now) }
     ensures err { IfErr result (λ fault. fault ≡ check_fault.NoMemory) }
@@ -125,13 +126,12 @@ fn rename_valid(
     position: Position,
     new_name: &str,
 ) -> Result<Renaming, CheckFault>
+    requires { All (λ doc. length doc.text ≤ 2 ^ 22) valid.now }
     ensures ok { IfOk result (IsRenamingOf valid.now file.now position new_name.now) }
     ensures err { IfErr result (λ fault. fault ≡ check_fault.NoMemory) }
 {
     let project = valid.project();
-    documents_are_texts(project);
-    let text = project.text(file).unwrap_or("");
-    let offset = offset_in(PositionEncoding::Utf16, text, position);
+    let offset = offset_in(PositionEncoding::Utf16, text_of(project, file), position);
     match rename_in(alloc, valid, file, offset, new_name) {
         Ok(edit) => Ok(renamed(alloc, project, &edit)?),
         Err(Refusal::NoMemory) => Err(CheckFault::NoMemory),
@@ -142,7 +142,7 @@ fn rename_valid(
 /// The edit, as it is printed, and the edited files.
 fn renamed(alloc: Global, project: &Project, edit: &Edit) -> Result<Renaming, NoMemory>
     requires fits { FitDocuments project.now edit.now }
-    requires texts { AreTexts project.now }
+    requires texts { All (λ doc. length doc.text ≤ 2 ^ 22) project.now }
     ensures { (file new : List ℕ) (position : Position) → IsRenamed project.now file (offset_at project.now file position) new edit.now → IfOk result (IsRenamingOf project.now file position new) }
 {
     let by_positions = to_positions(alloc, PositionEncoding::Utf16, project, edit)?;
@@ -156,7 +156,7 @@ fn renamed(alloc: Global, project: &Project, edit: &Edit) -> Result<Renaming, No
 
 /// A refusal, as it is printed.
 fn denied(alloc: Global, refusal: Refusal) -> Result<Renaming, NoMemory>
-    ensures { (documents : List Doc) (file new : List ℕ) (position : Position) → IsRenameOutcome documents file (offset_at documents file position) new (denied refusal)
+    ensures { (documents : List Doc) (file new : List ℕ) (position : Position) → ∥ IsValid documents ∥₁ → IsRenameAnswer documents file (offset_at documents file position) new (Err refusal)
         → IfOk result (IsRenamingOf documents file position new) }
 {
     Ok(Renaming {

@@ -127,11 +127,27 @@ fn note_up_to(alloc: Global, room: usize) -> Noted {
 
 /// What driving a new desk with two workers over the events comes to, where the hands have room for so many.
 fn drive_new(alloc: Global, events: Vec<Event>, room: usize) -> Result<Driven, Fail> {
+    new_desks_stand_for_none();
     let mut desk = Desk::new(alloc, 2);
+    let driven = drive_lent(alloc, &mut desk, events, room);
+    drop(desk);
+    driven
+}
+
+/// What driving a desk that is new comes to. The desk is lent, and its parts are dropped in one place.
+fn drive_lent(
+    alloc: Global,
+    desk: &mut Desk,
+    events: Vec<Event>,
+    room: usize,
+) -> Result<Driven, Fail>
+    requires { StandsFor 2 [] desk.old }
+{
+    numbers_stay_low();
     let mut events = events.into_iter();
     let mut hands = note_up_to(alloc, room);
     let mut sink = Flagged::new(Vec::new(alloc));
-    let ended = drive(alloc, &mut desk, &mut events, &mut hands, &mut sink);
+    let ended = drive(alloc, desk, &mut events, &mut hands, &mut sink);
     Ok(Driven {
         written: String::from_utf8(sink.inner)?,
         told: hands.told,
