@@ -1,5 +1,5 @@
 //! Lists of events that drive a desk with workers: what is written, and what is handed on.
-ghost use Rattle.std.specs.Prelude.{◌≡◌, [], true, IsErrOf};
+ghost use Rattle.std.specs.Prelude.{◌≡◌, ◌≤◌, ◌^◌, [], true, IfSome, IsErrOf};
 ghost use Rattle.gq_desk.specs.Standing.{StandsFor};
 ghost use Rattle.gq_edit.specs.Workspace.{AreTexts};
 
@@ -127,7 +127,6 @@ fn note_up_to(alloc: Global, room: usize) -> Noted {
 
 /// What driving a new desk with two workers over the events comes to, where the hands have room for so many.
 fn drive_new(alloc: Global, events: Vec<Event>, room: usize) -> Result<Driven, Fail> {
-    new_desks_stand_for_none();
     let mut desk = Desk::new(alloc, 2);
     let driven = drive_lent(alloc, &mut desk, events, room);
     drop(desk);
@@ -141,9 +140,8 @@ fn drive_lent(
     events: Vec<Event>,
     room: usize,
 ) -> Result<Driven, Fail>
-    requires { StandsFor 2 [] desk.old }
+    requires { IfSome desk.old (λ s. s.jobs.next ≤ 2 ^ 61) }
 {
-    numbers_stay_low();
     let mut events = events.into_iter();
     let mut hands = note_up_to(alloc, room);
     let mut sink = Flagged::new(Vec::new(alloc));
