@@ -9,7 +9,7 @@ rounds the middle one each:
 - read_vec, read_gap: the text is read byte by byte from a `Vec` and from a gap buffer; one_piece, halves: as a slice, and by its halves;
 - compared: the text in a gap buffer is compared with a copy;
 - near_gap, near_vec: 10,000 bytes are put in, each behind the one before; apart_gap, apart_vec: at as many places in no order. The
-  gap buffer is made with room for 64 KiB more than the text, as the server makes it;
+  gap buffer is made with room for 16 KiB more than the text, as the server makes it;
 - apart_doubled: the same in a gap buffer that had just room for the text, and so doubles at the first of them.
 
 Wanted is that 10,000 keystrokes near one place take no longer than reading the text three times, those in no order no longer than in a
@@ -95,9 +95,9 @@ fn apart(alloc: Global) -> Result<Vec<usize>, NoMemory> {
     Ok(places)
 }
 
-/// The text in a gap buffer with room for 64 KiB more.
+/// The text in a gap buffer with room for 16 KiB more.
 fn filled_with_room(alloc: Global) -> Result<GapBuffer, NoMemory> {
-    let mut buffer = GapBuffer::with_capacity(alloc, LEN + 65_536)?;
+    let mut buffer = GapBuffer::with_capacity(alloc, LEN + 16_384)?;
     let bytes = Vec::from_elem(alloc, b'a', LEN)?;
     if buffer.len() == 0 {
         buffer.insert(0, &bytes)?;

@@ -30,6 +30,6 @@ texts_of_invalid (Err e) project all back = subst (All (λ doc. length doc.text 
 -- an edit is no want of memory
 pub is_renamed : (documents : List Doc) (key : List ℕ) (offset offset' : ℕ) (new : List ℕ) (edits : List DocumentEdit) → offset ≡ offset' → ∥ IsValid documents ∥₁
     → (Ok edits ≡ Err NoMemory) ⊎ IsRenameAnswer documents key offset new (Ok edits) → ∥ IsValid (after_edit edits documents) ∥₁ → KeepsResponses documents key offset new edits → IsRenamed documents key offset' new edits
-is_renamed documents key offset offset' new edits is valid (inl no) stays responses = absurd (cc)
+is_renamed documents key offset offset' new edits is valid (inl same) stays responses = absurd (cc)
 is_renamed documents key offset offset' new edits is valid (inr answer) stays responses =
     subst (λ n. IsRenamed documents key n new edits) is (record { valid = valid; exact = answer; stays_valid = stays; responses = responses })

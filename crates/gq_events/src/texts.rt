@@ -35,8 +35,9 @@ impl Model for OpenText {
     ghost invariant = { λ t. length (held_bytes t.held) ≤ 2 ^ 22 };
 }
 
-/// For how many bytes more a gap buffer is made than the text has when it comes into it.
-const ROOM: usize = 65_536;
+/// For how many bytes more a gap buffer is made than the text has when it comes into it: few, since a gap that is far wider than what a
+/// processor keeps at hand costs time at each move.
+const ROOM: usize = 16_384;
 
 /// A text with the changes made, in a gap buffer of its own.
 fn edited(
