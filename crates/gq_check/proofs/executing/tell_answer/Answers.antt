@@ -10,7 +10,7 @@ returns-in-Ok g c name table variables files ok err =
     record {
       outcome = is.outcome;
       is_outcome = is.is_outcome;
-      ends = ends_as _ _ _ _ _ _ _ _ _ _ _ (c.deref.ensures.value ∙ is.text) (sym is.no_error) is.status c.print-in-Ok.ensures;
+      ends = ends_as _ _ _ _ _ _ _ _ _ _ _ (c.deref.ensures.value ∙ is.text) (sym is.no_error) is.status c.print.ensures;
     }
 
 pub returns-in-Err : goal.returns-in-Err
