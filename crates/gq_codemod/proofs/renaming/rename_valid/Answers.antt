@@ -15,6 +15,6 @@ returns-in_ok-renamed-in-Ok-clause-ok c =
     let new = c.args.new_name.now in
     let same = c.project-project.ensures.same in
     let offset : c.offset_in-offset.result ≡ offset_at documents file position = c.offset_in-offset.ensures.offset ∙ ap (λ t. off Utf16 t position) (c.text_of.ensures ∙ ap (λ ds. text_at ds file) same) in
-    let is = is_renamed documents file c.offset_in-offset.result (offset_at documents file position) new c.edit.inside offset c.project-project.ensures.valid c.in-Ok.ensures.answer c.in-Ok.ensures.valid c.in-Ok.ensures.responses in
+    let is = is_renamed documents file c.offset_in-offset.result (offset_at documents file position) new c.in-Ok.edit offset c.project-project.ensures.valid c.in-Ok.ensures.answer c.in-Ok.ensures.valid c.in-Ok.ensures.responses in
     subst (λ ds. IsRenamingOf ds file position new c.in_ok-renamed-in-Ok.field-0) same
-    (c.in_ok-renamed-in-Ok.ensures file new position (subst (λ (ds : List Doc). IsRenamed ds file (offset_at ds file position) new c.edit.inside) (sym same) is))
+    (c.in_ok-renamed-in-Ok.ensures file new position (subst (λ (ds : List Doc). IsRenamed ds file (offset_at ds file position) new c.in-Ok.edit) (sym same) is))
