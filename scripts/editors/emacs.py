@@ -9,6 +9,7 @@ The last line is `N passed, M failed`, and the status is 1 where something faile
 import subprocess
 import sys
 
+sys.dont_write_bytecode = True
 from screen import Trial, the_block
 
 
@@ -48,12 +49,14 @@ def run(program, emacs="emacs"):
     trial.text("y")
     trial.step("`y` stands behind the `x`", r"type Query\{xy:Int\}")
     goes("q.graphql", 35)
-    trial.step("that marks `unknown field` at the `x` of the query", r"unknown field")
+    trial.step("that makes a mark in the query, which the mode line counts", r"q\.graphql .*Flymake\[1")
+    command("flymake-show-buffer-diagnostics")
+    trial.step("the list of marks has `unknown field`", r"unknown field")
     goes("s.graphql", 13)
     trial.keys("C-x", "u")
     trial.step("undone, the `y` is gone", r"type Query\{x:Int\}")
     goes("q.graphql", 35)
-    trial.step("and the mark too", lambda screen: "Query.x: Int" in screen and "unknown field" not in screen)
+    trial.step("and the mark too", r"q\.graphql .*Flymake\[0")
 
     goes("q.graphql", 12)
     trial.step("at the spread ElDoc says `fragment A on Query`", r"(?m)^fragment A on Query")
@@ -61,7 +64,7 @@ def run(program, emacs="emacs"):
     trial.keys("C-x", "=")
     trial.step("`M-.` on the spread goes to the fragment", r"point=24 ")
     trial.keys("M-?")
-    trial.step("`M-?` at the fragment lists its spread", r"(?s)1: query Q\{\.\.\.A\}.*\*xref\*")
+    trial.step("`M-?` at the fragment lists its spread", r"(?s)1: ?query Q\{\.\.\.A\}.*\*xref\*")
 
     goes("q.graphql", 24)
     command("eglot-rename")

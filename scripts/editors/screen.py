@@ -1,8 +1,10 @@
 """What the trials of editors have in common: a set-up that is taken from docs/editors.md, a folder to open, and a terminal of tmux, whose
 keys are pressed and whose screen is read."""
+import atexit
 import os
 import re
 import shutil
+import signal
 import subprocess
 import sys
 import tempfile
@@ -11,8 +13,8 @@ import time
 HERE = os.path.dirname(os.path.abspath(__file__))
 PAGE = os.path.join(HERE, "..", "..", "docs", "editors.md")
 FILES = {"s.graphql": "type Query{x:Int}\n", "q.graphql": "query Q{...A} fragment A on Query{x}\n"}
-# How long a screen is waited for. A program that was built without a proof is slow.
-SECONDS = 20
+# How long a screen is waited for, at most: a busy machine is slow.
+SECONDS = 60
 
 
 def blocks_under(heading):
@@ -50,6 +52,8 @@ class Trial:
         self.home, self.folder = os.path.join(self.room, "home"), os.path.join(self.room, "shop")
         self.passed = self.failed = 0
         self.server = f"gqls-{os.path.basename(self.room)}"
+        atexit.register(self.clear)
+        signal.signal(signal.SIGTERM, lambda *_: sys.exit(1))
         for folder in (self.home, os.path.join(self.room, "bin"), os.path.join(self.folder, ".git")):
             os.makedirs(folder)
         os.symlink(self.program, os.path.join(self.room, "bin", "gqls"))
@@ -130,9 +134,14 @@ class Trial:
         ran = subprocess.run([self.program, "check", "--root", self.folder], stdout=subprocess.PIPE, stderr=subprocess.STDOUT, text=True)
         self.tell("`gqls check` finds the saved files valid", ran.stdout == "ok\n", ran.stdout)
 
+    def clear(self):
+        """Ends the editor, and takes the folders away."""
+        if os.path.exists(self.room):
+            self.tmux("kill-server")
+            shutil.rmtree(self.room, ignore_errors=True)
+
     def end(self):
-        """Ends the editor, takes the folders away, prints the counts and answers the status."""
-        self.tmux("kill-server")
-        shutil.rmtree(self.room, ignore_errors=True)
+        """Prints the counts and answers the status."""
+        self.clear()
         print(f"{self.passed} passed, {self.failed} failed")
         return 1 if self.failed else 0
