@@ -4,6 +4,7 @@
 pub mod by_file;
 mod demands;
 mod executable_definitions;
+mod fields_by_threads;
 mod giving_back;
 pub mod known;
 pub mod laws;

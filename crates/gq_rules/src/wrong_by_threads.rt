@@ -1,4 +1,4 @@
-//! What is wrong with a type system and, where nothing is, with the operations and fragments over it, looked for by four threads.
+//! What is wrong with a type system and, where nothing is, with the operations and fragments over it, looked for by threads.
 ghost use Rattle.std.specs.Prelude.{[], IfOk, OnOk};
 ghost use Rattle.std.specs.Thread.{IsSync};
 ghost use Rattle.gq_tree.specs.Readings.{unshared_view};
@@ -10,7 +10,8 @@ ghost use Rattle.gq_rules.specs.Project.{defined_in};
 ghost use Rattle.gq_rules.specs.Helping.RuleGroups.{IsDefinitionOrMergingFault, IsDefinitionFault, IsReachFault, IsOtherFault};
 ghost use Rattle.gq_rules.specs.Helping.Wrongs.{IsWrong, PutsWrong};
 
-use crate::rule_faults::{definition_faults, field_faults, reach_faults};
+use crate::fields_by_threads::field_faults_by_threads;
+use crate::rule_faults::{definition_faults, reach_faults};
 use crate::wrong::add_wrong_in;
 use gq_document::{Definitions, Executable};
 use gq_fault::Fault;
@@ -144,7 +145,7 @@ fn wrong_fields_and_reach<R: Threads>(
     { reach_faults(alloc, executable) };
     let of_fields = || -> Result<Wrong, NoMemory>
         ensures { IfOk result (IsWrong IsFieldFault (executable_view executable.entry.now)) }
-    { wrong_fields(alloc, executable) };
+    { wrong_fields(rt, alloc, executable) };
     let (reach, wrong) = join(rt, of_reach, of_fields);
     match wrong? {
         Wrong::TypeSystem(wrong) => Ok(Wrong::TypeSystem(wrong)),
@@ -156,12 +157,16 @@ fn wrong_fields_and_reach<R: Threads>(
 }
 
 /// What is wrong with the type system or, where nothing is, with fields each by itself.
-fn wrong_fields(alloc: Global, executable: &Executable<'_>) -> Result<Wrong, NoMemory>
+fn wrong_fields<R: Threads>(
+    rt: &R,
+    alloc: Global,
+    executable: &Executable<'_>,
+) -> Result<Wrong, NoMemory>
     ensures { IfOk result (IsWrong IsFieldFault (executable_view executable.now)) }
 {
     let wrong = schema_faults(alloc, executable.types)?;
     if wrong.is_empty() {
-        return Ok(Wrong::Rules(field_faults(alloc, executable)?));
+        return Ok(Wrong::Rules(field_faults_by_threads(rt, alloc, executable)?));
     }
     Ok(Wrong::TypeSystem(wrong))
 }
