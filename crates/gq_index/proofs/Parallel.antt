@@ -11,12 +11,12 @@ pub as_many : {documents : List Doc} {rs : List ParsedOf} → AreParsed document
 as_many none = refl
 as_many (more p ps) = ap suc (as_many ps)
 
-take_both : (i : ℕ) {documents : List Doc} {rs : List ParsedOf} → AreParsed documents rs → AreParsed (take i documents) (take i rs)
+pub take_both : (i : ℕ) {documents : List Doc} {rs : List ParsedOf} → AreParsed documents rs → AreParsed (take i documents) (take i rs)
 take_both zero h = none
 take_both (suc i) none = none
 take_both (suc i) (more p ps) = more p (take_both i ps)
 
-drop_both : (i : ℕ) {documents : List Doc} {rs : List ParsedOf} → AreParsed documents rs → AreParsed (drop i documents) (drop i rs)
+pub drop_both : (i : ℕ) {documents : List Doc} {rs : List ParsedOf} → AreParsed documents rs → AreParsed (drop i documents) (drop i rs)
 drop_both zero h = h
 drop_both (suc i) none = none
 drop_both (suc i) (more p ps) = drop_both i ps

@@ -1,8 +1,8 @@
 -- What documents define of the type system, document by document.
-use Rattle.std.proofs.Common.{◌≡◌, ℕ, zero, suc, ◌+◌, List, [], ◌∷◌, ◌++◌, get_or, set, refl, sym, ◌∙◌, ap}
+use Rattle.std.proofs.Common.{◌≡◌, ◌<◌, ℕ, zero, suc, ◌+◌, List, [], ◌∷◌, ◌++◌, append_assoc, drop, get_or, length, set, take, refl, sym, ◌∙◌, ap, arith}
 use Rattle.std.specs.Prelude.{map, flat_map}
 use Rattle.std.specs.List.{enumerate_from, insert, remove}
-use Rattle.std.proofs.lemmas.List.{map-append, map-set}
+use Rattle.std.proofs.lemmas.List.{map-append}
 use Rattle.std.proofs.Math.ListN.{get_or-map}
 use Rattle.gq_text.specs.declared.place.Span.{Span}
 use Rattle.gq_tree.specs.Plain.{Def, TypeSystemOf, operation, fragment, type_system}
@@ -63,33 +63,43 @@ types_alike readings at old new made is none none_new are =
     let same : types_defined (get_or (readings_view readings) at (shared_view old)) ≡ types_defined (shared_view new) = ap types_defined there ∙ none ∙ sym none_new in
     same_types (readings_view readings) (set (readings_view readings) at (shared_view new)) made (sym (same_map types_defined (readings_view readings) at (shared_view new) (shared_view old) same)) are
 
--- what is read again defines the same, so it does where one is replaced, put in or taken out
-module _ (again : List Parsed) (readings : List SharedParsed) (at : ℕ) (made : Typed) (same : map types_defined (unshared_view again) ≡ map types_defined (readings_view readings)) where
-  pub types_replaced : (one : Parsed) (reading : SharedParsed) → types_defined (parsed_view one) ≡ types_defined (shared_view reading) → AreTypesOf (unshared_view (set again at one)) made → AreTypesOf (set (readings_view readings) at (shared_view reading)) made
-  types_replaced one reading e are =
-      same_types (unshared_view (set again at one)) (set (readings_view readings) at (shared_view reading)) made
-      (ap (map types_defined) (map-set parsed_view again at one)
-      ∙ map-set types_defined (unshared_view again) at (parsed_view one)
-      ∙ ap (λ (ess : List (List EntryOf)). set ess at (types_defined (parsed_view one))) same
-      ∙ ap (λ (es : List EntryOf). set (map types_defined (readings_view readings)) at es) e
-      ∙ sym (map-set types_defined (readings_view readings) at (shared_view reading))) are
+next : (i : ℕ) → i + 1 ≡ suc i
+next i = omega arith
 
-  pub types_inserted : (one : Parsed) (reading : SharedParsed) → types_defined (parsed_view one) ≡ types_defined (shared_view reading) → AreTypesOf (unshared_view (insert again at one)) made → AreTypesOf (insert (readings_view readings) at (shared_view reading)) made
-  types_inserted one reading e are =
-      same_types (unshared_view (insert again at one)) (insert (readings_view readings) at (shared_view reading)) made
-      (ap (map types_defined) (map_insert parsed_view again at one)
-      ∙ map_insert types_defined (unshared_view again) at (parsed_view one)
-      ∙ ap (λ (ess : List (List EntryOf)). insert ess at (types_defined (parsed_view one))) same
-      ∙ ap (λ (es : List EntryOf). insert (map types_defined (readings_view readings)) at es) e
-      ∙ sym (map_insert types_defined (readings_view readings) at (shared_view reading))) are
+parts : {X : Type 0} (xs : List X) (i : ℕ) (x : X) → i < length xs → take i xs ++ (x ∷ drop (suc i) xs) ≡ set xs i x
+parts [] i x h = absurd (omega arith)
+parts (y ∷ xs) zero x h = refl
+parts {X} (y ∷ xs) (suc i) x h = ap (λ (zs : List X). y ∷ zs) (parts xs i x (omega arith))
 
-  pub types_removed : AreTypesOf (unshared_view (remove again at)) made → AreTypesOf (remove (readings_view readings) at) made
-  types_removed are =
-      same_types (unshared_view (remove again at)) (remove (readings_view readings) at) made
-      (ap (map types_defined) (map_remove parsed_view again at)
-      ∙ map_remove types_defined (unshared_view again) at
-      ∙ ap (λ (ess : List (List EntryOf)). remove ess at) same
-      ∙ sym (map_remove types_defined (readings_view readings) at)) are
+-- what is replaced stands between what is before it and what is behind it
+pub set_between : {X : Type 0} (xs : List X) (i : ℕ) (x : X) → i < length xs → take i xs ++ (x ∷ drop (i + 1) xs) ≡ set xs i x
+set_between xs i x h = ap (λ (n : ℕ). take i xs ++ (x ∷ drop n xs)) (next i) ∙ parts xs i x h
+
+-- what is read again defines the same as what stands before one place and from another one on, so it does with one between them
+module _ (again : List Parsed) (rs : List ParsedOf) (made : Typed) where
+  pub types_between : (before : List Parsed) (one : Parsed) (r : ParsedOf) (end start : ℕ) → map types_defined (unshared_view before) ≡ map types_defined (take end rs)
+      → types_defined (parsed_view one) ≡ types_defined r → map types_defined (unshared_view again) ≡ map types_defined (unshared_view (before ++ one ∷ [])) ++ map types_defined (drop start rs)
+      → AreTypesOf (unshared_view again) made → AreTypesOf (take end rs ++ (r ∷ drop start rs)) made
+  types_between before one r end start front same all =
+      let ends : List (List EntryOf) = map types_defined (drop start rs) in
+      let one_more : map types_defined (unshared_view (before ++ one ∷ [])) ≡ map types_defined (take end rs) ++ (types_defined r ∷ []) =
+      ap (map types_defined) (map-append parsed_view before (one ∷ []))
+      ∙ map-append types_defined (unshared_view before) (parsed_view one ∷ [])
+      ∙ ap (λ (ess : List (List EntryOf)). ess ++ (types_defined (parsed_view one) ∷ [])) front
+      ∙ ap (λ (es : List EntryOf). map types_defined (take end rs) ++ (es ∷ [])) same in
+      same_types (unshared_view again) (take end rs ++ (r ∷ drop start rs)) made
+      (all ∙ ap (λ (ess : List (List EntryOf)). ess ++ ends) one_more
+      ∙ append_assoc (map types_defined (take end rs)) (types_defined r ∷ []) ends
+      ∙ sym (map-append types_defined (take end rs) (r ∷ drop start rs)))
+
+  pub types_removed : (before : List Parsed) (at : ℕ) → map types_defined (unshared_view before) ≡ map types_defined (take at rs)
+      → map types_defined (unshared_view again) ≡ map types_defined (unshared_view before) ++ map types_defined (drop (at + 1) rs)
+      → AreTypesOf (unshared_view again) made → AreTypesOf (remove rs at) made
+  types_removed before at front all =
+      same_types (unshared_view again) (remove rs at) made
+      (all ∙ ap (λ (ess : List (List EntryOf)). ess ++ map types_defined (drop (at + 1) rs)) front
+      ∙ sym (map-append types_defined (take at rs) (drop (at + 1) rs))
+      ∙ ap (λ (n : ℕ). map types_defined (take at rs ++ drop n rs)) (next at))
 
 -- ---- one type system, whatever the numbers of its documents are
 

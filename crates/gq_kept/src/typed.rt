@@ -1,5 +1,5 @@
 //! The type system of documents, made anew where one of them changes.
-ghost use Rattle.std.specs.Prelude.{◌≡◌, ◌<◌, ◌≤◌, [], false, ℕ, IfOk, OnOk, OnErr, length, map, remove, slice_index_or, slice_set};
+ghost use Rattle.std.specs.Prelude.{◌≡◌, ◌<◌, ◌≤◌, ◌++◌, [], ◌∷◌, false, ℕ, IfOk, OnOk, OnErr, drop, length, map, remove, slice_index_or, slice_set, take};
 ghost use Rattle.std.specs.List.{insert};
 ghost use Rattle.gq_tree.specs.Readings.{parsed_view, shared_view, readings_view, unshared_view};
 ghost use Rattle.gq_parse.specs.Parsed.{AreParsed, IsParsed};
@@ -97,6 +97,63 @@ pub(crate) fn retype(
     Ok(true)
 }
 
+/// The documents before that place, once more, for their definitions of the type system alone.
+fn types_before(
+    alloc: Global,
+    documents: &[Doc],
+    readings: &[Arc<Parsed>],
+    end: usize,
+) -> Result<Vec<Parsed>, NoMemory>
+    requires count { length documents.now ≡ length readings.now }
+    requires in_range { end ≤ length readings.now }
+    ensures { IfOk result (λ again. AreParsed documents.now (readings_view readings.now)
+        → map types_defined (unshared_view again.items) ≡ map types_defined (take end (readings_view readings.now))) }
+{
+    let again = types_read(alloc, &documents[..end], &readings[..end])?;
+    Ok(again)
+}
+
+/// Puts the documents from that place on behind others, in the same way.
+fn add_types_from(
+    alloc: Global,
+    documents: &[Doc],
+    readings: &[Arc<Parsed>],
+    start: usize,
+    again: &mut Vec<Parsed>,
+) -> Result<(), NoMemory>
+    requires count { length documents.now ≡ length readings.now }
+    requires in_range { start ≤ length readings.now }
+    ensures { OnOk result (AreParsed documents.now (readings_view readings.now)
+        → map types_defined (unshared_view again.new.items) ≡ map types_defined (unshared_view again.old.items) ++ map types_defined (drop start (readings_view readings.now))) }
+{
+    let mut rest = types_read(alloc, &documents[start..], &readings[start..])?;
+    again.append(&mut rest)?;
+    Ok(())
+}
+
+/// The type system of the documents before `end` and from `start` on, with this text, which reads so, between them.
+fn typed_around(
+    alloc: Global,
+    documents: &[Doc],
+    readings: &[Arc<Parsed>],
+    end: usize,
+    text: &str,
+    reading: &Arc<Parsed>,
+    start: usize,
+) -> Result<Typed, NoMemory>
+    requires count { length documents.now ≡ length readings.now }
+    requires end { end ≤ length readings.now }
+    requires start { start ≤ length readings.now }
+    ensures { IfOk result (λ made. AreParsed documents.now (readings_view readings.now) → IsParsed text.now (shared_view reading.now) →
+        AreTypesOf (take end (readings_view readings.now) ++ (shared_view reading.now ∷ drop start (readings_view readings.now))) made) }
+{
+    let mut again = types_before(alloc, documents, readings, end)?;
+    again.push(types_in(alloc, text, reading)?)?;
+    add_types_from(alloc, documents, readings, start, &mut again)?;
+    let made = made_of(alloc, again)?;
+    Ok(made)
+}
+
 /// The type system, where the document at that place is replaced by this text, which reads so.
 fn typed_with(
     alloc: Global,
@@ -111,10 +168,7 @@ fn typed_with(
     ensures { IfOk result (λ made. AreParsed documents.now (readings_view readings.now) → IsParsed text.now (shared_view reading.now) →
         AreTypesOf (slice_set (readings_view readings.now) at (shared_view reading.now)) made) }
 {
-    let mut again = types_read(alloc, documents, readings)?;
-    let one = types_in(alloc, text, reading)?;
-    again[at] = one;
-    let made = made_of(alloc, again)?;
+    let made = typed_around(alloc, documents, readings, at, text, reading, at + 1)?;
     Ok(made)
 }
 
@@ -132,10 +186,7 @@ pub(crate) fn typed_more(
     ensures { IfOk result (λ made. AreParsed documents.now (readings_view readings.now) → IsParsed text.now (shared_view reading.now) →
         AreTypesOf (insert (readings_view readings.now) at (shared_view reading.now)) made) }
 {
-    let mut again = types_read(alloc, documents, readings)?;
-    let one = types_in(alloc, text, reading)?;
-    again.insert(at, one)?;
-    let made = made_of(alloc, again)?;
+    let made = typed_around(alloc, documents, readings, at, text, reading, at)?;
     Ok(made)
 }
 
@@ -150,8 +201,8 @@ pub(crate) fn typed_less(
     requires in_range { at < length readings.now }
     ensures { IfOk result (λ made. AreParsed documents.now (readings_view readings.now) → AreTypesOf (remove (readings_view readings.now) at) made) }
 {
-    let mut again = types_read(alloc, documents, readings)?;
-    let _ = again.remove(at);
+    let mut again = types_before(alloc, documents, readings, at)?;
+    add_types_from(alloc, documents, readings, at + 1, &mut again)?;
     let made = made_of(alloc, again)?;
     Ok(made)
 }

@@ -315,10 +315,18 @@ fn rename_at<R: Threads + Sync>(
     }
 }
 
+/// Tells why the edited files cannot be written, and answers the status.
+fn tell_unwritten(rt: &HostRuntime, error: &io::Error) -> u8 {
+    if error.kind() == io::ErrorKind::OutOfMemory {
+        return tell_fault(rt, RunFault::NoMemory);
+    }
+    tell_fault(rt, RunFault::Device)
+}
+
 /// Writes the edited files where that is asked for, prints what the rename comes to, and answers the status.
 fn end_rename(disk: Disk<'_>, writes: bool, renaming: &Renaming) -> u8 {
-    if writes && write_files(disk, &renaming.edited).is_err() {
-        return tell_fault(disk.rt, RunFault::Device);
+    if writes && let Err(error) = write_files(disk, &renaming.edited) {
+        return tell_unwritten(disk.rt, &error);
     }
     let mut output = Flagged::new(disk.rt.stdout());
     let mut errors = Flagged::new(disk.rt.stderr());
