@@ -3,9 +3,10 @@
 
     python3 scripts/refused_memory.py PROGRAM [--most N] [--jobs N] [TEXT]      PROGRAM as crates/gqls/out/gqls
 
-The stored run (crates/gqls/stdin), each case of crates/gqls/cases, each session of crates/gqls/folders in which the folder stays as it is,
-and each row of crates/gqls/commands that writes no file is run with ample memory first, which counts its growths; TEXT keeps those that
-have it in their names. Then it is run with the Nth growth refused, and with all from the Nth on, for each N, or for so many at even
+The stored run (crates/gqls/stdin), each case of crates/gqls/cases, each session of crates/gqls/folders in which the folder stays as it
+is, and each row of crates/gqls/commands that writes no file is run with ample memory first, which counts its growths; TEXT keeps those that
+have it in their names. So is each file of crates/gq_rows/data and of crates/gq_sessions/data by the program of its crate, where that is
+built; these call the libraries. Then it is run with the Nth growth refused, and with all from the Nth on, for each N, or for so many at even
 distances where there are more (`--most`, by default 60; of the stored run each). Only growths that the program itself asks for are counted.
 
 What a server may write, beside what it writes with ample memory. Where one growth is refused, one of these comes once:
@@ -20,6 +21,9 @@ What a server may write, beside what it writes with ample memory. Where one grow
 With all growths refused from one on, several of these come, the last of them the end, and one document is lost at most. `check`, `exec`
 and `rename` end with `gqls: NoMemory` and the status 3, and write nothing to standard output; what `--verbose` says may be missing, too.
 
+A program of rows may say of a row that it has no answer, or one that names the refusal, and may end early. One of lists of events may
+end early too, or go on with a question refused as above.
+
 Anything else is printed: the case, the growth and the first difference. Behind that a table counts what the runs came to, by the file of
 their case; the status is 1 where one differed."""
 import argparse
@@ -32,12 +36,13 @@ import re
 import sys
 import tempfile
 
-from trials import PUBLISH, Runner, commands, compiled, is_change, most_for, parts_of, sessions, sessions_over_folders
+from trials import PUBLISH, Runner, commands, compiled, is_change, most_for, parts_of, programs_of_rows, sessions, sessions_over_folders
 
 STATUS = 3
 ENDED = b"gqls: NoMemory\n"
 ASKS = {f"textDocument/{name}" for name in "hover definition references completion prepareRename rename codeAction".split()}
 MANY = 6
+NO_ANSWER = re.compile(rb'no answer"$|NoMemory|document lost|publishDiagnostics.*"diagnostics\\*":\[\]')
 OUTCOMES = "the same answer", "an ask refused", "not published", "a document lost", "ended with NoMemory", "else"
 SAME, REFUSED, UNPUBLISHED, LOST, END, WRONG = OUTCOMES
 
@@ -52,7 +57,7 @@ def uri_of_check(message):
 
 
 def units_of(group):
-    """The messages of a body, cut into those of an event each: its own, and those of the check behind it, which tells of a document once."""
+    """The messages of a body, cut into those of an event each: its own, and those of the check behind it, which tells of each document once."""
     units, own, check, told = [], [], [], set()
     for message in group:
         uri = uri_of_check(message)
@@ -158,6 +163,16 @@ def judged_command(case, ample, ran):
     return WRONG, f"it comes to {told}, and else to {ample.status} {ample.output[:300]!r} {ample.errors[:300]!r}"
 
 
+def judged_rows(case, ample, ran):
+    """The same of a run of a program of rows, or of lists of events: there a list goes on otherwise behind what was refused."""
+    wanted = ample.output.splitlines()
+    other = [line for line in ran.output.splitlines() if line not in wanted]
+    looked = other if case.name.startswith("gq_rows") else other[:1]
+    if ran.status != 1 or ran.errors or not all(NO_ANSWER.search(line.partition(b", wanted ")[0]) for line in looked):
+        return WRONG, f"it ends with {ran.status} {ran.errors[-200:]!r}, and writes {other[:1]!r}"
+    return (REFUSED if other else END), None
+
+
 def judged(task):
     """What came of the runs of a case, and what differs."""
     runner, case, most = task
@@ -178,6 +193,8 @@ def judged(task):
             ran = runner.run(case, {"REFUSE_AT": at, "REFUSE_ALL": goes_on})
             if ran.is_as(ample):
                 outcome, why = SAME, None
+            elif case.program:
+                outcome, why = judged_rows(case, ample, ran)
             elif case.serves:
                 outcome, why = judged_session(session, ample, ran, goes_on)
             else:
@@ -202,7 +219,7 @@ def main():
     parser.add_argument("--most", type=int, default=60)
     parser.add_argument("--jobs", type=int, default=os.cpu_count())
     asked = parser.parse_args()
-    cases = [case for case in (*sessions(), *sessions_over_folders(), *commands()) if asked.text in case.name]
+    cases = [case for case in (*sessions(), *sessions_over_folders(), *commands(), *programs_of_rows()) if asked.text in case.name]
     rows, failed = {}, 0
     with tempfile.TemporaryDirectory() as folder, multiprocessing.Pool(asked.jobs) as pool:
         runner = Runner(os.path.abspath(asked.program), compiled(folder))

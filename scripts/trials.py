@@ -122,10 +122,12 @@ def most_for(case, most):
 
 
 class Case:
-    """Words of a command line, what goes to the standard input, and what lies in the folder, which DIR and file:///w stand for."""
+    """Words of a command line, what goes to the standard input, and what lies in the folder, which DIR and file:///w stand for. One of
+    another program has its path."""
 
-    def __init__(self, name, words, bodies=(), rest=b"", steps=()):
+    def __init__(self, name, words, bodies=(), rest=b"", steps=(), program=None):
         self.name = name
+        self.program = program
         self.words = words
         self.bodies = list(bodies)
         self.rest = rest
@@ -133,7 +135,7 @@ class Case:
 
     @property
     def serves(self):
-        return self.words[0] == "serve"
+        return self.program is None and self.words[0] == "serve"
 
     def lay(self, folder):
         """Makes what lies in the folder."""
@@ -196,7 +198,7 @@ class Runner:
             more = {name: str(number) for name, number in (settings or {}).items()}
             with open(stream, "rb") as file:
                 ran = subprocess.run(
-                    [self.program, *(word.replace("DIR", folder) for word in case.words)],
+                    [case.program or self.program, *(word.replace("DIR", folder) for word in case.words)],
                     cwd=folder,
                     env=os.environ | more | {"TRIAL_COUNTS": counts, "LD_PRELOAD": self.library},
                     stdin=file,
@@ -328,3 +330,16 @@ def commands():
                         steps.append(("bytes", (name, entry.bytes)))
             if "--write" not in words:
                 yield Case(f"{os.path.basename(path)}:{row.line}", words + ([] if "--root" in words else names), steps=steps)
+
+
+def programs_of_rows():
+    """The files of rows of gq_rows and of lists of gq_sessions, each run by the program that judges it, where that is built."""
+    for name in ("gq_rows", "gq_sessions"):
+        crate = os.path.join(os.path.dirname(CRATE), name)
+        program = os.path.join(crate, "out", name)
+        if not os.path.exists(program):
+            print(f"{program} is not built: its rows are not run", flush=True)
+            continue
+        for path in sorted(glob.glob(os.path.join(crate, "data", "*"))):
+            file = os.path.basename(path)
+            yield Case(f"{name}:{file}", [file], steps=[("bytes", (file, contents(path, b"")))], program=program)
