@@ -15,6 +15,9 @@ place in turn, or at so many at even distances where there are more (`--most`, b
   `gqls: Device` with the status 3;
 - **a call is interrupted**, or moves 1 or 7 bytes at most: all is as it was.
 
+The stored run is also served by two workers, with a read and a write that fails. What they write is a beginning of the same frames, or of
+those where the shutdown refuses the rename; behind a read that fails less may be written than was read.
+
 Anything else is printed. Behind that a table counts the runs; the status is 1 where one differed."""
 import argparse
 import collections
@@ -25,13 +28,15 @@ import os
 import sys
 import tempfile
 
-from trials import ALL, Runner, commands, compiled, most_for, parts_of, sessions, sessions_over_folders, sizes_of
+from cases import frames
+from trials import ALL, STORED, Case, Runner, commands, compiled, framed, most_for, parts_of, sessions, sessions_over_folders, sizes_of
 
 DEVICE = 3, b"gqls: Device\n"
 TRUNCATED = 3, b"gqls: Truncated\n"
 NO_SHUTDOWN = 1, b""
 FAILS, INTERRUPTED = errno.EIO, errno.EINTR
 PIECES = 24
+REFUSED = b'{"error":{"code":-32803,"message":"shutdown"},"id":2,"jsonrpc":"2.0"}'
 
 
 def places(count, most):
@@ -93,6 +98,8 @@ def tries(runner, case, most):
     yield from tries_of_files(runner, case, ample, most)
     if case.serves and case.bodies and not case.rest and not ample.errors:
         yield from tries_of_input(runner, case, ample, most)
+    if case.name == STORED:
+        yield from tries_with_workers(runner, case, most)
 
 
 def tries_of_files(runner, case, ample, most):
@@ -124,6 +131,24 @@ def tries_of_input(runner, case, ample, most):
         yield "a read is interrupted", runner.run(case, reads | {"READ_AT": number, "READ_ERROR": INTERRUPTED}), lambda ran: ran.is_as(ample)
         yield "a read fails", runner.run(case, reads | {"READ_AT": number, "READ_ERROR": FAILS}), is_so(count, DEVICE)
         yield "a read gives nothing", runner.run(case, reads | {"READ_AT": number, "READ_ERROR": 0}), is_so(count, TRUNCATED)
+
+
+def tries_with_workers(runner, case, most):
+    """Two workers serve the stored run, whose second frame is a rename's, where a read or a write fails."""
+    ample = runner.run(case)
+    two = Case(case.name, ["2" if word == "0" else word for word in case.words], case.bodies)
+    parts = frames(ample.output)
+    others = parts[:1] + [framed(REFUSED)] + parts[2:]
+    is_front = lambda ran: any(b"".join(one).startswith(ran.output) for one in (parts, others))
+    served = Served(runner, case, ample)
+    for number in places(len(ample.output), most):
+        fails = {"WRITE_MOST": 1, "WRITE_AT": number, "WRITE_ERROR": FAILS}
+        is_right = lambda ran: is_front(ran) and (end_of(ran) == DEVICE or ran.writes < number and end_of(ran) == (0, b""))
+        yield "a write of two workers fails", runner.run(two, fails), is_right
+    for number in places(runner.run(case, {"READ_MOST": 1}).reads, most):
+        wanted, end = served.after(number - 1, DEVICE)
+        is_right = lambda ran: is_front(ran) and end_of(ran) == end and (end == DEVICE or len(ran.messages) == len(wanted))
+        yield "a read of two workers fails", runner.run(two, {"READ_MOST": 1, "READ_AT": number, "READ_ERROR": FAILS}), is_right
 
 
 def judged(task):
