@@ -3,228 +3,213 @@
 
     python3 scripts/refused_memory.py PROGRAM [--most N] [--jobs N] [TEXT]      PROGRAM as crates/gqls/out/gqls
 
-Each session of crates/gqls/cases that has at most 64 KiB, and each row of crates/gqls/commands, is run with ample memory first, which
-counts its growths; TEXT keeps those that have it in their names. Then it is run with the Nth growth refused, and with all from the Nth on,
-for each N, or for so many at even distances where there are more (`--most`, by default 60). A library that is compiled for it and loaded
-before the C library's refuses them; only calls that the program itself makes are counted.
+The stored run (crates/gqls/stdin), each case of crates/gqls/cases, each session of crates/gqls/folders in which the folder stays as it
+is, and each row of crates/gqls/commands that writes no file is run with ample memory first, which counts its growths; TEXT keeps those that
+have it in their names. So is each file of crates/gq_rows/data and of crates/gq_sessions/data by the program of its crate, where that is
+built; these call the libraries. Then it is run with the Nth growth refused, and with all from the Nth on, for each N, or for so many at even
+distances where there are more (`--most`, by default 60; of the stored run each). Only growths that the program itself asks for are counted.
 
-What a run may write, beside what the ample run does:
+What a server may write, beside what it writes with ample memory. Where one growth is refused, one of these comes once:
 
-- a request may be refused as `12 NoMemory`, or as `document lost` where a change before it found no memory, and a list of code actions
-  may lack what found none; what is wrong with the documents may not be published, and then is with the next check;
-- the run may end with `gqls: NoMemory` and the status 3, after a beginning of the frames, each as above;
-- `check` and `exec` may end so after a beginning of their lines.
+- an ask is refused as `12 NoMemory`, code actions as a whole;
+- what is wrong with the documents after a change is not published, for none of them; the next change tells it again;
+- a change of a text loses its document: that is then the empty text at its new version, of which nothing is wrong, other documents are
+  judged beside that, and asks are refused as `document lost` until it is opened again or closed. So all that comes behind is what the
+  server writes with ample memory for the same session in which the changes of that text cannot be read, and that is run too;
+- the run ends with `gqls: NoMemory` and the status 3, behind all that the events before wrote, and nothing of its own.
 
-Anything else is printed: the case, the growth and the first difference. The last lines count the runs by what came of them; the status is
-1 where one differed."""
+With all growths refused from one on, several of these come, the last of them the end, and one document is lost at most. `check`, `exec`
+and `rename` end with `gqls: NoMemory` and the status 3, and write nothing to standard output; what `--verbose` says may be missing, too.
+
+A program of rows may say of a row that it has no answer, or one that names the refusal, and may end early. One of lists of events may
+end early too, or go on with a question refused as above.
+
+Anything else is printed: the case, the growth and the first difference. Behind that a table counts what the runs came to, by the file of
+their case; the status is 1 where one differed."""
 import argparse
 import collections
-import concurrent.futures
-import glob
+import itertools
 import json
+import multiprocessing
 import os
-import struct
-import subprocess
+import re
 import sys
 import tempfile
 
-from cases import CRATE, SERVE, SHORT, contents, frames
-from rows import read_rows
+from trials import PUBLISH, Runner, commands, compiled, is_change, most_for, parts_of, programs_of_rows, sessions, sessions_over_folders
 
-SOURCE = r"""
-#define _GNU_SOURCE
-#include <errno.h>
-#include <fcntl.h>
-#include <link.h>
-#include <stdatomic.h>
-#include <stdlib.h>
-#include <sys/mman.h>
-extern void *__libc_malloc(size_t);
-extern void *__libc_realloc(void *, size_t);
-static uintptr_t from, to;
-static long first = 0, all = 0;
-static atomic_long unshared, *count = &unshared;
-static int look(struct dl_phdr_info *info, size_t size, void *data) {
-    for (int i = 0; i < info->dlpi_phnum; i++)
-        if (info->dlpi_phdr[i].p_type == PT_LOAD && info->dlpi_phdr[i].p_flags & PF_X) {
-            from = info->dlpi_addr + info->dlpi_phdr[i].p_vaddr;
-            to = from + info->dlpi_phdr[i].p_memsz;
-        }
-    return 1;
-}
-__attribute__((constructor)) static void start(void) {
-    char *word = getenv("REFUSE_AT"), *more = getenv("REFUSE_ALL"), *path = getenv("REFUSE_COUNT");
-    if (path) {
-        int file = open(path, O_RDWR);
-        void *place = mmap(0, sizeof(long), PROT_READ | PROT_WRITE, MAP_SHARED, file, 0);
-        if (place != MAP_FAILED) count = place;
-    }
-    if (word) first = atol(word);
-    if (more) all = 1;
-    dl_iterate_phdr(look, 0);
-}
-static int refused(void *caller) {
-    uintptr_t place = (uintptr_t)caller;
-    if (place < from || place >= to) return 0;
-    long number = atomic_fetch_add(count, 1) + 1;
-    return first && (number == first || (all && number > first));
-}
-void *malloc(size_t size) {
-    if (refused(__builtin_return_address(0))) { errno = ENOMEM; return 0; }
-    return __libc_malloc(size);
-}
-void *realloc(void *place, size_t size) {
-    if (refused(__builtin_return_address(0))) { errno = ENOMEM; return 0; }
-    return __libc_realloc(place, size);
-}
-"""
-SECONDS = 60
-REFUSALS = {"12 NoMemory", "document lost"}
-ENDED = 3, b"gqls: NoMemory\n"
+STATUS = 3
+ENDED = b"gqls: NoMemory\n"
+ASKS = {f"textDocument/{name}" for name in "hover definition references completion prepareRename rename codeAction".split()}
+MANY = 6
+NO_ANSWER = re.compile(rb'no answer"$|NoMemory|document lost|publishDiagnostics.*"diagnostics\\*":\[\]')
+OUTCOMES = "the same answer", "an ask refused", "not published", "a document lost", "ended with NoMemory", "else"
+SAME, REFUSED, UNPUBLISHED, LOST, END, WRONG = OUTCOMES
 
-Case = collections.namedtuple("Case", "name words data files")
-Ran = collections.namedtuple("Ran", "output errors status")
+Unit = collections.namedtuple("Unit", "own check")
+State = collections.namedtuple("State", "number unit at lost left came")
 
 
-def compiled(folder):
-    """The library that refuses growths."""
-    source, library = os.path.join(folder, "refuse.c"), os.path.join(folder, "refuse.so")
-    with open(source, "w", encoding="ascii") as file:
-        file.write(SOURCE)
-    subprocess.run(["cc", "-O1", "-shared", "-fPIC", "-o", library, source], check=True)
-    return library
+def uri_of_check(message):
+    """The document whose faults are told after a check. What is told of a document that is closed has no version."""
+    params = message.get("params", {})
+    return params.get("uri") if message.get("method") == PUBLISH and "version" in params else None
 
 
-def sessions():
-    for path in sorted(glob.glob(os.path.join(CRATE, "cases", "*.sessions-*"))):
-        if not path.endswith((".stdout", ".args")) and os.path.getsize(path) <= SHORT:
-            more = [word for word in contents(f"{path}.args", b"").decode().split("\n") if word]
-            if "{}" not in more:
-                yield Case(os.path.basename(path), SERVE + more, contents(path, b""), {})
+def units_of(group):
+    """The messages of a body, cut into those of an event each: its own, and those of the check behind it, which tells of each document once."""
+    units, own, check, told = [], [], [], set()
+    for message in group:
+        uri = uri_of_check(message)
+        if check and (uri is None or uri in told) or own and "id" in own[-1]:
+            units.append(Unit(own, check))
+            own, check, told = [], [], set()
+        (own if uri is None else check).append(message)
+        told.add(uri)
+    return units + [Unit(own, check)] if own or check else units
 
 
-def commands():
-    for path in sorted(glob.glob(os.path.join(CRATE, "commands", "*.rows"))):
-        command = os.path.basename(path).split(".")[0]
-        for row in read_rows(path):
-            if any(entry.key == "--root" for entry in row.entries):
+def refusal_of(body, unit):
+    """How an ask is refused for want of memory, where it is answered or refused by a refactoring's own refusal."""
+    if parts_of(body).get("method") not in ASKS or len(unit.own) != 1 or "id" not in unit.own[0]:
+        return None
+    error = unit.own[0].get("error")
+    if error and not re.match("[0-9]+ ", str(error.get("message"))):
+        return None
+    return {"error": {"code": -32803, "message": "12 NoMemory"}, "id": unit.own[0]["id"], "jsonrpc": "2.0"}
+
+
+class Session:
+    """A session, and what it comes to with ample memory, also where changes cannot be read."""
+
+    def __init__(self, runner, case, ample):
+        self.runner, self.case, self.made = runner, case, {}
+        if list(itertools.chain.from_iterable(runner.groups(case))) != ample.messages:
+            raise ValueError("requests that no server knows change what it writes")
+
+    def units(self, lost):
+        if lost not in self.made:
+            self.made[lost] = [units_of(group) for group in self.runner.groups(self.case, lost)]
+        return self.made[lost]
+
+    def why(self, told, has_ended, left):
+        """What a run with refused growths came to, at most so many of them told; none if it should not have."""
+        wanted_end = len(self.case.bodies) + 1
+        seen, states = set(), [State(0, 0, 0, frozenset(), left, ())]
+        while states:
+            state = states.pop()
+            if state[:5] in seen:
                 continue
-            words, names, files = [command], [], {}
-            for entry in row.entries:
-                if entry.key == "--op":
-                    words += ["--op", entry.bytes.decode()]
-                    continue
-                name = entry.key
-                if name.startswith("--"):
-                    name = f"{name[2:]}.json"
-                    words += [entry.key, name]
-                else:
-                    names.append(name)
-                if entry.bytes is not None:
-                    files.setdefault(name, entry.bytes)
-            if sum(map(len, files.values())) <= SHORT:
-                yield Case(f"{os.path.basename(path)}:{row.line}", words + names, b"", files)
+            seen.add(state[:5])
+            if has_ended and state.at == len(told) and state.left:
+                return state.came + (END,)
+            if state.number == wanted_end:
+                if state.at == len(told) and not has_ended:
+                    return state.came
+                continue
+            states += self.next_states(state, told)
+        return None
+
+    def next_states(self, state, told):
+        """What may come next, the likeliest last."""
+        number, at, lost, left, came = state.number, state.at, state.lost, state.left, state.came
+        body = self.case.bodies[number] if number < len(self.case.bodies) else b""
+        units = self.units(lost)[number]
+        found = []
+        if state.unit == 0 and left and not lost and is_change(body):
+            found.append(state._replace(lost=frozenset([number]), left=left - 1, came=came + (LOST,)))
+        if state.unit == len(units):
+            return found + [state._replace(number=number + 1, unit=0)]
+        unit, ways = units[state.unit], []
+        if left and unit.check:
+            ways.append((unit.own, left - 1, (UNPUBLISHED,)))
+        refusal = refusal_of(body, unit) if left else None
+        if refusal:
+            ways.append(([refusal], left - 1, (REFUSED,)))
+        ways.append((unit.own + unit.check, left, ()))
+        for messages, left_then, more in ways:
+            if told[at : at + len(messages)] == messages:
+                found.append(state._replace(unit=state.unit + 1, at=at + len(messages), left=left_then, came=came + more))
+        return found
 
 
-class Runner:
-    """Runs the program over a case, with growths refused."""
-
-    def __init__(self, program, library):
-        self.program, self.library = program, library
-
-    def run(self, case, at, goes_on):
-        """What the program writes, how it ends, and how many growths it asked for."""
-        with tempfile.TemporaryDirectory() as folder:
-            for name, data in case.files.items():
-                with open(os.path.join(folder, name), "wb") as file:
-                    file.write(data)
-            path = os.path.join(folder, ".count")
-            with open(path, "wb") as file:
-                file.write(bytes(8))
-            more = {"REFUSE_AT": str(at), "REFUSE_COUNT": path, "LD_PRELOAD": self.library}
-            if goes_on:
-                more["REFUSE_ALL"] = "1"
-            ran = subprocess.run(
-                [self.program, *case.words], cwd=folder, env=os.environ | more, input=case.data, capture_output=True, timeout=SECONDS
-            )
-            (count,) = struct.unpack("q", contents(path, bytes(8)))
-        return Ran(ran.stdout, ran.stderr, ran.returncode), count
-
-    def judge(self, case, most):
-        """What came of the runs of a case, and what differs."""
-        ample, count = self.run(case, 0, False)
-        came, wrong = collections.Counter(), []
-        step = max(1, -(-count // most))
-        for at in range(1, count + 1, step):
-            for goes_on in (False, True):
-                ran, _ = self.run(case, at, goes_on)
-                outcome, why = judged(case, ample, ran)
-                came[outcome] += 1
-                if why:
-                    wrong.append(f"{case.name}, growth {at} of {count}{' and all behind it' if goes_on else ''}: {why}")
-        return came, wrong
+def first_difference(told, wanted):
+    at = next((at for at, pair in enumerate(zip(told, wanted)) if pair[0] != pair[1]), min(len(told), len(wanted)))
+    show = lambda messages: json.dumps(messages[at])[:400] if at < len(messages) else "nothing"
+    return f"message {at + 1} is {show(told)}, and with ample memory {show(wanted)}"
 
 
-def bodies(stream):
-    """The messages of a stream of frames."""
-    found = []
-    for one in frames(stream):
-        body = one.partition(b"\r\n\r\n")[2]
-        try:
-            found.append(json.loads(body))
-        except ValueError:
-            found.append({"broken": one[-80:].decode(errors="replace")})
-    return found
+def judged_session(session, ample, ran, goes_on):
+    """What came of a run of a server, and what is wrong with it, if something is."""
+    has_ended = (ran.status, ran.errors) == (STATUS, ENDED)
+    if not has_ended and not ran.ends_as(ample):
+        return WRONG, f"it ends with {ran.status} {ran.errors[-200:]!r}, and else with {ample.status} {ample.errors[-200:]!r}"
+    came = session().why(ran.messages, has_ended, MANY if goes_on else 1)
+    if not came:
+        return WRONG, first_difference(ran.messages, ample.messages)
+    return max(came, key=OUTCOMES.index), None
 
 
-def is_refused(message):
-    return message.get("error", {}).get("code") == -32803 and message["error"]["message"] in REFUSALS
+def judged_command(case, ample, ran):
+    """The same of a run of another command."""
+    lines = ran.errors.splitlines(keepends=True)
+    said = ample.errors.splitlines(keepends=True)
+    is_front = lambda front: all(line in said for line in front) and ("--verbose" in case.words or not front)
+    if ran.status == STATUS and lines[-1:] == [ENDED] and not ran.output and is_front(lines[:-1]):
+        return END, None
+    if (ran.status, ran.output, lines[-1:]) == (ample.status, ample.output, said[-1:]) and is_front(lines[:-1]):
+        return SAME, None
+    told = f"{ran.status} {ran.output[:300]!r} {ran.errors[:300]!r}"
+    return WRONG, f"it comes to {told}, and else to {ample.status} {ample.output[:300]!r} {ample.errors[:300]!r}"
 
 
-def may_stand_for(told, wanted):
-    """Whether a response is one that memory excuses: a refusal, or a list that lacks some of the actions."""
-    if is_refused(told):
-        return True
-    one, other = told.get("result"), wanted.get("result")
-    return isinstance(one, list) and isinstance(other, list) and all(item in other for item in one)
+def judged_rows(case, ample, ran):
+    """The same of a run of a program of rows, or of lists of events: there a list goes on otherwise behind what was refused."""
+    wanted = ample.output.splitlines()
+    other = [line for line in ran.output.splitlines() if line not in wanted]
+    looked = other if case.name.startswith("gq_rows") else other[:1]
+    if ran.status != 1 or ran.errors or not all(NO_ANSWER.search(line.partition(b", wanted ")[0]) for line in looked):
+        return WRONG, f"it ends with {ran.status} {ran.errors[-200:]!r}, and writes {other[:1]!r}"
+    return (REFUSED if other else END), None
 
 
-def compared(told, wanted):
-    """How many requests are refused and notifications are left out, and what is told that should not be."""
-    refused = missing = at = 0
-    for message in told:
-        while at < len(wanted) and "id" not in wanted[at] and wanted[at] != message:
-            missing, at = missing + 1, at + 1
-        if at == len(wanted):
-            return refused, missing, at, f"told beyond what is wanted: {json.dumps(message)[:300]}"
-        if message != wanted[at]:
-            if message.get("id") != wanted[at].get("id") or not may_stand_for(message, wanted[at]):
-                return refused, missing, at, f"told {json.dumps(message)[:300]}, wanted {json.dumps(wanted[at])[:300]}"
-            refused += 1
-        at += 1
-    return refused, missing, at, None
+def judged(task):
+    """What came of the runs of a case, and what differs."""
+    runner, case, most = task
+    came, wrong = collections.Counter(), []
+    ample = runner.run(case)
+    made = []
+
+    def session():
+        if not made:
+            made.append(Session(runner, case, ample))
+        return made[0]
+
+    if case.serves and case.bodies:
+        session()
+    step = max(1, -(-ample.growths // most))
+    for at in range(1, ample.growths + 1, step):
+        for goes_on in (0, 1):
+            ran = runner.run(case, {"REFUSE_AT": at, "REFUSE_ALL": goes_on})
+            if ran.is_as(ample):
+                outcome, why = SAME, None
+            elif case.program:
+                outcome, why = judged_rows(case, ample, ran)
+            elif case.serves:
+                outcome, why = judged_session(session, ample, ran, goes_on)
+            else:
+                outcome, why = judged_command(case, ample, ran)
+            came[outcome] += 1
+            if why:
+                wrong.append(f"{case.name}, growth {at} of {ample.growths}{' and all behind it' if goes_on else ''}: {why}")
+    return case.name, ample.growths, came, wrong
 
 
-def judged(case, ample, ran):
-    """What came of a run, and what is wrong with it, if something is."""
-    if ran == ample:
-        return "as with ample memory", None
-    ended = (ran.status, ran.errors[-len(ENDED[1]) :]) == ENDED
-    if not ended and (ran.status, ran.errors) != (ample.status, ample.errors):
-        return "wrong", f"it ends with {ran.status} {ran.errors[-200:]!r}, and else with {ample.status} {ample.errors[-200:]!r}"
-    if case.words[0] != "serve":
-        if ended and ample.output.startswith(ran.output):
-            return "ended as NoMemory", None
-        return "wrong", f"it writes {ran.output[:300]!r}, and else {ample.output[:300]!r}"
-    wanted = bodies(ample.output)
-    refused, missing, at, why = compared(bodies(ran.output), wanted)
-    if why:
-        return "wrong", why
-    if ended:
-        return "ended as NoMemory", None
-    if any("id" in message for message in wanted[at:]):
-        return "wrong", f"no response to {json.dumps(wanted[at:])[:300]}"
-    return ("a request refused" if refused else "not published"), None
+def tried(task):
+    try:
+        return judged(task)
+    except Exception as error:
+        return task[1].name, 0, collections.Counter({WRONG: 1}), [f"{task[1].name}: {type(error).__name__}: {error}"]
 
 
 def main():
@@ -234,18 +219,23 @@ def main():
     parser.add_argument("--most", type=int, default=60)
     parser.add_argument("--jobs", type=int, default=os.cpu_count())
     asked = parser.parse_args()
-    cases = [case for case in (*sessions(), *commands()) if asked.text in case.name]
-    came, failed = collections.Counter(), 0
-    with tempfile.TemporaryDirectory() as folder, concurrent.futures.ThreadPoolExecutor(asked.jobs) as pool:
+    cases = [case for case in (*sessions(), *sessions_over_folders(), *commands(), *programs_of_rows()) if asked.text in case.name]
+    rows, failed = {}, 0
+    with tempfile.TemporaryDirectory() as folder, multiprocessing.Pool(asked.jobs) as pool:
         runner = Runner(os.path.abspath(asked.program), compiled(folder))
-        for found, wrong in pool.map(lambda case: runner.judge(case, asked.most), cases):
-            came += found
-            failed += len(wrong)
+        for name, growths, came, wrong in pool.imap_unordered(tried, [(runner, case, most_for(case, asked.most)) for case in cases]):
+            row = rows.setdefault(re.split("[-:]", name)[0], [0, 0, collections.Counter()])
+            row[0], row[1] = row[0] + 1, row[1] + growths
+            row[2].update(came)
+            failed += came[WRONG]
             for line in wrong[:3]:
                 print(line, flush=True)
-    for outcome, number in came.most_common():
-        print(f"{number:7} {outcome}")
-    print(f"{sum(came.values()) - failed} passed, {failed} failed, {len(cases)} cases")
+    print(f"| Cases of | Cases | Growths | Runs | {' | '.join(OUTCOMES)} |")
+    print(f"|{'---|' * (len(OUTCOMES) + 4)}")
+    for name, (number, growths, came) in sorted(rows.items()):
+        print(f"| {name} | {number} | {growths} | {came.total()} | {' | '.join(str(came[one]) for one in OUTCOMES)} |")
+    runs = sum(came.total() for _, _, came in rows.values())
+    print(f"{runs - failed} passed, {failed} failed, {len(cases)} cases")
     return 1 if failed or not cases else 0
 
 

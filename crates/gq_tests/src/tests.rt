@@ -2,6 +2,7 @@ mod check;
 mod devices;
 mod gaps;
 mod kept;
+mod questions;
 mod refactorings;
 mod reports;
 mod texts;

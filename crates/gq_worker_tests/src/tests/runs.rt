@@ -178,11 +178,12 @@ impl<'s, C: Clock> Gate for Hold<'s, C> {
     }
 }
 
-/// A run with two workers over what comes on these cues, where the first job is held until so many frames were taken: what is
-/// written, how it ends, and whether the job was held for too long.
+/// A run with so many workers over what comes on these cues, where the first job is held until so many frames were taken: what
+/// is written, how it ends, and whether the job was held for too long.
 fn run_held<R: Threads + Wait + Clock + Sync>(
     rt: &R,
     alloc: Global,
+    workers: u8,
     cues: &[Cue],
     frames: u64,
 ) -> (Vec<u8>, Ended, bool) {
@@ -207,9 +208,15 @@ fn run_held<R: Threads + Wait + Clock + Sync>(
         taken: &taken,
         failed: false,
     };
-    let Ran { ended, output, .. } = run(rt, alloc, 2, source, sink, &gate, NoFiles);
+    let Ran { ended, output, .. } = run(rt, alloc, workers, source, sink, &gate, NoFiles);
     (output.bytes, ended, gate.late.load(Ordering::SeqCst) == 1)
 }
+
+/// The end at `exit` behind `shutdown`.
+const STOPPED: Ended = Ended {
+    status: 0,
+    fault: None,
+};
 
 /// The texts, one after another.
 fn joined(alloc: Global, texts: &[&str]) -> Result<String, Fail> {
@@ -232,7 +239,6 @@ fn two_at_once(rt: HostRuntime) -> Result<(), Fail> {
         (SHUTDOWN, 3),
         (EXIT, 0),
     ];
-    let (bytes, ended, late) = run_held(&rt, rt.alloc(), &cues, 2);
     let wanted = joined(
         rt.alloc(),
         &[
@@ -248,15 +254,11 @@ fn two_at_once(rt: HostRuntime) -> Result<(), Fail> {
             SHUT_DOWN,
         ],
     )?;
-    assert_eq!(rt; bytes.as_slice(), wanted.as_bytes());
-    assert_eq!(rt;
-        ended,
-        Ended {
-            status: 0,
-            fault: None
-        }
-    );
-    assert_eq!(rt; late, false);
+    for workers in [2u8, 8] {
+        let (bytes, ended, late) = run_held(&rt, rt.alloc(), workers, &cues, 2);
+        assert_eq!(rt; bytes.as_slice(), wanted.as_bytes());
+        assert_eq!(rt; (ended, late), (STOPPED, false));
+    }
     Ok(())
 }
 
@@ -273,7 +275,6 @@ fn held_then_changed(rt: HostRuntime) -> Result<(), Fail> {
         (SHUTDOWN, 3),
         (EXIT, 0),
     ];
-    let (bytes, ended, late) = run_held(&rt, rt.alloc(), &cues, 2);
     let wanted = joined(
         rt.alloc(),
         &[
@@ -287,14 +288,10 @@ fn held_then_changed(rt: HostRuntime) -> Result<(), Fail> {
             SHUT_DOWN,
         ],
     )?;
-    assert_eq!(rt; bytes.as_slice(), wanted.as_bytes());
-    assert_eq!(rt;
-        ended,
-        Ended {
-            status: 0,
-            fault: None
-        }
-    );
-    assert_eq!(rt; late, false);
+    for workers in [1u8, 2, 8] {
+        let (bytes, ended, late) = run_held(&rt, rt.alloc(), workers, &cues, 2);
+        assert_eq!(rt; bytes.as_slice(), wanted.as_bytes());
+        assert_eq!(rt; (ended, late), (STOPPED, false));
+    }
     Ok(())
 }

@@ -1,0 +1,345 @@
+"""What scripts/refused_memory.py and scripts/failing_devices.py share: what they run of crates/gqls, and a library that makes calls of the
+program fail. It is compiled for them, and loaded before the C library's; only calls that the program itself makes are counted.
+
+A session is a list of bodies, each in a frame of its own, and what stands behind these in the input. To know which messages of a server
+belong to which body, the session is served once more with a request behind each body that no server knows: what comes between the errors
+that answer two of these belongs to the body between them."""
+import glob
+import json
+import os
+import struct
+import subprocess
+import tempfile
+
+from cases import CRATE, SERVE, contents, frames
+from folders import CHANGES, FOLDER, read_sessions
+from rows import read_rows
+
+SOURCE = r"""
+#define _GNU_SOURCE
+#include <errno.h>
+#include <fcntl.h>
+#include <link.h>
+#include <stdatomic.h>
+#include <stdlib.h>
+#include <sys/mman.h>
+#include <sys/syscall.h>
+#include <sys/uio.h>
+#include <unistd.h>
+extern void *__libc_malloc(size_t);
+extern void *__libc_realloc(void *, size_t);
+enum { GROWTHS, READS, WRITES, KINDS };
+static uintptr_t from, to;
+static atomic_long unshared[KINDS], *counts = unshared;
+static long first, all, files, at[KINDS], error[KINDS], most[KINDS];
+static int look(struct dl_phdr_info *info, size_t size, void *data) {
+    for (int i = 0; i < info->dlpi_phnum; i++)
+        if (info->dlpi_phdr[i].p_type == PT_LOAD && info->dlpi_phdr[i].p_flags & PF_X) {
+            from = info->dlpi_addr + info->dlpi_phdr[i].p_vaddr;
+            to = from + info->dlpi_phdr[i].p_memsz;
+        }
+    return 1;
+}
+static long setting(const char *name) { char *word = getenv(name); return word ? atol(word) : 0; }
+__attribute__((constructor)) static void start(void) {
+    char *path = getenv("TRIAL_COUNTS");
+    if (path) {
+        void *place = mmap(0, sizeof unshared, PROT_READ | PROT_WRITE, MAP_SHARED, open(path, O_RDWR), 0);
+        if (place != MAP_FAILED) counts = place;
+    }
+    first = setting("REFUSE_AT");
+    all = setting("REFUSE_ALL");
+    files = setting("READ_FILES");
+    at[READS] = setting("READ_AT"), error[READS] = setting("READ_ERROR"), most[READS] = setting("READ_MOST");
+    at[WRITES] = setting("WRITE_AT"), error[WRITES] = setting("WRITE_ERROR"), most[WRITES] = setting("WRITE_MOST");
+    dl_iterate_phdr(look, 0);
+}
+static int is_own(void *caller) { return from <= (uintptr_t)caller && (uintptr_t)caller < to; }
+static int refused(void *caller) {
+    if (!is_own(caller)) return 0;
+    long number = atomic_fetch_add(&counts[GROWTHS], 1) + 1;
+    return first && (number == first || (all && number > first));
+}
+void *malloc(size_t size) {
+    if (refused(__builtin_return_address(0))) { errno = ENOMEM; return 0; }
+    return __libc_malloc(size);
+}
+void *realloc(void *place, size_t size) {
+    if (refused(__builtin_return_address(0))) { errno = ENOMEM; return 0; }
+    return __libc_realloc(place, size);
+}
+static ssize_t moved(int kind, void *caller, int file, void *place, size_t size) {
+    long call = kind == READS ? SYS_read : SYS_write;
+    if (is_own(caller) && (kind == WRITES ? file == 1 : files ? file > 2 : file == 0)) {
+        long number = atomic_fetch_add(&counts[kind], 1) + 1;
+        if (number == at[kind]) {
+            if (!error[kind]) return 0;
+            errno = error[kind];
+            return -1;
+        }
+        if (most[kind] && size > (size_t)most[kind]) size = most[kind];
+    }
+    return syscall(call, file, place, size);
+}
+static ssize_t moved_parts(int kind, void *caller, int file, const struct iovec *parts, int count) {
+    int i = 0;
+    while (i + 1 < count && !parts[i].iov_len) i++;
+    return moved(kind, caller, file, parts[i].iov_base, parts[i].iov_len);
+}
+ssize_t read(int file, void *place, size_t size) { return moved(READS, __builtin_return_address(0), file, place, size); }
+ssize_t write(int file, const void *place, size_t size) {
+    return moved(WRITES, __builtin_return_address(0), file, (void *)place, size);
+}
+ssize_t readv(int file, const struct iovec *parts, int count) {
+    return moved_parts(READS, __builtin_return_address(0), file, parts, count);
+}
+ssize_t writev(int file, const struct iovec *parts, int count) {
+    return moved_parts(WRITES, __builtin_return_address(0), file, parts, count);
+}
+"""
+SECONDS = 120
+STORED, ALL = "stdin", 1_000_000
+PUBLISH = "textDocument/publishDiagnostics"
+CHANGE = "textDocument/didChange"
+
+
+def compiled(folder):
+    """The library that makes calls fail."""
+    source, library = os.path.join(folder, "trials.c"), os.path.join(folder, "trials.so")
+    with open(source, "w", encoding="ascii") as file:
+        file.write(SOURCE)
+    subprocess.run(["cc", "-O1", "-shared", "-fPIC", "-o", library, source], check=True)
+    return library
+
+
+def framed(body):
+    return b"Content-Length: %d\r\n\r\n" % len(body) + body
+
+
+def most_for(case, most):
+    """At how many places a case is tried, at most: the stored run at all."""
+    return ALL if case.name == STORED else most
+
+
+class Case:
+    """Words of a command line, what goes to the standard input, and what lies in the folder, which DIR and file:///w stand for. One of
+    another program has its path."""
+
+    def __init__(self, name, words, bodies=(), rest=b"", steps=(), program=None):
+        self.name = name
+        self.program = program
+        self.words = words
+        self.bodies = list(bodies)
+        self.rest = rest
+        self.steps = list(steps)
+
+    @property
+    def serves(self):
+        return self.program is None and self.words[0] == "serve"
+
+    def lay(self, folder):
+        """Makes what lies in the folder."""
+        for word, rest in self.steps:
+            if word == "bytes":
+                name, data = rest
+                path = os.path.join(folder, name)
+                os.makedirs(os.path.dirname(path), exist_ok=True)
+                if not os.path.exists(path):
+                    with open(path, "wb") as file:
+                        file.write(data)
+            else:
+                CHANGES[word](folder, rest)
+
+
+class Ran:
+    """What a run wrote, how it ended, and how many growths, reads and writes it asked for."""
+
+    def __init__(self, output, errors, status, counts, folder):
+        name = os.fsencode(folder)
+        self.output = output.replace(name, b"/w")
+        self.errors = errors.replace(name, b"/w")
+        self.status = status
+        self.growths, self.reads, self.writes = counts
+        self.messages = [read_message(one.partition(b"\r\n\r\n")[2].replace(name, b"/w")) for one in frames(output)]
+
+    def is_as(self, other):
+        return (self.output, self.errors, self.status) == (other.output, other.errors, other.status)
+
+    def ends_as(self, other):
+        return (self.errors, self.status) == (other.errors, other.status)
+
+
+def read_message(body):
+    """A message, or where a frame has none what it has."""
+    try:
+        found = json.loads(body)
+    except ValueError:
+        found = None
+    return found if isinstance(found, dict) else {"broken": body[-80:].decode(errors="replace")}
+
+
+class Runner:
+    """Runs the program over cases."""
+
+    def __init__(self, program, library):
+        self.program, self.library = program, library
+
+    def run(self, case, settings=None, count=None):
+        """A run of a case, or over so many bytes of its input alone, with these settings of the library."""
+        with tempfile.TemporaryDirectory() as outer:
+            folder = os.path.join(os.path.realpath(outer), "w")
+            os.mkdir(folder)
+            case.lay(folder)
+            counts, stream = os.path.join(outer, "counts"), os.path.join(outer, "input")
+            with open(counts, "wb") as file:
+                file.write(bytes(24))
+            with open(stream, "wb") as file:
+                file.write(stream_of(case, folder)[:count])
+            more = {name: str(number) for name, number in (settings or {}).items()}
+            with open(stream, "rb") as file:
+                ran = subprocess.run(
+                    [case.program or self.program, *(word.replace("DIR", folder) for word in case.words)],
+                    cwd=folder,
+                    env=os.environ | more | {"TRIAL_COUNTS": counts, "LD_PRELOAD": self.library},
+                    stdin=file,
+                    capture_output=True,
+                    timeout=SECONDS,
+                )
+            numbers = struct.unpack("3q", contents(counts, bytes(24)))
+        return Ran(ran.stdout, ran.stderr, ran.returncode, numbers, folder)
+
+    def groups(self, case, lost=frozenset()):
+        """The messages that belong to each body, where these changes cannot be read, and behind them those of the rest."""
+        bodies = []
+        for number, body in enumerate(case.bodies):
+            bodies += [unreadable(body) if number in lost else body, mark(number)]
+        groups = [[]]
+        for message in self.run(Case(case.name, case.words, bodies, case.rest, case.steps)).messages:
+            if message.get("id") == name_of_mark(len(groups) - 1):
+                groups.append([])
+            else:
+                groups[-1].append(message)
+        return groups + [[] for _ in range(len(case.bodies) + 1 - len(groups))]
+
+
+def frames_of(case, folder):
+    """The frames of the bodies of a case, in which the folder has its name."""
+    return [framed(body.replace(FOLDER, b"file://" + os.fsencode(folder))) for body in case.bodies]
+
+
+def stream_of(case, folder):
+    """The input of a case."""
+    return b"".join(frames_of(case, folder)) + case.rest
+
+
+def sizes_of(case):
+    """The sizes of its frames in a run; the folders of all runs have names of one length."""
+    with tempfile.TemporaryDirectory() as outer:
+        return [len(one) for one in frames_of(case, os.path.join(os.path.realpath(outer), "w"))]
+
+
+def name_of_mark(number):
+    return f"behind body {number}"
+
+
+def mark(number):
+    """A request that no server knows."""
+    return json.dumps({"jsonrpc": "2.0", "id": name_of_mark(number), "method": "$/mark"}).encode()
+
+
+def parts_of(body):
+    """A body as an object, if it is one."""
+    try:
+        found = json.loads(body)
+    except ValueError:
+        return {}
+    return found if isinstance(found, dict) else {}
+
+
+def is_change(body):
+    """Whether it is a change of a text whose version can be read, so that it is one for the server whatever else it holds."""
+    parts = parts_of(body)
+    if parts.get("method") != CHANGE or "id" in parts or not isinstance(parts.get("params"), dict):
+        return False
+    document = parts["params"].get("textDocument")
+    return isinstance(document, dict) and type(document.get("version")) is int
+
+
+def unreadable(body):
+    """The change with the same document and version, and changes that cannot be read."""
+    parts = parts_of(body)
+    parts["params"]["contentChanges"] = "unreadable"
+    return json.dumps(parts).encode()
+
+
+def cut_frames(data):
+    """The bodies of the frames at the front of the input, and what stands behind them."""
+    parts = frames(data)
+    rest = parts.pop() if parts and b"".join(parts) == data and not is_frame(parts[-1]) else b""
+    return [one.partition(b"\r\n\r\n")[2] for one in parts], rest
+
+
+def is_frame(part):
+    head, _, body = part.partition(b"\r\n\r\n")
+    return head == b"Content-Length: %d" % len(body)
+
+
+def sessions():
+    """The stored run and the cases, each a session."""
+    words = contents(os.path.join(CRATE, "args"), b"").decode().split()
+    yield Case(STORED, words, *cut_frames(contents(os.path.join(CRATE, "stdin"), b"")))
+    for path in sorted(glob.glob(os.path.join(CRATE, "cases", "*"))):
+        if os.path.exists(f"{path}.stdout"):
+            more = [word for word in contents(f"{path}.args", b"").decode().split("\n") if word]
+            if "{}" not in more:
+                yield Case(os.path.basename(path), SERVE + more, *cut_frames(contents(path, b"")))
+
+
+def sessions_over_folders():
+    """The sessions over folders in which nothing is changed once messages come."""
+    for path in sorted(glob.glob(os.path.join(CRATE, "folders", "*.sessions"))):
+        for session in read_sessions(path):
+            words = [word for word, _ in session.steps]
+            first = next((at for at, word in enumerate(words) if word not in CHANGES), len(words))
+            if not any(word in CHANGES for word in words[first:]) and "files" not in words:
+                bodies = [rest.encode() for word, rest in session.steps if word == "->"]
+                more = ["--root", session.root.replace("{}", "DIR")]
+                yield Case(f"{os.path.basename(path)}:{session.line}", SERVE + more, bodies, b"", session.steps[:first])
+
+
+def commands():
+    """The rows of commands, but for those that write files."""
+    for path in sorted(glob.glob(os.path.join(CRATE, "commands", "*.rows"))):
+        for row in read_rows(path):
+            words, names, steps = [os.path.basename(path).split(".")[0]], [], []
+            for entry in row.entries:
+                if entry.key == "--op":
+                    words += ["--op", entry.bytes.decode()]
+                elif entry.key == "--words":
+                    words += entry.bytes.decode().split(" ")
+                elif entry.key == "--root":
+                    words += ["--root", entry.bytes.decode()]
+                elif entry.key != "--shown":
+                    name = entry.key
+                    if name.startswith("--"):
+                        name = f"{name[2:]}.json"
+                        words += [entry.key, name]
+                    else:
+                        names.append(name)
+                    if entry.bytes is not None:
+                        steps.append(("bytes", (name, entry.bytes)))
+            if "--write" not in words:
+                yield Case(f"{os.path.basename(path)}:{row.line}", words + ([] if "--root" in words else names), steps=steps)
+
+
+def programs_of_rows():
+    """The files of rows of gq_rows and of lists of gq_sessions, each run by the program that judges it, where that is built."""
+    for name in ("gq_rows", "gq_sessions"):
+        crate = os.path.join(os.path.dirname(CRATE), name)
+        program = os.path.join(crate, "out", name)
+        if not os.path.exists(program):
+            print(f"{program} is not built: its rows are not run", flush=True)
+            continue
+        for path in sorted(glob.glob(os.path.join(crate, "data", "*"))):
+            file = os.path.basename(path)
+            yield Case(f"{name}:{file}", [file], steps=[("bytes", (file, contents(path, b"")))], program=program)
