@@ -89,7 +89,7 @@ module _ (one other : VariableOf Span) (covered : covers one other ≡ true) whe
           let d : defaults other b ≡ true = and_both (not (is_non_null other.type_ref)) (is_value other.default || b) (not_false (is_non_null other.type_ref) e) (still_given b parts.1) in
           subst (λ t. (if t then are_compatible other.type_ref l else are_compatible other.type_ref (non_null l)) ≡ true) (sym d) (through other.type_ref one.type_ref l stands fit)
 
-  still_allowed : (b : Bool) (t : TypeOf Span) → is_allowed one b t ≡ true → is_allowed other b t ≡ true
+  pub still_allowed : (b : Bool) (t : TypeOf Span) → is_allowed one b t ≡ true → is_allowed other b t ≡ true
   still_allowed b (named l) h = through other.type_ref one.type_ref (named l) stands h
   still_allowed b (list_of l) h = through other.type_ref one.type_ref (list_of l) stands h
   still_allowed b (non_null l) h = by_test (defaults one b) refl h
@@ -98,7 +98,7 @@ module _ (one other : VariableOf Span) (covered : covers one other ≡ true) whe
       by_test true e fit = by_default b l e fit
       by_test false e fit = by_types other b (non_null l) (through other.type_ref one.type_ref (non_null l) stands fit)
 
-  known_too : (es : List EntryOf) → is_known es other.type_ref ≡ true → is_known es one.type_ref ≡ true
+  pub known_too : (es : List EntryOf) → is_known es other.type_ref ≡ true → is_known es one.type_ref ≡ true
   known_too es h = subst (λ (text : Text). is_some (kind_named es text) ≡ true) (same_base other.type_ref one.type_ref stands) h
 
   wrong_type_too : (es : List EntryOf) (b : Bool) (t : TypeOf Span) → is_wrong_type es other b t ≡ true → is_wrong_type es one b t ≡ true

@@ -18,7 +18,7 @@ use std::alloc::Global;
 
 /// Whether the first variable is wrong wherever the other one is: that may stand where the type of the first is wanted, and
 /// has a default value where the first has one.
-fn covers(one: &VariableDefinition, other: &VariableDefinition) -> bool
+pub(crate) fn covers(one: &VariableDefinition, other: &VariableDefinition) -> bool
     ensures { result ≡ covers (variable_view one.now) (variable_view other.now) }
 {
     are_compatible(&other.type_ref, &one.type_ref)
