@@ -1,7 +1,6 @@
 -- Operations that spread the same, and whose variables are alike, have the same faults behind their spreads.
-use Rattle.std.proofs.Common.{◌≡◌, ◌+◌, ◌<◌, ◌≤◌, ℕ, zero, suc, Bool, true, List, [], ◌∷◌, Contains, length, map, drop, get_or, refl, sym, ap, subst, ◌∙◌, ⊎_elim, arith, add-one}
+use Rattle.std.proofs.Common.{◌≡◌, ◌+◌, ◌<◌, ◌≤◌, ℕ, zero, suc, true, List, [], ◌∷◌, Contains, length, drop, get_or, refl, sym, ap, subst, ◌∙◌, ⊎_elim, arith, add-one}
 use Rattle.std.specs.Prelude.{filter, ◌&&◌}
-use Rattle.std.specs.List.{list_any}
 use Rattle.std.specs.Str.{bytes_eq}
 use Rattle.std.specs.Cmp.Lexicographic.{bytes_decides, nat_list_eq_equiv}
 use Rattle.std.specs.Borrow.{Bor}

@@ -1,8 +1,4 @@
-use Rattle.std.proofs.Common.{◌≡◌, ◌+◌, ◌<◌, ◌≤◌, length, ap, sym, ◌∙◌, arith, drop, get_or, true, add-one, subst}
-use Rattle.std.proofs.lemmas.List.{length-map, get_or-map}
-use Rattle.gq_tree.specs.Views.{variable_view}
-use Rattle.gq_variables.specs.Helping.Alike.{is_alike, are_alike}
-use Rattle.gq_variables.specs.Helping.Views.{variables_view}
+use Rattle.std.proofs.Common.{sym, ◌∙◌, arith}
 use Rattle.gq_variables.proofs.AlikeLemmas.{alike_at}
 use Rattle.gq_variables.proofs.alike.are_alike.Goals as goal
 

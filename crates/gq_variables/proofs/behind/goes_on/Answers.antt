@@ -1,4 +1,4 @@
-use Rattle.std.proofs.Common.{◌≡◌, ◌-◌, arith}
+use Rattle.std.proofs.Common.{◌-◌, arith}
 use Rattle.gq_variables.proofs.behind.goes_on.Goals as goal
 
 pub returns : goal.returns

@@ -1,8 +1,6 @@
-use Rattle.std.proofs.Common.{◌≡◌, Some, ap, sym, subst, ◌∙◌}
-use Rattle.std.specs.Prelude.{slice_get}
+use Rattle.std.proofs.Common.{Some, ap, sym, subst, ◌∙◌}
 use Rattle.std.proofs.lemmas.Result.{on_ok_weaker}
-use Rattle.gq_types.specs.Entries.{Text}
-use Rattle.gq_document.specs.Definitions.{operation_view, operations_view}
+use Rattle.gq_document.specs.Definitions.{operation_view}
 use Rattle.gq_document.specs.Executable.{executable_view}
 use Rattle.gq_variables.specs.Helping.Behind.{FollowsItsLike}
 use Rattle.gq_variables.specs.Helping.Views.{uses_view}

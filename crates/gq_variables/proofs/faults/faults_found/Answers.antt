@@ -1,4 +1,4 @@
-use Rattle.std.proofs.Common.{◌≡◌, ◌+◌, arith, length, map, subst}
+use Rattle.std.proofs.Common.{◌≡◌, ◌+◌, arith, length, subst}
 use Rattle.std.proofs.lemmas.List.{length-map}
 use Rattle.gq_document.specs.Definitions.{operation_view, operations_view}
 use Rattle.gq_document.specs.Executable.{executable_view}

@@ -1,4 +1,4 @@
-use Rattle.std.proofs.Common.{◌≡◌, ◌<◌, length, map, List, get_or, subst, arith}
+use Rattle.std.proofs.Common.{◌<◌, length, map, List, get_or, subst, arith}
 use Rattle.std.proofs.lemmas.Result.{IfOk-weaker}
 use Rattle.gq_tree.specs.Views.{variable_view}
 use Rattle.gq_tree.specs.declared.tree.VariableDefinition.{VariableDefinition}
