@@ -1,5 +1,5 @@
 -- A variable is wrong only where those are that cover it.
-use Rattle.std.proofs.Common.{◌≡◌, inl, inr, Bool, true, false, if◌then◌else◌, List, [], ◌∷◌, ◌++◌, Contains, refl, sym, ap, subst, ◌∙◌}
+use Rattle.std.proofs.Common.{◌≡◌, ◌<◌, ◌⊎◌, ℕ, zero, suc, nat_eq, arith, inl, inr, Bool, true, false, if◌then◌else◌, List, [], ◌∷◌, ◌++◌, Contains, refl, sym, ap, subst, ◌∙◌}
 use Rattle.std.specs.Prelude.{not, is_some, ◌&&◌, ◌||◌}
 use Rattle.std.specs.Borrow.{Bor}
 use Rattle.std.specs.List.{list_any}
@@ -22,7 +22,7 @@ use Rattle.gq_values.specs.Literals.{Expected, at_type, at_any}
 use Rattle.gq_variables.specs.Uses.{UseOf}
 use Rattle.gq_variables.specs.AllVariableUsagesAreAllowed.{is_value, is_known}
 use Rattle.gq_variables.specs.Helping.VariablePlaces.{are_compatible, defaults, is_allowed, is_wrong_type, is_wrong_reading, is_wrong_at, is_wrong_for, first_is_wrong, not_allowed}
-use Rattle.gq_variables.specs.Helping.Again.{covers, any_under, not_allowed_by}
+use Rattle.gq_variables.specs.Helping.Again.{covers, any_under, name_two_types, AddsNothing, not_allowed_by}
 use Rattle.gq_variables.specs.Helping.Views.{variables_view}
 use Rattle.gq_variables.proofs.CompatibleLemmas.{by_types}
 
@@ -89,7 +89,7 @@ module _ (one other : VariableOf Span) (covered : covers one other ≡ true) whe
           let d : defaults other b ≡ true = and_both (not (is_non_null other.type_ref)) (is_value other.default || b) (not_false (is_non_null other.type_ref) e) (still_given b parts.1) in
           subst (λ t. (if t then are_compatible other.type_ref l else are_compatible other.type_ref (non_null l)) ≡ true) (sym d) (through other.type_ref one.type_ref l stands fit)
 
-  still_allowed : (b : Bool) (t : TypeOf Span) → is_allowed one b t ≡ true → is_allowed other b t ≡ true
+  pub still_allowed : (b : Bool) (t : TypeOf Span) → is_allowed one b t ≡ true → is_allowed other b t ≡ true
   still_allowed b (named l) h = through other.type_ref one.type_ref (named l) stands h
   still_allowed b (list_of l) h = through other.type_ref one.type_ref (list_of l) stands h
   still_allowed b (non_null l) h = by_test (defaults one b) refl h
@@ -98,7 +98,7 @@ module _ (one other : VariableOf Span) (covered : covers one other ≡ true) whe
       by_test true e fit = by_default b l e fit
       by_test false e fit = by_types other b (non_null l) (through other.type_ref one.type_ref (non_null l) stands fit)
 
-  known_too : (es : List EntryOf) → is_known es other.type_ref ≡ true → is_known es one.type_ref ≡ true
+  pub known_too : (es : List EntryOf) → is_known es other.type_ref ≡ true → is_known es one.type_ref ≡ true
   known_too es h = subst (λ (text : Text). is_some (kind_named es text) ≡ true) (same_base other.type_ref one.type_ref stands) h
 
   wrong_type_too : (es : List EntryOf) (b : Bool) (t : TypeOf Span) → is_wrong_type es other b t ≡ true → is_wrong_type es one b t ≡ true
@@ -130,21 +130,72 @@ module _ (es : List EntryOf) (u : UseOf) where
       by_test true e = less e ∙ sym (or_left (any_under es old u) (is_wrong_for es u v) (less e))
       by_test false e = sym (ap (λ b. any_under es old u || b) e ∙ or-false (any_under es old u))
 
-  pub behind_unknown : (old : UnderNames (Bor VariableDefinition)) (v : VariableOf Span) → is_known es v.type_ref ≡ false → any_under es old u ≡ (any_under es old u || is_wrong_for es u v)
-  behind_unknown old v unknown = nothing_more old v (λ wrong.
-      let p = and_parts (bytes_eq u.name.text v.name.text) (is_wrong_at es u.place v) wrong in
-      let q = never_wrong es v unknown u.place.has_default u.place.reading in
-      absurd (cc))
-
-  pub behind_covered : (old : UnderNames (Bor VariableDefinition)) (v : VariableOf Span) (name : Text) → name ≡ v.name.text →
-      list_any (λ one. covers one v) (variables_view (items_under old name)) ≡ true → any_under es old u ≡ (any_under es old u || is_wrong_for es u v)
-  behind_covered old v name is covered = nothing_more old v (λ wrong.
+  pub behind_nothing : (old : UnderNames (Bor VariableDefinition)) (v : VariableOf Span) (name : Text) → name ≡ v.name.text → AddsNothing es (variables_view (items_under old name)) v →
+      any_under es old u ≡ (any_under es old u || is_wrong_for es u v)
+  behind_nothing old v name is adds = nothing_more old v (λ wrong.
       let p = and_parts (bytes_eq u.name.text v.name.text) (is_wrong_at es u.place v) wrong in
       let same : name ≡ u.name.text = is ∙ sym ((bytes_decides u.name.text v.name.text).0 p.0) in
-      let there = from_any (λ (one : VariableOf Span). covers one v) (variables_view (items_under old name)) covered in
-      to_any (is_wrong_at es u.place) (variables_view (items_under old u.name.text)) there.0
-      (subst (λ (text : Text). Contains (variables_view (items_under old text)) there.0) same there.1)
-      (wrong_reading_too there.0 v there.2 es u.place.has_default u.place.reading p.1))
+      subst (λ (text : Text). list_any (is_wrong_at es u.place) (variables_view (items_under old text)) ≡ true) same (adds u.place p.1))
+
+-- a list that is not empty has a first
+pub some_there : (n : ℕ) → nat_eq n 0 ≡ false → 0 < n
+some_there zero h = absurd (cc)
+some_there (suc n) h = omega arith
+
+-- a variable that may stand at a type names that
+allowed_base : (v : VariableOf Span) (b : Bool) (t : TypeOf Span) → is_allowed v b t ≡ true → base_name v.type_ref ≡ base_name t
+allowed_base v b (named l) h = same_base v.type_ref (named l) h
+allowed_base v b (list_of l) h = same_base v.type_ref (list_of l) h
+allowed_base v b (non_null l) h = by_test (defaults v b) h
+  where
+    by_test : (d : Bool) → (if d then are_compatible v.type_ref l else are_compatible v.type_ref (non_null l)) ≡ true → base_name v.type_ref ≡ base_name l
+    by_test true fit = same_base v.type_ref l fit
+    by_test false fit = same_base v.type_ref (non_null l) fit
+
+-- of two that name two types one is wrong
+module _ (es : List EntryOf) (one other : VariableOf Span) (two : name_two_types es one other ≡ true) where
+  one_known : is_known es one.type_ref ≡ true
+  one_known = (and_parts (is_known es one.type_ref) (is_known es other.type_ref && not (bytes_eq (base_name one.type_ref) (base_name other.type_ref))) two).0
+
+  rest_holds : (is_known es other.type_ref ≡ true) × (not (bytes_eq (base_name one.type_ref) (base_name other.type_ref)) ≡ true)
+  rest_holds = and_parts (is_known es other.type_ref) (not (bytes_eq (base_name one.type_ref) (base_name other.type_ref)))
+      (and_parts (is_known es one.type_ref) (is_known es other.type_ref && not (bytes_eq (base_name one.type_ref) (base_name other.type_ref))) two).1
+
+  differ : base_name one.type_ref ≡ base_name other.type_ref → ⊥
+  differ same =
+      let yes = (bytes_decides (base_name one.type_ref) (base_name other.type_ref)).1 same in
+      let no = not_true (bytes_eq (base_name one.type_ref) (base_name other.type_ref)) rest_holds.1 in
+      cc
+
+  wrong_if : (v : VariableOf Span) (b : Bool) (t : TypeOf Span) → is_known es v.type_ref ≡ true → is_known es t ≡ true → is_allowed v b t ≡ false → is_wrong_type es v b t ≡ true
+  wrong_if v b t known there fails =
+      and_both (is_known es v.type_ref) (is_known es t && not (is_allowed v b t)) known (and_both (is_known es t) (not (is_allowed v b t)) there (not_false (is_allowed v b t) fails))
+
+  one_is_wrong : (v : VariableOf Span) (b : Bool) (r : Expected) → is_wrong_reading es v b r ≡ true → (is_wrong_reading es one b r ≡ true) ⊎ (is_wrong_reading es other b r ≡ true)
+  one_is_wrong v b (at_type t) h = by_tests (is_allowed one b t) refl (is_allowed other b t) refl
+    where
+      there : is_known es t ≡ true
+      there = (and_parts (is_known es t) (not (is_allowed v b t)) (and_parts (is_known es v.type_ref) (is_known es t && not (is_allowed v b t)) h).1).0
+
+      by_tests : (p : Bool) → is_allowed one b t ≡ p → (q : Bool) → is_allowed other b t ≡ q → (is_wrong_type es one b t ≡ true) ⊎ (is_wrong_type es other b t ≡ true)
+      by_tests false e q f = inl (wrong_if one b t one_known there e)
+      by_tests true e false f = inr (wrong_if other b t rest_holds.0 there f)
+      by_tests true e true f = absurd (differ (allowed_base one b t e ∙ sym (allowed_base other b t f)))
+  one_is_wrong v b at_any h = absurd (cc)
+
+  pub two_add_nothing : (known : List (VariableOf Span)) → Contains known one → Contains known other → (v : VariableOf Span) → AddsNothing es known v
+  two_add_nothing known first last v place wrong = elim (one_is_wrong v place.has_default place.reading wrong) [
+    | inl a ↦ to_any (is_wrong_at es place) known one first a
+    | inr b ↦ to_any (is_wrong_at es place) known other last b
+  ]
+
+pub unknown_adds_nothing : (es : List EntryOf) (known : List (VariableOf Span)) (v : VariableOf Span) → is_known es v.type_ref ≡ false → AddsNothing es known v
+unknown_adds_nothing es known v unknown place wrong = (let q = never_wrong es v unknown place.has_default place.reading in absurd (cc))
+
+pub covered_adds_nothing : (es : List EntryOf) (known : List (VariableOf Span)) (v : VariableOf Span) → list_any (λ one. covers one v) known ≡ true → AddsNothing es known v
+covered_adds_nothing es known v covered place wrong =
+    let there = from_any (λ (one : VariableOf Span). covers one v) known covered in
+    to_any (is_wrong_at es place) known there.0 there.1 (wrong_reading_too there.0 v there.2 es place.has_default place.reading wrong)
 
 -- the faults are the same
 pub same_faults : (es : List EntryOf) (variables repeated : List (VariableOf Span)) (again : UnderNames (Bor VariableDefinition)) → ((u : UseOf) → any_under es again u ≡ list_any (is_wrong_for es u) repeated) →

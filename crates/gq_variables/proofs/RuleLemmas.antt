@@ -93,23 +93,22 @@ not_of_input_type_are es o fault = (from, to)
     to w = to_flat (not_of_input_type_at es o.file) o.variables w.variable fault w.defined
         (to_unless (fault_at o.file VariableNotOfInputType w.variable.name) fault (names_input_type es (base_name w.variable.type_ref)) (to_kind es (base_name w.variable.type_ref) w.no_input) w.is)
 
--- the rules about uses, where these are the uses that the operation reaches
-module _ (x : ExecutableOf) (o : OperationOf) (uses : List UseOf) (are : (u : UseOf) → Contains uses u ↔ ReachesUse x o u) (fault : Fault) where
+-- the rule about uses that are not defined, where the operation reaches these
+module _ (x : ExecutableOf) (o : OperationOf) (uses : List UseOf) (fault : Fault) where
   -- section 5.8.3
-  pub not_defined_are : Contains (not_defined (variable_texts o.variables) uses) fault ↔ IsNotDefined x o fault
-  not_defined_are = (from, to)
-    where
-      from : Contains (not_defined (variable_texts o.variables) uses) fault → IsNotDefined x o fault
-      from c =
-          let r = from_flat (not_defined_at (variable_texts o.variables)) uses fault c in
-          let t = from_unless (fault_at r.0.file VariableNotDefined r.0.name) fault (list_any (bytes_eq r.0.name.text) (variable_texts o.variables)) r.2 in
-          record { one = r.0; reached = (are r.0).0 r.1; undefined = none_has (λ (v : VariableOf Span). v.name.text) o.variables r.0.name.text t.0; is = t.1 }
+  pub from_not_defined : ((u : UseOf) → Contains uses u → ReachesUse x o u) → Contains (not_defined (variable_texts o.variables) uses) fault → IsNotDefined x o fault
+  from_not_defined reach c =
+      let r = from_flat (not_defined_at (variable_texts o.variables)) uses fault c in
+      let t = from_unless (fault_at r.0.file VariableNotDefined r.0.name) fault (list_any (bytes_eq r.0.name.text) (variable_texts o.variables)) r.2 in
+      record { one = r.0; reached = reach r.0 r.1; undefined = none_has (λ (v : VariableOf Span). v.name.text) o.variables r.0.name.text t.0; is = t.1 }
 
-      to : IsNotDefined x o fault → Contains (not_defined (variable_texts o.variables) uses) fault
-      to w = to_flat (not_defined_at (variable_texts o.variables)) uses w.one fault ((are w.one).1 w.reached)
-          (to_unless (fault_at w.one.file VariableNotDefined w.one.name) fault (list_any (bytes_eq w.one.name.text) (variable_texts o.variables))
-          (has_none (λ (v : VariableOf Span). v.name.text) o.variables w.one.name.text w.undefined) w.is)
+  pub to_not_defined : (w : IsNotDefined x o fault) → Contains uses w.one → Contains (not_defined (variable_texts o.variables) uses) fault
+  to_not_defined w there = to_flat (not_defined_at (variable_texts o.variables)) uses w.one fault there
+      (to_unless (fault_at w.one.file VariableNotDefined w.one.name) fault (list_any (bytes_eq w.one.name.text) (variable_texts o.variables))
+      (has_none (λ (v : VariableOf Span). v.name.text) o.variables w.one.name.text w.undefined) w.is)
 
+-- the rule about variables that are not used, where these are the uses that the operation reaches
+module _ (x : ExecutableOf) (o : OperationOf) (uses : List UseOf) (are : (u : UseOf) → Contains uses u ↔ ReachesUse x o u) (fault : Fault) where
   -- section 5.8.4
   pub not_used_are : Contains (not_used o.file (use_texts uses) o.variables) fault ↔ IsNotUsed x o fault
   not_used_are = (from, to)
@@ -203,7 +202,8 @@ module _ (es : List EntryOf) where
         (and_both (bytes_eq u.name.text w.variable.name.text) (is_wrong_at es u.place w.variable) ((bytes_decides u.name.text w.variable.name.text).1 (sym w.names_it)) w.wrong))
   ]
 
-module _ (x : ExecutableOf) (o : OperationOf) (uses : List UseOf) (are : (u : UseOf) → Contains uses u ↔ ReachesUse x o u) (fault : Fault) where
+-- the rule about uses that are not allowed, where the operation reaches these
+module _ (x : ExecutableOf) (o : OperationOf) (uses : List UseOf) (fault : Fault) where
   from_wrong : (u : UseOf) → ReachesUse x o u → IsWrong x.entries o.variables u → fault ≡ fault_at u.file VariableNotAllowedHere u.name → IsNotAllowed x o fault
   from_wrong u reached w is = by_reading u.place.reading refl
     where
@@ -225,19 +225,16 @@ module _ (x : ExecutableOf) (o : OperationOf) (uses : List UseOf) (are : (u : Us
           }
       by_reading at_any e = (let h = subst (λ r. is_wrong_reading x.entries w.variable u.place.has_default r ≡ true) e w.wrong in absurd (cc))
 
-  pub not_allowed_are : Contains (not_allowed x.entries o.variables (repeated_variables [] o.variables) uses) fault ↔ IsNotAllowed x o fault
-  not_allowed_are = (from, to)
-    where
-      from : Contains (not_allowed x.entries o.variables (repeated_variables [] o.variables) uses) fault → IsNotAllowed x o fault
-      from c =
-          let r = from_flat (not_allowed_at x.entries o.variables (repeated_variables [] o.variables)) uses fault c in
-          let t = from_if (is_misused x.entries o.variables (repeated_variables [] o.variables) r.0) (fault_at r.0.file VariableNotAllowedHere r.0.name) fault r.2 in
-          from_wrong r.0 ((are r.0).0 r.1) (from_misused x.entries o.variables r.0 t.0) t.1
+  pub from_not_allowed : ((u : UseOf) → Contains uses u → ReachesUse x o u) → Contains (not_allowed x.entries o.variables (repeated_variables [] o.variables) uses) fault → IsNotAllowed x o fault
+  from_not_allowed reach c =
+      let r = from_flat (not_allowed_at x.entries o.variables (repeated_variables [] o.variables)) uses fault c in
+      let t = from_if (is_misused x.entries o.variables (repeated_variables [] o.variables) r.0) (fault_at r.0.file VariableNotAllowedHere r.0.name) fault r.2 in
+      from_wrong r.0 (reach r.0 r.1) (from_misused x.entries o.variables r.0 t.0) t.1
 
-      to : IsNotAllowed x o fault → Contains (not_allowed x.entries o.variables (repeated_variables [] o.variables) uses) fault
-      to w =
-          let wrong = subst (λ r. is_wrong_reading x.entries w.variable w.one.place.has_default r ≡ true) (sym w.read_at)
-          (type_wrong x.entries w.variable w.one.place.has_default w.location w.variable_known w.location_known w.not_allowed) in
-          to_flat (not_allowed_at x.entries o.variables (repeated_variables [] o.variables)) uses w.one fault ((are w.one).1 w.reached)
-          (to_if (is_misused x.entries o.variables (repeated_variables [] o.variables) w.one) (fault_at w.one.file VariableNotAllowedHere w.one.name) fault
-          (to_misused x.entries o.variables w.one (record { variable = w.variable; defined = w.defined; names_it = w.names_it; wrong = wrong })) w.is)
+  pub to_not_allowed : (w : IsNotAllowed x o fault) → Contains uses w.one → Contains (not_allowed x.entries o.variables (repeated_variables [] o.variables) uses) fault
+  to_not_allowed w there =
+      let wrong = subst (λ r. is_wrong_reading x.entries w.variable w.one.place.has_default r ≡ true) (sym w.read_at)
+      (type_wrong x.entries w.variable w.one.place.has_default w.location w.variable_known w.location_known w.not_allowed) in
+      to_flat (not_allowed_at x.entries o.variables (repeated_variables [] o.variables)) uses w.one fault there
+      (to_if (is_misused x.entries o.variables (repeated_variables [] o.variables) w.one) (fault_at w.one.file VariableNotAllowedHere w.one.name) fault
+      (to_misused x.entries o.variables w.one (record { variable = w.variable; defined = w.defined; names_it = w.names_it; wrong = wrong })) w.is)

@@ -1,13 +1,14 @@
 -- The lists of uses hold the uses that stand in values, arguments, directives, selections, operations and fragments.
-use Rattle.std.proofs.Common.{◌≡◌, ◌↔◌, ℕ, List, [], ◌++◌, Option, Some, None, refl, sym, ap, subst, ◌∙◌, Contains, map, inl, inr}
-use Rattle.std.specs.Prelude.{flat_map, slice_get}
+use Rattle.std.proofs.Common.{◌≡◌, ◌↔◌, ℕ, List, [], ◌++◌, Option, Some, None, refl, sym, ap, subst, ◌∙◌, Contains, map, inl, inr, Vec, Global}
+use Rattle.std.specs.Prelude.{All, flat_map, slice_get}
 use Rattle.std.specs.Option.{option_map, option_map_or}
-use Rattle.std.proofs.lemmas.List.Elements.{Contains-append_left, Contains-append_right, Contains-append_cases}
+use Rattle.std.proofs.lemmas.List.Elements.{Contains-append_left, Contains-append_right, Contains-append_cases, All-contains}
 use Rattle.std.proofs.lemmas.Option.{slice_get-map, slice_get-get_or}
 use Rattle.gq_text.specs.declared.place.Span.{Span}
 use Rattle.gq_tree.specs.Forest.{none, more}
 use Rattle.gq_tree.specs.Plain.{NameOf, Says, Val, Vals, InputOf, DirectiveOf, VariableOf, Head, field, spread, inline, variable, int, float, string, boolean, null, enum, list, object}
 use Rattle.gq_names.proofs.RepeatLemmas.{contains_none, contains_first}
+use Rattle.gq_graph.specs.Reach.{Reach, row}
 use Rattle.gq_types.specs.Entries.{Text, EntryOf}
 use Rattle.gq_types.specs.Arguments.{directive_arguments}
 use Rattle.gq_document.specs.Definitions.{OperationOf, FragmentOf}
@@ -15,10 +16,12 @@ use Rattle.gq_document.specs.Selections.{SelectedOf, operation_selections, fragm
 use Rattle.gq_document.specs.Reaches.{Reaches, at_once, through}
 use Rattle.gq_document.specs.Executable.{ExecutableOf}
 use Rattle.gq_document.proofs.SelectionLemmas.{operation_holds, fragment_holds}
-use Rattle.gq_spreads.specs.Spreads.{ReachesNumber}
+use Rattle.gq_spreads.specs.declared.spreads.Spreads.{Spreads}
 use Rattle.gq_variables.specs.Uses.{PlaceOf, UseOf, part_place, argument_place, field_arguments, directives_of, StandsIn, here, within, after, StandsInValue, StandsInArguments, StandsInDirectives, StandsInSelection, in_arguments, in_directives, IsUsedInOperation, in_selection, in_directive, in_variable, IsUsedInFragment, within_selection, within_directive}
 use Rattle.gq_variables.specs.ReachedUses.{ReachesUse, of_itself, of_fragment}
-use Rattle.gq_variables.specs.Helping.UsesPlaces.{own_uses, uses_among, value_uses, uses_under, uses_of_argument, argument_uses, uses_of_directive, directive_uses, head_uses, uses_of_selection, selection_uses, variable_uses, operation_uses, fragment_uses, row_at, reached_uses}
+use Rattle.gq_variables.specs.Helping.UsesPlaces.{own_uses, uses_among, value_uses, uses_under, uses_of_argument, argument_uses, uses_of_directive, directive_uses, head_uses, uses_of_selection, selection_uses, variable_uses, operation_uses, fragment_uses, row_at}
+use Rattle.gq_variables.specs.Helping.Leading.{AreLeading}
+use Rattle.gq_variables.specs.Helping.Behind.{IsBehind, AreBehind}
 use Rattle.gq_types.proofs.Gathered.{only, from_flat, to_flat}
 
 abbrev use_of : ℕ → NameOf Span → PlaceOf → UseOf
@@ -183,31 +186,59 @@ reached_stands : (fs : List FragmentOf) {set : _} {f : FragmentOf} → Reaches f
 reached_stands fs (at_once stands s) = stands
 reached_stands fs (through reached stands s) = stands
 
--- These numbers are reached, and each fragment that is reached and in which a use stands has one of them.
-module _ (x : ExecutableOf) (o : OperationOf) (numbers : List ℕ) (sound : (k : ℕ) → Contains numbers k → ReachesNumber x.fragments o.set k)
-    (complete : (k : ℕ) (f : FragmentOf) (u : UseOf) → slice_get x.fragments k ≡ Some f → Contains (fragment_uses x.entries f) u → ReachesNumber x.fragments o.set k → Contains numbers k) where
+-- what is gathered from the fragments that are found
+pub behind_found : (rows : List (List UseOf)) (s : Spreads) (number : ℕ) (starts numbers : List ℕ) (of_fragments : List (Vec ℕ Global)) (uses : List UseOf) →
+    starts ≡ row s.of_operations.items number → of_fragments ≡ s.of_fragments.items → All (λ n. Reach starts (row of_fragments) n) numbers →
+    ((n : ℕ) → Reach starts (row of_fragments) n → Contains numbers n) → uses ≡ flat_map (row_at rows) numbers → AreBehind rows s number uses
+behind_found rows s number starts numbers of_fragments uses e f sound complete are u = (
+  λ c.
+      let r = from_flat (row_at rows) numbers u (subst (λ us. Contains us u) are c) in
+      record { number = r.0; led = forth r.0 (All-contains (λ n. Reach starts (row of_fragments) n) numbers r.0 sound r.1); stands = r.2 },
+  λ w. subst (λ us. Contains us u) (sym are) (to_flat (row_at rows) numbers w.number u (complete w.number (back w.number w.led)) w.stands),
+)
+  where
+    forth : (k : ℕ) → Reach starts (row of_fragments) k → Reach (row s.of_operations.items number) (row s.of_fragments.items) k
+    forth k way = subst (λ ns. Reach ns (row s.of_fragments.items) k) e (subst (λ (all : List (Vec ℕ Global)). Reach starts (row all) k) f way)
+
+    back : (k : ℕ) → Reach (row s.of_operations.items number) (row s.of_fragments.items) k → Reach starts (row of_fragments) k
+    back k way = subst (λ (all : List (Vec ℕ Global)). Reach starts (row all) k) (sym f) (subst (λ ns. Reach ns (row s.of_fragments.items) k) (sym e) way)
+
+-- those behind the same spreads
+pub behind_as : (rows : List (List UseOf)) (s : Spreads) (m n : ℕ) (uses : List UseOf) → row s.of_operations.items m ≡ row s.of_operations.items n → AreBehind rows s m uses → AreBehind rows s n uses
+behind_as rows s m n uses same are = subst (λ starts. (u : UseOf) → Contains uses u ↔ IsBehind rows (row s.of_fragments.items) starts u) same are
+
+-- The uses behind the spreads of an operation belong to it, and with its own these are all.
+module _ (x : ExecutableOf) (s : Spreads) (lead : AreLeading x s) (number : ℕ) (o : OperationOf) (is : slice_get x.operations number ≡ Some o)
+    (behind : List UseOf) (are : AreBehind (map (fragment_uses x.entries) x.fragments) s number behind) where
   row_of : (k : ℕ) (f : FragmentOf) → slice_get x.fragments k ≡ Some f → row_at (map (fragment_uses x.entries) x.fragments) k ≡ fragment_uses x.entries f
   row_of k f at =
       ap (λ (r : Option (List UseOf)). option_map_or (λ (row : List UseOf). row) r [])
       (slice_get-map (fragment_uses x.entries) x.fragments k ∙ ap (option_map (fragment_uses x.entries)) at)
 
-  from_reached : (u : UseOf) → Contains (reached_uses x.entries x.fragments o numbers) u → ReachesUse x o u
-  from_reached u c = elim (Contains-append_cases (operation_uses x.entries o) (flat_map (row_at (map (fragment_uses x.entries) x.fragments)) numbers) u c) [
+  pub from_behind : (u : UseOf) → Contains behind u → ReachesUse x o u
+  from_behind u c =
+      let w = (are u).0 c in
+      let r = lead.sound number o w.number is w.led in
+      of_fragment r.reached (from_fragment x.entries r.fragment u (subst (λ us. Contains us u) (row_of w.number r.fragment r.at) w.stands))
+
+  from_reached : (u : UseOf) → Contains (operation_uses x.entries o ++ behind) u → ReachesUse x o u
+  from_reached u c = elim (Contains-append_cases (operation_uses x.entries o) behind u c) [
     | inl own ↦ of_itself (from_operation x.entries o u own)
-    | inr others ↦ (let r = from_flat (row_at (map (fragment_uses x.entries) x.fragments)) numbers u others in
-        let w = sound r.0 r.1 in
-        of_fragment w.reached (from_fragment x.entries w.fragment u (subst (λ us. Contains us u) (row_of r.0 w.fragment w.at) r.2)))
+    | inr others ↦ from_behind u others
   ]
 
-  to_reached : (u : UseOf) → ReachesUse x o u → Contains (reached_uses x.entries x.fragments o numbers) u
-  to_reached u (of_itself used) =
-      Contains-append_left (operation_uses x.entries o) (flat_map (row_at (map (fragment_uses x.entries) x.fragments)) numbers) u (to_operation x.entries o u used)
+  to_reached : (u : UseOf) → ReachesUse x o u → Contains (operation_uses x.entries o ++ behind) u
+  to_reached u (of_itself used) = Contains-append_left (operation_uses x.entries o) behind u (to_operation x.entries o u used)
   to_reached u (of_fragment {f} reached used) =
       let c = reached_stands x.fragments reached in
       let at : slice_get x.fragments c.0 ≡ Some f = slice_get-get_or x.fragments c.0 f c.1 ∙ ap Some c.2 in
-      Contains-append_right (operation_uses x.entries o) (flat_map (row_at (map (fragment_uses x.entries) x.fragments)) numbers) u
-      (to_flat (row_at (map (fragment_uses x.entries) x.fragments)) numbers c.0 u (complete c.0 f u at (to_fragment x.entries f u used) (record { fragment = f; at = at; reached = reached }))
-      (subst (λ us. Contains us u) (sym (row_of c.0 f at)) (to_fragment x.entries f u used)))
+      let there = to_fragment x.entries f u used in
+      Contains-append_right (operation_uses x.entries o) behind u
+      ((are u).1 (record {
+        number = c.0;
+        led = lead.complete number o c.0 f u is at there (record { fragment = f; at = at; reached = reached });
+        stands = subst (λ us. Contains us u) (sym (row_of c.0 f at)) there;
+      }))
 
-  pub reached_are : (u : UseOf) → Contains (reached_uses x.entries x.fragments o numbers) u ↔ ReachesUse x o u
+  pub reached_are : (u : UseOf) → Contains (operation_uses x.entries o ++ behind) u ↔ ReachesUse x o u
   reached_are u = (from_reached u, to_reached u)

@@ -1,5 +1,7 @@
 //! Variables that an operation does not use (GraphQL, October 2021, section 5.8.4).
 ghost use Rattle.std.specs.Prelude.{◌≡◌, ◌++◌, IfOk, OnOk, map};
+ghost use Rattle.std.specs.List.{list_any};
+ghost use Rattle.std.specs.Str.{bytes_eq};
 ghost use Rattle.gq_tree.specs.Views.{variable_view};
 ghost use Rattle.gq_variables.specs.Helping.VariablePlaces.{use_texts, not_used_at, not_used};
 ghost use Rattle.gq_variables.specs.Helping.Views.{uses_view};
@@ -13,7 +15,7 @@ use std::alloc::Global;
 
 /// The names of uses.
 #[tactic(auto, using(gq_tree::proofs::Trees::gathers))]
-fn used_names(alloc: Global, uses: &[Use<'_>]) -> Result<NameList, NoMemory>
+pub(crate) fn used_names(alloc: Global, uses: &[Use<'_>]) -> Result<NameList, NoMemory>
     ensures { IfOk result (λ names. names ≡ use_texts (uses_view uses.now)) }
 {
     let mut names = NameList::new(alloc);
@@ -23,16 +25,24 @@ fn used_names(alloc: Global, uses: &[Use<'_>]) -> Result<NameList, NoMemory>
     Ok(names)
 }
 
+/// Whether the name is one of the operation's own uses, or of those behind its spreads.
+fn is_used(own: &NameList, behind: &NameList, name: &str) -> bool
+    ensures { result ≡ list_any (bytes_eq name.now) (own.now ++ behind.now) }
+{
+    own.contains(name) || behind.contains(name)
+}
+
 fn add_if_not_used(
     file: usize,
-    used: &NameList,
+    own: &NameList,
+    behind: &NameList,
     one: &VariableDefinition,
     faults: &mut Vec<Fault>,
 ) -> Result<(), NoMemory>
-    ensures { OnOk result (faults.new.items ≡ faults.old.items ++ not_used_at file used.now (variable_view one.now)) }
+    ensures { OnOk result (faults.new.items ≡ faults.old.items ++ not_used_at file (own.now ++ behind.now) (variable_view one.now)) }
 {
     let name = &one.variable.name;
-    if !used.contains(name.text.as_str()) {
+    if !is_used(own, behind, name.text.as_str()) {
         add_fault_at(file, Code::VariableNotUsed, name, faults)?;
     }
     Ok(())
@@ -41,28 +51,31 @@ fn add_if_not_used(
 #[tactic(auto, using(gq_tree::proofs::Trees::gathers))]
 fn add_each_not_used(
     file: usize,
-    used: &NameList,
+    own: &NameList,
+    behind: &NameList,
     variables: &[VariableDefinition],
     faults: &mut Vec<Fault>,
 ) -> Result<(), NoMemory>
-    ensures { OnOk result (faults.new.items ≡ faults.old.items ++ not_used file used.now (map variable_view variables.now)) }
+    ensures { OnOk result (faults.new.items ≡ faults.old.items ++ not_used file (own.now ++ behind.now) (map variable_view variables.now)) }
 {
     for one in variables {
-        add_if_not_used(file, used, one, faults)?;
+        add_if_not_used(file, own, behind, one, faults)?;
     }
     Ok(())
 }
 
-/// Adds a fault at the name of each variable whose name none of the uses has.
+/// Adds a fault at the name of each variable whose name none of the uses has, those of the operation itself and those behind
+/// its spreads, whose names are given.
 pub(crate) fn add_not_used(
     alloc: Global,
     file: usize,
     variables: &[VariableDefinition],
     uses: &[Use<'_>],
+    behind: &NameList,
     faults: &mut Vec<Fault>,
 ) -> Result<(), NoMemory>
-    ensures { OnOk result (faults.new.items ≡ faults.old.items ++ not_used file (use_texts (uses_view uses.now)) (map variable_view variables.now)) }
+    ensures { OnOk result (faults.new.items ≡ faults.old.items ++ not_used file (use_texts (uses_view uses.now) ++ behind.now) (map variable_view variables.now)) }
 {
-    let used = used_names(alloc, uses)?;
-    add_each_not_used(file, &used, variables, faults)
+    let own = used_names(alloc, uses)?;
+    add_each_not_used(file, &own, behind, variables, faults)
 }

@@ -2,9 +2,11 @@
 #![tactic(auto)]
 
 mod again;
+mod alike;
 mod all_variable_usages_are_allowed;
 mod all_variable_uses_defined;
 mod all_variables_used;
+mod behind;
 mod compatible;
 pub mod faults;
 mod leading;

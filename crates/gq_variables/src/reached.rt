@@ -1,13 +1,13 @@
-//! The uses of variables that belong to an operation: its own, and those of the fragments that it reaches.
+//! The uses of variables in fragments, and how they are put together.
 ghost use Rattle.std.specs.Prelude.{◌≡◌, ◌++◌, IfOk, OnOk, map, flat_map};
 ghost use Rattle.gq_types.specs.Look.{types_view};
-ghost use Rattle.gq_document.specs.Definitions.{operation_view, fragments_view};
-ghost use Rattle.gq_variables.specs.Helping.UsesPlaces.{fragment_uses, operation_uses, row_at};
+ghost use Rattle.gq_document.specs.Definitions.{fragments_view};
+ghost use Rattle.gq_variables.specs.Helping.UsesPlaces.{fragment_uses, row_at, unless};
 ghost use Rattle.gq_variables.specs.Helping.Views.{uses_view, rows_view};
 
-use crate::selections::{fragment_uses, put_uses_of_operation};
+use crate::selections::fragment_uses;
 use crate::uses::Use;
-use gq_document::{FragmentEntry, OperationEntry};
+use gq_document::FragmentEntry;
 use gq_text::NoMemory;
 use gq_types::Types;
 use std::alloc::Global;
@@ -53,8 +53,9 @@ fn put_row<'a>(
     }
 }
 
+/// Puts the uses of the fragments of these numbers behind the others.
 #[tactic(auto, using(gq_tree::proofs::Trees::gathers))]
-fn put_rows<'a>(
+pub(crate) fn put_rows<'a>(
     rows: &[Vec<Use<'a>>],
     numbers: &[usize],
     uses: &mut Vec<Use<'a>>,
@@ -67,19 +68,16 @@ fn put_rows<'a>(
     Ok(())
 }
 
-/// The uses that belong to an operation, which reaches the fragments of these numbers. For each fragment there is a row of
-/// its uses.
-pub(crate) fn reached_uses<'a>(
-    alloc: Global,
-    types: &'a Types,
-    operation: &'a OperationEntry<'a>,
-    rows: &[Vec<Use<'a>>],
-    numbers: &[usize],
-) -> Result<Vec<Use<'a>>, NoMemory>
-    ensures { IfOk result (λ uses. uses_view uses.items ≡ operation_uses (types_view types.now) (operation_view operation.now) ++ flat_map (row_at (rows_view rows.now)) numbers.now) }
+/// Puts the uses behind the others, unless their faults are known.
+pub(crate) fn put_unless_known<'a>(
+    are_known: bool,
+    more: &[Use<'a>],
+    uses: &mut Vec<Use<'a>>,
+) -> Result<(), NoMemory>
+    ensures { OnOk result (uses_view uses.new.items ≡ uses_view uses.old.items ++ unless are_known (uses_view more.now)) }
 {
-    let mut uses = Vec::new(alloc);
-    put_uses_of_operation(alloc, types, operation, &mut uses)?;
-    put_rows(rows, numbers, &mut uses)?;
-    Ok(uses)
+    if are_known {
+        return Ok(());
+    }
+    put_all(more, uses)
 }

@@ -1,17 +1,19 @@
 -- Variables whose names stand earlier too, found by their names.
-use Rattle.std.specs.Prelude.{Bool, List, [], ◌∷◌, flat_map, if◌then◌else◌, not, ◌&&◌, ◌||◌}
+use Rattle.std.specs.Prelude.{◌≡◌, Bool, true, List, [], ◌∷◌, flat_map, if◌then◌else◌, not, ◌&&◌, ◌||◌}
 use Rattle.std.specs.Borrow.{Bor}
 use Rattle.std.specs.List.{list_any}
+use Rattle.std.specs.Str.{bytes_eq}
 use Rattle.gq_text.specs.declared.place.Span.{Span}
 use Rattle.gq_tree.specs.Plain.{VariableOf}
+use Rattle.gq_tree.specs.NamedTypes.{base_name}
 use Rattle.gq_tree.specs.declared.tree.VariableDefinition.{VariableDefinition}
 use Rattle.gq_names.specs.UnderNames.{UnderNames, items_under}
 use Rattle.gq_fault.specs.declared.code.Code.TheVariants.{VariableNotAllowedHere}
 use Rattle.gq_fault.specs.declared.fault.Fault.{Fault}
 use Rattle.gq_fault.specs.FaultPlaces.{fault_at}
 use Rattle.gq_types.specs.Entries.{EntryOf}
-use Rattle.gq_variables.specs.Uses.{UseOf}
-use Rattle.gq_variables.specs.AllVariableUsagesAreAllowed.{is_value}
+use Rattle.gq_variables.specs.Uses.{PlaceOf, UseOf}
+use Rattle.gq_variables.specs.AllVariableUsagesAreAllowed.{is_value, is_known}
 use Rattle.gq_variables.specs.Helping.VariablePlaces.{are_compatible, is_wrong_at, first_is_wrong}
 use Rattle.gq_variables.specs.Helping.Views.{variables_view}
 
@@ -19,6 +21,14 @@ use Rattle.gq_variables.specs.Helping.Views.{variables_view}
 -- value where the first has one.
 abbrev pub covers : (one other : VariableOf Span) → Bool
 covers one other = are_compatible other.type_ref one.type_ref && (is_value other.default || not (is_value one.default))
+
+-- wherever the variable is wrong, one of these is
+abbrev pub AddsNothing : List EntryOf → List (VariableOf Span) → VariableOf Span → Type 0
+AddsNothing es known v = (place : PlaceOf) → is_wrong_at es place v ≡ true → list_any (is_wrong_at es place) known ≡ true
+
+-- they name two types that are known
+abbrev pub name_two_types : List EntryOf → (one other : VariableOf Span) → Bool
+name_two_types es one other = is_known es one.type_ref && (is_known es other.type_ref && not (bytes_eq (base_name one.type_ref) (base_name other.type_ref)))
 
 -- whether a variable that stands under the name of the use may not stand at its place
 abbrev pub any_under : List EntryOf → UnderNames (Bor VariableDefinition) → UseOf → Bool

@@ -1,5 +1,5 @@
 -- The uses of variables, computed.
-use Rattle.std.specs.Prelude.{ℕ, List, [], ◌∷◌, ◌++◌, Option, Some, None, map, flat_map, slice_get}
+use Rattle.std.specs.Prelude.{ℕ, Bool, List, [], ◌∷◌, ◌++◌, Option, Some, None, flat_map, slice_get, if◌then◌else◌}
 use Rattle.std.specs.Option.{option_map_or}
 use Rattle.gq_text.specs.declared.place.Span.{Span}
 use Rattle.gq_tree.specs.Forest.{none, more}
@@ -89,6 +89,6 @@ fragment_uses es f = selection_uses es (fragment_selections es f) ++ directive_u
 abbrev pub row_at : List (List UseOf) → ℕ → List UseOf
 row_at rows number = option_map_or (λ row. row) (slice_get rows number) []
 
--- those that an operation reaches, given the numbers of the fragments
-abbrev pub reached_uses : List EntryOf → List FragmentOf → OperationOf → List ℕ → List UseOf
-reached_uses es fs o numbers = operation_uses es o ++ flat_map (row_at (map (fragment_uses es) fs)) numbers
+-- the uses, unless their faults are known
+abbrev pub unless : Bool → List UseOf → List UseOf
+unless are_known uses = if are_known then [] else uses

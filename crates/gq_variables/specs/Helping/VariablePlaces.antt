@@ -1,5 +1,5 @@
 -- The faults of variables, computed.
-use Rattle.std.specs.Prelude.{◌≡◌, ℕ, ◌<◌, Bool, false, List, [], ◌∷◌, ◌++◌, Some, map, flat_map, find, slice_get, if◌then◌else◌, not, ◌&&◌, ◌||◌}
+use Rattle.std.specs.Prelude.{◌≡◌, ◌↔◌, ℕ, ◌<◌, Bool, false, List, [], ◌∷◌, ◌++◌, Some, Contains, map, flat_map, find, slice_get, if◌then◌else◌, not, ◌&&◌, ◌||◌}
 use Rattle.std.specs.Option.{option_map_or}
 use Rattle.std.specs.List.{list_any}
 use Rattle.std.specs.Str.{bytes_eq}
@@ -112,12 +112,13 @@ not_allowed es variables repeated uses = flat_map (not_allowed_at es variables r
 abbrev pub definition_faults : List EntryOf → ℕ → (variables repeated : List (VariableOf Span)) → List Fault
 definition_faults es file variables repeated = not_unique file repeated ++ not_of_input_type es file variables
 
-abbrev pub use_faults : List EntryOf → ℕ → (variables repeated : List (VariableOf Span)) → List UseOf → List Fault
-use_faults es file variables repeated uses = not_defined (variable_texts variables) uses ++ (not_used file (use_texts uses) variables ++ not_allowed es variables repeated uses)
+abbrev pub use_faults : List EntryOf → (variables repeated : List (VariableOf Span)) → List UseOf → List Fault
+use_faults es variables repeated uses = not_defined (variable_texts variables) uses ++ not_allowed es variables repeated uses
 
-abbrev pub operation_faults : List EntryOf → OperationOf → List UseOf → List Fault
-operation_faults es o uses =
-    definition_faults es o.file o.variables (repeated_variables [] o.variables) ++ use_faults es o.file o.variables (repeated_variables [] o.variables) uses
+-- what is told of an operation that has all these uses, where what is told of uses is told of these alone
+abbrev pub operation_faults : List EntryOf → OperationOf → (all told : List UseOf) → List Fault
+operation_faults es o all told =
+    definition_faults es o.file o.variables (repeated_variables [] o.variables) ++ (not_used o.file (use_texts all) o.variables ++ use_faults es o.variables (repeated_variables [] o.variables) told)
 
 -- a fault of the operation of that number, and of one of an earlier number
 pub record IsFaultAt (x : ExecutableOf) (number : ℕ) (item : Fault) : Type 0 where
@@ -129,3 +130,7 @@ pub record IsFaultBefore (x : ExecutableOf) (number : ℕ) (item : Fault) : Type
   pub earlier : ℕ
   pub is_earlier : earlier < number
   pub fault : IsFaultAt x earlier item
+
+-- these are the faults of the operations before that number
+abbrev pub AreFaultsBefore : ExecutableOf → ℕ → List Fault → Type 0
+AreFaultsBefore x number faults = (fault : Fault) → Contains faults fault ↔ IsFaultBefore x number fault

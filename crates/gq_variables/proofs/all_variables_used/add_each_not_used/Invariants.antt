@@ -5,4 +5,4 @@ use Rattle.gq_variables.proofs.all_variables_used.add_each_not_used.Given as goa
 
 abbrev pub invariant-loop-one : goal.invariant-loop-one
 invariant-loop-one l =
-    l.faults.items ++ not_used l.file l.used (map variable_view (drop l.one-index l.variables)) ≡ l.initial.faults.items ++ not_used l.file l.used (map variable_view l.variables)
+    l.faults.items ++ not_used l.file (l.own ++ l.behind) (map variable_view (drop l.one-index l.variables)) ≡ l.initial.faults.items ++ not_used l.file (l.own ++ l.behind) (map variable_view l.variables)
