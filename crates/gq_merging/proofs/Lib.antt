@@ -14,6 +14,7 @@ pub mod FaultLemmas
 pub mod ArgumentLemmas
 pub mod EntryLemmas
 pub mod MarkLemmas
+pub mod PlaceLemmas
 pub mod StringLemmas
 pub mod IdentityLemmas
 pub mod EquivalenceLemmas

@@ -9,6 +9,7 @@ pub mod Marks
 pub mod NameTables
 pub mod PairTables
 pub mod ParentTables
+pub mod Places
 pub mod SearchTables
 pub mod SearchViews
 pub mod SetTables

@@ -15,6 +15,7 @@ mod marks;
 mod members;
 mod pairs;
 mod passed;
+mod places;
 pub mod purpose;
 mod rows;
 mod same_arguments;
