@@ -28,6 +28,7 @@ pub mod EarliestLemmas
 pub mod CliqueLemmas
 pub mod GrowLemmas
 pub mod ClassSearch
+pub mod PartLemmas
 pub mod KeptLemmas
 pub mod GroupSearch
 pub mod ThreadLemmas

@@ -8,6 +8,7 @@ pub mod KeptTables
 pub mod Marks
 pub mod NameTables
 pub mod PairTables
+pub mod PartTables
 pub mod ParentTables
 pub mod Places
 pub mod SearchTables

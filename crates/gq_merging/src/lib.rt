@@ -14,6 +14,7 @@ mod kept;
 mod marks;
 mod members;
 mod pairs;
+mod parts;
 mod passed;
 mod places;
 pub mod purpose;
