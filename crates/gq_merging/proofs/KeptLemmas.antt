@@ -1,13 +1,12 @@
 -- What fragments that are spread together reach, kept by keys; and the fields of a group, which are its sets' own and those.
-use Rattle.std.proofs.Common.{◌≡◌, ◌↔◌, ◌⊎◌, ⊎_elim, inl, inr, ℕ, zero, suc, ◌+◌, ◌<◌, List, [], ◌∷◌, ◌++◌, append-nil, Some, None, All, Contains, length, map, take, get_or, refl, sym, ◌∙◌, ap, subst, Vec, Global}
+use Rattle.std.proofs.Common.{◌≡◌, ◌↔◌, ◌⊎◌, ⊎_elim, inl, inr, ℕ, ◌+◌, ◌<◌, List, [], ◌∷◌, ◌++◌, append-nil, Some, None, All, Contains, length, map, take, get_or, refl, sym, ◌∙◌, ap, subst, Vec, Global}
 use Rattle.std.specs.List.{slice_get, flat_map}
 use Rattle.std.specs.Option.{option_map}
 use Rattle.std.proofs.lemmas.List.{length-map, map-append, take_more}
-use Rattle.std.proofs.lemmas.List.Elements.{All-nil, All-contains, All-weaker, All-contains_itself, Contains-append_left, Contains-append_right, Contains-append_cases, Contains-push, Contains-push_cases}
+use Rattle.std.proofs.lemmas.List.Elements.{All-contains, Contains-append_left, Contains-append_right, Contains-append_cases, Contains-push, Contains-push_cases}
 use Rattle.std.proofs.lemmas.Option.{none-some, same_Some, slice_get-map, slice_get_within, slice_get_read}
-use Rattle.gq_names.proofs.RepeatLemmas.{contains_none, contains_first, contains_later}
-use Rattle.gq_graph.specs.Reach.{Reach, InRange, start, step, row}
-use Rattle.gq_graph.proofs.Ways.{way_on, way_starts, contains_one, FirstStep, first_step}
+use Rattle.gq_names.proofs.RepeatLemmas.{contains_none}
+use Rattle.gq_graph.specs.Reach.{Reach, row}
 use Rattle.gq_fault.specs.declared.fault.Fault.{Fault}
 use Rattle.gq_types.specs.Entries.{Text}
 use Rattle.gq_document.specs.FieldSets.{key}
@@ -17,6 +16,7 @@ use Rattle.gq_merging.specs.Helping.PairTables.{MetOf, LookOf, AreMet}
 use Rattle.gq_merging.specs.Helping.NameTables.{ByNameOf, by_name_view, fields_with, AreByKey}
 use Rattle.gq_merging.specs.Helping.SearchTables.{AreInGroup, AreOfOneKey, AreMetInOne, Searched}
 use Rattle.gq_merging.specs.Helping.KeptTables.{KeptOf, AreByTheirKeys, IsTableOf, IsKept, AreKept, IsTableAt, ArePut, AreMetBeside, AreMetBesideOne, table_view, tables_view}
+use Rattle.gq_merging.specs.Helping.PartTables.{AreSplit}
 use Rattle.gq_merging.specs.Helping.Views.{member_view, members_view, rows_view}
 use Rattle.gq_merging.specs.declared.rows.Member.{Member}
 use Rattle.gq_merging.specs.declared.rows.Row.{Row}
@@ -27,51 +27,6 @@ use Rattle.gq_merging.proofs.Worklist.{get_seam}
 use Rattle.gq_merging.proofs.MemberSteps.{alike, reach_alike}
 use Rattle.gq_merging.proofs.GrowLemmas.{searched_as, searched_both, searched_nowhere, still_in_one}
 use Rattle.gq_types.proofs.Gathered.{from_flat, to_flat}
-
--- a way of no step, or one that goes on from what the first number leads to
-lone_way : (next : ℕ → List ℕ) (b n : ℕ) → Reach (b ∷ []) next n → (n ≡ b) ⊎ Reach (next b) next n
-lone_way next b n (start h) = inl (contains_one b n h)
-lone_way next b n (step {m = k} r c) = ⊎_elim (λ e. inr (start (subst (λ j. Contains (next j) n) e c))) (λ w. inr (step w c)) (lone_way next b k r)
-
-module _ (rows : List RowOf) (group : List ℕ) where
-  abbrev own : List MemberOf
-  own = flat_map (members_at rows) group
-
-  abbrev spread : List ℕ
-  spread = flat_map (spreads_at rows) group
-
-  -- the fields of a group: its sets' own, and those that the fragments reach which are spread in them
-  own_or_reached : (m : MemberOf) → IsOfGroup rows group m ↔ (Contains own m ⊎ IsOfGroup rows spread m)
-  own_or_reached m = (
-    (λ h.
-        let f : FirstStep (spreads_at rows) group h.reached = first_step (spreads_at rows) group h.reached h.reach in
-        ⊎_elim
-        (λ e. inl (to_flat (members_at rows) group f.by m f.on (subst (λ k. Contains (members_at rows k) m) e h.stands)))
-        (λ w. inr (record { reached = h.reached; reach = way_starts (spreads_at rows) (spreads_at rows f.by) spread (λ k c. to_flat (spreads_at rows) group f.by k f.on c) h.reached w; stands = h.stands }))
-        (lone_way (spreads_at rows) f.by h.reached f.rest)),
-    (λ s. ⊎_elim
-        (λ c. let q = from_flat (members_at rows) group m c in record { reached = q.0; reach = start q.1; stands = q.2 })
-        (λ h.
-        let f : FirstStep (spreads_at rows) spread h.reached = first_step (spreads_at rows) spread h.reached h.reach in
-        let q = from_flat (spreads_at rows) group f.by f.on in
-        record { reached = h.reached; reach = way_on group (spreads_at rows) f.by h.reached (step (start q.1) q.2) f.rest; stands = h.stands }) s),
-  )
-
-row_holds : (P : ℕ → Type 0) (vs : List (Vec ℕ Global)) → ((v : Vec ℕ Global) → Contains vs v → (n : ℕ) → Contains v.items n → P n) → (k n : ℕ) → Contains (row vs k) n → P n
-row_holds P [] h k n c = absurd (contains_none n c)
-row_holds P (v ∷ vs) h zero n c = h v (contains_first v vs v refl) n c
-row_holds P (v ∷ vs) h (suc k) n c = row_holds P vs (λ w d. h w (contains_later v vs w d)) k n c
-
--- the fragments that are spread in sets have rows
-pub spreads_have_rows : (rows : List Row) (table : List (Vec ℕ Global)) → map (λ v. v.items) table ≡ map (λ r. r.spreads.items) rows → InRange table → (group ns : List ℕ) →
-    ns ≡ flat_map (spreads_at (rows_view rows)) group → All (λ n. n < length table) ns
-spreads_have_rows rows table same range group ns is =
-    All-weaker (Contains ns) (λ n. n < length table)
-    (λ n c.
-    let q = from_flat (spreads_at (rows_view rows)) group n (subst (λ ms. Contains ms n) is c) in
-    row_holds (λ n. n < length table) table
-    (λ v d m e. All-contains (λ k. k < length table) v.items m (All-contains (λ w. All (λ k. k < length table) w.items) table v range d) e)
-    q.0 n (subst (λ ms. Contains ms n) (sym (alike rows table same q.0)) q.2)) ns (All-contains_itself ns)
 
 -- the fields of a group are those of all that it reaches
 module _ (rows : List Row) (table : List (Vec ℕ Global)) (same : map (λ v. v.items) table ≡ map (λ r. r.spreads.items) rows) (group found : List ℕ) (ms : List MemberOf)
@@ -193,27 +148,27 @@ module _ (w : LookOf) (t : ByNameOf) where
   pub no_lists_beside : (faults : List Fault) (old : List (List ℕ)) → Searched w (AreMetBesideOne [] t) faults faults old old
   no_lists_beside faults old = searched_nowhere w (AreMetBesideOne [] t) faults old (λ p h. contains_none h.list h.is_list)
 
--- Of two fields of one key in a group both are among those that the fragments reach, or one of them stands in a set of the group itself.
-module _ (rows : List RowOf) (group : List ℕ) (vs : List (Vec Member Global)) (o : ByNameOf) (are : o.lists ≡ map seen vs)
-    (by_key : AreByKey o (flat_map (members_at rows) group)) (t : ByNameOf) (is : IsTableOf rows (flat_map (spreads_at rows) group) t) where
+-- Of two fields of one key in a group both are among those that the fragments reach, or one of them is among the others.
+module _ (rows : List RowOf) (group : List ℕ) (own : List MemberOf) (fragments : List ℕ) (split : AreSplit rows group own fragments) (vs : List (Vec Member Global)) (o : ByNameOf) (are : o.lists ≡ map seen vs)
+    (by_key : AreByKey o own) (t : ByNameOf) (is : IsTableOf rows fragments t) where
   -- a field of the group that has the key of one of its own stands in the list of that, or with those that the table has for it
-  in_list_or_table : (list : List MemberOf) → (m : MemberOf) → ((v : MemberOf) → Contains (flat_map (members_at rows) group) v → key v.field_at ≡ key m.field_at → Contains list v) →
+  in_list_or_table : (list : List MemberOf) → (m : MemberOf) → ((v : MemberOf) → Contains own v → key v.field_at ≡ key m.field_at → Contains list v) →
       (text : Text) → key m.field_at ≡ text → IsOfGroup rows group m → Contains (list ++ fields_with t text) m
   in_list_or_table list m holds text e h = ⊎_elim
       (λ c. Contains-append_left list (fields_with t text) m (holds m c refl))
       (λ r. Contains-append_right list (fields_with t text) m ((is.each text m).1 (r, e)))
-      ((own_or_reached rows group m).0 h)
+      ((split.each m).0 h)
 
   of_the_group : (list : List MemberOf) → Contains o.lists list → (text : Text) (m : MemberOf) → Contains (list ++ fields_with t text) m → IsOfGroup rows group m
   of_the_group list c text m h = ⊎_elim
-      (λ l. (own_or_reached rows group m).1 (inl ((list_of_member o (flat_map (members_at rows) group) by_key).0 list c m l)))
-      (λ r. (own_or_reached rows group m).1 (inr ((is.each text m).0 r).0))
+      (λ l. (split.each m).1 (inl ((list_of_member o own by_key).0 list c m l)))
+      (λ r. (split.each m).1 (inr ((is.each text m).0 r).0))
       (Contains-append_cases list (fields_with t text) m h)
 
   -- one of its own fields, with all that have its key
-  with_own : (p : MetOf) → AreInGroup rows group p → (m : MemberOf) → Contains (flat_map (members_at rows) group) m → key m.field_at ≡ key p.left.field_at → AreMetBesideOne o.lists t p
+  with_own : (p : MetOf) → AreInGroup rows group p → (m : MemberOf) → Contains own m → key m.field_at ≡ key p.left.field_at → AreMetBesideOne o.lists t p
   with_own p h m c e =
-      let q = (list_of_member o (flat_map (members_at rows) group) by_key).1 m c in
+      let q = (list_of_member o own by_key).1 m c in
       record {
         list = q.0;
         is_list = q.1;
@@ -227,10 +182,10 @@ module _ (rows : List RowOf) (group : List ℕ) (vs : List (Vec Member Global)) 
         };
       }
 
-  own_or_kept : (p : MetOf) → (AreInGroup rows (flat_map (spreads_at rows) group) p ⊎ AreMetBesideOne o.lists t p) ↔ AreInGroup rows group p
+  own_or_kept : (p : MetOf) → (AreInGroup rows fragments p ⊎ AreMetBesideOne o.lists t p) ↔ AreInGroup rows group p
   own_or_kept p = (
     (λ s. ⊎_elim
-        (λ k. record { left = (own_or_reached rows group p.left).1 (inr k.left); right = (own_or_reached rows group p.right).1 (inr k.right); one_key = k.one_key })
+        (λ k. record { left = (split.each p.left).1 (inr k.left); right = (split.each p.right).1 (inr k.right); one_key = k.one_key })
         (λ b. record {
           left = of_the_group b.list b.is_list (key p.left.field_at) p.left b.met.left;
           right = of_the_group b.list b.is_list (key p.left.field_at) p.right b.met.right;
@@ -241,16 +196,16 @@ module _ (rows : List RowOf) (group : List ℕ) (vs : List (Vec Member Global)) 
         (λ l. ⊎_elim
         (λ c. inr (with_own p h p.right c (sym h.one_key)))
         (λ r. inl (record { left = l; right = r; one_key = h.one_key }))
-        ((own_or_reached rows group p.right).0 h.right))
-        ((own_or_reached rows group p.left).0 h.left)),
+        ((split.each p.right).0 h.right))
+        ((split.each p.left).0 h.left)),
   )
 
   pub group_told : (w : LookOf) (faults middle faults' : List Fault) (old between new : List (List ℕ)) →
-      Searched w (AreInGroup rows (flat_map (spreads_at rows) group)) faults middle old between → Searched w (AreMetBesideOne (map seen vs) t) middle faults' between new →
+      Searched w (AreInGroup rows fragments) faults middle old between → Searched w (AreMetBesideOne (map seen vs) t) middle faults' between new →
       Searched w (AreInGroup rows group) faults faults' old new
   group_told w faults middle faults' old between new a b =
-      searched_as w (λ p. AreInGroup rows (flat_map (spreads_at rows) group) p ⊎ AreMetBesideOne o.lists t p) (AreInGroup rows group) faults faults' old new own_or_kept
-      (searched_both w (AreInGroup rows (flat_map (spreads_at rows) group)) (AreMetBesideOne o.lists t) faults middle faults' old between new a
+      searched_as w (λ p. AreInGroup rows fragments p ⊎ AreMetBesideOne o.lists t p) (AreInGroup rows group) faults faults' old new own_or_kept
+      (searched_both w (AreInGroup rows fragments) (AreMetBesideOne o.lists t) faults middle faults' old between new a
       (subst (λ ls. Searched w (AreMetBesideOne ls t) middle faults' between new) (sym are) b))
 
 -- the code's tables

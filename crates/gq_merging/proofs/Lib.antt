@@ -14,6 +14,7 @@ pub mod FaultLemmas
 pub mod ArgumentLemmas
 pub mod EntryLemmas
 pub mod MarkLemmas
+pub mod PlaceLemmas
 pub mod StringLemmas
 pub mod IdentityLemmas
 pub mod EquivalenceLemmas
@@ -27,6 +28,7 @@ pub mod EarliestLemmas
 pub mod CliqueLemmas
 pub mod GrowLemmas
 pub mod ClassSearch
+pub mod PartLemmas
 pub mod KeptLemmas
 pub mod GroupSearch
 pub mod ThreadLemmas

@@ -1,85 +1,103 @@
 -- Each pair of entries is compared once: what the marks then say.
-use Rattle.std.proofs.Common.{◌≡◌, ◌≢◌, ◌↔◌, ◌⊎◌, inl, inr, ⊎_elim, ℕ, zero, suc, ◌+◌, ◌<◌, ◌≤◌, Bool, true, false, IsTrue, List, [], ◌∷◌, ◌++◌, length, take, set, Contains, refl, sym, ◌∙◌, ap, subst, arith}
+use Rattle.std.proofs.Common.{◌≡◌, ◌≢◌, ◌↔◌, ◌⊎◌, inl, inr, ⊎_elim, ℕ, zero, suc, ◌+◌, ◌<◌, ◌≤◌, Bool, true, false, IsTrue, List, [], ◌∷◌, ◌++◌, length, take, get_or, set, Contains, refl, sym, ◌∙◌, ap, subst, arith}
 use Rattle.std.specs.List.{list_all}
 use Rattle.std.proofs.lemmas.Bool.Decides.{eqb_tells}
 use Rattle.std.proofs.lemmas.List.{get_or_default, take_more, take_all, get_or-set_same, get_or-set_other, length-set}
-use Rattle.std.proofs.lemmas.List.Elements.{Contains-append_left, Contains-append_right, Contains-append_cases}
+use Rattle.std.proofs.lemmas.List.Elements.{Contains-append_left, Contains-append_right, Contains-append_cases, Contains-push, Contains-push_cases}
 use Rattle.gq_names.proofs.RepeatLemmas.{contains_none, contains_first, contains_cases}
 use Rattle.gq_names.specs.Repeats.{StandsAt}
 use Rattle.gq_text.specs.declared.place.Span.{Span}
 use Rattle.gq_tree.specs.Plain.{Val}
 use Rattle.gq_merging.specs.SameArguments.{IsArgument, SameArguments}
-use Rattle.gq_merging.specs.Helping.Marks.{IsAmong, IsSameAt, IsAmongFirst, is_marked, MarksSame, MarksEach, AllFound}
+use Rattle.gq_merging.specs.Helping.Marks.{IsAmong, IsSameAt, IsAmongThese, AreItsPlaces, is_marked, MarksSame, MarksEach, AllFound}
 
 one_stands : {A : Type 0} (xs : List A) (i : ℕ) (x y : A) → StandsAt xs i x → StandsAt xs i y → x ≡ y
 one_stands xs i x y h k = sym h.1 ∙ get_or_default xs i x y h.0 ∙ k.1
 
-module _ (a : Val Span) (bs : List (Val Span)) where
-  pub marks_begin : (old : List Bool) → MarksSame a bs 0 old old
-  marks_begin old = record { as_many = refl; are = λ j. ((λ t. inl t), (λ s. ⊎_elim (λ t. t) (λ p. absurd (omega (arith, p.0))) s)) }
+pub there_at : (ns : List ℕ) (k : ℕ) → k < length ns → Contains ns (get_or ns k 0)
+there_at ns k inside = (k, inside, get_or_default ns k (get_or ns k 0) 0 inside)
 
-  module _ (i : ℕ) (b : Val Span) (stands : StandsAt bs i b) where
+module _ (a : Val Span) (bs : List (Val Span)) where
+  pub marks_begin : (old : List Bool) → MarksSame a bs [] old old
+  marks_begin old = record { as_many = refl; are = λ j. ((λ t. inl t), (λ s. ⊎_elim (λ t. t) (λ p. absurd (contains_none j p.0)) s)) }
+
+  pub found_none : IsTrue false ↔ IsAmongThese a bs []
+  found_none = ((λ t. absurd (cc)), (λ q. absurd (contains_none q.0 q.1)))
+
+  module _ (ps : List ℕ) (i : ℕ) (b : Val Span) (stands : StandsAt bs i b) where
     -- the entry at the place is compared: it is marked if it is identical, and no other mark changes
-    marks_more : (old new then : List Bool) (same : Bool) → (IsTrue same ↔ IsArgument a b) → MarksSame a bs i old new → length then ≡ length new →
-        (IsTrue (is_marked then i) ↔ (IsTrue same ⊎ IsTrue (is_marked new i))) → ((j : ℕ) → j ≢ i → is_marked then j ≡ is_marked new j) → MarksSame a bs (i + 1) old then
+    marks_more : (old new then : List Bool) (same : Bool) → (IsTrue same ↔ IsArgument a b) → MarksSame a bs ps old new → length then ≡ length new →
+        (IsTrue (is_marked then i) ↔ (IsTrue same ⊎ IsTrue (is_marked new i))) → ((j : ℕ) → j ≢ i → is_marked then j ≡ is_marked new j) → MarksSame a bs (ps ++ i ∷ []) old then
     marks_more old new then same are m long here others = record { as_many = long ∙ m.as_many; are = λ j. ⊎_elim (λ p. at_place j p.1) (λ p. elsewhere j p.1) (eqb_tells j i) }
       where
-        from_place : IsTrue (is_marked new i) → IsTrue (is_marked old i) ⊎ ((i < i + 1) × IsSameAt a bs i)
-        from_place t = ⊎_elim (λ o. inl o) (λ p. inr (omega arith, p.1)) ((m.are i).0 t)
+        from_place : IsTrue (is_marked new i) → IsTrue (is_marked old i) ⊎ (Contains (ps ++ i ∷ []) i × IsSameAt a bs i)
+        from_place t = ⊎_elim (λ o. inl o) (λ p. inr (Contains-push ps i, p.1)) ((m.are i).0 t)
 
-        to_place : IsTrue (is_marked old i) ⊎ ((i < i + 1) × IsSameAt a bs i) → IsTrue (is_marked then i)
+        to_place : IsTrue (is_marked old i) ⊎ (Contains (ps ++ i ∷ []) i × IsSameAt a bs i) → IsTrue (is_marked then i)
         to_place s = ⊎_elim (λ o. here.1 (inr ((m.are i).1 (inl o)))) (λ p. here.1 (inl (are.1 (subst (IsArgument a) (one_stands bs i p.1.0 b p.1.1 stands) p.1.2)))) s
 
-        at_place : (j : ℕ) → j ≡ i → IsTrue (is_marked then j) ↔ (IsTrue (is_marked old j) ⊎ ((j < i + 1) × IsSameAt a bs j))
-        at_place j e = subst (λ k. IsTrue (is_marked then k) ↔ (IsTrue (is_marked old k) ⊎ ((k < i + 1) × IsSameAt a bs k))) (sym e)
-            ((λ t. ⊎_elim (λ s. inr (omega arith, (b, stands, are.0 s))) from_place (here.0 t)), to_place)
+        at_place : (j : ℕ) → j ≡ i → IsTrue (is_marked then j) ↔ (IsTrue (is_marked old j) ⊎ (Contains (ps ++ i ∷ []) j × IsSameAt a bs j))
+        at_place j e = subst (λ k. IsTrue (is_marked then k) ↔ (IsTrue (is_marked old k) ⊎ (Contains (ps ++ i ∷ []) k × IsSameAt a bs k))) (sym e)
+            ((λ t. ⊎_elim (λ s. inr (Contains-push ps i, (b, stands, are.0 s))) from_place (here.0 t)), to_place)
 
-        elsewhere : (j : ℕ) → j ≢ i → IsTrue (is_marked then j) ↔ (IsTrue (is_marked old j) ⊎ ((j < i + 1) × IsSameAt a bs j))
+        elsewhere : (j : ℕ) → j ≢ i → IsTrue (is_marked then j) ↔ (IsTrue (is_marked old j) ⊎ (Contains (ps ++ i ∷ []) j × IsSameAt a bs j))
         elsewhere j n = (
-          (λ t. ⊎_elim (λ o. inl o) (λ p. inr (omega (arith, p.0), p.1)) ((m.are j).0 (sym (others j n) ∙ t))),
-          (λ s. others j n ∙ (m.are j).1 (⊎_elim (λ o. inl o) (λ p. inr (omega (arith, n, p.0), p.1)) s)),
+          (λ t. ⊎_elim (λ o. inl o) (λ p. inr (Contains-append_left ps (i ∷ []) j p.0, p.1)) ((m.are j).0 (sym (others j n) ∙ t))),
+          (λ s. others j n ∙ (m.are j).1 (⊎_elim (λ o. inl o) (λ p. inr (⊎_elim (λ c. c) (λ e. absurd (n (sym e))) (Contains-push_cases ps i j p.0), p.1)) s)),
         )
 
-    pub marks_set : (old new : List Bool) → IsArgument a b → i < length new → MarksSame a bs i old new → MarksSame a bs (i + 1) old (set new i true)
+    pub marks_set : (old new : List Bool) → IsArgument a b → i < length new → MarksSame a bs ps old new → MarksSame a bs (ps ++ i ∷ []) old (set new i true)
     marks_set old new is inside m = marks_more old new (set new i true) true ((λ t. is), (λ t. refl)) m (length-set new i true)
         ((λ t. inl refl), (λ s. get_or-set_same new i true false inside)) (λ j n. get_or-set_other new i j true false n)
 
-    pub marks_kept : (old new : List Bool) (same : Bool) → (IsTrue same ↔ IsArgument a b) → same ≡ false → MarksSame a bs i old new → MarksSame a bs (i + 1) old new
+    pub marks_kept : (old new : List Bool) (same : Bool) → (IsTrue same ↔ IsArgument a b) → same ≡ false → MarksSame a bs ps old new → MarksSame a bs (ps ++ i ∷ []) old new
     marks_kept old new same are apart m = marks_more old new new same are m refl ((λ t. inr t), (λ s. ⊎_elim (λ t. absurd (cc)) (λ t. t) s)) (λ j n. refl)
 
-    pub found_here : IsArgument a b → IsTrue true ↔ IsAmongFirst a bs (i + 1)
-    found_here is = ((λ t. (i, omega arith, (b, stands, is))), (λ h. refl))
+    pub found_here : IsArgument a b → IsTrue true ↔ IsAmongThese a bs (ps ++ i ∷ [])
+    found_here is = ((λ t. (i, Contains-push ps i, (b, stands, is))), (λ h. refl))
 
-    pub found_kept : (found same : Bool) → (IsTrue same ↔ IsArgument a b) → same ≡ false → IsTrue found ↔ IsAmongFirst a bs i → IsTrue found ↔ IsAmongFirst a bs (i + 1)
+    pub found_kept : (found same : Bool) → (IsTrue same ↔ IsArgument a b) → same ≡ false → IsTrue found ↔ IsAmongThese a bs ps → IsTrue found ↔ IsAmongThese a bs (ps ++ i ∷ [])
     found_kept found same are apart h = (
-      (λ t. let q = h.0 t in (q.0, omega (arith, q.1), q.2)),
+      (λ t. let q = h.0 t in (q.0, Contains-append_left ps (i ∷ []) q.0 q.1, q.2)),
       (λ q. ⊎_elim
-          (λ p. absurd (true_false (are.1 (subst (IsArgument a) (one_stands bs i q.2.0 b (subst (λ k. StandsAt bs k q.2.0) p.1 q.2.1) stands) q.2.2)) apart))
-          (λ p. h.1 (q.0, omega (arith, p.1, q.1), q.2)) (eqb_tells q.0 i)),
+          (λ c. h.1 (q.0, c, q.2))
+          (λ e. absurd (true_false (are.1 (subst (IsArgument a) (one_stands bs i q.2.0 b (subst (λ k. StandsAt bs k q.2.0) (sym e) q.2.1) stands) q.2.2)) apart))
+          (Contains-push_cases ps i q.0 q.1)),
     )
       where
         true_false : {b : Bool} → b ≡ true → b ≡ false → ⊥
         true_false t f = cc
 
-  pub found_none : IsTrue false ↔ IsAmongFirst a bs 0
-  found_none = ((λ t. absurd (cc)), (λ q. absurd (omega (arith, q.1))))
+  -- where no other entries are identical
+  module _ (ps : List ℕ) (its : AreItsPlaces a bs ps) where
+    pub marks_end : (old new : List Bool) → MarksSame a bs ps old new → MarksEach a bs old new
+    marks_end old new m = record {
+      as_many = m.as_many;
+      are = λ j. (
+        (λ t. ⊎_elim inl (λ p. inr p.1) ((m.are j).0 t)),
+        (λ s. (m.are j).1 (⊎_elim inl (λ is. inr (its.each j is, is)) s)),
+      );
+    }
+
+    pub found_end : (found : Bool) → IsTrue found ↔ IsAmongThese a bs ps → IsTrue found ↔ IsAmong a bs
+    found_end found h = (
+      (λ t. let q = h.0 t in (q.2.0, (q.0, q.2.1.0, q.2.1.1), q.2.2)),
+      (λ q. let is : IsSameAt a bs q.1.0 = (q.0, (q.1.1, q.1.2), q.2) in h.1 (q.1.0, its.each q.1.0 is, is)),
+    )
 
 -- one more entry has found an identical one
-all_more : (xs bs : List (Val Span)) (a : Val Span) (old new : List Bool) → AllFound xs bs old → IsAmong a bs → MarksSame a bs (length bs) old new → AllFound (xs ++ a ∷ []) bs new
+all_more : (xs bs : List (Val Span)) (a : Val Span) (old new : List Bool) → AllFound xs bs old → IsAmong a bs → MarksEach a bs old new → AllFound (xs ++ a ∷ []) bs new
 all_more xs bs a old new h is m = record {
   found = λ x k. ⊎_elim (λ p. h.found x p) (λ p. subst (λ z. IsAmong z bs) (last x p) is) (Contains-append_cases xs (a ∷ []) x k);
   as_many = m.as_many ∙ h.as_many;
   marked = λ j. (
-    (λ t. ⊎_elim (λ o. let q = (h.marked j).0 o in (q.0, Contains-append_left xs (a ∷ []) q.0 q.1, q.2)) (λ p. (a, Contains-append_right xs (a ∷ []) a (contains_first a [] a refl), p.1)) ((m.are j).0 t)),
-    (λ q. (m.are j).1 (⊎_elim (λ p. inl ((h.marked j).1 (q.0, p, q.2))) (λ p. inr (below j q.2, subst (λ z. IsSameAt z bs j) (sym (last q.0 p)) q.2)) (Contains-append_cases xs (a ∷ []) q.0 q.1))),
+    (λ t. ⊎_elim (λ o. let q = (h.marked j).0 o in (q.0, Contains-append_left xs (a ∷ []) q.0 q.1, q.2)) (λ p. (a, Contains-append_right xs (a ∷ []) a (contains_first a [] a refl), p)) ((m.are j).0 t)),
+    (λ q. (m.are j).1 (⊎_elim (λ p. inl ((h.marked j).1 (q.0, p, q.2))) (λ p. inr (subst (λ z. IsSameAt z bs j) (sym (last q.0 p)) q.2)) (Contains-append_cases xs (a ∷ []) q.0 q.1))),
   );
 }
   where
     last : (x : Val Span) → Contains (a ∷ []) x → a ≡ x
     last x p = ⊎_elim (λ e. e) (λ f. absurd (contains_none x f)) (contains_cases a [] x p)
-
-    below : {z : Val Span} (j : ℕ) → IsSameAt z bs j → j < length bs
-    below j q = q.1.0
 
 -- the same for the entry that stands next in a list
 pub all_more_at : (xs bs : List (Val Span)) (i : ℕ) (a : Val Span) (old new : List Bool) → StandsAt xs i a → AllFound (take i xs) bs old → IsAmong a bs → MarksEach a bs old new → AllFound (take (i + 1) xs) bs new

@@ -23,12 +23,6 @@ members_of_row rows n r e = ap (λ (o : Option RowOf). option_map_or (λ (r : Ro
 pub members_past : (rows : List Row) (n : ℕ) → slice_get rows n ≡ None → members_at (rows_view rows) n ≡ []
 members_past rows n e = ap (λ (o : Option RowOf). option_map_or (λ (r : RowOf). r.members) o []) (slice_get-map row_view rows n ∙ ap (option_map row_view) e)
 
-pub spreads_of_row : (rows : List Row) (n : ℕ) (r : Row) → slice_get rows n ≡ Some r → spreads_at (rows_view rows) n ≡ r.spreads.items
-spreads_of_row rows n r e = ap (λ (o : Option RowOf). option_map_or (λ (r : RowOf). r.spreads) o []) (slice_get-map row_view rows n ∙ ap (option_map row_view) e)
-
-pub spreads_past : (rows : List Row) (n : ℕ) → slice_get rows n ≡ None → spreads_at (rows_view rows) n ≡ []
-spreads_past rows n e = ap (λ (o : Option RowOf). option_map_or (λ (r : RowOf). r.spreads) o []) (slice_get-map row_view rows n ∙ ap (option_map row_view) e)
-
 -- the fields of a set that stands alone
 pub lone_members : (rows : List RowOf) (numbers : List ℕ) → length numbers ≡ 1 → members_at rows (get_or numbers 0 0) ≡ flat_map (members_at rows) numbers
 lone_members rows [] one = absurd (omega (arith, one))
@@ -49,7 +43,7 @@ pub reach_alike : (f g : ℕ → List ℕ) (starts : List ℕ) → ((n : ℕ) �
 reach_alike f g starts same k (start c) = start c
 reach_alike f g starts same k (step {m = m} h c) = step (reach_alike f g starts same m h) (subst (λ ns. Contains ns k) (same m) c)
 
-row_there : (table : List (Vec ℕ Global)) (m k : ℕ) → Contains (row table m) k → (v : Vec ℕ Global) × Contains table v × Contains v.items k
+pub row_there : (table : List (Vec ℕ Global)) (m k : ℕ) → Contains (row table m) k → (v : Vec ℕ Global) × Contains table v × Contains v.items k
 row_there [] m k c = absurd (contains_none k c)
 row_there (v ∷ table) zero k c = (v, contains_first v table v refl, c)
 row_there (v ∷ table) (suc m) k c = let r = row_there table m k c in (r.0, contains_later v table r.0 r.1, r.2)

@@ -8,7 +8,9 @@ pub mod KeptTables
 pub mod Marks
 pub mod NameTables
 pub mod PairTables
+pub mod PartTables
 pub mod ParentTables
+pub mod Places
 pub mod SearchTables
 pub mod SearchViews
 pub mod SetTables

@@ -271,7 +271,7 @@ fn add_unmarked_faults(
 /// Selection sets of which it is known that all fields under them merge are passed over. Under the others fields are looked at in
 /// groups, which takes time for the fields that each operation reaches. Only where the groups would be too many are pairs of
 /// fields looked at, each pair of sets once: that takes time for the pairs of fields that stand in them, and memory for the pairs
-/// of sets. Identical arguments in one order take linear time, others time for each pair of values in them.
+/// of sets. Identical arguments in one order take linear time, others time for each pair of values of one name.
 pub fn add_merging_faults(
     alloc: Global,
     executable: &Executable<'_>,

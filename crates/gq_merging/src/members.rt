@@ -11,7 +11,7 @@ use gq_text::NoMemory;
 use std::alloc::Global;
 
 /// A copy of the numbers.
-fn copied(alloc: Global, numbers: &[usize]) -> Result<Vec<usize>, NoMemory>
+pub(crate) fn copied(alloc: Global, numbers: &[usize]) -> Result<Vec<usize>, NoMemory>
     ensures { IfOk result (λ copy. copy.items ≡ numbers.now) }
 {
     let mut copy = Vec::new(alloc);
@@ -89,34 +89,6 @@ fn put_members<'a>(
 {
     if number < rows.len() {
         members.extend_from_slice(&rows[number].members)?;
-    }
-    Ok(())
-}
-
-/// The numbers of the fragments that are spread in the sets with these numbers.
-pub(crate) fn spreads_of(
-    alloc: Global,
-    rows: &[Row<'_>],
-    numbers: &[usize],
-) -> Result<Vec<usize>, NoMemory>
-    ensures { IfOk result (λ fragments. fragments.items ≡ flat_map (spreads_at (rows_view rows.now)) numbers.now) }
-{
-    let mut fragments = Vec::new(alloc);
-    for number in numbers {
-        put_spreads_of(rows, *number, &mut fragments)?;
-    }
-    Ok(fragments)
-}
-
-fn put_spreads_of(
-    rows: &[Row<'_>],
-    number: usize,
-    fragments: &mut Vec<usize>,
-) -> Result<(), NoMemory>
-    ensures { OnOk result (fragments.new.items ≡ fragments.old.items ++ spreads_at (rows_view rows.now) number) }
-{
-    if number < rows.len() {
-        fragments.extend_from_slice(&rows[number].spreads)?;
     }
     Ok(())
 }

@@ -10,7 +10,7 @@ use gq_tree::{Argument, are_same_arguments};
 use std::alloc::Global;
 
 /// Whether each name and value of the one is in the other. Arguments in one order take linear time, others time for
-/// each pair of values.
+/// each pair of values of one name.
 pub(crate) fn have_same_arguments(
     alloc: Global,
     left: &[Argument],

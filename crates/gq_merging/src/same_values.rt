@@ -4,10 +4,11 @@ ghost use Rattle.std.specs.Str.{bytes_eq};
 ghost use Rattle.gq_tree.specs.Views.{value_view, values_view};
 ghost use Rattle.gq_merging.specs.SameArguments.{AreInOrder, IsArgument, SameArguments};
 ghost use Rattle.gq_merging.specs.Helping.Entries.{entry_seen, entries_seen};
-ghost use Rattle.gq_merging.specs.Helping.Marks.{AreAlike, IsAmong, MarksEach};
+ghost use Rattle.gq_merging.specs.Helping.Marks.{AreAlike, AreItsPlaces, IsAmong, MarksEach};
 
 use crate::entries::{Entries, Entry};
 use crate::marks::{are_all_marked, unmarked};
+use crate::places::Places;
 use crate::same_strings::are_same_strings;
 use gq_text::NoMemory;
 use gq_tree::{Literal, Name, Value};
@@ -73,7 +74,8 @@ fn are_in_order(alloc: Global, left: &[Value], right: &[Value]) -> Result<bool, 
     Ok(true)
 }
 
-/// Whether each entry of the one is in the other, and the other way round. Each pair of entries is compared once.
+/// Whether each entry of the one is in the other, and the other way round. Each pair of entries of one name is compared
+/// once.
 #[cycle(alike)]
 pub(crate) fn have_same_entries(
     alloc: Global,
@@ -82,9 +84,12 @@ pub(crate) fn have_same_entries(
 ) -> Result<bool, NoMemory>
     ensures { IfOk result (λ same. IsTrue same ↔ SameArguments (entries_seen left.entry) (entries_seen right.entry)) }
 {
+    let places = Places::of(alloc, right)?;
     let mut marks = unmarked(alloc, right.len())?;
     for i in 0..left.len() {
-        let found = mark_entries(alloc, left.at(i), right, &mut marks)?;
+        let entry = left.at(i);
+        let these = places.with_name(entry.name.text.as_str());
+        let found = mark_entries(alloc, entry, right, these, &mut marks)?;
         if !found {
             return Ok(false);
         }
@@ -92,23 +97,26 @@ pub(crate) fn have_same_entries(
     Ok(are_all_marked(&marks))
 }
 
-/// Marks the entries that are identical to this one, and answers whether there are some.
+/// Marks the entries that are identical to this one, and answers whether there are some. All that can be stand at these
+/// places.
 #[cycle(alike)]
 fn mark_entries(
     alloc: Global,
     entry: Entry<'_>,
     others: Entries<'_>,
+    places: &[usize],
     marks: &mut Vec<bool>,
 ) -> Result<bool, NoMemory>
-    requires { length marks.old.items ≡ length (entries_seen others) }
+    requires count { length marks.old.items ≡ length (entries_seen others) }
+    requires places { AreItsPlaces (entry_seen entry) (entries_seen others) places.now }
     ensures found { IfOk result (λ found. IsTrue found ↔ IsAmong (entry_seen entry.entry) (entries_seen others.entry)) }
     ensures marks { OnOk result (MarksEach (entry_seen entry.entry) (entries_seen others.entry) marks.old.items marks.new.items) }
 {
     let mut found = false;
-    for i in 0..others.len() {
-        let same = is_same_entry(alloc, entry, others.at(i))?;
+    for place in places {
+        let same = is_same_entry(alloc, entry, others.at(*place))?;
         if same {
-            marks[i] = true;
+            marks[*place] = true;
             found = true;
         }
     }

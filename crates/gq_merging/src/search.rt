@@ -11,6 +11,7 @@ ghost use Rattle.gq_graph.specs.Reach.{InRange};
 ghost use Rattle.gq_merging.specs.Helping.PairTables.{IsGiven, IsMetReached, IsFaultOf};
 ghost use Rattle.gq_merging.specs.Helping.SearchTables.{AreFirst, AreInGroup, HaveSets, Search, Searched, WasThere};
 ghost use Rattle.gq_merging.specs.Helping.KeptTables.{AreKept, tables_view};
+ghost use Rattle.gq_merging.specs.Helping.PartTables.{AreParts};
 ghost use Rattle.gq_merging.specs.Helping.GroupViews.{groups_view};
 ghost use Rattle.gq_merging.specs.Helping.Views.{rows_view, look_view};
 
@@ -19,8 +20,9 @@ use crate::classes::number_of_same;
 use crate::cliques::take_steps;
 use crate::groups::{all_room, is_as_before};
 use crate::kept::{Kept, look_at_besides, no_tables, slot_of, table_of};
-use crate::members::{gathered, spreads_of};
+use crate::members::gathered;
 use crate::pairs::Look;
+use crate::parts::{Parts, in_rows, parts_of, with_near};
 use crate::rows::Row;
 use gq_fault::{Fault, put_in_order};
 use gq_text::NoMemory;
@@ -110,9 +112,11 @@ fn first_groups(
     Ok(groups)
 }
 
-/// Looks at the fields of the group at that place: those of its sets, and those that the fragments reach which are spread in them.
+/// Looks at the fields of the group at that place: those of its sets and of the near fragments that are spread in them, and those that
+/// the far ones reach.
 fn look_at_group<'a>(
     look: Look<'a>,
+    parts: &Parts,
     place: usize,
     faults: &mut Vec<Fault>,
     groups: &mut Vec<Vec<usize>>,
@@ -121,6 +125,7 @@ fn look_at_group<'a>(
 ) -> Result<bool, NoMemory>
     requires reach { InRange look.spreads.now }
     requires spreads { map (λ v. v.items) look.spreads.now ≡ map (λ r. r.spreads.items) look.rows.now }
+    requires parts { AreParts look.spreads.now parts.now.near.items parts.now.far.items }
     requires place { place < length groups.old.items }
     requires kept { AreKept (look_view look) faults.old.items (groups_view groups.old.items) (tables_view kept.old.tables.items) }
     ensures kept { IfOk result (λ done. IsTrue done → AreKept (look_view look.entry) faults.new.items (groups_view groups.new.items) (tables_view kept.new.tables.items)) }
@@ -128,8 +133,9 @@ fn look_at_group<'a>(
         IfOk result (λ done. IsTrue done → Searched (look_view look.entry) (AreInGroup (rows_view look.entry.rows.now) group)
         faults.old.items faults.new.items (groups_view groups.old.items) (groups_view groups.new.items)) }
 {
-    let own = gathered(look.alloc, look.rows, &groups[place])?;
-    let fragments = spreads_of(look.alloc, look.rows, &groups[place])?;
+    let sets = with_near(look.alloc, &parts.near, &groups[place])?;
+    let own = gathered(look.alloc, look.rows, &sets)?;
+    let fragments = in_rows(look.alloc, &parts.far, &sets)?;
     if !take_steps(steps, own.len()) || !take_steps(steps, fragments.len()) {
         return Ok(false);
     }
@@ -155,6 +161,7 @@ fn drop_repeated(faults: &mut Vec<Fault>, most: &mut usize)
 /// The same, but passes over a group that was there already.
 fn search_on<'a>(
     look: Look<'a>,
+    parts: &Parts,
     place: usize,
     faults: &mut Vec<Fault>,
     groups: &mut Vec<Vec<usize>>,
@@ -164,6 +171,7 @@ fn search_on<'a>(
     requires spreads { map (λ v. v.items) look.spreads.now ≡ map (λ r. r.spreads.items) look.rows.now }
     requires sets { HaveSets (rows_view look.rows.now) }
     requires size { look.size ≡ length look.rows.now * length look.rows.now }
+    requires parts { AreParts look.spreads.now parts.now.near.items parts.now.far.items }
     requires place { place < length groups.old.items }
     requires kept { AreKept (look_view look) faults.old.items (groups_view groups.old.items) (tables_view notes.old.kept.tables.items) }
     ensures kept { IfOk result (λ done. IsTrue done → AreKept (look_view look.entry) faults.new.items (groups_view groups.new.items) (tables_view notes.new.kept.tables.items)) }
@@ -176,6 +184,7 @@ fn search_on<'a>(
     }
     let done = look_at_group(
         look,
+        parts,
         place,
         faults,
         groups,
@@ -198,6 +207,10 @@ pub(crate) fn search_groups(look: Look<'_>, passed: &[bool]) -> Result<Option<Ve
         (fault : Fault) → Contains faults.items fault ↔ IsGiven (IsMetReached (look_view look.entry) passed.now) (IsFaultOf (look_view look.entry)) fault)) }
 {
     let mut groups = first_groups(look.alloc, look.rows, passed)?;
+    if groups.is_empty() {
+        return Ok(Some(Vec::new(look.alloc)));
+    }
+    let parts = parts_of(look.alloc, look.rows, look.spreads)?;
     let mut notes = no_notes(look)?;
     let mut faults = Vec::new(look.alloc);
     let mut turns = notes.steps;
@@ -206,7 +219,7 @@ pub(crate) fn search_groups(look: Look<'_>, passed: &[bool]) -> Result<Option<Ve
         if turns == 0 {
             return Ok(None);
         }
-        if !search_on(look, done, &mut faults, &mut groups, &mut notes)? {
+        if !search_on(look, &parts, done, &mut faults, &mut groups, &mut notes)? {
             return Ok(None);
         }
         turns -= 1;

@@ -20,18 +20,24 @@ IsSameAt a bs j = (b : Val Span) × StandsAt bs j b × IsArgument a b
 abbrev pub is_marked : List Bool → ℕ → Bool
 is_marked marks j = slice_index_or marks j false
 
--- marks were set below that place, for what is identical to the entry there
-pub record MarksSame (a : Val Span) (bs : List (Val Span)) (below : ℕ) (old new : List Bool) : Type 0 where
+-- at each of the places stands an entry, and all that are identical to this one stand there
+pub record AreItsPlaces (a : Val Span) (bs : List (Val Span)) (places : List ℕ) : Type 0 where
+  pub within : (j : ℕ) → Contains places j → j < length bs
+  pub each : (j : ℕ) → IsSameAt a bs j → Contains places j
+
+-- marks were set at these places, for what is identical to the entry there
+pub record MarksSame (a : Val Span) (bs : List (Val Span)) (places : List ℕ) (old new : List Bool) : Type 0 where
   pub as_many : length new ≡ length old
-  pub are : (j : ℕ) → IsTrue (is_marked new j) ↔ (IsTrue (is_marked old j) ⊎ ((j < below) × IsSameAt a bs j))
+  pub are : (j : ℕ) → IsTrue (is_marked new j) ↔ (IsTrue (is_marked old j) ⊎ (Contains places j × IsSameAt a bs j))
 
 -- marks were set for all that is identical to the entry
-abbrev pub MarksEach : Val Span → List (Val Span) → List Bool → List Bool → Type 0
-MarksEach a bs old new = MarksSame a bs (length bs) old new
+pub record MarksEach (a : Val Span) (bs : List (Val Span)) (old new : List Bool) : Type 0 where
+  pub as_many : length new ≡ length old
+  pub are : (j : ℕ) → IsTrue (is_marked new j) ↔ (IsTrue (is_marked old j) ⊎ IsSameAt a bs j)
 
--- an entry is identical to one below that place
-abbrev pub IsAmongFirst : Val Span → List (Val Span) → ℕ → Type 0
-IsAmongFirst a bs below = (j : ℕ) × (j < below) × IsSameAt a bs j
+-- an entry is identical to one at these places
+abbrev pub IsAmongThese : Val Span → List (Val Span) → List ℕ → Type 0
+IsAmongThese a bs places = (j : ℕ) × Contains places j × IsSameAt a bs j
 
 -- each of these entries is identical to one of the others, and the marks are those of the others that are identical to one of these
 pub record AllFound (ones bs : List (Val Span)) (marks : List Bool) : Type 0 where

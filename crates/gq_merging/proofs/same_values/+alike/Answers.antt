@@ -1,12 +1,15 @@
-use Rattle.std.proofs.Common.{rules, ◌≡◌, ◌↔◌, ◌<◌, ◌≤◌, ◌+◌, ◌∙◌, IsTrue, true, length, map, get_or, set, sym, ap, subst, arith}
+use Rattle.std.proofs.Common.{rules, ◌≡◌, ◌↔◌, ◌<◌, ◌≤◌, ◌+◌, ◌∙◌, ◌++◌, ◌∷◌, [], IsTrue, true, length, map, get_or, set, take, refl, sym, ap, subst, arith}
+use Rattle.std.proofs.lemmas.List.{take_more, take_all}
 use Rattle.std.proofs.lemmas.Result.{IfOk-weaker}
 use Rattle.std.specs.List.{list_all}
-use Rattle.gq_tree.specs.Views.{value_view, values_view}
+use Rattle.gq_names.specs.Repeats.{StandsAt}
+use Rattle.gq_tree.specs.Views.{name_of, value_view, values_view}
 use Rattle.gq_merging.specs.SameArguments.{AreInOrder}
 use Rattle.gq_merging.specs.Helping.Entries.{entry_seen, entries_seen}
-use Rattle.gq_merging.specs.Helping.Marks.{IsAmongFirst, MarksSame}
+use Rattle.gq_merging.specs.Helping.Marks.{IsAmongThese, MarksSame}
 use Rattle.gq_merging.proofs.EntryLemmas.{stands_seen, size_at}
-use Rattle.gq_merging.proofs.MarkLemmas.{marks_begin, marks_set, marks_kept, found_none, found_here, found_kept, all_more_at, sets_marked_at_end}
+use Rattle.gq_merging.proofs.MarkLemmas.{marks_begin, marks_set, marks_kept, marks_end, found_none, found_here, found_kept, found_end, there_at, all_more_at, sets_marked_at_end}
+use Rattle.gq_merging.proofs.PlaceLemmas.{its_places}
 use Rattle.gq_merging.proofs.IdentityLemmas.{variables_alike, ints_alike, floats_alike, strings_alike, booleans_alike, nulls_alike, enums_alike, lists_alike, objects_alike, no_variable, no_int, no_float, no_string, no_boolean, no_null, no_enum, no_list, no_object, order_apart, order_goes_on, order_stops, order_ends}
 use Rattle.gq_merging.proofs.same_values.+alike.Goals.{mark_entries-then-same, mark_entries-else-same}
 use Rattle.gq_merging.proofs.same_values.+alike.Goals as goal
@@ -119,48 +122,84 @@ are_in_order-returns t c =
 
 pub have_same_entries-mark_entries-requires : goal.have_same_entries-mark_entries-requires
 have_same_entries-mark_entries-requires t c =
-    let less = size_at (entries_seen c.args.left) c.loop-i.i (entry_seen c.at.result) c.at.ensures in
-    (omega (arith, less, c.decreases), c.loop-i.invariant.as_many)
+    let less = size_at (entries_seen c.args.left) c.loop-i.i (entry_seen c.at-entry.result) c.at-entry.ensures in (
+      omega (arith, less, c.decreases),
+      (
+        c.loop-i.invariant.found.as_many,
+        its_places (entries_seen c.args.right) _ c.loop-i.invariant.placed (entry_seen c.at-entry.result) (name_of c.at-entry.result.name.now) refl
+            c.as_str.result.now c.as_str.ensures c.with_name-these.result.now c.with_name-these.ensures,
+      ),
+    )
 
 pub have_same_entries-loop-i-preserved : goal.have_same_entries-loop-i-preserved
-have_same_entries-loop-i-preserved t c =
-    all_more_at (entries_seen c.args.left) (entries_seen c.args.right) c.loop-i.i (entry_seen c.at.result) c.loop-i.marks.items c.mark_entries.new.marks.items c.at.ensures
-    c.loop-i.invariant (c.in_ok-found.ensures.found.0 c.if-not-found.false) c.in_ok-found.ensures.marks
+have_same_entries-loop-i-preserved t c = record {
+  found = all_more_at (entries_seen c.args.left) (entries_seen c.args.right) c.loop-i.i (entry_seen c.at-entry.result) c.loop-i.marks.items c.mark_entries.new.marks.items c.at-entry.ensures
+      c.loop-i.invariant.found (c.in_ok-found.ensures.found.0 c.if-not-found.false) c.in_ok-found.ensures.marks;
+  placed = c.loop-i.invariant.placed;
+}
 
 pub have_same_entries-returns : goal.have_same_entries-returns
 have_same_entries-returns t c =
     let end : length (entries_seen c.args.left) ≤ c.loop-i.i = search rules in
     sets_marked_at_end (entries_seen c.args.left) (entries_seen c.args.right) c.loop-i.i c.loop-i.marks.items c.are_all_marked.result
-    end c.loop-i.invariant (c.are_all_marked.ensures ∙ ap (list_all (λ m. m)) c.deref.ensures.value)
+    end c.loop-i.invariant.found (c.are_all_marked.ensures ∙ ap (list_all (λ m. m)) c.deref.ensures.value)
 
-pub mark_entries-loop-i-init : goal.mark_entries-loop-i-init
-mark_entries-loop-i-init t c = record {
+pub mark_entries-loop-place-init : goal.mark_entries-loop-place-init
+mark_entries-loop-place-init t c = record {
   found = found_none (entry_seen c.args.entry) (entries_seen c.args.others);
   marks = marks_begin (entry_seen c.args.entry) (entries_seen c.args.others) c.args.marks.now.items;
 }
 
-pub mark_entries-loop-i-preserved : goal.mark_entries-loop-i-preserved
-mark_entries-loop-i-preserved t c =
-    let i = c.loop-i.i in
+pub mark_entries-at-requires : goal.mark_entries-at-requires
+mark_entries-at-requires t c =
+    let inside : c.loop-place.place-index < length c.args.places.now = search rules in
+    c.requires.places.within (get_or c.args.places.now c.loop-place.place-index 0) (there_at c.args.places.now c.loop-place.place-index inside)
+
+pub mark_entries-loop-place-preserved : goal.mark_entries-loop-place-preserved
+mark_entries-loop-place-preserved t c =
+    let k = c.loop-place.place-index in
+    let ps = take k c.args.places.now in
+    let i = get_or c.args.places.now k 0 in
     let a = entry_seen c.args.entry in
     let b = entry_seen c.at.result in
     let bs = entries_seen c.args.others in
-    let stands = c.at.ensures in
+    let stands : StandsAt bs i b = c.at.ensures in
+    let inside : k < length c.args.places.now = search rules in
+    let more : take (k + 1) c.args.places.now ≡ ps ++ i ∷ [] = take_more c.args.places.now k 0 inside in
     elim c.if-same.branch [
       | mark_entries-then-same w ↦
-          let marked : c.if-same.marks.items ≡ set c.loop-i.marks.items i true = search rules in
+          let marked : c.if-same.marks.items ≡ set c.loop-place.marks.items i true = search rules in
           let found : c.if-same.found ≡ true = search rules in
-          let has_mark : i < length c.loop-i.marks.items = search rules in
+          let has_mark : i < length c.loop-place.marks.items = search rules in
           let is = c.in_ok-same.ensures.0 w.if-same.true in
           record {
-            found = subst (λ f. IsTrue f ↔ IsAmongFirst a bs (i + 1)) (sym found) (found_here a bs i b stands is);
-            marks = subst (λ v. MarksSame a bs (i + 1) c.args.marks.now.items v) (sym marked) (marks_set a bs i b stands c.args.marks.now.items c.loop-i.marks.items is has_mark c.loop-i.invariant.marks);
+            found = subst (λ qs. IsTrue c.if-same.found ↔ IsAmongThese a bs qs) (sym more) (subst (λ f. IsTrue f ↔ IsAmongThese a bs (ps ++ i ∷ [])) (sym found) (found_here a bs ps i b stands is));
+            marks = subst (λ qs. MarksSame a bs qs c.args.marks.now.items c.if-same.marks.items) (sym more) (subst (λ v. MarksSame a bs (ps ++ i ∷ []) c.args.marks.now.items v) (sym marked)
+                (marks_set a bs ps i b stands c.args.marks.now.items c.loop-place.marks.items is has_mark c.loop-place.invariant.marks));
           }
       | mark_entries-else-same w ↦
-          let marked : c.if-same.marks.items ≡ c.loop-i.marks.items = search rules in
-          let found : c.if-same.found ≡ c.loop-i.found = search rules in
+          let marked : c.if-same.marks.items ≡ c.loop-place.marks.items = search rules in
+          let found : c.if-same.found ≡ c.loop-place.found = search rules in
           record {
-            found = subst (λ f. IsTrue f ↔ IsAmongFirst a bs (i + 1)) (sym found) (found_kept a bs i b stands c.loop-i.found c.in_ok-same.same c.in_ok-same.ensures w.if-same.false c.loop-i.invariant.found);
-            marks = subst (λ v. MarksSame a bs (i + 1) c.args.marks.now.items v) (sym marked) (marks_kept a bs i b stands c.args.marks.now.items c.loop-i.marks.items c.in_ok-same.same c.in_ok-same.ensures w.if-same.false c.loop-i.invariant.marks);
+            found = subst (λ qs. IsTrue c.if-same.found ↔ IsAmongThese a bs qs) (sym more) (subst (λ f. IsTrue f ↔ IsAmongThese a bs (ps ++ i ∷ [])) (sym found)
+                (found_kept a bs ps i b stands c.loop-place.found c.in_ok-same.same c.in_ok-same.ensures w.if-same.false c.loop-place.invariant.found));
+            marks = subst (λ qs. MarksSame a bs qs c.args.marks.now.items c.if-same.marks.items) (sym more) (subst (λ v. MarksSame a bs (ps ++ i ∷ []) c.args.marks.now.items v) (sym marked)
+                (marks_kept a bs ps i b stands c.args.marks.now.items c.loop-place.marks.items c.in_ok-same.same c.in_ok-same.ensures w.if-same.false c.loop-place.invariant.marks));
           }
     ]
+
+pub mark_entries-returns-clause-found : goal.mark_entries-returns-clause-found
+mark_entries-returns-clause-found t c =
+    let a = entry_seen c.args.entry in
+    let bs = entries_seen c.args.others in
+    let past : length c.args.places.now ≤ c.loop-place.place-index = search rules in
+    found_end a bs c.args.places.now c.requires.places c.loop-place.found
+    (subst (λ qs. IsTrue c.loop-place.found ↔ IsAmongThese a bs qs) (take_all c.loop-place.place-index c.args.places.now past) c.loop-place.invariant.found)
+
+pub mark_entries-returns-clause-marks : goal.mark_entries-returns-clause-marks
+mark_entries-returns-clause-marks t c =
+    let a = entry_seen c.args.entry in
+    let bs = entries_seen c.args.others in
+    let past : length c.args.places.now ≤ c.loop-place.place-index = search rules in
+    marks_end a bs c.args.places.now c.requires.places c.args.marks.now.items c.loop-place.marks.items
+    (subst (λ qs. MarksSame a bs qs c.args.marks.now.items c.loop-place.marks.items) (take_all c.loop-place.place-index c.args.places.now past) c.loop-place.invariant.marks)
