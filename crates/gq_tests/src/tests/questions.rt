@@ -38,9 +38,7 @@ fn write_places(told: &mut String, places: &[Occurrence]) -> Result<(), Fail> {
         write!(
             told,
             " {}:{}..{}",
-            place.file,
-            place.span.start,
-            place.span.end
+            place.file, place.span.start, place.span.end
         )?;
     }
     Ok(())
