@@ -1,7 +1,8 @@
 //! Arguments of a row.
 ghost use Rattle.std.specs.Prelude.{◌≡◌, Some, codes, map, IfOk, IfSome, option_and_then};
 ghost use Rattle.std.specs.Option.{option_map};
-ghost use Rattle.json.specs.Value.{value_view, members_view};
+ghost use Rattle.json.specs.Json.{array};
+ghost use Rattle.json.specs.Value.{value_view, items_view, members_view};
 ghost use Rattle.serde_json.specs.Data.{string, no_members};
 ghost use Rattle.serde_json.specs.Read.{of_members};
 ghost use Rattle.gq_table.specs.Json.{argument_value, argument_under, argument_entries, arguments_of};
@@ -16,7 +17,7 @@ use gq_text::{NoMemory, SmallText};
 use json::Value;
 use std::alloc::Global;
 
-/// How many arguments a row may have that is read by itself, as each is looked for among those before it.
+/// How many arguments may stand beside one another, as each is looked for among those before it.
 const MOST_ARGUMENTS: usize = 64;
 
 /// A boolean, a text or a natural number.
@@ -55,26 +56,14 @@ fn text_under(alloc: Global, word: &str, text: &str) -> Result<Option<Argument>,
     Ok(None)
 }
 
-/// An argument under the word that says what it is.
-fn tagged_argument(
-    alloc: Global,
-    word: &str,
-    value: &Value<'_>,
-) -> Result<Option<Argument>, NoMemory>
-    ensures { IfOk result (λ o. IfSome o (λ argument. read_as (argument_under word.now) (value_view value.now) ≡ Some (argument_view argument))) }
-{
-    match value.as_str() {
-        Some(text) => text_under(alloc, word, text),
-        None => Ok(None),
-    }
-}
-
-/// An argument that is a leaf, null or the name of an enum value.
+/// An argument: null, a leaf, the name of an enum value, or a list or an object of arguments.
+#[cycle(argument)]
 fn argument(alloc: Global, value: &Value<'_>) -> Result<Option<Argument>, NoMemory>
     ensures { IfOk result (λ o. IfSome o (λ argument. read_as argument_value (value_view value.now) ≡ Some (argument_view argument))) }
 {
     match value {
         Value::Null => Ok(Some(Argument::Null)),
+        Value::Array(items) => list(alloc, items.as_slice()),
         Value::Object(members) => match members.as_slice() {
             [member] => tagged_argument(alloc, member.0, &member.1),
             _ => Ok(None),
@@ -83,7 +72,52 @@ fn argument(alloc: Global, value: &Value<'_>) -> Result<Option<Argument>, NoMemo
     }
 }
 
+/// The list of these arguments.
+#[cycle(argument)]
+fn list(alloc: Global, values: &[Value<'_>]) -> Result<Option<Argument>, NoMemory>
+    ensures { IfOk result (λ o. IfSome o (λ argument. read_as argument_value (array (items_view values.now)) ≡ Some (argument_view argument))) }
+{
+    let mut items = Vec::with_capacity(alloc, values.len())?;
+    for value in values {
+        match argument(alloc, value)? {
+            Some(item) => items.push(item)?,
+            None => return Ok(None),
+        }
+    }
+    Ok(Some(Argument::List(items)))
+}
+
+/// An argument under the word that says what it is.
+#[cycle(argument)]
+fn tagged_argument(
+    alloc: Global,
+    word: &str,
+    value: &Value<'_>,
+) -> Result<Option<Argument>, NoMemory>
+    ensures { IfOk result (λ o. IfSome o (λ argument. read_as (argument_under word.now) (value_view value.now) ≡ Some (argument_view argument))) }
+{
+    if word == "object" {
+        return object(alloc, value);
+    }
+    match value.as_str() {
+        Some(text) => text_under(alloc, word, text),
+        None => Ok(None),
+    }
+}
+
+/// An object of arguments.
+#[cycle(argument)]
+fn object(alloc: Global, value: &Value<'_>) -> Result<Option<Argument>, NoMemory>
+    ensures { IfOk result (λ o. IfSome o (λ argument. read_as (argument_under (codes "object")) (value_view value.now) ≡ Some (argument_view argument))) }
+{
+    match arguments(alloc, value)? {
+        Some(entries) => Ok(Some(Argument::Object(entries))),
+        None => Ok(None),
+    }
+}
+
 /// An argument under its name.
+#[cycle(argument)]
 fn named_argument(alloc: Global, name: &str, value: &Value<'_>) -> Result<Option<Entry>, NoMemory>
     ensures { IfOk result (λ o. IfSome o (λ entry. option_map (under name.now) (read_as argument_value (value_view value.now)) ≡ Some (entry_view entry))) }
 {
@@ -97,6 +131,7 @@ fn named_argument(alloc: Global, name: &str, value: &Value<'_>) -> Result<Option
 }
 
 /// The arguments that these members are, where each name is there once.
+#[cycle(argument)]
 fn entries_of(alloc: Global, members: &[(&str, Value<'_>)]) -> Result<Option<Vec<Entry>>, NoMemory>
     ensures { IfOk result (λ o. IfSome o (λ entries. option_and_then argument_entries (of_members (members_view members.now) no_members) ≡ Some (map entry_view entries.items))) }
 {
@@ -113,7 +148,9 @@ fn entries_of(alloc: Global, members: &[(&str, Value<'_>)]) -> Result<Option<Vec
     Ok(Some(entries))
 }
 
-/// The arguments of a row in the order of their names, where they are few and have different names.
+/// The arguments of a row, or those in an object among them, in the order of their names, where they are few and have
+/// different names.
+#[cycle(argument)]
 pub(crate) fn arguments(alloc: Global, value: &Value<'_>) -> Result<Option<Vec<Entry>>, NoMemory>
     ensures { IfOk result (λ o. IfSome o (λ entries. read_as arguments_of (value_view value.now) ≡ Some (map entry_view entries.items))) }
 {
