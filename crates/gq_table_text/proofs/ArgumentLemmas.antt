@@ -28,7 +28,8 @@ one_member k j = by_read (of_json j)
     by_read None = refl
     by_read (Some d) = refl
 
-pub word_seen : (ms : List Member) (m : Member) → 1 ≤ length ms → length ms < 2 → m ≡ get_or ms 0 m → read_as (argument_under m.0.now) (value_view m.1) ≡ read_as argument_value (seen.object (members_view ms))
+pub word_seen : (ms : List Member) (m : Member) → 1 ≤ length ms → length ms < 2 → m ≡ get_or ms 0 m →
+    read_as (argument_under m.0.now) (value_view m.1) ≡ read_as argument_value (seen.object (members_view ms))
 word_seen [] m least most is = absurd (omega (arith, least))
 word_seen (l ∷ []) m least most is = ap (λ (x : Member). read_as (argument_under x.0.now) (value_view x.1)) is ∙ one_member l.0.now (value_view l.1)
 word_seen (l ∷ k ∷ ms) m least most is = absurd (omega (arith, most))

@@ -46,7 +46,8 @@ module _ (x : Entry) (d : Data) (is : option_map (under x.name) (argument_value 
   behind a b y ys (Some n) zero first later place = cc
   behind a b y ys (Some n) (suc m) first later place = let same : Some n ≡ Some m = cc in ap₂ before first (later m same)
 
-  put_at : (o : Ordering) (l : List ℕ) (e : Data) (ms : Members) (y : Entry) (ys : List Entry) (at : ℕ) → option_map (under l) (argument_value e) ≡ Some (entry_view y) → argument_entries ms ≡ Some (map entry_view ys) →
+  put_at : (o : Ordering) (l : List ℕ) (e : Data) (ms : Members) (y : Entry) (ys : List Entry) (at : ℕ) →
+      option_map (under l) (argument_value e) ≡ Some (entry_view y) → argument_entries ms ≡ Some (map entry_view ys) →
       ((n : ℕ) → place_of x.name ys ≡ Some n → argument_entries (put x.name d ms) ≡ Some (map entry_view (insert ys n x))) →
       match_ordering o (Some 0) None (option_map suc (place_of x.name ys)) ≡ Some at →
       argument_entries (match_ordering o (member x.name d (member l e ms)) (member l d ms) (member l e (put x.name d ms))) ≡ Some (map entry_view (insert (y ∷ ys) at x))
@@ -54,7 +55,8 @@ module _ (x : Entry) (d : Data) (is : option_map (under x.name) (argument_value 
   put_at Equal l e ms y ys at first rest later place = cc
   put_at Greater l e ms y ys at first rest later place = behind (option_map (under l) (argument_value e)) (argument_entries (put x.name d ms)) y ys (place_of x.name ys) at first later place
 
-  put_read : (ms : Members) (es : List Entry) (at : ℕ) → argument_entries ms ≡ Some (map entry_view es) → place_of x.name es ≡ Some at → argument_entries (put x.name d ms) ≡ Some (map entry_view (insert es at x))
+  put_read : (ms : Members) (es : List Entry) (at : ℕ) → argument_entries ms ≡ Some (map entry_view es) → place_of x.name es ≡ Some at →
+      argument_entries (put x.name d ms) ≡ Some (map entry_view (insert es at x))
   put_read no_members [] at read place = front no_members [] at read place
   put_read no_members (y ∷ ys) at read place = cc
   put_read (member l e ms) [] at read place = absurd (none_read (option_map (under l) (argument_value e)) (argument_entries ms) read)
@@ -87,7 +89,8 @@ pub one_more : (all : seen.Members) (ms : List Member) (i : ℕ) (m : Member) (e
 one_more all ms i m es new x inside is earlier read new_is =
     let there : members_view (drop i ms) ≡ seen.member m.0.now (value_view m.1) (members_view (drop (i + 1) ms)) =
     ap members_view (drop_more ms i m inside) ∙ ap (λ (n : Member). seen.member n.0.now (value_view n.1) (members_view (drop (i + 1) ms))) (sym is) in
-    one_put all (members_view (drop (i + 1) ms)) m.0.now es new x (of_json (value_view m.1)) (place_of x.name es) earlier.found (earlier.are_put ∙ ap (λ (ls : seen.Members). of_members ls earlier.found) there)
+    one_put all (members_view (drop (i + 1) ms)) m.0.now es new x (of_json (value_view m.1)) (place_of x.name es) earlier.found
+    (earlier.are_put ∙ ap (λ (ls : seen.Members). of_members ls earlier.found) there)
     earlier.are_entries read refl new_is
 
 pub all_put : (all left : seen.Members) (es : List Value) → left ≡ seen.no_members → ArePut all left es → option_and_then argument_entries (of_members all no_members) ≡ Some es

@@ -20,7 +20,7 @@ use std::alloc::Global;
 /// How many arguments may stand beside one another, as each is looked for among those before it.
 const MOST_ARGUMENTS: usize = 64;
 
-/// A boolean, a text or a natural number.
+/// A boolean, a text or an integer.
 fn plain_argument(alloc: Global, value: &Value<'_>) -> Result<Option<Argument>, NoMemory>
     ensures { IfOk result (λ o. IfSome o (λ argument. read_as argument_value (value_view value.now) ≡ Some (argument_view argument))) }
 {
