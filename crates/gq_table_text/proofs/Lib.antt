@@ -1,3 +1,5 @@
+pub mod ArgumentLemmas
 pub mod NumberLemmas
 pub mod OutcomeLemmas
+pub mod PlaceLemmas
 pub mod RowLemmas

@@ -1,13 +1,13 @@
--- Natural numbers in digits alone.
-use Rattle.std.proofs.Common.{◌≡◌, ◌==◌, ◌<◌, ◌^◌, ◌&&◌, ℕ, List, Bool, true, false, drop, get_or, Some, refl, sym, ◌∙◌, ap, arith}
+-- Integers in digits alone.
+use Rattle.std.proofs.Common.{◌≡◌, ◌==◌, ◌<◌, ◌^◌, ◌&&◌, ℕ, ℤ, List, Bool, true, false, drop, get_or, Some, refl, sym, ◌∙◌, ap, arith}
 use Rattle.std.specs.Prelude.{slice_index, if◌then◌else◌, nat_lt, option_map}
-use Rattle.std.proofs.lemmas.Bool.{eqb-true}
+use Rattle.std.proofs.lemmas.Bool.{eqb-true, eq-eqb}
 use Rattle.std.proofs.lemmas.Grind.{common_steps}
 use Rattle.json.specs.Json as seen
 use Rattle.json.specs.Find.{as_number}
 use Rattle.fast_float.specs.Text.{Parts, IsInteger, scan, digits_of, minus}
-use Rattle.serde_json.specs.Data.{unsigned, number}
-use Rattle.serde_json.specs.Read.{is_integer, float_of, number_from, number_of}
+use Rattle.serde_json.specs.Data.{unsigned, negative, number}
+use Rattle.serde_json.specs.Read.{is_integer, float_of, number_from, number_of, of_json}
 use Rattle.gq_table_text.specs.Helping.ReadAs.{IsNatural}
 
 in_digits : (p : Parts) → IsInteger p → digits_of p < 2 ^ 64 → number_from false p ≡ Some (unsigned (digits_of p))
@@ -37,3 +37,16 @@ natural_seen (seen.number s) bytes text n e same other i low is below =
 natural_seen (seen.string s) bytes text n e same other i low is below = cc
 natural_seen (seen.array js) bytes text n e same other i low is below = cc
 natural_seen (seen.object ms) bytes text n e same other i low is below = cc
+
+number_below : (s : List ℕ) (z : ℤ) → get_or s 0 0 ≡ 45 → number_from true (scan (drop 1 s)) ≡ Some (negative z) → number_of s ≡ Some (negative z)
+unfolding number_of
+number_below s z first is = ap (λ (b : Bool). if b then number_from true (scan (drop 1 s)) else number_from false (scan s)) (eq-eqb (slice_index s 0) minus first) ∙ is
+
+pub negative_seen : (j : seen.Json) (bytes text : List ℕ) (z : ℤ) → Some text ≡ as_number j → bytes ≡ text → get_or bytes 0 0 ≡ 45 →
+    number_from true (scan (drop 1 bytes)) ≡ Some (negative z) → of_json j ≡ Some (number (negative z))
+negative_seen seen.null bytes text z e same first is = cc
+negative_seen (seen.boolean b) bytes text z e same first is = cc
+negative_seen (seen.number s) bytes text z e same first is = let here : bytes ≡ s = cc in ap (option_map number) (ap number_of (sym here) ∙ number_below bytes z first is)
+negative_seen (seen.string s) bytes text z e same first is = cc
+negative_seen (seen.array js) bytes text z e same first is = cc
+negative_seen (seen.object ms) bytes text z e same first is = cc

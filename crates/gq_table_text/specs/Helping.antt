@@ -1,2 +1,3 @@
 -- What only helps to prove that the code does what the definitions say. No contract of a public call is about it.
+pub mod Places
 pub mod ReadAs

@@ -1,6 +1,9 @@
 //! Numbers and leaves of a row.
-ghost use Rattle.std.specs.Prelude.{◌≡◌, Some, decimal, IfOk, IfSome};
+ghost use Rattle.std.specs.Prelude.{◌≡◌, Some, true, decimal, IfOk, IfSome};
+ghost use Rattle.std.specs.Fmt.{signed_decimal};
 ghost use Rattle.json.specs.Value.{value_view};
+ghost use Rattle.serde_json.specs.Data.{number, negative};
+ghost use Rattle.serde_json.specs.Read.{of_json, number_from};
 ghost use Rattle.gq_meaning.specs.Values.{number as number_leaf};
 ghost use Rattle.gq_table.specs.Json.{argument_value, leaf_of, leaf_value};
 ghost use Rattle.gq_table.specs.Views.{leaf_view};
@@ -24,15 +27,42 @@ pub(crate) fn natural(value: &Value<'_>) -> Option<u64>
     if number < 1 << 63 { Some(number) } else { None }
 }
 
-/// A number as a leaf.
-fn number_leaf(alloc: Global, number: u64) -> Result<Leaf, NoMemory>
+/// A number below 0 by its digits.
+fn below_zero(digits: &Numeral<'_>) -> Option<i64>
+    ensures { IfSome result (λ z. number_from true digits.now ≡ Some (negative z)) }
+{
+    let number = digits.to_i64(true)?;
+    if number < 0 { Some(number) } else { None }
+}
+
+/// A negative integer of 64 bits in digits alone.
+fn negative(value: &Value<'_>) -> Option<i64>
+    ensures { IfSome result (λ z. of_json (value_view value.now) ≡ Some (number (negative z))) }
+{
+    let bytes = value.as_number()?.as_bytes();
+    if bytes.is_empty() || bytes[0] != b'-' {
+        return None;
+    }
+    below_zero(&Numeral::scan(&bytes[1..]))
+}
+
+/// A natural number as a leaf.
+fn natural_leaf(alloc: Global, number: u64) -> Result<Leaf, NoMemory>
     ensures { IfOk result (λ leaf. leaf_view leaf ≡ number_leaf (decimal number)) }
 {
     let text = number.to_string(alloc)?;
     Ok(Leaf::Number(SmallText::from_str(alloc, text.as_str())?))
 }
 
-/// A boolean, a text or a natural number.
+/// A negative number as a leaf.
+fn negative_leaf(alloc: Global, number: i64) -> Result<Leaf, NoMemory>
+    ensures { IfOk result (λ leaf. leaf_view leaf ≡ number_leaf (signed_decimal number)) }
+{
+    let text = number.to_string(alloc)?;
+    Ok(Leaf::Number(SmallText::from_str(alloc, text.as_str())?))
+}
+
+/// A boolean, a text or an integer.
 pub(crate) fn leaf(alloc: Global, value: &Value<'_>) -> Result<Option<Leaf>, NoMemory>
     ensures leaf { IfOk result (λ o. IfSome o (λ leaf. read_as leaf_of (value_view value.now) ≡ Some (leaf_view leaf))) }
     ensures argument { IfOk result (λ o. IfSome o (λ leaf. read_as argument_value (value_view value.now) ≡ Some (leaf_value (leaf_view leaf)))) }
@@ -43,8 +73,11 @@ pub(crate) fn leaf(alloc: Global, value: &Value<'_>) -> Result<Option<Leaf>, NoM
     if let Some(text) = value.as_str() {
         return Ok(Some(Leaf::Text(SmallText::from_str(alloc, text)?)));
     }
-    match natural(value) {
-        Some(number) => Ok(Some(number_leaf(alloc, number)?)),
+    if let Some(number) = natural(value) {
+        return Ok(Some(natural_leaf(alloc, number)?));
+    }
+    match negative(value) {
+        Some(number) => Ok(Some(negative_leaf(alloc, number)?)),
         None => Ok(None),
     }
 }

@@ -4,6 +4,7 @@
 mod arguments;
 mod leaves;
 mod outcomes;
+mod places;
 mod row;
 pub mod rows;
 

@@ -55,8 +55,8 @@ fn parts_of<'v, 'a>(members: &'v [(&'a str, Value<'a>)]) -> Option<Parts<'v, 'a>
     })
 }
 
-/// The row that a value is, where its members are `type`, `object`, `field`, `args` and `result` in this order, it has
-/// one argument at most, and that a leaf, and its result is as results mostly are. Else nothing, which says nothing of the value.
+/// The row that a value is, where its members are `type`, `object`, `field`, `args` and `result` in this order, and its arguments and
+/// its result are as they mostly are. Else nothing, which says nothing of the value.
 pub(crate) fn row(alloc: Global, value: &Value<'_>) -> Result<Option<Row>, NoMemory>
     ensures { IfOk result (λ o. IfSome o (λ row. read_as row_in (value_view value.now) ≡ Some (row_view row))) }
 {
