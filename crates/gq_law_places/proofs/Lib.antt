@@ -1,0 +1,13 @@
+pub mod Alike
+pub mod Selected
+pub mod Literals
+pub mod Arguments
+pub mod Whole
+pub mod Documents
+pub mod Schema
+pub mod Lookups
+pub mod Lists
+pub mod Entries
+pub mod DefinitionFaults
+pub mod LookupDefinitions
+pub mod Both

@@ -1,0 +1,6 @@
+use Rattle.gq_law_places.proofs.Lookups.{places_of_types}
+use Rattle.gq_law_places.proofs.LookupDefinitions.{types_of_operations, types_of_fragments}
+use Rattle.gq_law_places.proofs.laws.places_of_types_do_not_matter.Goals as goal
+
+pub returns : goal.returns
+returns c = record { fields = places_of_types; operations = types_of_operations; fragments = types_of_fragments }

@@ -1,0 +1,47 @@
+//! Laws of the faults of definitions that are equal but for their places.
+ghost use Rattle.gq_fields.specs.FieldFaults.{IsFieldFault};
+ghost use Rattle.gq_fragments.specs.FragmentFaults.{IsFragmentFault};
+ghost use Rattle.gq_fragments.specs.OperationFaults.{IsOperationFault};
+ghost use Rattle.gq_law_places.specs.Places.{DocumentsAreSameButPlaces, PlacesDoNotMatter};
+ghost use Rattle.gq_law_places.specs.Types.{NoPlacesMatter, PlacesOfTypesDoNotMatter, ProjectsAreSameButPlaces, TypesLookAlike};
+
+/// Of executable definitions that are equal but for their places, the one has a fault of fields, arguments, directives or
+/// default values where the other has one.
+pub fn places_do_not_matter_to_field_faults()
+    ensures { PlacesDoNotMatter IsFieldFault }
+{}
+
+/// The same of the faults of operations, and of those of fragments and type conditions.
+pub fn places_do_not_matter_to_definition_faults()
+    ensures operations { PlacesDoNotMatter IsOperationFault }
+    ensures fragments { PlacesDoNotMatter IsFragmentFault }
+{}
+
+/// What is read of documents that are equal but for their places is equal but for its places.
+pub fn documents_are_same_but_places()
+    ensures { DocumentsAreSameButPlaces }
+{}
+
+/// Over type systems in which each look-up finds the same but for its places, the faults are the same.
+pub fn places_of_types_do_not_matter()
+    ensures fields { PlacesOfTypesDoNotMatter IsFieldFault }
+    ensures operations { PlacesOfTypesDoNotMatter IsOperationFault }
+    ensures fragments { PlacesOfTypesDoNotMatter IsFragmentFault }
+{}
+
+/// In type systems that are equal but for their places each look-up finds the same but for its places.
+pub fn types_look_alike()
+    ensures { TypesLookAlike }
+{}
+
+/// Places in executable definitions and in the type system do not matter.
+pub fn no_places_matter()
+    ensures fields { NoPlacesMatter IsFieldFault }
+    ensures operations { NoPlacesMatter IsOperationFault }
+    ensures fragments { NoPlacesMatter IsFragmentFault }
+{}
+
+/// What is read of projects whose definitions are equal but for their places is equal but for its places.
+pub fn projects_are_same_but_places()
+    ensures { ProjectsAreSameButPlaces }
+{}
