@@ -66,8 +66,8 @@ documents_are_same es rs qs e = record {
 pub projects_are_same : ProjectsAreSameButPlaces
 projects_are_same rs qs e = record {
   entries =
-    map-append erase_entry built_in (entries_of rs) ∙ ap (λ z. map erase_entry built_in ++ z) (documents_alike erase_entry entry_in entry_that entry_each rs qs e)
-    ∙ sym (map-append erase_entry built_in (entries_of qs));
+      map-append erase_entry built_in (entries_of rs) ∙ ap (λ z. map erase_entry built_in ++ z) (documents_alike erase_entry entry_in entry_that entry_each rs qs e)
+      ∙ sym (map-append erase_entry built_in (entries_of qs));
   operations = (documents_are_same built_in rs qs e).operations;
   fragments = (documents_are_same built_in rs qs e).fragments;
 }

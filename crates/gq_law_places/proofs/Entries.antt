@@ -6,14 +6,14 @@ use Rattle.std.specs.Str.{bytes_eq}
 use Rattle.std.specs.Option.{option_map, option_map_or}
 use Rattle.gq_text.specs.declared.place.Span.{Span}
 use Rattle.gq_tree.specs.declared.tree.OperationKind.{OperationKind}
-use Rattle.gq_tree.specs.Plain.{NameOf, InputOf, FieldDefinitionOf, EnumValueOf, RootOf, BodyOf, scalar_type, object_type, interface_type, union_type, enum_type, input_type, TypeSystemOf, schema, type_definition, directive_definition, place_name, place_input, place_field, place_enum_value, place_root, place_body, place_type_system, no_place}
+use Rattle.gq_tree.specs.Plain.{RootOf, BodyOf, scalar_type, object_type, interface_type, union_type, enum_type, input_type, TypeSystemOf, schema, type_definition, directive_definition, place_name, place_input, place_field, place_enum_value, place_root, place_body, place_type_system, no_place}
 use Rattle.gq_tree.specs.Same.{same_kinds}
 use Rattle.gq_types.specs.declared.entry.TypeKind.{TypeKind}
 use Rattle.gq_types.specs.declared.entry.TypeKind.TheVariants as kinds
 use Rattle.gq_types.specs.Entries.{Text, EntryOf, Numbered, numbered_from, numbered}
 use Rattle.gq_types.specs.Kinds.{kind_of, same_kind}
 use Rattle.gq_types.specs.Joined.{is_type_named, is_directive_named, is_schema, kind_in, type_number, kind_named, schema_number, owner_of_extension, owner_of, owner, joined, In, put_in, body_in, parts_in, parts_of, fields_in_body, values_in_body, inputs_in_body, members_in_body, interfaces_in_body}
-use Rattle.gq_types.specs.Names.{field_named, input_named, has_value, has_member, declares, directive_named}
+use Rattle.gq_types.specs.Names.{directive_named}
 use Rattle.gq_types.specs.Roots.{roots_in, roots_of, is_object, default_name, default_root, entry_for, named_root, root_of}
 use Rattle.gq_law_places.specs.Types.{LooksAlike, erase_entry, TypesLookAlike}
 use Rattle.gq_law_places.proofs.Alike.{back, seen}
@@ -197,9 +197,9 @@ module _ (es us : List EntryOf) (same : map erase_entry es ≡ map erase_entry u
     found_parts type_name =
         and_then_same h (found_part es) (found_part us)
         (λ number.
-          map_twice (λ (p : In A). p.it) h (find (λ p. q p.it) (parts_of parts es number))
-          ∙ found (λ (p : In A). h p.it) (λ p. q p.it) (λ p. q p.it) (λ a b e. sees a.it b.it e) (parts_of parts es number) (parts_of parts us number) (parts_alike number)
-          ∙ sym (map_twice (λ (p : In A). p.it) h (find (λ p. q p.it) (parts_of parts us number))))
+        map_twice (λ (p : In A). p.it) h (find (λ p. q p.it) (parts_of parts es number))
+        ∙ found (λ (p : In A). h p.it) (λ p. q p.it) (λ p. q p.it) (λ a b e. sees a.it b.it e) (parts_of parts es number) (parts_of parts us number) (parts_alike number)
+        ∙ sym (map_twice (λ (p : In A). p.it) h (find (λ p. q p.it) (parts_of parts us number))))
         (type_number es type_name)
         ∙ ap (λ o. option_map h (option_and_then (found_part us) o)) (type_numbers type_name)
 

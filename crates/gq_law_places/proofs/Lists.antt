@@ -1,5 +1,5 @@
 -- Lists that are equal where something is forgotten.
-use Rattle.std.proofs.Common.{◌≡◌, ℕ, suc, ◌+◌, Bool, true, false, cond, List, [], ◌∷◌, ◌++◌, Option, Some, None, map, flat_map, length, refl, sym, ap, ◌∙◌}
+use Rattle.std.proofs.Common.{◌≡◌, suc, ◌+◌, Bool, true, false, cond, List, [], ◌∷◌, ◌++◌, Option, Some, None, map, flat_map, length, refl, sym, ap, ◌∙◌}
 use Rattle.std.specs.Prelude.{◌||◌, not, filter, find, position, nat_lt, option_and_then}
 use Rattle.std.specs.List.{list_any, position_or_len}
 use Rattle.std.specs.Option.{option_map, option_map_or}
@@ -14,7 +14,7 @@ module _ {A K : Type 0} (h : A → K) where
       let rest : map h xs ≡ map h ys = cc in
       ap suc (lengths xs ys rest)
 
-  pub found_step : (s t : Bool) (a b : A) (o u : Option A) → s ≡ t → h a ≡ h b → option_map h o ≡ option_map h u → option_map h (cond s (Some a) o) ≡ option_map h (cond t (Some b) u)
+  found_step : (s t : Bool) (a b : A) (o u : Option A) → s ≡ t → h a ≡ h b → option_map h o ≡ option_map h u → option_map h (cond s (Some a) o) ≡ option_map h (cond t (Some b) u)
   found_step true true a b o u st e r = ap (λ z. Some z) e
   found_step true false a b o u st e r = absurd (cc)
   found_step false true a b o u st e r = absurd (cc)

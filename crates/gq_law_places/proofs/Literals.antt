@@ -15,7 +15,7 @@ use Rattle.gq_types.specs.Entries.{Text, EntryOf}
 use Rattle.gq_types.specs.BuiltIn.{is_built_in_scalar}
 use Rattle.gq_types.specs.Joined.{kind_named}
 use Rattle.gq_types.specs.Names.{input_named}
-use Rattle.gq_values.specs.Literals.{is_variable, is_list, is_object_literal, fits_built_in, fits_enum, fits_kind, fits, Expected, at_type, at_any, is_input_type, default_at, items_at, input_object_at, at_field, field_at, part_at, StandsIn, Holds}
+use Rattle.gq_values.specs.Literals.{is_variable, is_list, is_object_literal, fits_built_in, fits_enum, fits_kind, fits, Expected, at_type, at_any, is_input_type, default_at, items_at, input_object_at, at_field, field_at, part_at, StandsIn}
 use Rattle.gq_values.specs.Literals as literals
 use Rattle.gq_values.specs.LiteralFaults.{key_in, entry_names, HasNone, literal_place, first_byte, IsFaultOf, wrong_value, unknown_field, field_not_unique, field_missing, IsLiteralFault}
 use Rattle.gq_law_places.specs.Places.{HasLike}
@@ -167,12 +167,12 @@ in_alike es (literals.within {read = read} {part = part} {below = below} w) read
     let labels : place_part no_place part ≡ place_part no_place m = cc in
     let belows : relabel (place_part no_place) below ≡ relabel (place_part no_place) c = cc in
     let r = in_alike es w (part_at es (read2 m.key)) (part_alike es (read part.key) (read2 m.key) (h part.key m.key (ap (λ z. z.key) labels))) c belows in
-    (r.0, r.1, literals.within r.2, r.3, r.4)
+    (r.0, r.1, literals.within {reading = r.0} {value = r.1} r.2, r.3, r.4)
 in_alike es (literals.after w) read2 h none e = absurd (cc)
 in_alike es (literals.after {rest = rest} w) read2 h (more m c t) e =
     let rests : relabel (place_part no_place) rest ≡ relabel (place_part no_place) t = cc in
     let r = in_alike es w read2 h t rests in
-    (r.0, r.1, literals.after r.2, r.3, r.4)
+    (r.0, r.1, literals.after {reading = r.0} {value = r.1} r.2, r.3, r.4)
 
 module _ (es : List EntryOf) (file : ℕ) (f : Fault) where
   -- a fault of a literal itself

@@ -1,5 +1,5 @@
 -- The faults of operations, fragments and type conditions over type systems in which each look-up finds the same but for places.
-use Rattle.std.proofs.Common.{◌≡◌, ℕ, List, sym, ◌∙◌}
+use Rattle.std.proofs.Common.{ℕ, List, sym, ◌∙◌}
 use Rattle.gq_text.specs.declared.place.Span.{Span}
 use Rattle.gq_tree.specs.declared.tree.OperationKind.TheVariants.{Mutation}
 use Rattle.gq_tree.specs.Plain.{NameOf}

@@ -1,5 +1,5 @@
 -- The field faults over type systems in which each look-up finds the same, but for its places.
-use Rattle.std.proofs.Common.{◌≡◌, Bool, true, false, List, [], ◌∷◌, Option, Some, None, map, cond, refl, ap, ◌∙◌}
+use Rattle.std.proofs.Common.{◌≡◌, List, Option, Some, None, map, refl, ap, ◌∙◌}
 use Rattle.std.specs.Prelude.{◌&&◌, is_none}
 use Rattle.std.specs.Str.{bytes_eq}
 use Rattle.std.specs.Option.{option_map}
@@ -15,6 +15,7 @@ use Rattle.gq_types.specs.Required.{is_required}
 use Rattle.gq_values.specs.Literals.{at_input}
 use Rattle.gq_values.specs.DirectiveFaults.{is_repeatable}
 use Rattle.gq_law_places.proofs.Alike.{back, seen}
+use Rattle.gq_law_places.proofs.Lists.{found}
 use Rattle.gq_law_places.proofs.Literals.{erase_expected}
 
 -- what is asked of what is found
@@ -55,22 +56,9 @@ at_input_alike (Some i) (Some j) e =
     ap (λ z. Some z.type_ref) inputs
 
 -- definitions of arguments
-found_step : (b c : Bool) (i j : InputOf Span) (a d : Option (InputOf Span)) → b ≡ c → place_input no_place i ≡ place_input no_place j → option_map (place_input no_place) a ≡ option_map (place_input no_place) d →
-    option_map (place_input no_place) (cond b (Some i) a) ≡ option_map (place_input no_place) (cond c (Some j) d)
-found_step true true i j a d s e h = ap (λ z. Some z) e
-found_step true false i j a d s e h = absurd (cc)
-found_step false true i j a d s e h = absurd (cc)
-found_step false false i j a d s e h = h
-
 pub argument_named_alike : (text : Text) (vs bs : List (InputOf Span)) → map (place_input no_place) vs ≡ map (place_input no_place) bs →
     option_map (place_input no_place) (argument_named vs text) ≡ option_map (place_input no_place) (argument_named bs text)
-argument_named_alike text [] [] e = refl
-argument_named_alike text [] (b ∷ bs) e = absurd (cc)
-argument_named_alike text (a ∷ vs) [] e = absurd (cc)
-argument_named_alike text (a ∷ vs) (b ∷ bs) e =
-    let first : place_input no_place a ≡ place_input no_place b = cc in
-    let rest : map (place_input no_place) vs ≡ map (place_input no_place) bs = cc in
-    found_step (bytes_eq text a.name.text) (bytes_eq text b.name.text) a b (argument_named vs text) (argument_named bs text) (ap (λ z. bytes_eq text z.name.text) first) first (argument_named_alike text vs bs rest)
+argument_named_alike text vs bs e = found (place_input no_place) (λ i. bytes_eq text i.name.text) (λ i. bytes_eq text i.name.text) (λ i j h. ap (λ z. bytes_eq text z.name.text) h) vs bs e
 
 -- definitions of directives
 pub directive_alike : (d u : TypeSystemOf Span) → place_type_system no_place d ≡ place_type_system no_place u →
