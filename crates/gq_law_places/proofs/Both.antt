@@ -1,12 +1,18 @@
 -- Places in the type system, and those in executable definitions.
-use Rattle.std.proofs.Common.{refl}
+use Rattle.std.proofs.Common.{refl, sym}
 use Rattle.gq_fault.specs.declared.fault.Fault.{Fault}
 use Rattle.gq_document.specs.Executable.{ExecutableOf}
 use Rattle.gq_law_places.specs.Places.{PlacesDoNotMatter}
-use Rattle.gq_law_places.specs.Types.{PlacesOfTypesDoNotMatter, NoPlacesMatter}
+use Rattle.gq_law_places.specs.Types.{PlacesOfTypesDoNotMatter, NoPlacesMatter, project, TreesSayWhatIsFaultless}
+use Rattle.gq_law_places.proofs.Documents.{projects_are_same}
 use Rattle.gq_law_places.proofs.Entries.{types_look_alike}
 
 pub both : (IsFault : ExecutableOf → Fault → Type 0) → PlacesDoNotMatter IsFault → PlacesOfTypesDoNotMatter IsFault → NoPlacesMatter IsFault
 both IsFault places types x y s f h =
     let g = places x (record { entries = x.entries; operations = y.operations; fragments = y.fragments }) (record { entries = refl; operations = s.operations; fragments = s.fragments }) f h in
     (g.0, types x.entries y.entries (types_look_alike x.entries y.entries s.entries) y.operations y.fragments g.0 g.1, g.2, g.3)
+
+pub faultless : (IsFault : ExecutableOf → Fault → Type 0) → NoPlacesMatter IsFault → TreesSayWhatIsFaultless IsFault
+faultless IsFault law rs qs e none f h =
+    let g = law (project qs) (project rs) (projects_are_same qs rs (sym e)) f h in
+    none g.0 g.1

@@ -10,4 +10,7 @@ pub mod Lists
 pub mod Entries
 pub mod DefinitionFaults
 pub mod LookupDefinitions
+pub mod LookupSpreads
+pub mod LookupVariables
+pub mod LookupMerging
 pub mod Both

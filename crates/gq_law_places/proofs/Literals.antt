@@ -26,7 +26,7 @@ abbrev pub erase_expected : Expected → Option (TypeOf (Unit {0}))
 erase_expected (at_type t) = Some (place_type no_place t)
 erase_expected at_any = None
 
-abbrev restore : Option (TypeOf (Unit {0})) → Expected
+abbrev pub restore : Option (TypeOf (Unit {0})) → Expected
 restore (Some t) = at_type (place_type back t)
 restore None = at_any
 

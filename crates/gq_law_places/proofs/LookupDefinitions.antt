@@ -16,19 +16,7 @@ use Rattle.gq_fragments.specs.FragmentSpreadIsPossible.{HaveNoObject}
 use Rattle.gq_fragments.specs.FragmentFaults.{IsFragmentFault}
 use Rattle.gq_fragments.specs.FragmentFaults as fragments
 use Rattle.gq_law_places.specs.Types.{LooksAlike, PlacesOfTypesDoNotMatter}
-use Rattle.gq_law_places.proofs.Lookups.{selects}
-
-turned : (es us : List EntryOf) → LooksAlike es us → LooksAlike us es
-turned es us same = record {
-  kind = λ text. sym (same.kind text);
-  field = λ type_name text. sym (same.field type_name text);
-  input = λ type_name text. sym (same.input type_name text);
-  value = λ type_name text. sym (same.value type_name text);
-  member = λ type_name text. sym (same.member type_name text);
-  declared = λ type_name text. sym (same.declared type_name text);
-  directive = λ text. sym (same.directive text);
-  root = λ kind. sym (same.root kind);
-}
+use Rattle.gq_law_places.proofs.Lookups.{turned, selects}
 
 possible : (es us : List EntryOf) → LooksAlike es us → {type_name object : Text} → IsPossible es type_name object → IsPossible us type_name object
 possible es us same (itself {object = object} k) = itself (sym (same.kind object) ∙ k)

@@ -30,7 +30,7 @@ use Rattle.gq_values.specs.LiteralFaults.{IsFaultOf, wrong_value, unknown_field,
 use Rattle.gq_values.specs.ArgumentFaults.{IsArgumentFault, unknown_argument, argument_not_unique, argument_missing, fault_in_value}
 use Rattle.gq_values.specs.DirectiveFaults.{IsDirectiveFault, unknown_directive, directive_in_wrong_place, directive_repeated, fault_in_arguments}
 use Rattle.gq_document.specs.Definitions.{OperationOf, FragmentOf}
-use Rattle.gq_document.specs.Selections.{FieldOf, typename, typename_field, is_composite_named, field_on, selected_field, parent_below, SelectedOf, IsSelectionWithin, IsSelected}
+use Rattle.gq_document.specs.Selections.{FieldOf, typename, typename_field, is_composite_named, field_on, selected_field, parent_below, SelectedOf, IsSelectionWithin, IsOfOperation, IsOfFragment, IsSelected}
 use Rattle.gq_document.specs.Selections as selections
 use Rattle.gq_fields.specs.SelectedFields.{SelectsField}
 use Rattle.gq_fields.specs.Directives.{Site, IsSite}
@@ -38,16 +38,16 @@ use Rattle.gq_fields.specs.Directives as directives
 use Rattle.gq_fields.specs.FieldFaults.{IsFieldFault}
 use Rattle.gq_fields.specs.FieldFaults as faults
 
-abbrev executable : List EntryOf → List OperationOf → List FragmentOf → ExecutableOf
+abbrev pub executable : List EntryOf → List OperationOf → List FragmentOf → ExecutableOf
 executable es os gs = record { entries = es; operations = os; fragments = gs }
 
-abbrev erase_inputs : List (InputOf Span) → List (InputOf (Unit {0}))
+abbrev pub erase_inputs : List (InputOf Span) → List (InputOf (Unit {0}))
 erase_inputs is = map (place_input no_place) is
 
-abbrev erase_field : FieldOf → TypeOf (Unit {0}) × List (InputOf (Unit {0}))
+abbrev pub erase_field : FieldOf → TypeOf (Unit {0}) × List (InputOf (Unit {0}))
 erase_field f = (place_type no_place f.type_ref, erase_inputs f.arguments)
 
-argument_at_alike : (a c : Option (List (InputOf Span))) (text : Text) → option_map erase_inputs a ≡ option_map erase_inputs c → erase_expected (argument_at a text) ≡ erase_expected (argument_at c text)
+pub argument_at_alike : (a c : Option (List (InputOf Span))) (text : Text) → option_map erase_inputs a ≡ option_map erase_inputs c → erase_expected (argument_at a text) ≡ erase_expected (argument_at c text)
 argument_at_alike None None text e = refl
 argument_at_alike None (Some j) text e = absurd (cc)
 argument_at_alike (Some i) None text e = absurd (cc)
@@ -55,7 +55,7 @@ argument_at_alike (Some i) (Some j) text e =
     let inputs : erase_inputs i ≡ erase_inputs j = cc in
     at_input_alike (argument_named i text) (argument_named j text) (argument_named_alike text i j inputs)
 
-arguments_of : (a c : Option (TypeSystemOf Span)) → option_map (place_type_system no_place) a ≡ option_map (place_type_system no_place) c → option_map erase_inputs (option_map arguments_in a) ≡ option_map erase_inputs (option_map arguments_in c)
+pub arguments_of : (a c : Option (TypeSystemOf Span)) → option_map (place_type_system no_place) a ≡ option_map (place_type_system no_place) c → option_map erase_inputs (option_map arguments_in a) ≡ option_map erase_inputs (option_map arguments_in c)
 arguments_of None None e = refl
 arguments_of None (Some j) e = absurd (cc)
 arguments_of (Some i) None e = absurd (cc)
@@ -74,7 +74,7 @@ field_step false c d (Some f) (Some g) e h =
     let those : place_field no_place f ≡ place_field no_place g = cc in
     ap (λ z. Some (z.type_ref, z.arguments)) those
 
-base_of : (a c : Option FieldOf) → option_map erase_field a ≡ option_map erase_field c → option_map (λ f. base_name f.type_ref) a ≡ option_map (λ f. base_name f.type_ref) c
+pub base_of : (a c : Option FieldOf) → option_map erase_field a ≡ option_map erase_field c → option_map (λ f. base_name f.type_ref) a ≡ option_map (λ f. base_name f.type_ref) c
 base_of None None e = refl
 base_of None (Some j) e = absurd (cc)
 base_of (Some i) None e = absurd (cc)
@@ -82,13 +82,25 @@ base_of (Some i) (Some j) e =
     let those : erase_field i ≡ erase_field j = cc in
     ap (λ z. Some z) (base_alike i.type_ref j.type_ref (ap (λ z. z.0) those))
 
-field_arguments : (a c : Option FieldOf) → option_map erase_field a ≡ option_map erase_field c → option_map erase_inputs (option_map (λ f. f.arguments) a) ≡ option_map erase_inputs (option_map (λ f. f.arguments) c)
+pub field_arguments : (a c : Option FieldOf) → option_map erase_field a ≡ option_map erase_field c → option_map erase_inputs (option_map (λ f. f.arguments) a) ≡ option_map erase_inputs (option_map (λ f. f.arguments) c)
 field_arguments None None e = refl
 field_arguments None (Some j) e = absurd (cc)
 field_arguments (Some i) None e = absurd (cc)
 field_arguments (Some i) (Some j) e =
     let those : erase_field i ≡ erase_field j = cc in
     ap (λ z. Some z.1) those
+
+pub turned : (es us : List EntryOf) → LooksAlike es us → LooksAlike us es
+turned es us same = record {
+  kind = λ text. sym (same.kind text);
+  field = λ type_name text. sym (same.field type_name text);
+  input = λ type_name text. sym (same.input type_name text);
+  value = λ type_name text. sym (same.value type_name text);
+  member = λ type_name text. sym (same.member type_name text);
+  declared = λ type_name text. sym (same.declared type_name text);
+  directive = λ text. sym (same.directive text);
+  root = λ kind. sym (same.root kind);
+}
 
 module _ (es us : List EntryOf) (same : LooksAlike es us) where
   -- literals
@@ -125,7 +137,7 @@ module _ (es us : List EntryOf) (same : LooksAlike es us) where
   defaults : (t : TypeOf Span) → default_at es t ≡ default_at us t
   defaults t = ap (λ b. if b then at_type t else at_any) (input_types t)
 
-  input_objects : (t : TypeOf Span) → input_object_at es t ≡ input_object_at us t
+  pub input_objects : (t : TypeOf Span) → input_object_at es t ≡ input_object_at us t
   input_objects (named name) = ap (λ k. if is_input_object k then Some name.text else None) (same.kind name.text)
   input_objects (list_of item) = input_objects item
   input_objects (non_null inner) = input_objects inner
@@ -134,7 +146,7 @@ module _ (es us : List EntryOf) (same : LooksAlike es us) where
   at_fields (Some type_name) text = at_input_alike (input_named es type_name text) (input_named us type_name text) (same.input type_name text)
   at_fields None text = refl
 
-  parts : (r : Expected) (key : Option (NameOf Span)) → erase_expected (part_at es r key) ≡ erase_expected (part_at us r key)
+  pub parts : (r : Expected) (key : Option (NameOf Span)) → erase_expected (part_at es r key) ≡ erase_expected (part_at us r key)
   parts r None = refl
   parts (at_type t) (Some key) = ap (λ o. erase_expected (at_field es o key.text)) (input_objects t) ∙ at_fields (input_object_at us t) key.text
   parts at_any (Some key) = refl
@@ -193,13 +205,13 @@ module _ (es us : List EntryOf) (same : LooksAlike es us) where
         fault_in_arguments a (argument (directive_arguments us d.name.text) (arguments_of (directive_named es d.name.text) (directive_named us d.name.text) (same.directive d.name.text)) h)
 
   -- selections
-  composites : (text : Text) → is_composite_named es text ≡ is_composite_named us text
+  pub composites : (text : Text) → is_composite_named es text ≡ is_composite_named us text
   composites text = ap (λ k. option_map_or is_composite k false) (same.kind text)
 
   on : (type_name text : Text) → option_map erase_field (field_on es type_name text) ≡ option_map erase_field (field_on us type_name text)
   on type_name text = field_step (bytes_eq text typename) (is_composite_named es type_name) (is_composite_named us type_name) (field_named es type_name text) (field_named us type_name text) (composites type_name) (same.field type_name text)
 
-  selected_on : (parent : Option Text) (text : Text) → option_map erase_field (selected_field es parent text) ≡ option_map erase_field (selected_field us parent text)
+  pub selected_on : (parent : Option Text) (text : Text) → option_map erase_field (selected_field es parent text) ≡ option_map erase_field (selected_field us parent text)
   selected_on None text = refl
   selected_on (Some type_name) text = on type_name text
 
@@ -215,11 +227,16 @@ module _ (es us : List EntryOf) (same : LooksAlike es us) where
       selections.within (subst (λ z. IsSelectionWithin us z below inner s) (below_parent parent head) (selection h))
   selection (selections.after h) = selections.after (selection h)
 
+  pub of_operation : (o : OperationOf) (s : SelectedOf) → IsOfOperation es o s → IsOfOperation us o s
+  of_operation o s w = (w.0, subst (λ z. IsSelectionWithin us z o.set s.parent s.selection) (same.root o.kind) (selection w.1))
+
+  pub of_fragment : (g : FragmentOf) (s : SelectedOf) → IsOfFragment es g s → IsOfFragment us g s
+  of_fragment g s w = (w.0, selection w.1)
+
   module _ (os : List OperationOf) (gs : List FragmentOf) where
     pub selects : {s : SelectedOf} → IsSelected es os gs s → IsSelected us os gs s
-    selects {s} (selections.of_operation {o = o} c w) =
-        selections.of_operation c (w.0, subst (λ z. IsSelectionWithin us z o.set s.parent s.selection) (same.root o.kind) (selection w.1))
-    selects (selections.of_fragment c w) = selections.of_fragment c (w.0, selection w.1)
+    selects {s} (selections.of_operation {o = o} c w) = selections.of_operation c (of_operation o s w)
+    selects {s} (selections.of_fragment {f = g} c w) = selections.of_fragment c (of_fragment g s w)
 
     abbrev one_in : SelectsField (executable es os gs) → SelectsField (executable us os gs)
     one_in one = record {

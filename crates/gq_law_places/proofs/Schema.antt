@@ -32,7 +32,7 @@ base_erased (non_null inner) = base_erased inner
 pub base_alike : (t u : TypeOf Span) → place_type no_place t ≡ place_type no_place u → base_name t ≡ base_name u
 base_alike t u e = seen (place_type no_place) (place_type back) (λ z. base_name z) base_erased t u e
 
-non_null_erased : (t : TypeOf Span) → is_non_null t ≡ is_non_null (place_type back (place_type no_place t))
+pub non_null_erased : (t : TypeOf Span) → is_non_null t ≡ is_non_null (place_type back (place_type no_place t))
 non_null_erased (named name) = refl
 non_null_erased (list_of item) = refl
 non_null_erased (non_null inner) = refl

@@ -54,7 +54,7 @@ module _ (es : List EntryOf) (os ps : List OperationOf) (fs gs : List FragmentOf
       let defs = ap (λ z. z.1) d.2 in
       let those : map (place_variable no_place) o.variables ≡ map (place_variable no_place) p.variables = cc in
       let u = contains (place_variable no_place) o.variables p.variables those v w in
-      (variable_site p.file u.0, directives.of_variable d.1 u.1, ap (λ z. z.0) d.2, refl, ap (λ z. z.directives) u.2)
+      (variable_site p.file u.0, directives.of_variable {v = u.0} d.1 u.1, ap (λ z. z.0) d.2, refl, ap (λ z. z.directives) u.2)
   site_too (directives.of_fragment {f} c) =
       let d = contains erase_fragment fs gs ef f c in
       let p = d.0 in

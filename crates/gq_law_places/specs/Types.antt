@@ -55,3 +55,11 @@ project rs = together (built_in ++ entries_of rs) rs
 -- What is read of projects whose definitions are equal but for places is so.
 abbrev pub ProjectsAreSameButPlaces : Type 0
 ProjectsAreSameButPlaces = (rs qs : List ParsedOf) → map erase_read rs ≡ map erase_read qs → SameButAllPlaces (project rs) (project qs)
+
+-- no fault of those rules is told
+abbrev pub IsFaultless : (ExecutableOf → Fault → Type 0) → ExecutableOf → Type 0
+IsFaultless IsFault x = (f : Fault) → IsFault x f → ⊥
+
+-- Whether a project is faultless is seen in its trees without places.
+abbrev pub TreesSayWhatIsFaultless : (ExecutableOf → Fault → Type 0) → Type 0
+TreesSayWhatIsFaultless IsFault = (rs qs : List ParsedOf) → map erase_read rs ≡ map erase_read qs → IsFaultless IsFault (project rs) → IsFaultless IsFault (project qs)

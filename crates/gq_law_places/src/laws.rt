@@ -3,7 +3,10 @@ ghost use Rattle.gq_fields.specs.FieldFaults.{IsFieldFault};
 ghost use Rattle.gq_fragments.specs.FragmentFaults.{IsFragmentFault};
 ghost use Rattle.gq_fragments.specs.OperationFaults.{IsOperationFault};
 ghost use Rattle.gq_law_places.specs.Places.{DocumentsAreSameButPlaces, PlacesDoNotMatter};
-ghost use Rattle.gq_law_places.specs.Types.{NoPlacesMatter, PlacesOfTypesDoNotMatter, ProjectsAreSameButPlaces, TypesLookAlike};
+ghost use Rattle.gq_law_places.specs.Types.{NoPlacesMatter, PlacesOfTypesDoNotMatter, ProjectsAreSameButPlaces, TreesSayWhatIsFaultless, TypesLookAlike};
+ghost use Rattle.gq_merging.specs.FieldsMerge.{IsMergingFault};
+ghost use Rattle.gq_spreads.specs.SpreadFaults.{IsSpreadFault};
+ghost use Rattle.gq_variables.specs.VariableFaults.{IsVariableFault};
 
 /// Of executable definitions that are equal but for their places, the one has a fault of fields, arguments, directives or
 /// default values where the other has one.
@@ -27,6 +30,9 @@ pub fn places_of_types_do_not_matter()
     ensures fields { PlacesOfTypesDoNotMatter IsFieldFault }
     ensures operations { PlacesOfTypesDoNotMatter IsOperationFault }
     ensures fragments { PlacesOfTypesDoNotMatter IsFragmentFault }
+    ensures spreads { PlacesOfTypesDoNotMatter IsSpreadFault }
+    ensures variables { PlacesOfTypesDoNotMatter IsVariableFault }
+    ensures merging { PlacesOfTypesDoNotMatter IsMergingFault }
 {}
 
 /// In type systems that are equal but for their places each look-up finds the same but for its places.
@@ -45,3 +51,12 @@ pub fn no_places_matter()
 pub fn projects_are_same_but_places()
     ensures { ProjectsAreSameButPlaces }
 {}
+
+/// Whether a project is faultless by these rules is seen in its trees without places.
+pub fn trees_say_what_is_faultless()
+    ensures fields { TreesSayWhatIsFaultless IsFieldFault }
+    ensures operations { TreesSayWhatIsFaultless IsOperationFault }
+    ensures fragments { TreesSayWhatIsFaultless IsFragmentFault }
+{
+    no_places_matter();
+}
