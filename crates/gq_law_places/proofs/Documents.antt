@@ -1,5 +1,5 @@
 -- Definitions of documents that are equal but for their places.
-use Rattle.std.proofs.Common.{◌≡◌, ℕ, ◌+◌, List, [], ◌∷◌, ◌++◌, map, flat_map, refl, sym, ap, ◌∙◌}
+use Rattle.std.proofs.Common.{◌≡◌, ℕ, ◌+◌, List, [], ◌∷◌, ◌++◌, Option, Some, None, map, flat_map, refl, sym, ap, ◌∙◌}
 use Rattle.std.specs.List.{enumerate_from}
 use Rattle.std.proofs.lemmas.List.{map-append}
 use Rattle.gq_text.specs.declared.place.Span.{Span}
@@ -7,23 +7,28 @@ use Rattle.gq_tree.specs.Plain.{TypeSystemOf, Def, operation, fragment, type_sys
 use Rattle.gq_tree.specs.Readings.{ParsedOf, definitions_read, in_document, in_documents}
 use Rattle.gq_types.specs.BuiltIn.{built_in}
 use Rattle.gq_document.specs.Definitions.{operation_in, fragment_in, entry_in, entries_of}
-use Rattle.gq_law_places.specs.Places.{erase_operation, erase_fragment, erase_read, DocumentsAreSameButPlaces}
+use Rattle.gq_law_places.specs.Places.{erase_operation, erase_fragment, DocumentsAreSameButPlaces}
 use Rattle.gq_law_places.specs.Types.{erase_entry, ProjectsAreSameButPlaces}
+use Rattle.gq_law_places.specs.Names.{bare_def, bare_operation, bare_fragment, RenamedAreSameButNames}
+use Rattle.gq_law_places.proofs.Bare.{renamed_alike}
 
 -- what is gathered in documents, erased, is gathered in erased documents
-module _ {A K : Type 0} (h : A → K) (what : ℕ → Def Span → List A) (that : ℕ → Def (Unit {0}) → List K) (each : (n : ℕ) (d : Def Span) → map h (what n d) ≡ that n (place_def no_place d)) where
-  in_one : (n : ℕ) (ds : List (Def Span)) → map h (flat_map (what n) ds) ≡ flat_map (that n) (map (place_def no_place) ds)
-  in_one n [] = refl
-  in_one n (d ∷ ds) = map-append h (what n d) (flat_map (what n) ds) ∙ ap (λ z. z ++ map h (flat_map (what n) ds)) (each n d) ∙ ap (λ z. that n (place_def no_place d) ++ z) (in_one n ds)
+module _ {A K D : Type 0} (forget : Def Span → D) (h : A → K) (what : ℕ → Def Span → List A) (that : ℕ → D → List K) (each : (n : ℕ) (d : Def Span) → map h (what n d) ≡ that n (forget d)) where
+  abbrev forget_read : ParsedOf → List D
+  forget_read r = map forget (definitions_read r)
 
-  in_all : (n : ℕ) (rs : List ParsedOf) → map h (flat_map (λ r. in_document what r.0 r.1) (enumerate_from n rs)) ≡ flat_map (λ p. flat_map (that p.0) p.1) (enumerate_from n (map erase_read rs))
+  in_one : (n : ℕ) (ds : List (Def Span)) → map h (flat_map (what n) ds) ≡ flat_map (that n) (map forget ds)
+  in_one n [] = refl
+  in_one n (d ∷ ds) = map-append h (what n d) (flat_map (what n) ds) ∙ ap (λ z. z ++ map h (flat_map (what n) ds)) (each n d) ∙ ap (λ z. that n (forget d) ++ z) (in_one n ds)
+
+  in_all : (n : ℕ) (rs : List ParsedOf) → map h (flat_map (λ r. in_document what r.0 r.1) (enumerate_from n rs)) ≡ flat_map (λ p. flat_map (that p.0) p.1) (enumerate_from n (map forget_read rs))
   in_all n [] = refl
   in_all n (r ∷ rs) =
       map-append h (in_document what n r) (flat_map (λ r. in_document what r.0 r.1) (enumerate_from (n + 1) rs))
       ∙ ap (λ z. z ++ map h (flat_map (λ r. in_document what r.0 r.1) (enumerate_from (n + 1) rs))) (in_one n (definitions_read r))
-      ∙ ap (λ z. flat_map (that n) (erase_read r) ++ z) (in_all (n + 1) rs)
+      ∙ ap (λ z. flat_map (that n) (forget_read r) ++ z) (in_all (n + 1) rs)
 
-  documents_alike : (rs qs : List ParsedOf) → map erase_read rs ≡ map erase_read qs → map h (in_documents what rs) ≡ map h (in_documents what qs)
+  documents_alike : (rs qs : List ParsedOf) → map forget_read rs ≡ map forget_read qs → map h (in_documents what rs) ≡ map h (in_documents what qs)
   documents_alike rs qs e = in_all 0 rs ∙ ap (λ z. flat_map (λ p. flat_map (that p.0) p.1) (enumerate_from 0 z)) e ∙ sym (in_all 0 qs)
 
 abbrev operation_that : ℕ → Def (Unit {0}) → List (ℕ × Def (Unit {0}))
@@ -59,15 +64,45 @@ entry_each n (type_system definition) = refl
 pub documents_are_same : DocumentsAreSameButPlaces
 documents_are_same es rs qs e = record {
   entries = refl;
-  operations = documents_alike erase_operation operation_in operation_that operation_each rs qs e;
-  fragments = documents_alike erase_fragment fragment_in fragment_that fragment_each rs qs e;
+  operations = documents_alike (place_def no_place) erase_operation operation_in operation_that operation_each rs qs e;
+  fragments = documents_alike (place_def no_place) erase_fragment fragment_in fragment_that fragment_each rs qs e;
 }
 
 pub projects_are_same : ProjectsAreSameButPlaces
 projects_are_same rs qs e = record {
   entries =
-      map-append erase_entry built_in (entries_of rs) ∙ ap (λ z. map erase_entry built_in ++ z) (documents_alike erase_entry entry_in entry_that entry_each rs qs e)
+      map-append erase_entry built_in (entries_of rs) ∙ ap (λ z. map erase_entry built_in ++ z) (documents_alike (place_def no_place) erase_entry entry_in entry_that entry_each rs qs e)
       ∙ sym (map-append erase_entry built_in (entries_of qs));
   operations = (documents_are_same built_in rs qs e).operations;
   fragments = (documents_are_same built_in rs qs e).fragments;
+}
+
+-- the same of renamed documents
+abbrev bare_operation_that : ℕ → Option (Def (Unit {0})) → List (ℕ × Option (Def (Unit {0})))
+bare_operation_that n (Some (operation kind name variables directives set braces place)) = (n, Some (operation kind name variables directives set braces place)) ∷ []
+bare_operation_that n (Some (fragment name on directives set braces place)) = []
+bare_operation_that n (Some (type_system definition)) = []
+bare_operation_that n None = []
+
+abbrev bare_fragment_that : ℕ → Option (Def (Unit {0})) → List (ℕ × Option (Def (Unit {0})))
+bare_fragment_that n (Some (operation kind name variables directives set braces place)) = []
+bare_fragment_that n (Some (fragment name on directives set braces place)) = (n, Some (fragment name on directives set braces place)) ∷ []
+bare_fragment_that n (Some (type_system definition)) = []
+bare_fragment_that n None = []
+
+bare_operation_each : (n : ℕ) (d : Def Span) → map bare_operation (operation_in n d) ≡ bare_operation_that n (bare_def d)
+bare_operation_each n (operation kind name variables directives set braces place) = refl
+bare_operation_each n (fragment name on directives set braces place) = refl
+bare_operation_each n (type_system definition) = refl
+
+bare_fragment_each : (n : ℕ) (d : Def Span) → map bare_fragment (fragment_in n d) ≡ bare_fragment_that n (bare_def d)
+bare_fragment_each n (operation kind name variables directives set braces place) = refl
+bare_fragment_each n (fragment name on directives set braces place) = refl
+bare_fragment_each n (type_system definition) = refl
+
+pub renamed_are_same : RenamedAreSameButNames
+renamed_are_same es rule new before after e = record {
+  entries = refl;
+  operations = documents_alike bare_def bare_operation operation_in bare_operation_that bare_operation_each before after (renamed_alike rule new before after e);
+  fragments = documents_alike bare_def bare_fragment fragment_in bare_fragment_that bare_fragment_each before after (renamed_alike rule new before after e);
 }

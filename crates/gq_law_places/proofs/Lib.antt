@@ -1,5 +1,8 @@
 pub mod Alike
+pub mod Forgetting
 pub mod Selected
+pub mod Bare
+pub mod Fields
 pub mod Literals
 pub mod Arguments
 pub mod Whole
@@ -8,6 +11,7 @@ pub mod Schema
 pub mod Lookups
 pub mod Lists
 pub mod Entries
+pub mod Operations
 pub mod DefinitionFaults
 pub mod LookupDefinitions
 pub mod LookupSpreads

@@ -87,6 +87,16 @@ module _ {A K : Type 0} (h : A → K) where
       let same : h a ≡ h b = cc in
       each a b same
 
+-- what is the same by a finer look is so by a coarser one
+pub weaken : {A K L : Type 0} (h : A → K) (k : A → L) → ((a b : A) → h a ≡ h b → k a ≡ k b) → (xs ys : List A) → map h xs ≡ map h ys → map k xs ≡ map k ys
+weaken h k each [] [] e = refl
+weaken h k each [] (b ∷ ys) e = absurd (cc)
+weaken h k each (a ∷ xs) [] e = absurd (cc)
+weaken h k each (a ∷ xs) (b ∷ ys) e =
+    let first : h a ≡ h b = cc in
+    let rest : map h xs ≡ map h ys = cc in
+    ap (λ z. z ∷ map k xs) (each a b first) ∙ ap (λ z. k b ∷ z) (weaken h k each xs ys rest)
+
 pub map_twice : {A B C : Type 0} (g : A → B) (h : B → C) (o : Option A) → option_map h (option_map g o) ≡ option_map (λ a. h (g a)) o
 map_twice g h None = refl
 map_twice g h (Some a) = refl

@@ -1,16 +1,13 @@
 -- Selections of definitions that are equal but for their places.
-use Rattle.std.proofs.Common.{◌≡◌, List, Option, Some, None, map, refl, sym, ap, ◌∙◌, subst}
+use Rattle.std.proofs.Common.{◌≡◌, List, Option, Some, None, map, refl, sym, ap, ◌∙◌}
 use Rattle.std.specs.Prelude.{is_some}
 use Rattle.std.specs.Option.{option_map}
 use Rattle.gq_text.specs.declared.place.Span.{Span}
 use Rattle.gq_fault.specs.declared.fault.Fault.{Fault}
-use Rattle.gq_tree.specs.Forest.{none, more}
 use Rattle.gq_tree.specs.Plain.{NameOf, Val, DirectiveOf, Head, field, spread, inline, Sel, Sels, place_name, place_head, no_place, erase, erase_all, erase_values}
 use Rattle.gq_types.specs.Entries.{Text, EntryOf}
-use Rattle.gq_types.specs.Roots.{root_of}
 use Rattle.gq_document.specs.Definitions.{OperationOf, FragmentOf}
-use Rattle.gq_document.specs.Selections.{SelectedOf, selected_field, field_on, parent_below, IsSelectionWithin, here, within, after, IsSelected}
-use Rattle.gq_document.specs.Selections as selections
+use Rattle.gq_document.specs.Selections.{SelectedOf, selected_field, field_on, parent_below, IsSelectionWithin, IsSelected}
 use Rattle.gq_document.specs.Executable.{ExecutableOf}
 use Rattle.gq_fields.specs.SelectedFields.{SelectsField}
 use Rattle.gq_fields.specs.FieldSelections.{IsUnknownField}
@@ -18,7 +15,9 @@ use Rattle.gq_fields.specs.LeafFieldSelections.{HasWrongSelections}
 use Rattle.gq_fault.specs.FaultPlaces.{fault_at}
 use Rattle.gq_fault.specs.declared.code.Code.TheVariants.{UnknownField, WrongSelections}
 use Rattle.gq_law_places.specs.Places.{erase_operation, erase_fragment, HasLike}
-use Rattle.gq_law_places.proofs.Alike.{back, seen, contains}
+use Rattle.gq_law_places.proofs.Alike.{back, seen}
+use Rattle.gq_law_places.proofs.Lists.{weaken}
+use Rattle.gq_law_places.proofs.Forgetting.{selects_operation, selects_fragment, within_by, selected_by}
 
 parent_erased : (es : List EntryOf) (parent : Option Text) (h : Head Span) → parent_below es parent h ≡ parent_below es parent (place_head back (place_head no_place h))
 parent_erased es parent (field alias name arguments directives braces place) = refl
@@ -32,48 +31,28 @@ parent_alike es parent h k e = seen (place_head no_place) (place_head back) (par
 abbrev pub StandsToo : List EntryOf → Option Text → Sels Span → Option Text → Sel Span → Type 0
 StandsToo es parent ts inner s = (t : Sel Span) × IsSelectionWithin es parent ts inner t × (erase s ≡ erase t)
 
-abbrev sel : Head (Unit {0}) → Sels (Unit {0}) → Sel (Unit {0})
-sel l b = record { label = l; below = b }
-
 pub within_alike : (es : List EntryOf) {parent inner : Option Text} {ss : Sels Span} {s : Sel Span} → IsSelectionWithin es parent ss inner s → (ts : Sels Span) → erase_all ss ≡ erase_all ts → StandsToo es parent ts inner s
-within_alike es here none e = absurd (cc)
-within_alike es (here {head = head} {below = below}) (more m c t) e =
-    let labels : place_head no_place head ≡ place_head no_place m = cc in
-    let belows : erase_all below ≡ erase_all c = cc in
-    (record { label = m; below = c }, here, ap (λ l. sel l (erase_all below)) labels ∙ ap (λ b. sel (place_head no_place m) b) belows)
-within_alike es (within w) none e = absurd (cc)
-within_alike es (within {parent = parent} {inner = inner} {head = head} {below = below} w) (more m c t) e =
-    let labels : place_head no_place head ≡ place_head no_place m = cc in
-    let belows : erase_all below ≡ erase_all c = cc in
-    let r = within_alike es w c belows in
-    (r.0, within (subst (λ p. IsSelectionWithin es p c inner r.0) (parent_alike es parent head m labels) r.1), r.2)
-within_alike es (after w) none e = absurd (cc)
-within_alike es (after {rest = rest} w) (more m c t) e =
-    let rests : erase_all rest ≡ erase_all t = cc in
-    let r = within_alike es w t rests in
-    (r.0, after r.1, r.2)
+within_alike es w ts e = within_by (place_head no_place) parent_alike es w ts e
+
+operation_selects : (o p : OperationOf) → erase_operation o ≡ erase_operation p → selects_operation (place_head no_place) o ≡ selects_operation (place_head no_place) p
+operation_selects o p e =
+    let defs = ap (λ z. z.1) e in
+    let kinds : o.kind ≡ p.kind = cc in
+    let sets : erase_all o.set ≡ erase_all p.set = cc in
+    ap (λ z. (z.0, o.kind, erase_all o.set)) e ∙ ap (λ z. (p.file, z, erase_all o.set)) kinds ∙ ap (λ z. (p.file, p.kind, z)) sets
+
+fragment_selects : (f g : FragmentOf) → erase_fragment f ≡ erase_fragment g → selects_fragment (place_head no_place) f ≡ selects_fragment (place_head no_place) g
+fragment_selects f g e =
+    let defs = ap (λ z. z.1) e in
+    let ons : place_name no_place f.on ≡ place_name no_place g.on = cc in
+    let sets : erase_all f.set ≡ erase_all g.set = cc in
+    ap (λ z. (z.0, f.on.text, erase_all f.set)) e ∙ ap (λ z. (g.file, z.text, erase_all f.set)) ons ∙ ap (λ z. (g.file, g.on.text, z)) sets
 
 -- (a) a selection of the one, in the other
 pub selected_alike : (es : List EntryOf) (os ps : List OperationOf) (fs gs : List FragmentOf) → map erase_operation os ≡ map erase_operation ps → map erase_fragment fs ≡ map erase_fragment gs →
     (s : SelectedOf) → IsSelected es os fs s → (t : Sel Span) × IsSelected es ps gs (record { file = s.file; parent = s.parent; selection = t }) × (erase s.selection ≡ erase t)
-selected_alike es os ps fs gs eo ef s (selections.of_operation {o} c w) =
-    let d = contains erase_operation os ps eo o c in
-    let p = d.0 in
-    let files : o.file ≡ p.file = ap (λ z. z.0) d.2 in
-    let defs = ap (λ z. z.1) d.2 in
-    let kinds : o.kind ≡ p.kind = cc in
-    let sets : erase_all o.set ≡ erase_all p.set = cc in
-    let r = within_alike es w.1 p.set sets in
-    (r.0, selections.of_operation d.1 (w.0 ∙ files, subst (λ k. IsSelectionWithin es (root_of es k) p.set s.parent r.0) kinds r.1), r.2)
-selected_alike es os ps fs gs eo ef s (selections.of_fragment {f} c w) =
-    let d = contains erase_fragment fs gs ef f c in
-    let p = d.0 in
-    let files : f.file ≡ p.file = ap (λ z. z.0) d.2 in
-    let defs = ap (λ z. z.1) d.2 in
-    let ons : place_name no_place f.on ≡ place_name no_place p.on = cc in
-    let sets : erase_all f.set ≡ erase_all p.set = cc in
-    let r = within_alike es w.1 p.set sets in
-    (r.0, selections.of_fragment d.1 (w.0 ∙ files, subst (λ k. IsSelectionWithin es (Some k) p.set s.parent r.0) (ap (λ n. n.text) ons) r.1), r.2)
+selected_alike es os ps fs gs eo ef s c = selected_by (place_head no_place) parent_alike es os ps fs gs
+    (weaken erase_operation (selects_operation (place_head no_place)) operation_selects os ps eo) (weaken erase_fragment (selects_fragment (place_head no_place)) fragment_selects fs gs ef) s c
 
 -- a field, and what of it does not ask for its places
 pub record IsField (alias : Option (NameOf Span)) (name : NameOf Span) (arguments : List (Val Span)) (braces : Option Span) (h : Head Span) : Type 0 where

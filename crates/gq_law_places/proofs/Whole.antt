@@ -1,9 +1,9 @@
--- The law.
+-- The faults of fields, of definitions that are equal but for their places and for the names of fragments and variables.
 use Rattle.std.proofs.Common.{◌≡◌, List, [], map, refl, sym, ap, ◌∙◌, subst}
 use Rattle.std.specs.Option.{option_map}
 use Rattle.gq_text.specs.declared.place.Span.{Span}
 use Rattle.gq_fault.specs.declared.fault.Fault.{Fault}
-use Rattle.gq_tree.specs.Plain.{Head, field, spread, inline, place_head, place_directive, place_variable, place_value, no_place}
+use Rattle.gq_tree.specs.Plain.{Head, field, spread, inline}
 use Rattle.gq_types.specs.Entries.{EntryOf}
 use Rattle.gq_document.specs.Definitions.{OperationOf, FragmentOf}
 use Rattle.gq_document.specs.Selections.{selected_field}
@@ -17,23 +17,24 @@ use Rattle.gq_fields.specs.Directives.{Site, IsSite, HasWrongDirective, operatio
 use Rattle.gq_fields.specs.Directives as directives
 use Rattle.gq_fields.specs.Values.{HasWrongDefault}
 use Rattle.gq_fields.specs.FieldFaults.{IsFieldFault, unknown_field, wrong_selections, wrong_argument, wrong_directive, wrong_default}
-use Rattle.gq_law_places.specs.Places.{erase_operation, erase_fragment, HasLike, PlacesDoNotMatter}
+use Rattle.gq_law_places.specs.Places.{HasLike}
+use Rattle.gq_law_places.specs.Names.{bare_value, bare_directive, bare_variable, bare_head, bare_operation, bare_fragment, NamesDoNotMatter}
 use Rattle.gq_law_places.proofs.Alike.{contains}
-use Rattle.gq_law_places.proofs.Selected.{selected_alike, field_too, unknown_too, wrong_selections_too}
+use Rattle.gq_law_places.proofs.Fields.{selected_bare, field_too, unknown_too, wrong_selections_too}
 use Rattle.gq_law_places.proofs.Literals.{default_alike, literal_too}
 use Rattle.gq_law_places.proofs.Arguments.{option_too, argument_too, directive_too}
 
-head_alike : (h k : Head Span) → place_head no_place h ≡ place_head no_place k →
-    (selection_location h ≡ selection_location k) × (map (place_directive no_place) (selection_directives h) ≡ map (place_directive no_place) (selection_directives k))
+head_alike : (h k : Head Span) → bare_head h ≡ bare_head k →
+    (selection_location h ≡ selection_location k) × (map bare_directive (selection_directives h) ≡ map bare_directive (selection_directives k))
 head_alike (field a n vs ds b p) (field a2 n2 vs2 ds2 b2 p2) e = (refl, cc)
 head_alike (spread n ds p) (spread n2 ds2 p2) e = (refl, cc)
 head_alike (inline o ds b p) (inline o2 ds2 b2 p2) e = (refl, cc)
 head_alike _ _ e = absurd (cc)
 
 abbrev pub SiteToo : ExecutableOf → Site → Type 0
-SiteToo y s = (t : Site) × IsSite y t × (s.file ≡ t.file) × (s.location ≡ t.location) × (map (place_directive no_place) s.directives ≡ map (place_directive no_place) t.directives)
+SiteToo y s = (t : Site) × IsSite y t × (s.file ≡ t.file) × (s.location ≡ t.location) × (map bare_directive s.directives ≡ map bare_directive t.directives)
 
-module _ (es : List EntryOf) (os ps : List OperationOf) (fs gs : List FragmentOf) (eo : map erase_operation os ≡ map erase_operation ps) (ef : map erase_fragment fs ≡ map erase_fragment gs) where
+module _ (es : List EntryOf) (os ps : List OperationOf) (fs gs : List FragmentOf) (eo : map bare_operation os ≡ map bare_operation ps) (ef : map bare_fragment fs ≡ map bare_fragment gs) where
   abbrev x : ExecutableOf
   x = record { entries = es; operations = os; fragments = fs }
 
@@ -42,27 +43,27 @@ module _ (es : List EntryOf) (os ps : List OperationOf) (fs gs : List FragmentOf
 
   site_too : {s : Site} → IsSite x s → SiteToo y s
   site_too (directives.of_operation {o} c) =
-      let d = contains erase_operation os ps eo o c in
+      let d = contains bare_operation os ps eo o c in
       let p = d.0 in
       let defs = ap (λ z. z.1) d.2 in
       let kinds : o.kind ≡ p.kind = cc in
-      let those : map (place_directive no_place) o.directives ≡ map (place_directive no_place) p.directives = cc in
+      let those : map bare_directive o.directives ≡ map bare_directive p.directives = cc in
       (operation_site p, directives.of_operation d.1, ap (λ z. z.0) d.2, ap operation_location kinds, those)
   site_too (directives.of_variable {o} {v} c w) =
-      let d = contains erase_operation os ps eo o c in
+      let d = contains bare_operation os ps eo o c in
       let p = d.0 in
       let defs = ap (λ z. z.1) d.2 in
-      let those : map (place_variable no_place) o.variables ≡ map (place_variable no_place) p.variables = cc in
-      let u = contains (place_variable no_place) o.variables p.variables those v w in
+      let those : map bare_variable o.variables ≡ map bare_variable p.variables = cc in
+      let u = contains bare_variable o.variables p.variables those v w in
       (variable_site p.file u.0, directives.of_variable {v = u.0} d.1 u.1, ap (λ z. z.0) d.2, refl, ap (λ z. z.directives) u.2)
   site_too (directives.of_fragment {f} c) =
-      let d = contains erase_fragment fs gs ef f c in
+      let d = contains bare_fragment fs gs ef f c in
       let p = d.0 in
       let defs = ap (λ z. z.1) d.2 in
-      let those : map (place_directive no_place) f.directives ≡ map (place_directive no_place) p.directives = cc in
+      let those : map bare_directive f.directives ≡ map bare_directive p.directives = cc in
       (fragment_site p, directives.of_fragment d.1, ap (λ z. z.0) d.2, refl, those)
   site_too (directives.of_selection {s} c) =
-      let r = selected_alike es os ps fs gs eo ef s c in
+      let r = selected_bare es os ps fs gs eo ef s c in
       let h = head_alike s.selection.label r.0.label (ap (λ z. z.label) r.2) in
       (selection_site (record { file = s.file; parent = s.parent; selection = r.0 }), directives.of_selection r.1, refl, h.0, h.1)
 
@@ -88,12 +89,12 @@ module _ (es : List EntryOf) (os ps : List OperationOf) (fs gs : List FragmentOf
   default f h =
       let o = h.operation in
       let v = h.variable in
-      let d = contains erase_operation os ps eo o h.stands in
+      let d = contains bare_operation os ps eo o h.stands in
       let p = d.0 in
       let defs = ap (λ z. z.1) d.2 in
-      let those : map (place_variable no_place) o.variables ≡ map (place_variable no_place) p.variables = cc in
-      let u = contains (place_variable no_place) o.variables p.variables those v h.is_defined in
-      let k = option_too (place_value no_place) u.0.default h.default (ap (option_map (place_value no_place)) (sym h.has_default) ∙ ap (λ z. z.default) u.2) in
+      let those : map bare_variable o.variables ≡ map bare_variable p.variables = cc in
+      let u = contains bare_variable o.variables p.variables those v h.is_defined in
+      let k = option_too bare_value u.0.default h.default (ap (option_map bare_value) (sym h.has_default) ∙ ap (λ z. z.default) u.2) in
       let g = literal_too es o.file f (default_at es v.type_ref) (default_at es u.0.type_ref) h.default k.0 (default_alike es v.type_ref u.0.type_ref (ap (λ z. z.type_ref) u.2)) k.2 h.fault in (
         g.0,
         record {
@@ -116,7 +117,7 @@ module _ (es : List EntryOf) (os ps : List OperationOf) (fs gs : List FragmentOf
   each f (wrong_directive h) = let g = directive f h in (g.0, wrong_directive g.1, g.2, g.3)
   each f (wrong_default h) = let g = default f h in (g.0, wrong_default g.1, g.2, g.3)
 
-pub places_do_not_matter : PlacesDoNotMatter IsFieldFault
-places_do_not_matter x y s f h =
+pub names_do_not_matter : NamesDoNotMatter IsFieldFault
+names_do_not_matter x y s f h =
     subst (λ es. HasLike (IsFieldFault (record { entries = es; operations = y.operations; fragments = y.fragments })) f) s.entries
     (each x.entries x.operations y.operations x.fragments y.fragments s.operations s.fragments f h)

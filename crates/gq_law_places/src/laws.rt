@@ -1,7 +1,10 @@
 //! Laws of the faults of definitions that are equal but for their places.
 ghost use Rattle.gq_fields.specs.FieldFaults.{IsFieldFault};
 ghost use Rattle.gq_fragments.specs.FragmentFaults.{IsFragmentFault};
+ghost use Rattle.gq_fragments.specs.FragmentSpreadTypeExistence.{IsUnknownCondition};
+ghost use Rattle.gq_fragments.specs.FragmentsOnCompositeTypes.{IsConditionNotComposite};
 ghost use Rattle.gq_fragments.specs.OperationFaults.{IsOperationFault};
+ghost use Rattle.gq_law_places.specs.Names.{NamesDoNotMatter, RenamedAreSameButNames, RenamesKeepFaultless};
 ghost use Rattle.gq_law_places.specs.Places.{DocumentsAreSameButPlaces, PlacesDoNotMatter};
 ghost use Rattle.gq_law_places.specs.Types.{NoPlacesMatter, PlacesOfTypesDoNotMatter, ProjectsAreSameButPlaces, TreesSayWhatIsFaultless, TypesLookAlike};
 ghost use Rattle.gq_merging.specs.FieldsMerge.{IsMergingFault};
@@ -59,4 +62,27 @@ pub fn trees_say_what_is_faultless()
     ensures fragments { TreesSayWhatIsFaultless IsFragmentFault }
 {
     no_places_matter();
+}
+
+/// Neither do places matter to these faults, nor the names of fragments and variables.
+pub fn names_do_not_matter()
+    ensures fields { NamesDoNotMatter IsFieldFault }
+    ensures operations { NamesDoNotMatter IsOperationFault }
+    ensures unknown_conditions { NamesDoNotMatter IsUnknownCondition }
+    ensures other_conditions { NamesDoNotMatter IsConditionNotComposite }
+{}
+
+/// What is read of documents before and after a rename is equal but for places and those names.
+pub fn renamed_documents_are_same_but_names()
+    ensures { RenamedAreSameButNames }
+{}
+
+/// A rename of fragments or variables brings no fault of these rules.
+pub fn renames_keep_what_is_faultless()
+    ensures fields { RenamesKeepFaultless IsFieldFault }
+    ensures operations { RenamesKeepFaultless IsOperationFault }
+    ensures unknown_conditions { RenamesKeepFaultless IsUnknownCondition }
+    ensures other_conditions { RenamesKeepFaultless IsConditionNotComposite }
+{
+    names_do_not_matter();
 }
