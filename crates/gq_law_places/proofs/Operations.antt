@@ -7,7 +7,7 @@ use Rattle.gq_text.specs.declared.place.Span.{Span}
 use Rattle.gq_fault.specs.declared.fault.Fault.{Fault}
 use Rattle.gq_fault.specs.FaultPlaces.{fault_at, fault_over}
 use Rattle.gq_fault.specs.declared.code.Code.TheVariants.{SubscriptionOperation, NoRootType, OperationNameNotUnique, AnonymousOperationNotAlone, UnknownTypeCondition, ConditionNotComposite}
-use Rattle.gq_tree.specs.Plain.{NameOf, DirectiveOf, Head, field, spread, inline, operation, place_name, no_place}
+use Rattle.gq_tree.specs.Plain.{NameOf, DirectiveOf, Head, field, spread, inline, place_name, no_place}
 use Rattle.gq_names.specs.Repeats.{IsRepeated}
 use Rattle.gq_types.specs.Entries.{Text, EntryOf}
 use Rattle.gq_types.specs.Joined.{kind_named}

@@ -1,4 +1,4 @@
-//! Laws of the faults of definitions that are equal but for their places.
+//! Laws of the faults of definitions that are equal but for their places, or also but for names of fragments and variables.
 ghost use Rattle.gq_fields.specs.FieldFaults.{IsFieldFault};
 ghost use Rattle.gq_fragments.specs.FragmentFaults.{IsFragmentFault};
 ghost use Rattle.gq_fragments.specs.FragmentSpreadTypeExistence.{IsUnknownCondition};
@@ -64,7 +64,7 @@ pub fn trees_say_what_is_faultless()
     no_places_matter();
 }
 
-/// Neither do places matter to these faults, nor the names of fragments and variables.
+/// Neither places nor the names of fragments and variables matter to these faults.
 pub fn names_do_not_matter()
     ensures fields { NamesDoNotMatter IsFieldFault }
     ensures operations { NamesDoNotMatter IsOperationFault }

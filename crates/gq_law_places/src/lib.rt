@@ -1,4 +1,4 @@
-//! Laws of definitions that are equal but for their places: what is wrong with the one is wrong with the other.
+//! What is wrong with definitions that are equal but for their places, or for names that a rename changes.
 #![tactic(auto)]
 
 pub mod laws;
