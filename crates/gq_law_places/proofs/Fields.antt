@@ -19,7 +19,7 @@ use Rattle.gq_law_places.specs.Places.{HasLike}
 use Rattle.gq_law_places.specs.Names.{bare_value, bare_head, bare_operation, bare_fragment}
 use Rattle.gq_law_places.proofs.Alike.{back, seen}
 use Rattle.gq_law_places.proofs.Lists.{weaken}
-use Rattle.gq_law_places.proofs.Forgetting.{selects_operation, selects_fragment, selected_by}
+use Rattle.gq_law_places.proofs.Forgetting.{all_three, selects_operation, selects_fragment, selected_by}
 
 parent_erased : (es : List EntryOf) (parent : Option Text) (h : Head Span) → parent_below es parent h ≡ parent_below es parent (place_head back (bare_head h))
 parent_erased es parent (field alias name arguments directives braces place) = refl
@@ -35,14 +35,14 @@ operation_selects o p e =
     let defs = ap (λ z. z.1) e in
     let kinds : o.kind ≡ p.kind = cc in
     let sets : relabel bare_head o.set ≡ relabel bare_head p.set = cc in
-    ap (λ z. (z.0, o.kind, relabel bare_head o.set)) e ∙ ap (λ z. (p.file, z, relabel bare_head o.set)) kinds ∙ ap (λ z. (p.file, p.kind, z)) sets
+    all_three (ap (λ z. z.0) e) kinds sets
 
 fragment_selects : (f g : FragmentOf) → bare_fragment f ≡ bare_fragment g → selects_fragment bare_head f ≡ selects_fragment bare_head g
 fragment_selects f g e =
     let defs = ap (λ z. z.1) e in
     let ons : place_name no_place f.on ≡ place_name no_place g.on = cc in
     let sets : relabel bare_head f.set ≡ relabel bare_head g.set = cc in
-    ap (λ z. (z.0, f.on.text, relabel bare_head f.set)) e ∙ ap (λ z. (g.file, z.text, relabel bare_head f.set)) ons ∙ ap (λ z. (g.file, g.on.text, z)) sets
+    all_three (ap (λ z. z.0) e) (ap (λ z. z.text) ons) sets
 
 -- a selection of the one, in the other
 pub selected_bare : (es : List EntryOf) (os ps : List OperationOf) (fs gs : List FragmentOf) → map bare_operation os ≡ map bare_operation ps → map bare_fragment fs ≡ map bare_fragment gs →

@@ -14,6 +14,9 @@ use Rattle.gq_law_places.proofs.Alike.{contains}
 abbrev pub tree : {K : Type 0} → K → Forest K → Tree K
 tree l b = record { label = l; below = b }
 
+pub all_three : {A B C : Type 0} {a a2 : A} {b b2 : B} {c c2 : C} → a ≡ a2 → b ≡ b2 → c ≡ c2 → ◌≡◌ {A = A × B × C} (a, b, c) (a2, b2, c2)
+all_three {a2 = a2} {b = b} {b2 = b2} {c = c} e f g = ap (λ z. (z, b, c)) e ∙ ap (λ z. (a2, z, c)) f ∙ ap (λ z. (a2, b2, z)) g
+
 -- what of a definition leads to its selections
 abbrev pub selects_operation : {K : Type 0} → (Head Span → K) → OperationOf → ℕ × OperationKind × Forest K
 selects_operation h o = (o.file, o.kind, relabel h o.set)

@@ -17,7 +17,7 @@ use Rattle.gq_fault.specs.declared.code.Code.TheVariants.{UnknownField, WrongSel
 use Rattle.gq_law_places.specs.Places.{erase_operation, erase_fragment, HasLike}
 use Rattle.gq_law_places.proofs.Alike.{back, seen}
 use Rattle.gq_law_places.proofs.Lists.{weaken}
-use Rattle.gq_law_places.proofs.Forgetting.{selects_operation, selects_fragment, within_by, selected_by}
+use Rattle.gq_law_places.proofs.Forgetting.{all_three, selects_operation, selects_fragment, within_by, selected_by}
 
 parent_erased : (es : List EntryOf) (parent : Option Text) (h : Head Span) → parent_below es parent h ≡ parent_below es parent (place_head back (place_head no_place h))
 parent_erased es parent (field alias name arguments directives braces place) = refl
@@ -39,14 +39,14 @@ operation_selects o p e =
     let defs = ap (λ z. z.1) e in
     let kinds : o.kind ≡ p.kind = cc in
     let sets : erase_all o.set ≡ erase_all p.set = cc in
-    ap (λ z. (z.0, o.kind, erase_all o.set)) e ∙ ap (λ z. (p.file, z, erase_all o.set)) kinds ∙ ap (λ z. (p.file, p.kind, z)) sets
+    all_three (ap (λ z. z.0) e) kinds sets
 
 fragment_selects : (f g : FragmentOf) → erase_fragment f ≡ erase_fragment g → selects_fragment (place_head no_place) f ≡ selects_fragment (place_head no_place) g
 fragment_selects f g e =
     let defs = ap (λ z. z.1) e in
     let ons : place_name no_place f.on ≡ place_name no_place g.on = cc in
     let sets : erase_all f.set ≡ erase_all g.set = cc in
-    ap (λ z. (z.0, f.on.text, erase_all f.set)) e ∙ ap (λ z. (g.file, z.text, erase_all f.set)) ons ∙ ap (λ z. (g.file, g.on.text, z)) sets
+    all_three (ap (λ z. z.0) e) (ap (λ z. z.text) ons) sets
 
 -- (a) a selection of the one, in the other
 pub selected_alike : (es : List EntryOf) (os ps : List OperationOf) (fs gs : List FragmentOf) → map erase_operation os ≡ map erase_operation ps → map erase_fragment fs ≡ map erase_fragment gs →
