@@ -5,14 +5,15 @@ use Rattle.gq_text.specs.declared.place.Span.{Span}
 use Rattle.gq_tree.specs.Forest.{Forest, Tree, none, more, relabel, relabel_tree}
 use Rattle.gq_tree.specs.Plain.{NameOf, Says, variable, int, float, string, boolean, null, enum, list, object, Part, Val, TypeOf, named, list_of, non_null, DirectiveOf, VariableOf, Head, field, spread, inline, Sels, Def, operation, fragment, type_system, place_name, place_says, place_part, place_value, place_type, place_directive, place_variable, place_head, place_def, no_place, erase_document}
 use Rattle.gq_tree.specs.Readings.{ParsedOf, definitions_read}
-use Rattle.gq_renamed.specs.Renamings.{Renaming}
+use Rattle.gq_renamed.specs.Renamings.{Renaming, renamed_text}
 use Rattle.gq_renamed.specs.Renamed.{rename_says, rename_part, rename_value, rename_directive, rename_definition, rename_head, rename_def, next_number, rename_document}
 use Rattle.gq_renamed.specs.Projects.{number_behind, rename_trees}
 use Rattle.gq_fault.specs.declared.fault.Fault.{Fault}
+use Rattle.gq_types.specs.Entries.{Text}
 use Rattle.gq_document.specs.Definitions.{OperationOf, FragmentOf}
 use Rattle.gq_document.specs.Executable.{ExecutableOf}
 use Rattle.gq_law_places.specs.Places.{erase_operation, erase_fragment, SameButPlaces, PlacesDoNotMatter}
-use Rattle.gq_law_places.specs.Names.{nameless, bare_says, bare_part, bare_value, bare_directive, bare_variable, bare_head, bare_def, bare_operation, bare_fragment, SameButNames, NamesDoNotMatter}
+use Rattle.gq_law_places.specs.Names.{nameless, bare_says, bare_part, bare_value, bare_directive, bare_variable, shown_name, named_head, named_def, forgotten, bare_def, bare_operation, bare_fragment, SameButNames, NamesDoNotMatter}
 use Rattle.gq_law_places.proofs.Forgetting.{tree}
 use Rattle.gq_law_places.proofs.Lists.{weaken}
 
@@ -48,7 +49,7 @@ abbrev bare_key : {P : Type 0} → Option (NameOf P) → Option (NameOf (Unit {0
 bare_key key = option_map (place_name no_place) key
 
 -- other places
-module _ {P Q : Type 0} (f : P → Q) where
+module _ {P Q : Type 0} (shown : Text → Text) (f : P → Q) where
   says_placed : (s : Says P) → bare_says (place_says f s) ≡ bare_says s
   says_placed (variable name place) = refl
   says_placed (int text place) = refl
@@ -94,31 +95,35 @@ module _ {P Q : Type 0} (f : P → Q) where
   braces_placed None = refl
   braces_placed (Some place) = refl
 
-  head_placed : (h : Head P) → bare_head (place_head f h) ≡ bare_head h
+  head_placed : (h : Head P) → named_head shown (place_head f h) ≡ named_head shown h
   head_placed (field a n vs ds b p) =
       ap (λ z. field z (place_name no_place n) (map bare_value (map (place_value f) vs)) (map bare_directive (map (place_directive f) ds)) (option_map no_place (option_map f b)) tt) (key_placed a)
       ∙ ap (λ z. field (bare_key a) (place_name no_place n) z (map bare_directive (map (place_directive f) ds)) (option_map no_place (option_map f b)) tt) (values_placed vs)
       ∙ ap (λ z. field (bare_key a) (place_name no_place n) (map bare_value vs) z (option_map no_place (option_map f b)) tt) (directives_placed ds)
       ∙ ap (λ z. field (bare_key a) (place_name no_place n) (map bare_value vs) (map bare_directive ds) z tt) (braces_placed b)
-  head_placed (spread n ds p) = ap (λ z. spread nameless z tt) (directives_placed ds)
+  head_placed (spread n ds p) = ap (λ z. spread (shown_name shown n) z tt) (directives_placed ds)
   head_placed (inline o ds b p) = ap (λ z. inline z (map bare_directive (map (place_directive f) ds)) tt tt) (key_placed o) ∙ ap (λ z. inline (bare_key o) z tt tt) (directives_placed ds)
 
-  set_placed : (set : Sels P) → relabel bare_head (relabel (place_head f) set) ≡ relabel bare_head set
-  set_placed set = forest_same (place_head f) bare_head bare_head head_placed set
+  set_placed : (set : Sels P) → relabel (named_head shown) (relabel (place_head f) set) ≡ relabel (named_head shown) set
+  set_placed set = forest_same (place_head f) (named_head shown) (named_head shown) head_placed set
 
-  def_placed : (d : Def P) → bare_def (place_def f d) ≡ bare_def d
+  pub def_placed : (d : Def P) → named_def shown (place_def f d) ≡ named_def shown d
   def_placed (operation kind name vs ds set b p) =
-      ap (λ z. Some (operation kind z (map bare_variable (map (place_variable f) vs)) (map bare_directive (map (place_directive f) ds)) (relabel bare_head (relabel (place_head f) set)) tt tt)) (key_placed name)
-      ∙ ap (λ z. Some (operation kind (bare_key name) z (map bare_directive (map (place_directive f) ds)) (relabel bare_head (relabel (place_head f) set)) tt tt)) (list_same (place_variable f) bare_variable bare_variable variable_placed vs)
-      ∙ ap (λ z. Some (operation kind (bare_key name) (map bare_variable vs) z (relabel bare_head (relabel (place_head f) set)) tt tt)) (directives_placed ds)
+      ap (λ z. Some (operation kind z (map bare_variable (map (place_variable f) vs)) (map bare_directive (map (place_directive f) ds)) (relabel (named_head shown) (relabel (place_head f) set)) tt tt)) (key_placed name)
+      ∙ ap (λ z. Some (operation kind (bare_key name) z (map bare_directive (map (place_directive f) ds)) (relabel (named_head shown) (relabel (place_head f) set)) tt tt)) (list_same (place_variable f) bare_variable bare_variable variable_placed vs)
+      ∙ ap (λ z. Some (operation kind (bare_key name) (map bare_variable vs) z (relabel (named_head shown) (relabel (place_head f) set)) tt tt)) (directives_placed ds)
       ∙ ap (λ z. Some (operation kind (bare_key name) (map bare_variable vs) (map bare_directive ds) z tt tt)) (set_placed set)
   def_placed (fragment name on ds set b p) =
-      ap (λ z. Some (fragment nameless (place_name no_place on) z (relabel bare_head (relabel (place_head f) set)) tt tt)) (directives_placed ds)
-      ∙ ap (λ z. Some (fragment nameless (place_name no_place on) (map bare_directive ds) z tt tt)) (set_placed set)
+      ap (λ z. Some (fragment (shown_name shown name) (place_name no_place on) z (relabel (named_head shown) (relabel (place_head f) set)) tt tt)) (directives_placed ds)
+      ∙ ap (λ z. Some (fragment (shown_name shown name) (place_name no_place on) (map bare_directive ds) z tt tt)) (set_placed set)
   def_placed (type_system definition) = refl
 
+-- how names were shown before a rename
+abbrev shown_before : (Text → Text) → Renaming → List ℕ → Text → Text
+shown_before shown renaming new text = shown (renamed_text renaming.fragments new text)
+
 -- other names
-module _ {P : Type 0} (renaming : Renaming) (new : List ℕ) where
+module _ {P : Type 0} (shown : Text → Text) (renaming : Renaming) (new : List ℕ) where
   says_renamed : (s : Says P) → bare_says (rename_says renaming new s) ≡ bare_says s
   says_renamed (variable name place) = refl
   says_renamed (int text place) = refl
@@ -145,56 +150,59 @@ module _ {P : Type 0} (renaming : Renaming) (new : List ℕ) where
   directives_renamed : (ds : List (DirectiveOf P)) → map bare_directive (map (rename_directive renaming new) ds) ≡ map bare_directive ds
   directives_renamed ds = list_same (rename_directive renaming new) bare_directive bare_directive directive_renamed ds
 
-  head_renamed : (h : Head P) → bare_head (rename_head renaming new h) ≡ bare_head h
+  head_renamed : (h : Head P) → named_head shown (rename_head renaming new h) ≡ named_head (shown_before shown renaming new) h
   head_renamed (field a n vs ds b p) =
       ap (λ z. field (bare_key a) (place_name no_place n) z (map bare_directive (map (rename_directive renaming new) ds)) (option_map no_place b) tt) (values_renamed vs)
       ∙ ap (λ z. field (bare_key a) (place_name no_place n) (map bare_value vs) z (option_map no_place b) tt) (directives_renamed ds)
-  head_renamed (spread n ds p) = ap (λ z. spread nameless z tt) (directives_renamed ds)
+  head_renamed (spread n ds p) = ap (λ z. spread (shown_name (shown_before shown renaming new) n) z tt) (directives_renamed ds)
   head_renamed (inline o ds b p) = ap (λ z. inline (bare_key o) z tt tt) (directives_renamed ds)
 
-  set_renamed : (set : Sels P) → relabel bare_head (relabel (rename_head renaming new) set) ≡ relabel bare_head set
-  set_renamed set = forest_same (rename_head renaming new) bare_head bare_head head_renamed set
+  set_renamed : (set : Sels P) → relabel (named_head shown) (relabel (rename_head renaming new) set) ≡ relabel (named_head (shown_before shown renaming new)) set
+  set_renamed set = forest_same (rename_head renaming new) (named_head shown) (named_head (shown_before shown renaming new)) head_renamed set
 
-  def_renamed : (d : Def P) → bare_def (rename_def renaming new d) ≡ bare_def d
+  pub def_renamed : (d : Def P) → named_def shown (rename_def renaming new d) ≡ named_def (shown_before shown renaming new) d
   def_renamed (operation kind name vs ds set b p) =
-      ap (λ z. Some (operation kind (bare_key name) z (map bare_directive (map (rename_directive renaming new) ds)) (relabel bare_head (relabel (rename_head renaming new) set)) tt tt)) (list_same (rename_definition renaming new) bare_variable bare_variable (λ v. refl) vs)
-      ∙ ap (λ z. Some (operation kind (bare_key name) (map bare_variable vs) z (relabel bare_head (relabel (rename_head renaming new) set)) tt tt)) (directives_renamed ds)
+      ap (λ z. Some (operation kind (bare_key name) z (map bare_directive (map (rename_directive renaming new) ds)) (relabel (named_head shown) (relabel (rename_head renaming new) set)) tt tt)) (list_same (rename_definition renaming new) bare_variable bare_variable (λ v. refl) vs)
+      ∙ ap (λ z. Some (operation kind (bare_key name) (map bare_variable vs) z (relabel (named_head shown) (relabel (rename_head renaming new) set)) tt tt)) (directives_renamed ds)
       ∙ ap (λ z. Some (operation kind (bare_key name) (map bare_variable vs) (map bare_directive ds) z tt tt)) (set_renamed set)
   def_renamed (fragment name on ds set b p) =
-      ap (λ z. Some (fragment nameless (place_name no_place on) z (relabel bare_head (relabel (rename_head renaming new) set)) tt tt)) (directives_renamed ds)
-      ∙ ap (λ z. Some (fragment nameless (place_name no_place on) (map bare_directive ds) z tt tt)) (set_renamed set)
+      ap (λ z. Some (fragment (shown_name (shown_before shown renaming new) name) (place_name no_place on) z (relabel (named_head shown) (relabel (rename_head renaming new) set)) tt tt)) (directives_renamed ds)
+      ∙ ap (λ z. Some (fragment (shown_name (shown_before shown renaming new) name) (place_name no_place on) (map bare_directive ds) z tt tt)) (set_renamed set)
   def_renamed (type_system definition) = refl
 
 -- documents
-abbrev pub bare_documents : {P : Type 0} → List (List (Def P)) → List (List (Option (Def (Unit {0}))))
-bare_documents trees = map (λ ds. map bare_def ds) trees
+abbrev pub named_read : (Text → Text) → ParsedOf → List (Option (Def (Unit {0})))
+named_read shown reading = map (named_def shown) (definitions_read reading)
 
-document_renamed : {P : Type 0} (rule : ℕ → Renaming) (k : ℕ) (new : List ℕ) (ds : List (Def P)) → map bare_def (rename_document rule k new ds) ≡ map bare_def ds
-document_renamed rule k new [] = refl
-document_renamed rule k new (d ∷ ds) =
-    ap (λ z. z ∷ map bare_def (rename_document rule (next_number d k) new ds)) (def_renamed (rule k) new d) ∙ ap (λ z. bare_def d ∷ z) (document_renamed rule (next_number d k) new ds)
+abbrev named_documents : {P : Type 0} → (Text → Text) → List (List (Def P)) → List (List (Option (Def (Unit {0}))))
+named_documents shown trees = map (λ ds. map (named_def shown) ds) trees
 
-trees_renamed : {P : Type 0} (rule : ℕ → Renaming) (k : ℕ) (new : List ℕ) (ts : List (List (Def P))) → bare_documents (rename_trees rule k new ts) ≡ bare_documents ts
-trees_renamed rule k new [] = refl
-trees_renamed rule k new (t ∷ ts) =
-    ap (λ z. z ∷ bare_documents (rename_trees rule (number_behind t k) new ts)) (document_renamed rule k new t) ∙ ap (λ z. map bare_def t ∷ z) (trees_renamed rule (number_behind t k) new ts)
+-- each definition renamed by its own rule, where each shows the names so afterwards as they were shown before
+module _ {P : Type 0} (shown before : Text → Text) (rule : ℕ → Renaming) (new : List ℕ) (each : (n : ℕ) (d : Def P) → named_def shown (rename_def (rule n) new d) ≡ named_def before d) where
+  document_renamed : (k : ℕ) (ds : List (Def P)) → map (named_def shown) (rename_document rule k new ds) ≡ map (named_def before) ds
+  document_renamed k [] = refl
+  document_renamed k (d ∷ ds) =
+      ap (λ z. z ∷ map (named_def shown) (rename_document rule (next_number d k) new ds)) (each k d) ∙ ap (λ z. named_def before d ∷ z) (document_renamed (next_number d k) ds)
 
-abbrev pub bare_read : ParsedOf → List (Option (Def (Unit {0})))
-bare_read reading = map bare_def (definitions_read reading)
+  trees_renamed : (k : ℕ) (ts : List (List (Def P))) → named_documents shown (rename_trees rule k new ts) ≡ named_documents before ts
+  trees_renamed k [] = refl
+  trees_renamed k (t ∷ ts) =
+      ap (λ z. z ∷ named_documents shown (rename_trees rule (number_behind t k) new ts)) (document_renamed k t) ∙ ap (λ z. map (named_def before) t ∷ z) (trees_renamed (number_behind t k) ts)
 
-read_same : (rs : List ParsedOf) → bare_documents (map erase_document (map definitions_read rs)) ≡ map bare_read rs
-read_same [] = refl
-read_same (r ∷ rs) =
-    ap (λ z. z ∷ bare_documents (map erase_document (map definitions_read rs))) (list_same (place_def no_place) bare_def bare_def (def_placed no_place) (definitions_read r))
-    ∙ ap (λ z. bare_read r ∷ z) (read_same rs)
+read_same : (shown : Text → Text) (rs : List ParsedOf) → named_documents shown (map erase_document (map definitions_read rs)) ≡ map (named_read shown) rs
+read_same shown [] = refl
+read_same shown (r ∷ rs) =
+    ap (λ z. z ∷ named_documents shown (map erase_document (map definitions_read rs))) (list_same (place_def no_place) (named_def shown) (named_def shown) (def_placed shown no_place) (definitions_read r))
+    ∙ ap (λ z. named_read shown r ∷ z) (read_same shown rs)
 
-pub renamed_alike : (rule : ℕ → Renaming) (new : List ℕ) (before after : List ParsedOf) →
-    map erase_document (map definitions_read after) ≡ rename_trees rule 0 new (map erase_document (map definitions_read before)) → map bare_read before ≡ map bare_read after
-renamed_alike rule new before after e = sym (sym (read_same after) ∙ ap bare_documents e ∙ trees_renamed rule 0 new (map erase_document (map definitions_read before)) ∙ read_same before)
+pub renamed_alike : (shown before : Text → Text) (rule : ℕ → Renaming) (new : List ℕ) → ((n : ℕ) (d : Def (Unit {0})) → named_def shown (rename_def (rule n) new d) ≡ named_def before d) → (rs qs : List ParsedOf) →
+    map erase_document (map definitions_read qs) ≡ rename_trees rule 0 new (map erase_document (map definitions_read rs)) → map (named_read shown) qs ≡ map (named_read before) rs
+renamed_alike shown before rule new each rs qs e =
+    sym (read_same shown qs) ∙ ap (named_documents shown) e ∙ trees_renamed shown before rule new each 0 (map erase_document (map definitions_read rs)) ∙ read_same before rs
 
 -- definitions that are equal but for places
 def_bare : (d u : Def Span) → place_def no_place d ≡ place_def no_place u → bare_def d ≡ bare_def u
-def_bare d u e = sym (def_placed no_place d) ∙ ap (λ z. bare_def z) e ∙ def_placed no_place u
+def_bare d u e = sym (def_placed forgotten no_place d) ∙ ap (λ z. bare_def z) e ∙ def_placed forgotten no_place u
 
 abbrev operation_def : OperationOf → Def Span
 operation_def o = operation o.kind o.name o.variables o.directives o.set o.braces o.place

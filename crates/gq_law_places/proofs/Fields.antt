@@ -47,7 +47,7 @@ fragment_selects f g e =
 -- a selection of the one, in the other
 pub selected_bare : (es : List EntryOf) (os ps : List OperationOf) (fs gs : List FragmentOf) → map bare_operation os ≡ map bare_operation ps → map bare_fragment fs ≡ map bare_fragment gs →
     (s : SelectedOf) → IsSelected es os fs s → (t : Sel Span) × IsSelected es ps gs (record { file = s.file; parent = s.parent; selection = t }) × (relabel_tree bare_head s.selection ≡ relabel_tree bare_head t)
-selected_bare es os ps fs gs eo ef s c = selected_by bare_head parent_alike es os ps fs gs
+selected_bare es os ps fs gs eo ef s c = selected_by bare_head bare_head parent_alike es os ps fs gs
     (weaken bare_operation (selects_operation bare_head) operation_selects os ps eo) (weaken bare_fragment (selects_fragment bare_head) fragment_selects fs gs ef) s c
 
 -- a field, and what of it asks neither for its places nor for those names

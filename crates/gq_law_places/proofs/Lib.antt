@@ -18,3 +18,4 @@ pub mod LookupSpreads
 pub mod LookupVariables
 pub mod LookupMerging
 pub mod Both
+pub mod Renames

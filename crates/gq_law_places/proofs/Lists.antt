@@ -1,9 +1,10 @@
 -- Lists that are equal where something is forgotten.
-use Rattle.std.proofs.Common.{◌≡◌, suc, ◌+◌, Bool, true, false, cond, List, [], ◌∷◌, ◌++◌, Option, Some, None, map, flat_map, length, refl, sym, ap, ◌∙◌}
+use Rattle.std.proofs.Common.{◌≡◌, ℕ, zero, suc, ◌+◌, Bool, true, false, cond, List, [], ◌∷◌, ◌++◌, Option, Some, None, map, flat_map, length, refl, sym, ap, ◌∙◌, Contains, arith}
 use Rattle.std.specs.Prelude.{◌||◌, not, filter, find, position, nat_lt, option_and_then}
 use Rattle.std.specs.List.{list_any, position_or_len}
 use Rattle.std.specs.Option.{option_map, option_map_or}
 use Rattle.std.proofs.lemmas.List.{map-append}
+use Rattle.gq_names.specs.Repeats.{StandsAt}
 
 module _ {A K : Type 0} (h : A → K) where
   pub lengths : (xs ys : List A) → map h xs ≡ map h ys → length xs ≡ length ys
@@ -87,15 +88,33 @@ module _ {A K : Type 0} (h : A → K) where
       let same : h a ≡ h b = cc in
       each a b same
 
--- what is the same by a finer look is so by a coarser one
+-- what is the same by finer looks is so by coarser ones
+pub weaken_by : {A K L : Type 0} (h g : A → K) (k l : A → L) → ((a b : A) → h a ≡ g b → k a ≡ l b) → (xs ys : List A) → map h xs ≡ map g ys → map k xs ≡ map l ys
+weaken_by h g k l each [] [] e = refl
+weaken_by h g k l each [] (b ∷ ys) e = absurd (cc)
+weaken_by h g k l each (a ∷ xs) [] e = absurd (cc)
+weaken_by h g k l each (a ∷ xs) (b ∷ ys) e =
+    let first : h a ≡ g b = cc in
+    let rest : map h xs ≡ map g ys = cc in
+    ap (λ z. z ∷ map k xs) (each a b first) ∙ ap (λ z. l b ∷ z) (weaken_by h g k l each xs ys rest)
+
 pub weaken : {A K L : Type 0} (h : A → K) (k : A → L) → ((a b : A) → h a ≡ h b → k a ≡ k b) → (xs ys : List A) → map h xs ≡ map h ys → map k xs ≡ map k ys
-weaken h k each [] [] e = refl
-weaken h k each [] (b ∷ ys) e = absurd (cc)
-weaken h k each (a ∷ xs) [] e = absurd (cc)
-weaken h k each (a ∷ xs) (b ∷ ys) e =
-    let first : h a ≡ h b = cc in
-    let rest : map h xs ≡ map h ys = cc in
-    ap (λ z. z ∷ map k xs) (each a b first) ∙ ap (λ z. k b ∷ z) (weaken h k each xs ys rest)
+weaken h k each xs ys e = weaken_by h h k k each xs ys e
+
+-- what stands at a place of one list, at the same place of the other
+pub stands_by : {A K : Type 0} (h g : A → K) (xs ys : List A) → map h xs ≡ map g ys → (k : ℕ) (x : A) → StandsAt xs k x → (y : A) × StandsAt ys k y × (h x ≡ g y)
+stands_by h g [] ys e k x s = absurd (omega (arith, s.0))
+stands_by h g (a ∷ xs) [] e k x s = absurd (cc)
+stands_by h g (a ∷ xs) (b ∷ ys) e zero x s =
+    let same : h a ≡ g b = cc in
+    (b, (omega arith, refl), ap h (sym s.1) ∙ same)
+stands_by h g (a ∷ xs) (b ∷ ys) e (suc k) x s =
+    let rest : map h xs ≡ map g ys = cc in
+    let r = stands_by h g xs ys rest k x (omega (arith, s.0), s.1) in
+    (r.0, (omega (arith, r.1.0), r.1.1), r.2)
+
+pub contains_by : {A K : Type 0} (h g : A → K) (xs ys : List A) → map h xs ≡ map g ys → (x : A) → Contains xs x → (y : A) × Contains ys y × (h x ≡ g y)
+contains_by h g xs ys e x c = let r = stands_by h g xs ys e c.0 x (c.1, c.2) in (r.0, (c.0, r.1.0, r.1.1), r.2)
 
 pub map_twice : {A B C : Type 0} (g : A → B) (h : B → C) (o : Option A) → option_map h (option_map g o) ≡ option_map (λ a. h (g a)) o
 map_twice g h None = refl

@@ -32,7 +32,7 @@ abbrev pub StandsToo : List EntryOf → Option Text → Sels Span → Option Tex
 StandsToo es parent ts inner s = (t : Sel Span) × IsSelectionWithin es parent ts inner t × (erase s ≡ erase t)
 
 pub within_alike : (es : List EntryOf) {parent inner : Option Text} {ss : Sels Span} {s : Sel Span} → IsSelectionWithin es parent ss inner s → (ts : Sels Span) → erase_all ss ≡ erase_all ts → StandsToo es parent ts inner s
-within_alike es w ts e = within_by (place_head no_place) parent_alike es w ts e
+within_alike es w ts e = within_by (place_head no_place) (place_head no_place) parent_alike es w ts e
 
 operation_selects : (o p : OperationOf) → erase_operation o ≡ erase_operation p → selects_operation (place_head no_place) o ≡ selects_operation (place_head no_place) p
 operation_selects o p e =
@@ -51,7 +51,7 @@ fragment_selects f g e =
 -- (a) a selection of the one, in the other
 pub selected_alike : (es : List EntryOf) (os ps : List OperationOf) (fs gs : List FragmentOf) → map erase_operation os ≡ map erase_operation ps → map erase_fragment fs ≡ map erase_fragment gs →
     (s : SelectedOf) → IsSelected es os fs s → (t : Sel Span) × IsSelected es ps gs (record { file = s.file; parent = s.parent; selection = t }) × (erase s.selection ≡ erase t)
-selected_alike es os ps fs gs eo ef s c = selected_by (place_head no_place) parent_alike es os ps fs gs
+selected_alike es os ps fs gs eo ef s c = selected_by (place_head no_place) (place_head no_place) parent_alike es os ps fs gs
     (weaken erase_operation (selects_operation (place_head no_place)) operation_selects os ps eo) (weaken erase_fragment (selects_fragment (place_head no_place)) fragment_selects fs gs ef) s c
 
 -- a field, and what of it does not ask for its places

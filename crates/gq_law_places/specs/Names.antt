@@ -1,12 +1,14 @@
 -- Executable definitions that are equal but for their places and for the names of fragments and variables.
-use Rattle.std.specs.Prelude.{◌≡◌, ℕ, List, [], Option, Some, None, map}
+use Rattle.std.specs.Prelude.{◌≡◌, ◌≢◌, ℕ, List, [], Option, Some, None, Contains, map}
 use Rattle.std.specs.Option.{option_map}
+use Rattle.gq_text.specs.declared.place.Span.{Span}
 use Rattle.gq_fault.specs.declared.fault.Fault.{Fault}
 use Rattle.gq_tree.specs.Forest.{relabel, relabel_tree}
 use Rattle.gq_tree.specs.Plain.{NameOf, Says, variable, int, float, string, boolean, null, enum, list, object, Part, Val, DirectiveOf, VariableOf, Head, field, spread, inline, Def, operation, fragment, type_system, place_name, place_type, no_place, erase_document}
 use Rattle.gq_tree.specs.Readings.{ParsedOf, definitions_read}
-use Rattle.gq_types.specs.Entries.{EntryOf}
-use Rattle.gq_renamed.specs.Renamings.{Renaming}
+use Rattle.gq_types.specs.Entries.{Text, EntryOf}
+use Rattle.gq_spreads.specs.FragmentSpreadTargetDefined.{IsSpreadName}
+use Rattle.gq_renamed.specs.Renamings.{Renaming, fragment_called}
 use Rattle.gq_renamed.specs.Projects.{rename_trees}
 use Rattle.gq_document.specs.Definitions.{OperationOf, FragmentOf}
 use Rattle.gq_document.specs.Executable.{ExecutableOf}
@@ -47,19 +49,33 @@ bare_variable v = record {
   directives = map bare_directive v.directives;
 }
 
--- the names of spreads, too
-abbrev pub bare_head : {P : Type 0} → Head P → Head (Unit {0})
-bare_head (field alias name arguments directives braces place) =
-    field (option_map (place_name no_place) alias) (place_name no_place name) (map bare_value arguments) (map bare_directive directives) (option_map no_place braces) tt
-bare_head (spread name directives place) = spread nameless (map bare_directive directives) tt
-bare_head (inline on directives braces place) = inline (option_map (place_name no_place) on) (map bare_directive directives) tt tt
+-- the name of a fragment as a function shows it
+abbrev pub shown_name : {P : Type 0} → (Text → Text) → NameOf P → NameOf (Unit {0})
+shown_name shown name = record { text = shown name.text; place = tt }
 
--- and those of fragments; what is no executable definition is left out
+abbrev pub named_head : {P : Type 0} → (Text → Text) → Head P → Head (Unit {0})
+named_head shown (field alias name arguments directives braces place) =
+    field (option_map (place_name no_place) alias) (place_name no_place name) (map bare_value arguments) (map bare_directive directives) (option_map no_place braces) tt
+named_head shown (spread name directives place) = spread (shown_name shown name) (map bare_directive directives) tt
+named_head shown (inline on directives braces place) = inline (option_map (place_name no_place) on) (map bare_directive directives) tt tt
+
+-- what is no executable definition is left out
+abbrev pub named_def : {P : Type 0} → (Text → Text) → Def P → Option (Def (Unit {0}))
+named_def shown (operation kind name variables directives set braces place) =
+    Some (operation kind (option_map (place_name no_place) name) (map bare_variable variables) (map bare_directive directives) (relabel (named_head shown) set) tt tt)
+named_def shown (fragment name on directives set braces place) =
+    Some (fragment (shown_name shown name) (place_name no_place on) (map bare_directive directives) (relabel (named_head shown) set) tt tt)
+named_def shown (type_system definition) = None
+
+-- the names of fragments forgotten, too
+abbrev pub forgotten : Text → Text
+forgotten text = []
+
+abbrev pub bare_head : {P : Type 0} → Head P → Head (Unit {0})
+bare_head = named_head forgotten
+
 abbrev pub bare_def : {P : Type 0} → Def P → Option (Def (Unit {0}))
-bare_def (operation kind name variables directives set braces place) =
-    Some (operation kind (option_map (place_name no_place) name) (map bare_variable variables) (map bare_directive directives) (relabel bare_head set) tt tt)
-bare_def (fragment name on directives set braces place) = Some (fragment nameless (place_name no_place on) (map bare_directive directives) (relabel bare_head set) tt tt)
-bare_def (type_system definition) = None
+bare_def = named_def forgotten
 
 abbrev pub bare_operation : OperationOf → ℕ × Option (Def (Unit {0}))
 bare_operation o = (o.file, bare_def (operation o.kind o.name o.variables o.directives o.set o.braces o.place))
@@ -86,3 +102,14 @@ abbrev pub RenamesKeepFaultless : (ExecutableOf → Fault → Type 0) → Type 0
 RenamesKeepFaultless IsFault = (es : List EntryOf) (rule : ℕ → Renaming) (new : List ℕ) (before after : List ParsedOf) →
     map erase_document (map definitions_read after) ≡ rename_trees rule 0 new (map erase_document (map definitions_read before)) →
     IsFaultless IsFault (together es before) → IsFaultless IsFault (together es after)
+
+-- no fragment has the name, and no spread
+pub record IsFresh (x : ExecutableOf) (new : Text) : Type 0 where
+  pub in_fragments : (f : FragmentOf) → Contains x.fragments f → f.name.text ≢ new
+  pub in_spreads : (file : ℕ) (name : NameOf Span) → IsSpreadName x file name → name.text ≢ new
+
+-- A rename of a fragment to a fresh name brings no fault of those rules.
+abbrev pub FragmentRenamesKeepFaultless : (ExecutableOf → Fault → Type 0) → Type 0
+FragmentRenamesKeepFaultless IsFault = (es : List EntryOf) (old new : Text) (before after : List ParsedOf) →
+    map erase_document (map definitions_read after) ≡ rename_trees (λ n. fragment_called old) 0 new (map erase_document (map definitions_read before)) →
+    IsFresh (together es before) new → IsFaultless IsFault (together es before) → IsFaultless IsFault (together es after)

@@ -4,7 +4,7 @@ ghost use Rattle.gq_fragments.specs.FragmentFaults.{IsFragmentFault};
 ghost use Rattle.gq_fragments.specs.FragmentSpreadTypeExistence.{IsUnknownCondition};
 ghost use Rattle.gq_fragments.specs.FragmentsOnCompositeTypes.{IsConditionNotComposite};
 ghost use Rattle.gq_fragments.specs.OperationFaults.{IsOperationFault};
-ghost use Rattle.gq_law_places.specs.Names.{NamesDoNotMatter, RenamedAreSameButNames, RenamesKeepFaultless};
+ghost use Rattle.gq_law_places.specs.Names.{FragmentRenamesKeepFaultless, NamesDoNotMatter, RenamedAreSameButNames, RenamesKeepFaultless};
 ghost use Rattle.gq_law_places.specs.Places.{DocumentsAreSameButPlaces, PlacesDoNotMatter};
 ghost use Rattle.gq_law_places.specs.Types.{NoPlacesMatter, PlacesOfTypesDoNotMatter, ProjectsAreSameButPlaces, TreesSayWhatIsFaultless, TypesLookAlike};
 ghost use Rattle.gq_merging.specs.FieldsMerge.{IsMergingFault};
@@ -86,3 +86,8 @@ pub fn renames_keep_what_is_faultless()
 {
     names_do_not_matter();
 }
+
+/// A rename of a fragment to a name that no fragment and no spread has brings no fault of fragments and type conditions.
+pub fn fragment_renames_keep_what_is_faultless()
+    ensures { FragmentRenamesKeepFaultless IsFragmentFault }
+{}
