@@ -1,0 +1,13 @@
+use Rattle.gq_fields.specs.FieldFaults.{IsFieldFault}
+use Rattle.gq_fragments.specs.OperationFaults.{IsOperationFault}
+use Rattle.gq_fragments.specs.FragmentFaults.{IsFragmentFault}
+use Rattle.gq_law_places.proofs.Both.{faultless}
+use Rattle.gq_law_places.proofs.laws.trees_say_what_is_faultless.Goals as goal
+
+pub returns : goal.returns
+returns c =
+    let law = c.no_places_matter.ensures in record {
+      fields = faultless IsFieldFault law.fields;
+      operations = faultless IsOperationFault law.operations;
+      fragments = faultless IsFragmentFault law.fragments;
+    }
