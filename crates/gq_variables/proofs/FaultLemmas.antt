@@ -1,5 +1,5 @@
 -- What is put for each operation is what is wrong with its variables.
-use Rattle.std.proofs.Common.{◌≡◌, ◌↔◌, ℕ, ◌+◌, ◌<◌, ◌≤◌, Bool, true, false, length, get_or, map, List, [], ◌++◌, Some, ◌⊎◌, inl, inr, refl, sym, ap, subst, ◌∙◌, Contains, arith, zero, suc}
+use Rattle.std.proofs.Common.{◌≡◌, ◌↔◌, ℕ, ◌+◌, ◌<◌, ◌≤◌, Bool, true, false, length, get_or, map, List, [], ◌++◌, Some, ◌⊎◌, inl, inr, refl, sym, ap, subst, ◌∙◌, Contains, arith, zero, suc, Vec, Global}
 use Rattle.std.specs.Prelude.{slice_get}
 use Rattle.std.specs.Option.{option_map}
 use Rattle.std.proofs.lemmas.List.{length-map, map-append}
@@ -17,14 +17,15 @@ use Rattle.gq_document.specs.Definitions.{OperationOf, operation_view}
 use Rattle.gq_document.specs.declared.definitions.OperationEntry.{OperationEntry}
 use Rattle.gq_document.specs.Executable.{ExecutableOf}
 use Rattle.gq_spreads.specs.declared.spreads.Spreads.{Spreads}
+use Rattle.gq_graph.specs.Reach.{row}
 use Rattle.gq_variables.specs.Uses.{UseOf}
 use Rattle.gq_variables.specs.ReachedUses.{ReachesUse}
 use Rattle.gq_variables.specs.AllVariableUsesDefined.{IsNotDefined}
 use Rattle.gq_variables.specs.AllVariableUsagesAreAllowed.{IsNotAllowed}
 use Rattle.gq_variables.specs.Helping.UsesPlaces.{operation_uses, fragment_uses, unless}
 use Rattle.gq_variables.specs.Helping.Alike.{AreAsBefore}
-use Rattle.gq_variables.specs.Helping.Behind.{AreBehind, FollowsItsLike}
-use Rattle.gq_variables.specs.Helping.Leading.{AreLeading}
+use Rattle.gq_variables.specs.Helping.Behind.{AreBehindStarts, AreBehind, FollowsItsLike}
+use Rattle.gq_variables.specs.Helping.Leading.{AreLeadingInParts}
 use Rattle.gq_variables.specs.VariableFaults.{IsFaultOfOperation, IsVariableFault}
 use Rattle.gq_variables.specs.VariableFaults as rule
 use Rattle.gq_variables.specs.Helping.VariablePlaces.{variable_texts, use_texts, repeated_variables, not_unique, not_of_input_type, not_defined, not_used, not_allowed, definition_faults, use_faults, operation_faults, IsFaultAt, IsFaultBefore, AreFaultsBefore}
@@ -121,13 +122,14 @@ below_or_at (suc k) zero h = absurd (omega (arith, h))
 below_or_at (suc k) (suc n) h = elim (below_or_at k n (omega (arith, h))) [ inl less ↦ inl (omega (arith, less)) | inr is ↦ inr (ap suc is) ]
 
 -- the faults of one more operation
-module _ (x : ExecutableOf) (s : Spreads) (lead : AreLeading x s) (number : ℕ) (o : OperationOf) (is : slice_get x.operations number ≡ Some o)
-    (behind : List UseOf) (are : AreBehind (map (fragment_uses x.entries) x.fragments) s number behind) (fault : Fault) where
+module _ (x : ExecutableOf) (s : Spreads) (own_rows : List (Vec ℕ Global)) (lead : AreLeadingInParts x s own_rows) (number : ℕ) (o : OperationOf) (is : slice_get x.operations number ≡ Some o)
+    (own behind : List UseOf) (own_are : AreBehindStarts (map (fragment_uses x.entries) x.fragments) s.of_fragments.items (row own_rows number) own)
+    (are : AreBehind (map (fragment_uses x.entries) x.fragments) s number behind) (fault : Fault) where
   abbrev Own : List UseOf
-  Own = operation_uses x.entries o
+  Own = operation_uses x.entries o ++ own
 
   all_are : (u : UseOf) → Contains (Own ++ behind) u ↔ ReachesUse x o u
-  all_are u = reached_are x s lead number o is behind are u
+  all_are u = reached_are x s own_rows lead number o is own behind own_are are u
 
   told_are : (known : Bool) (u : UseOf) → Contains (Own ++ unless known behind) u → ReachesUse x o u
   told_are true u c = elim (Contains-append_cases Own [] u c) [
@@ -144,7 +146,7 @@ module _ (x : ExecutableOf) (s : Spreads) (lead : AreLeading x s) (number : ℕ)
     behind_both = behind_as (map (fragment_uses x.entries) x.fragments) s number follows.before behind (sym follows.same) are
 
     reached_before : (u : UseOf) → Contains behind u → ReachesUse x follows.earlier u
-    reached_before u there = from_behind x s lead follows.before follows.earlier follows.at_before behind behind_both u there
+    reached_before u there = from_behind x follows.earlier s.of_fragments.items (row s.of_operations.items follows.before) (λ k. lead.sound follows.before follows.earlier k follows.at_before) behind behind_both u there
 
     alike : AreAsBefore (use_texts behind) follows.earlier.variables o.variables
     alike = subst (λ (p : OperationOf). AreAsBefore (use_texts behind) follows.earlier.variables p.variables) (same_Some follows.now o (sym follows.at ∙ is)) follows.alike

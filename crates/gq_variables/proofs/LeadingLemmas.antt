@@ -1,5 +1,5 @@
 -- Spreads of fragments that lead to a use reach all fragments with a use.
-use Rattle.std.proofs.Common.{◌≡◌, ℕ, zero, suc, ◌+◌, ◌<◌, ◌≤◌, Bool, true, false, List, [], ◌∷◌, Contains, Option, Some, length, map, get_or, refl, sym, ◌∙◌, ap, subst, arith, nat_eq, replicate, Vec, Global, ⊎_elim}
+use Rattle.std.proofs.Common.{◌≡◌, ℕ, zero, suc, ◌+◌, ◌<◌, ◌≤◌, Bool, true, false, List, [], ◌∷◌, Contains, Option, Some, length, map, get_or, refl, sym, ◌∙◌, ap, subst, arith, nat_eq, replicate, Vec, Global, ◌⊎◌, ⊎_elim, inl, inr}
 use Rattle.std.specs.Prelude.{All, filter, not, slice_get, slice_index_or}
 use Rattle.std.specs.Option.{option_map_or, option_map}
 use Rattle.std.proofs.Math.Dec.{eqb-suc-zero}
@@ -8,7 +8,7 @@ use Rattle.std.proofs.lemmas.Option.{slice_get-map}
 use Rattle.std.proofs.lemmas.List.{length-map, get_or-replicate, get_or_past, length-replicate}
 use Rattle.std.proofs.lemmas.List.Elements.{All-nil, All-cons, All-append, All-weaker, All-contains, Contains-get_or, Contains-append_left, Contains-append_right}
 use Rattle.gq_names.specs.UnderNames.{one_if}
-use Rattle.gq_graph.specs.Reach.{Reach, start, step, row}
+use Rattle.gq_graph.specs.Reach.{Reach, start, step, row, InRange}
 use Rattle.gq_graph.specs.Transposed.{Transposed}
 use Rattle.gq_graph.specs.Components.{Also}
 use Rattle.gq_graph.proofs.Searching.{row_at as row_read_at}
@@ -22,7 +22,7 @@ use Rattle.gq_spreads.proofs.RowLemmas.{operation_rows_below, fragment_rows_belo
 use Rattle.gq_spreads.proofs.ReachLemmas.{to_reached, from_reached}
 use Rattle.gq_variables.specs.Uses.{UseOf}
 use Rattle.gq_variables.specs.Helping.UsesPlaces.{fragment_uses, row_at}
-use Rattle.gq_variables.specs.Helping.Leading.{numbers_with_uses, LeadToUses, AreLeading}
+use Rattle.gq_variables.specs.Helping.Leading.{numbers_with_uses, LeadToUses, AreLeading, AreInParts, AreLeadingInParts}
 
 -- a row with a use has its number
 not_empty : (us : List UseOf) (u : UseOf) → Contains us u → not (nat_eq (length us) 0) ≡ true
@@ -148,3 +148,68 @@ module _ (x : ExecutableOf) (s leading : Spreads) (are : AreSpreads x s) (rows :
         wider n k (used_at k f u at_fragment used)
         (from_reached x.fragments (row s.of_fragments.items) are.of_fragment o.set (row s.of_operations.items n) (are.of_operation n o at) reached.fragment reached.reached k reached.at);
   }
+
+-- marks turned over
+inverted_at : (marks : List Bool) (k : ℕ) → k < length marks → slice_index_or marks k false ≡ false → slice_index_or (map not marks) k false ≡ true
+inverted_at [] k lt h = absurd (omega (arith, lt))
+inverted_at (b ∷ bs) zero lt h = ap not h
+inverted_at (b ∷ bs) (suc k) lt h = inverted_at bs k (omega (arith, lt)) h
+
+-- what is kept by marks, and what by the others
+pub in_parts : (old new : Spreads) (own : List (Vec ℕ Global)) (several alone : List Bool) → alone ≡ map not several → length several ≡ length old.of_fragments.items →
+    All (λ v. All (λ n. n < length old.of_fragments.items) v.items) old.of_operations.items → new.of_fragments.items ≡ old.of_fragments.items →
+    Kept several old.of_operations.items new.of_operations.items → Kept alone old.of_operations.items own → AreInParts old new own
+in_parts old new own several alone turned count below fragments kept others = record {
+  fragments = fragments;
+  count = kept_count several old.of_operations.items new.of_operations.items kept;
+  own_count = kept_count alone old.of_operations.items own others;
+  of_shared = λ n k there. from_kept several old.of_operations.items new.of_operations.items kept n k there;
+  of_own = λ n k there. from_kept alone old.of_operations.items own others n k there;
+  all = λ n k there. by_mark n k there (slice_index_or several k false) refl;
+}
+  where
+    by_mark : (n k : ℕ) → Contains (row old.of_operations.items n) k → (b : Bool) → slice_index_or several k false ≡ b → Contains (row new.of_operations.items n) k ⊎ Contains (row own n) k
+    by_mark n k there true e = inl (to_kept several old.of_operations.items new.of_operations.items kept n k there e)
+    by_mark n k there false e =
+        let inside : k < length several = subst (λ c. k < c) (sym count) (row_below_all old.of_operations.items (length old.of_fragments.items) n k below there) in
+        inr (to_kept alone old.of_operations.items own others n k there (subst (λ ms. slice_index_or ms k false ≡ true) (sym turned) (inverted_at several k inside e)))
+
+-- a way begins in one of two parts of the starts
+of_one_part : (starts one other : List ℕ) (next : ℕ → List ℕ) → ((k : ℕ) → Contains starts k → Contains one k ⊎ Contains other k) → (k : ℕ) → Reach starts next k → Reach one next k ⊎ Reach other next k
+of_one_part starts one other next all k (start there) = ⊎_elim (λ a. inl (start a)) (λ b. inr (start b)) (all k there)
+of_one_part starts one other next all k (step {m = m} way there) = ⊎_elim (λ a. inl (step a there)) (λ b. inr (step b there)) (of_one_part starts one other next all m way)
+
+of_fewer : (fewer starts : List ℕ) (next : ℕ → List ℕ) → ((k : ℕ) → Contains fewer k → Contains starts k) → (k : ℕ) → Reach fewer next k → Reach starts next k
+of_fewer fewer starts next among k (start there) = start (among k there)
+of_fewer fewer starts next among k (step {m = m} way there) = step (of_fewer fewer starts next among m way) there
+
+fewer_below : (fewer starts : List ℕ) (limit : ℕ) → ((k : ℕ) → Contains fewer k → Contains starts k) → All (λ k. k < limit) starts → All (λ k. k < limit) fewer
+fewer_below fewer starts limit among all i e b = All-contains (λ k. k < limit) starts (get_or fewer i e) all (among (get_or fewer i e) (Contains-get_or fewer i e b))
+
+pub rows_below : (rows : List (Vec ℕ Global)) (limit : ℕ) → ((n : ℕ) → All (λ k. k < limit) (row rows n)) → All (λ v. All (λ k. k < limit) v.items) rows
+rows_below rows limit all i d b = subst (λ ns. All (λ k. k < limit) ns) (row_read_at rows i d b) (all i)
+
+pub lead_in_parts : (x : ExecutableOf) (old new : Spreads) (own : List (Vec ℕ Global)) → AreLeading x old → AreInParts old new own → AreLeadingInParts x new own
+lead_in_parts x old new own lead parts = record {
+  operations = parts.count ∙ lead.operations;
+  own_operations = parts.own_count ∙ lead.operations;
+  range = subst InRange (sym parts.fragments) lead.range;
+  starts = λ n. below n (row new.of_operations.items n) (parts.of_shared n);
+  own_starts = λ n. below n (row own n) (parts.of_own n);
+  sound = λ n o k at way. lead.sound n o k at (led n (row new.of_operations.items n) (parts.of_shared n) k way);
+  own_sound = λ n o k at way. lead.sound n o k at (led n (row own n) (parts.of_own n) k way);
+  complete = λ n o k f u at at_fragment used reached.
+      subst (λ (fs : List (Vec ℕ Global)). Reach (row new.of_operations.items n) (row fs) k ⊎ Reach (row own n) (row fs) k) (sym parts.fragments)
+      (of_one_part (row old.of_operations.items n) (row new.of_operations.items n) (row own n) (row old.of_fragments.items) (parts.all n) k (lead.complete n o k f u at at_fragment used reached));
+}
+  where
+    below : (n : ℕ) (starts : List ℕ) → ((k : ℕ) → Contains starts k → Contains (row old.of_operations.items n) k) → All (λ k. k < length new.of_fragments.items) starts
+    below n starts among =
+        subst (λ (fs : List (Vec ℕ Global)). All (λ k. k < length fs) starts) (sym parts.fragments)
+        (fewer_below starts (row old.of_operations.items n) (length old.of_fragments.items) among (lead.starts n))
+
+    led : (n : ℕ) (starts : List ℕ) → ((k : ℕ) → Contains starts k → Contains (row old.of_operations.items n) k) → (k : ℕ) → Reach starts (row new.of_fragments.items) k →
+        Reach (row old.of_operations.items n) (row old.of_fragments.items) k
+    led n starts among k way =
+        of_fewer starts (row old.of_operations.items n) (row old.of_fragments.items) among k
+        (subst (λ (fs : List (Vec ℕ Global)). Reach starts (row fs) k) parts.fragments way)

@@ -16,12 +16,13 @@ use Rattle.gq_document.specs.Selections.{SelectedOf, operation_selections, fragm
 use Rattle.gq_document.specs.Reaches.{Reaches, at_once, through}
 use Rattle.gq_document.specs.Executable.{ExecutableOf}
 use Rattle.gq_document.proofs.SelectionLemmas.{operation_holds, fragment_holds}
+use Rattle.gq_spreads.specs.Spreads.{ReachesNumber}
 use Rattle.gq_spreads.specs.declared.spreads.Spreads.{Spreads}
 use Rattle.gq_variables.specs.Uses.{PlaceOf, UseOf, part_place, argument_place, field_arguments, directives_of, StandsIn, here, within, after, StandsInValue, StandsInArguments, StandsInDirectives, StandsInSelection, in_arguments, in_directives, IsUsedInOperation, in_selection, in_directive, in_variable, IsUsedInFragment, within_selection, within_directive}
 use Rattle.gq_variables.specs.ReachedUses.{ReachesUse, of_itself, of_fragment}
 use Rattle.gq_variables.specs.Helping.UsesPlaces.{own_uses, uses_among, value_uses, uses_under, uses_of_argument, argument_uses, uses_of_directive, directive_uses, head_uses, uses_of_selection, selection_uses, variable_uses, operation_uses, fragment_uses, row_at}
-use Rattle.gq_variables.specs.Helping.Leading.{AreLeading}
-use Rattle.gq_variables.specs.Helping.Behind.{IsBehind, AreBehind}
+use Rattle.gq_variables.specs.Helping.Leading.{AreLeadingInParts}
+use Rattle.gq_variables.specs.Helping.Behind.{IsBehind, AreBehindStarts, AreBehind}
 use Rattle.gq_types.proofs.Gathered.{only, from_flat, to_flat}
 
 abbrev use_of : ℕ → NameOf Span → PlaceOf → UseOf
@@ -187,58 +188,58 @@ reached_stands fs (at_once stands s) = stands
 reached_stands fs (through reached stands s) = stands
 
 -- what is gathered from the fragments that are found
-pub behind_found : (rows : List (List UseOf)) (s : Spreads) (number : ℕ) (starts numbers : List ℕ) (of_fragments : List (Vec ℕ Global)) (uses : List UseOf) →
-    starts ≡ row s.of_operations.items number → of_fragments ≡ s.of_fragments.items → All (λ n. Reach starts (row of_fragments) n) numbers →
-    ((n : ℕ) → Reach starts (row of_fragments) n → Contains numbers n) → uses ≡ flat_map (row_at rows) numbers → AreBehind rows s number uses
-behind_found rows s number starts numbers of_fragments uses e f sound complete are u = (
+pub behind_found : (rows : List (List UseOf)) (of_fragments : List (Vec ℕ Global)) (starts numbers : List ℕ) (uses : List UseOf) → All (λ n. Reach starts (row of_fragments) n) numbers →
+    ((n : ℕ) → Reach starts (row of_fragments) n → Contains numbers n) → uses ≡ flat_map (row_at rows) numbers → AreBehindStarts rows of_fragments starts uses
+behind_found rows of_fragments starts numbers uses sound complete are u = (
   λ c.
       let r = from_flat (row_at rows) numbers u (subst (λ us. Contains us u) are c) in
-      record { number = r.0; led = forth r.0 (All-contains (λ n. Reach starts (row of_fragments) n) numbers r.0 sound r.1); stands = r.2 },
-  λ w. subst (λ us. Contains us u) (sym are) (to_flat (row_at rows) numbers w.number u (complete w.number (back w.number w.led)) w.stands),
+      record { number = r.0; led = All-contains (λ n. Reach starts (row of_fragments) n) numbers r.0 sound r.1; stands = r.2 },
+  λ w. subst (λ us. Contains us u) (sym are) (to_flat (row_at rows) numbers w.number u (complete w.number w.led) w.stands),
 )
-  where
-    forth : (k : ℕ) → Reach starts (row of_fragments) k → Reach (row s.of_operations.items number) (row s.of_fragments.items) k
-    forth k way = subst (λ ns. Reach ns (row s.of_fragments.items) k) e (subst (λ (all : List (Vec ℕ Global)). Reach starts (row all) k) f way)
-
-    back : (k : ℕ) → Reach (row s.of_operations.items number) (row s.of_fragments.items) k → Reach starts (row of_fragments) k
-    back k way = subst (λ (all : List (Vec ℕ Global)). Reach starts (row all) k) (sym f) (subst (λ ns. Reach ns (row s.of_fragments.items) k) (sym e) way)
 
 -- those behind the same spreads
 pub behind_as : (rows : List (List UseOf)) (s : Spreads) (m n : ℕ) (uses : List UseOf) → row s.of_operations.items m ≡ row s.of_operations.items n → AreBehind rows s m uses → AreBehind rows s n uses
 behind_as rows s m n uses same are = subst (λ starts. (u : UseOf) → Contains uses u ↔ IsBehind rows (row s.of_fragments.items) starts u) same are
 
--- The uses behind the spreads of an operation belong to it, and with its own these are all.
-module _ (x : ExecutableOf) (s : Spreads) (lead : AreLeading x s) (number : ℕ) (o : OperationOf) (is : slice_get x.operations number ≡ Some o)
-    (behind : List UseOf) (are : AreBehind (map (fragment_uses x.entries) x.fragments) s number behind) where
-  row_of : (k : ℕ) (f : FragmentOf) → slice_get x.fragments k ≡ Some f → row_at (map (fragment_uses x.entries) x.fragments) k ≡ fragment_uses x.entries f
-  row_of k f at =
-      ap (λ (r : Option (List UseOf)). option_map_or (λ (row : List UseOf). row) r [])
-      (slice_get-map (fragment_uses x.entries) x.fragments k ∙ ap (option_map (fragment_uses x.entries)) at)
+-- the row of a fragment
+row_of : (x : ExecutableOf) (k : ℕ) (f : FragmentOf) → slice_get x.fragments k ≡ Some f → row_at (map (fragment_uses x.entries) x.fragments) k ≡ fragment_uses x.entries f
+row_of x k f at =
+    ap (λ (r : Option (List UseOf)). option_map_or (λ (row : List UseOf). row) r [])
+    (slice_get-map (fragment_uses x.entries) x.fragments k ∙ ap (option_map (fragment_uses x.entries)) at)
 
-  pub from_behind : (u : UseOf) → Contains behind u → ReachesUse x o u
-  from_behind u c =
-      let w = (are u).0 c in
-      let r = lead.sound number o w.number is w.led in
-      of_fragment r.reached (from_fragment x.entries r.fragment u (subst (λ us. Contains us u) (row_of w.number r.fragment r.at) w.stands))
+-- uses behind spreads by which an operation reaches only what it reaches belong to it
+pub from_behind : (x : ExecutableOf) (o : OperationOf) (of_fragments : List (Vec ℕ Global)) (starts : List ℕ) → ((k : ℕ) → Reach starts (row of_fragments) k → ReachesNumber x.fragments o.set k) →
+    (behind : List UseOf) → AreBehindStarts (map (fragment_uses x.entries) x.fragments) of_fragments starts behind → (u : UseOf) → Contains behind u → ReachesUse x o u
+from_behind x o of_fragments starts sound behind are u c =
+    let w = (are u).0 c in
+    let r = sound w.number w.led in
+    of_fragment r.reached (from_fragment x.entries r.fragment u (subst (λ us. Contains us u) (row_of x w.number r.fragment r.at) w.stands))
 
-  from_reached : (u : UseOf) → Contains (operation_uses x.entries o ++ behind) u → ReachesUse x o u
-  from_reached u c = elim (Contains-append_cases (operation_uses x.entries o) behind u c) [
-    | inl own ↦ of_itself (from_operation x.entries o u own)
-    | inr others ↦ from_behind u others
+-- The uses behind both parts of the spreads of an operation are with its own all that belong to it.
+module _ (x : ExecutableOf) (s : Spreads) (own_rows : List (Vec ℕ Global)) (lead : AreLeadingInParts x s own_rows) (number : ℕ) (o : OperationOf) (is : slice_get x.operations number ≡ Some o)
+    (own behind : List UseOf) (own_are : AreBehindStarts (map (fragment_uses x.entries) x.fragments) s.of_fragments.items (row own_rows number) own)
+    (are : AreBehind (map (fragment_uses x.entries) x.fragments) s number behind) where
+  from_reached : (u : UseOf) → Contains ((operation_uses x.entries o ++ own) ++ behind) u → ReachesUse x o u
+  from_reached u c = elim (Contains-append_cases (operation_uses x.entries o ++ own) behind u c) [
+    | inl first ↦ elim (Contains-append_cases (operation_uses x.entries o) own u first) [
+      | inl itself ↦ of_itself (from_operation x.entries o u itself)
+      | inr beside ↦ from_behind x o s.of_fragments.items (row own_rows number) (λ k. lead.own_sound number o k is) own own_are u beside
+    ]
+    | inr others ↦ from_behind x o s.of_fragments.items (row s.of_operations.items number) (λ k. lead.sound number o k is) behind are u others
   ]
 
-  to_reached : (u : UseOf) → ReachesUse x o u → Contains (operation_uses x.entries o ++ behind) u
-  to_reached u (of_itself used) = Contains-append_left (operation_uses x.entries o) behind u (to_operation x.entries o u used)
+  to_reached : (u : UseOf) → ReachesUse x o u → Contains ((operation_uses x.entries o ++ own) ++ behind) u
+  to_reached u (of_itself used) = Contains-append_left (operation_uses x.entries o ++ own) behind u (Contains-append_left (operation_uses x.entries o) own u (to_operation x.entries o u used))
   to_reached u (of_fragment {f} reached used) =
       let c = reached_stands x.fragments reached in
       let at : slice_get x.fragments c.0 ≡ Some f = slice_get-get_or x.fragments c.0 f c.1 ∙ ap Some c.2 in
       let there = to_fragment x.entries f u used in
-      Contains-append_right (operation_uses x.entries o) behind u
-      ((are u).1 (record {
-        number = c.0;
-        led = lead.complete number o c.0 f u is at there (record { fragment = f; at = at; reached = reached });
-        stands = subst (λ us. Contains us u) (sym (row_of c.0 f at)) there;
-      }))
+      let stands = subst (λ us. Contains us u) (sym (row_of x c.0 f at)) there in
+      elim (lead.complete number o c.0 f u is at there (record { fragment = f; at = at; reached = reached })) [
+        | inl shared ↦ Contains-append_right (operation_uses x.entries o ++ own) behind u ((are u).1 (record { number = c.0; led = shared; stands = stands }))
+        | inr alone ↦ Contains-append_left (operation_uses x.entries o ++ own) behind u
+            (Contains-append_right (operation_uses x.entries o) own u ((own_are u).1 (record { number = c.0; led = alone; stands = stands })))
+      ]
 
-  pub reached_are : (u : UseOf) → Contains (operation_uses x.entries o ++ behind) u ↔ ReachesUse x o u
+  pub reached_are : (u : UseOf) → Contains ((operation_uses x.entries o ++ own) ++ behind) u ↔ ReachesUse x o u
   reached_are u = (from_reached u, to_reached u)

@@ -1,7 +1,7 @@
 //! The uses of variables behind the spreads of an operation: those in the fragments that it reaches.
 ghost use Rattle.std.specs.Prelude.{◌≡◌, ◌<◌, ◌+◌, ℕ, All, IfOk, OnOk, length, true};
 ghost use Rattle.gq_graph.specs.Reach.{row, InRange};
-ghost use Rattle.gq_variables.specs.Helping.Behind.{AreBehind};
+ghost use Rattle.gq_variables.specs.Helping.Behind.{AreBehind, AreBehindStarts};
 ghost use Rattle.gq_variables.specs.Helping.VariablePlaces.{use_texts};
 ghost use Rattle.gq_variables.specs.Helping.Views.{uses_view, rows_view};
 
@@ -42,6 +42,23 @@ fn goes_on(spreads: &Spreads, number: usize) -> bool
     spread_the_same(spreads, number - 1, number)
 }
 
+/// The uses in the fragments to which the starts lead. For each fragment there are rows of what it spreads and of its uses.
+pub(crate) fn uses_behind<'a>(
+    alloc: Global,
+    of_fragments: &[Vec<usize>],
+    starts: &[usize],
+    rows: &[Vec<Use<'a>>],
+) -> Result<Vec<Use<'a>>, NoMemory>
+    requires range { InRange of_fragments.now }
+    requires starts { All (λ k. k < length of_fragments.now) starts.now }
+    ensures { IfOk result (λ uses. AreBehindStarts (rows_view rows.now) of_fragments.now starts.now (uses_view uses.items)) }
+{
+    let numbers = reach_rows(alloc, of_fragments, starts)?;
+    let mut uses = Vec::new(alloc);
+    put_rows(rows, &numbers, &mut uses)?;
+    Ok(uses)
+}
+
 impl<'a> Behind<'a> {
     /// No uses. It takes no memory.
     pub fn none(alloc: Global) -> Behind<'a> {
@@ -64,9 +81,7 @@ impl<'a> Behind<'a> {
         ensures { IfOk result (λ behind. AreBehind (rows_view rows.now) spreads.now number (uses_view behind.uses.items)) }
     {
         let starts = &spreads.of_operations[number];
-        let numbers = reach_rows(alloc, &spreads.of_fragments, starts)?;
-        let mut uses = Vec::new(alloc);
-        put_rows(rows, &numbers, &mut uses)?;
+        let uses = uses_behind(alloc, &spreads.of_fragments, starts, rows)?;
         let names = used_names(alloc, &uses)?;
         Ok(Behind { uses, names })
     }

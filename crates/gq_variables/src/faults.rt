@@ -7,7 +7,7 @@ ghost use Rattle.gq_document.specs.Definitions.{operation_view, operations_view,
 ghost use Rattle.gq_document.specs.Executable.{executable_view};
 ghost use Rattle.gq_spreads.specs.Spreads.{AreSpreads};
 ghost use Rattle.gq_variables.specs.Helping.Behind.{AreBehind, FollowsItsLike};
-ghost use Rattle.gq_variables.specs.Helping.Leading.{AreLeading};
+ghost use Rattle.gq_variables.specs.Helping.Leading.{AreLeadingInParts};
 ghost use Rattle.gq_variables.specs.Helping.UsesPlaces.{operation_uses, fragment_uses, unless};
 ghost use Rattle.gq_variables.specs.VariableFaults.{IsVariableFault};
 ghost use Rattle.gq_variables.specs.Helping.VariablePlaces.{definition_faults, use_faults, operation_faults, AreFaultsBefore};
@@ -17,9 +17,10 @@ use crate::alike::are_as_before;
 use crate::all_variable_usages_are_allowed::add_not_allowed;
 use crate::all_variable_uses_defined::add_not_defined;
 use crate::all_variables_used::add_not_used;
-use crate::behind::{Behind, spread_the_same};
+use crate::behind::{Behind, spread_the_same, uses_behind};
 use crate::leading::leading_spreads;
-use crate::reached::{put_unless_known, uses_of_fragments};
+use crate::parts::{Parts, take_own};
+use crate::reached::{put_all, put_unless_known, uses_of_fragments};
 use crate::selections::put_uses_of_operation;
 use crate::uses::Use;
 use crate::variable_uniqueness::add_not_unique;
@@ -63,25 +64,27 @@ fn add_use_faults(
     add_not_allowed(alloc, types, variables, repeated, uses, faults)
 }
 
-/// Puts what is wrong with the variables of an operation, where these are the uses behind its spreads; what is wrong at those
-/// only if it is not known.
+/// Puts what is wrong with the variables of an operation, where these are the uses behind its own spreads and behind those that
+/// others share; what is wrong at the latter only if it is not known.
 fn add_faults_of_operation<'a>(
     alloc: Global,
     types: &'a Types,
     operation: &'a OperationEntry<'a>,
+    own: &[Use<'a>],
     behind: &Behind<'a>,
     are_known: bool,
     faults: &mut Vec<Fault>,
 ) -> Result<(), NoMemory>
     ensures { OnOk result (faults.new.items ≡ faults.old.items ++ operation_faults (types_view types.now) (operation_view operation.now)
-        (operation_uses (types_view types.now) (operation_view operation.now) ++ uses_view behind.now.uses.items)
-        (operation_uses (types_view types.now) (operation_view operation.now) ++ unless are_known (uses_view behind.now.uses.items))) }
+        ((operation_uses (types_view types.now) (operation_view operation.now) ++ uses_view own.now) ++ uses_view behind.now.uses.items)
+        ((operation_uses (types_view types.now) (operation_view operation.now) ++ uses_view own.now) ++ unless are_known (uses_view behind.now.uses.items))) }
 {
     let (file, all) = (operation.file, &operation.definition.variables);
     let mut repeated = Vec::new(alloc);
     let variables = Variables::of(alloc, all, &mut repeated)?;
     let mut uses = Vec::new(alloc);
     put_uses_of_operation(alloc, types, operation, &mut uses)?;
+    put_all(own, &mut uses)?;
     add_definition_faults(types, file, all, &repeated, faults)?;
     add_not_used(alloc, file, all, &uses, &behind.names, faults)?;
     put_unless_known(are_known, &behind.uses, &mut uses)?;
@@ -136,27 +139,33 @@ fn are_known(
 }
 
 /// Puts what is wrong with the variables of the operation of that number behind what is wrong in those before. The spreads are
-/// those of fragments that lead to a use.
+/// those of fragments that lead to a use. For each fragment there is a row of its uses.
 fn add_faults_at<'a>(
     alloc: Global,
     executable: &Executable<'a>,
-    spreads: &Spreads,
+    parts: &Parts,
+    rows: &[Vec<Use<'a>>],
     behind: &Behind<'a>,
     number: usize,
     faults: &mut Vec<Fault>,
 ) -> Result<(), NoMemory>
-    requires spreads { AreLeading (executable_view executable.now) spreads.now }
+    requires spreads { AreLeadingInParts (executable_view executable.now) parts.now.shared parts.now.own.items }
     requires operation { number < length (operations_view executable.now.operations.now) }
-    requires behind { AreBehind (map (fragment_uses (types_view executable.now.types.now)) (fragments_view executable.now.fragments.now)) spreads.now number (uses_view behind.now.uses.items) }
+    requires rows { rows_view rows.now ≡ map (fragment_uses (types_view executable.now.types.now)) (fragments_view executable.now.fragments.now) }
+    requires behind { AreBehind (rows_view rows.now) parts.now.shared number (uses_view behind.now.uses.items) }
     requires faults { AreFaultsBefore (executable_view executable.now) number faults.now.items }
     ensures { OnOk result (AreFaultsBefore (executable_view executable.now) (number + 1) faults.new.items) }
 {
     let operations = executable.operations;
-    let known = are_known(alloc, operations, spreads, &behind.names, number)?;
+    let known = are_known(alloc, operations, &parts.shared, &behind.names, number)?;
+    let starts = &parts.own[number];
+    let own = uses_behind(alloc, &parts.shared.of_fragments, starts, rows)?;
+    let operation = &operations[number];
     add_faults_of_operation(
         alloc,
         executable.types,
-        &operations[number],
+        operation,
+        &own,
         behind,
         known,
         faults,
@@ -183,10 +192,10 @@ fn put_once(most: usize, faults: &mut Vec<Fault>) -> usize
 fn faults_found<'a>(
     alloc: Global,
     executable: &Executable<'a>,
-    spreads: &Spreads,
+    parts: &Parts,
     rows: &[Vec<Use<'a>>],
 ) -> Result<Vec<Fault>, NoMemory>
-    requires spreads { AreLeading (executable_view executable.now) spreads.now }
+    requires spreads { AreLeadingInParts (executable_view executable.now) parts.now.shared parts.now.own.items }
     requires rows { rows_view rows.now ≡ map (fragment_uses (types_view executable.now.types.now)) (fragments_view executable.now.fragments.now) }
     ensures { IfOk result (λ found. AreFaultsBefore (executable_view executable.now) (length (operations_view executable.now.operations.now)) found.items) }
 {
@@ -194,8 +203,8 @@ fn faults_found<'a>(
     let mut most = MANY;
     let mut behind = Behind::none(alloc);
     for number in 0..executable.operations.len() {
-        behind.go_on(alloc, spreads, rows, number)?;
-        add_faults_at(alloc, executable, spreads, &behind, number, &mut found)?;
+        behind.go_on(alloc, &parts.shared, rows, number)?;
+        add_faults_at(alloc, executable, parts, rows, &behind, number, &mut found)?;
         most = put_once(most, &mut found);
     }
     Ok(found)
@@ -214,8 +223,10 @@ pub fn add_variable_faults(
     ensures { OnOk result (AddsExactly (IsVariableFault (executable_view executable.now)) faults.old.items faults.new.items) }
 {
     let rows = uses_of_fragments(alloc, executable.types, executable.fragments)?;
-    let leading = leading_spreads(alloc, executable, spreads, &rows)?;
-    let found = faults_found(alloc, executable, &leading, &rows)?;
+    let mut shared = leading_spreads(alloc, executable, spreads, &rows)?;
+    let own = take_own(alloc, &mut shared)?;
+    let parts = Parts { shared, own };
+    let found = faults_found(alloc, executable, &parts, &rows)?;
     faults.extend_from_slice(&found)?;
     Ok(())
 }

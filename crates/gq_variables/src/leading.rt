@@ -65,7 +65,7 @@ fn marked(alloc: Global, marks: &[bool], numbers: &[usize]) -> Result<Vec<usize>
 }
 
 /// The same of each row.
-fn marked_rows(
+pub(crate) fn marked_rows(
     alloc: Global,
     marks: &[bool],
     rows: &[Vec<usize>],

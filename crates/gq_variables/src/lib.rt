@@ -10,6 +10,7 @@ mod behind;
 mod compatible;
 pub mod faults;
 mod leading;
+mod parts;
 mod places;
 mod reached;
 mod selections;

@@ -30,7 +30,7 @@ pub(crate) fn uses_of_fragments<'a>(
 
 /// Puts the uses behind the others.
 #[tactic(auto, using(gq_tree::proofs::Trees::gathers))]
-fn put_all<'a>(more: &[Use<'a>], uses: &mut Vec<Use<'a>>) -> Result<(), NoMemory>
+pub(crate) fn put_all<'a>(more: &[Use<'a>], uses: &mut Vec<Use<'a>>) -> Result<(), NoMemory>
     ensures { OnOk result (uses_view uses.new.items ≡ uses_view uses.old.items ++ uses_view more.now) }
 {
     for one in more {

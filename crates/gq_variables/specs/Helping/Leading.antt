@@ -1,5 +1,7 @@
 -- Which fragments have to be gone over for the uses of variables. Only contracts of private functions speak of it.
-use Rattle.std.specs.Prelude.{◌≡◌, ◌<◌, ℕ, ◌+◌, Bool, true, false, List, [], ◌∷◌, ◌++◌, Some, All, Contains, length, not, nat_eq, slice_get, slice_index_or}
+use Rattle.std.specs.Prelude.{◌≡◌, ◌<◌, ◌⊎◌, ℕ, ◌+◌, Bool, true, false, List, [], ◌∷◌, ◌++◌, Some, All, Contains, length, not, nat_eq, slice_get, slice_index_or}
+use Rattle.std.specs.declared.vec.Vec.{Vec}
+use Rattle.std.specs.declared.alloc.Global.{Global}
 use Rattle.gq_names.specs.UnderNames.{one_if}
 use Rattle.gq_graph.specs.Reach.{Reach, row, InRange}
 use Rattle.gq_document.specs.Definitions.{OperationOf, FragmentOf}
@@ -27,3 +29,24 @@ pub record AreLeading (x : ExecutableOf) (s : Spreads) : Type 0 where
   pub sound : (n : ℕ) (o : OperationOf) (k : ℕ) → slice_get x.operations n ≡ Some o → Reach (row s.of_operations.items n) (row s.of_fragments.items) k → ReachesNumber x.fragments o.set k
   pub complete : (n : ℕ) (o : OperationOf) (k : ℕ) (f : FragmentOf) (u : UseOf) → slice_get x.operations n ≡ Some o → slice_get x.fragments k ≡ Some f → Contains (fragment_uses x.entries f) u →
       ReachesNumber x.fragments o.set k → Reach (row s.of_operations.items n) (row s.of_fragments.items) k
+
+-- The spreads of operations in two parts; those of fragments stay.
+pub record AreInParts (old new : Spreads) (own : List (Vec ℕ Global)) : Type 0 where
+  pub fragments : new.of_fragments.items ≡ old.of_fragments.items
+  pub count : length new.of_operations.items ≡ length old.of_operations.items
+  pub own_count : length own ≡ length old.of_operations.items
+  pub of_shared : (n k : ℕ) → Contains (row new.of_operations.items n) k → Contains (row old.of_operations.items n) k
+  pub of_own : (n k : ℕ) → Contains (row own n) k → Contains (row old.of_operations.items n) k
+  pub all : (n k : ℕ) → Contains (row old.of_operations.items n) k → Contains (row new.of_operations.items n) k ⊎ Contains (row own n) k
+
+-- Spreads by either part of which an operation reaches only what it reaches, and by one of which each fragment of that in which a use stands.
+pub record AreLeadingInParts (x : ExecutableOf) (s : Spreads) (own : List (Vec ℕ Global)) : Type 0 where
+  pub operations : length s.of_operations.items ≡ length x.operations
+  pub own_operations : length own ≡ length x.operations
+  pub range : InRange s.of_fragments.items
+  pub starts : (n : ℕ) → All (λ k. k < length s.of_fragments.items) (row s.of_operations.items n)
+  pub own_starts : (n : ℕ) → All (λ k. k < length s.of_fragments.items) (row own n)
+  pub sound : (n : ℕ) (o : OperationOf) (k : ℕ) → slice_get x.operations n ≡ Some o → Reach (row s.of_operations.items n) (row s.of_fragments.items) k → ReachesNumber x.fragments o.set k
+  pub own_sound : (n : ℕ) (o : OperationOf) (k : ℕ) → slice_get x.operations n ≡ Some o → Reach (row own n) (row s.of_fragments.items) k → ReachesNumber x.fragments o.set k
+  pub complete : (n : ℕ) (o : OperationOf) (k : ℕ) (f : FragmentOf) (u : UseOf) → slice_get x.operations n ≡ Some o → slice_get x.fragments k ≡ Some f → Contains (fragment_uses x.entries f) u →
+      ReachesNumber x.fragments o.set k → Reach (row s.of_operations.items n) (row s.of_fragments.items) k ⊎ Reach (row own n) (row s.of_fragments.items) k

@@ -13,12 +13,13 @@ pub returns : goal.returns
 returns c =
     let es = types_view c.args.types.now in
     let o = operation_view c.args.operation.now in
-    let own = operation_uses es o in
+    let own = operation_uses es o ++ uses_view c.args.own.now in
     let behind = uses_view c.args.behind.now.uses.items in
     let known = c.args.are_known in
     let repeated = c.in_ok-variables.ensures.repeated ∙ ap (λ vs. variables_view vs ++ repeated_variables [] (map variable_view c.deref.result.now)) c.new-repeated.ensures.items
     ∙ ap (λ vs. repeated_variables [] (map variable_view vs)) c.deref.ensures.value in
-    let own_are = c.in_ok-put_uses_of_operation.ensures ∙ ap (λ us. uses_view us ++ own) c.new-uses.ensures.items in
+    let own_are = c.in_ok-put_all.ensures
+    ∙ ap (λ us. us ++ uses_view c.args.own.now) (c.in_ok-put_uses_of_operation.ensures ∙ ap (λ us. uses_view us ++ operation_uses es o) c.new-uses.ensures.items) in
     on_ok_weaker c.add_use_faults.result
     (λ then. operation_put es o (own ++ behind) (own ++ unless known behind) (uses_view c.deref-8.result.now) (use_texts (uses_view c.deref-5.result.now) ++ c.args.behind.now.names)
     (map variable_view c.deref-2.result.now) (map variable_view c.in_ok-variables.variables.all.now) (map variable_view c.deref-4.result.now) (variables_view c.deref-3.result.now) (variables_view c.deref-7.result.now)

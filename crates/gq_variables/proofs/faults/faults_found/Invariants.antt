@@ -8,5 +8,5 @@ use Rattle.gq_variables.proofs.faults.faults_found.Given as goal
 abbrev pub invariant-loop-number : goal.invariant-loop-number
 invariant-loop-number l = record {
   faults : AreFaultsBefore (executable_view l.executable) l.number l.found.items;
-  behind : (before : ℕ) → before + 1 ≡ l.number → AreBehind (rows_view l.rows) l.spreads before (uses_view l.behind.uses.items);
+  behind : (before : ℕ) → before + 1 ≡ l.number → AreBehind (rows_view l.rows) l.parts.shared before (uses_view l.behind.uses.items);
 }
