@@ -137,7 +137,7 @@ one_more_done P groups place group at within before here =
 
 module _ (es : List EntryOf) (rows : List Row) (table : List (Vec ℕ Global)) (same : map (λ v. v.items) table ≡ map (λ r. r.spreads.items) rows) where
   -- the fields of a group are those of all that it reaches
-  among_found : (group found : List ℕ) (ms : List MemberOf) → ((k : ℕ) → Reach group (row table) k → Contains found k) → ms ≡ flat_map (members_at (rows_view rows)) found →
+  pub among_found : (group found : List ℕ) (ms : List MemberOf) → ((k : ℕ) → Reach group (row table) k → Contains found k) → ms ≡ flat_map (members_at (rows_view rows)) found →
       (m : MemberOf) → IsOfGroup (rows_view rows) group m → Contains ms m
   among_found group found ms complete is m h =
       subst (λ ls. Contains ls m) (sym is)

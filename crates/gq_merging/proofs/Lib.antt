@@ -31,5 +31,6 @@ pub mod ClassSearch
 pub mod PartLemmas
 pub mod KeptLemmas
 pub mod GroupSearch
+pub mod UnionLemmas
 pub mod ThreadLemmas
 pub mod Crossing

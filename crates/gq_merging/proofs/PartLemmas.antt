@@ -4,7 +4,7 @@ use Rattle.std.specs.List.{flat_map}
 use Rattle.std.proofs.lemmas.List.{take_all, length-append}
 use Rattle.std.proofs.lemmas.List.Elements.{All-contains, All-weaker, All-contains_itself, Contains-append_left, Contains-append_right, Contains-append_cases, Contains-push, Contains-push_cases}
 use Rattle.std.proofs.lemmas.Bool.Decides.{eqb_tells}
-use Rattle.gq_names.proofs.RepeatLemmas.{contains_none, contains_cases}
+use Rattle.gq_names.proofs.RepeatLemmas.{contains_none, contains_cases, contains_first, contains_later}
 use Rattle.gq_graph.specs.Reach.{Reach, InRange, start, step, row}
 use Rattle.gq_types.proofs.Gathered.{from_flat, to_flat}
 use Rattle.gq_merging.specs.Helping.Views.{rows_view}
@@ -84,9 +84,16 @@ pub parts_at_end : (ss ns fs : List (Vec ℕ Global)) (i : ℕ) → length ss �
 parts_at_end ss ns fs i end p = subst (λ xs. AreParts xs ns fs) (take_all i ss end) p
 
 -- what stands in the rows of a table has a row
-row_of : (table : List (Vec ℕ Global)) (v : Vec ℕ Global) → Contains table v → (n : ℕ) × (row table n ≡ v.items)
+pub row_of : (table : List (Vec ℕ Global)) (v : Vec ℕ Global) → Contains table v → (n : ℕ) × (n < length table) × (row table n ≡ v.items)
 row_of [] v c = absurd (contains_none v c)
-row_of (w ∷ ws) v c = ⊎_elim (λ e. (0, ap (λ (u : Vec ℕ Global). u.items) e)) (λ d. let q = row_of ws v d in (suc q.0, q.1)) (contains_cases w ws v c)
+row_of (w ∷ ws) v c =
+    let some : 0 < length (w ∷ ws) = omega arith in
+    ⊎_elim (λ e. (0, some, ap (λ (u : Vec ℕ Global). u.items) e)) (λ d. let q = row_of ws v d in let l : suc q.0 < length (w ∷ ws) = omega (arith, q.1) in (suc q.0, l, q.2)) (contains_cases w ws v c)
+
+pub row_contained : (table : List (Vec ℕ Global)) (n : ℕ) → n < length table → Contains (map (λ v. v.items) table) (row table n)
+row_contained [] n l = absurd (omega (arith, l))
+row_contained (v ∷ table) zero l = contains_first v.items (map (λ v. v.items) table) v.items refl
+row_contained (v ∷ table) (suc n) l = contains_later v.items (map (λ v. v.items) table) (row table n) (row_contained table n (omega (arith, l)))
 
 pub row_past : (table : List (Vec ℕ Global)) (n : ℕ) → length table ≤ n → row table n ≡ []
 row_past [] n l = refl
@@ -112,7 +119,7 @@ module _ (spreads near far : List (Vec ℕ Global)) (parts : AreParts spreads ne
       (λ v c.
       let q = row_of table v c in
       All-weaker (Contains v.items) (λ n. n < length spreads)
-      (λ k d. below_in_rows spreads (length spreads) range q.0 k (h q.0 k (subst (λ ns. Contains ns k) (sym q.1) d)))
+      (λ k d. below_in_rows spreads (length spreads) range q.0 k (h q.0 k (subst (λ ns. Contains ns k) (sym q.2) d)))
       v.items (All-contains_itself v.items))
       table (All-contains_itself table)
 

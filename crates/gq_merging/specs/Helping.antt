@@ -15,4 +15,5 @@ pub mod SearchTables
 pub mod SearchViews
 pub mod SetTables
 pub mod StartTables
+pub mod UnionTables
 pub mod Views

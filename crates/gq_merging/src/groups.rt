@@ -10,8 +10,8 @@
 //! Where a test fails, the fragments that are spread in its set are tested, and no other set that spreads one that fails.
 //!
 //! Where many sets reach the same fragments, each with fields of its own, their tests take more steps than they have. Then all
-//! are tested as one group, and where that fails, one by one in more steps. After a number of steps in proportion to the project
-//! the tests end.
+//! are tested as one group, and where that fails, by classes (`unions`), and one by one in more steps. After a number of steps in
+//! proportion to the project the tests end.
 ghost use Rattle.std.specs.Prelude.{◌≡◌, ◌<◌, ◌+◌, ◌⊎◌, ℕ, List, All, Some, IsTrue, IfOk, OnOk, true, false, length, map, slice_get, slice_index_or};
 ghost use Rattle.std.specs.List.{flat_map};
 ghost use Rattle.gq_graph.specs.Reach.{InRange, row};
@@ -26,9 +26,11 @@ ghost use Rattle.gq_merging.specs.Helping.GroupViews.{groups_view};
 
 use crate::classes::{Tables, groups_below, has_selections, is_through};
 use crate::cliques::take_steps;
+use crate::joined::joined_sets;
 use crate::members::{gathered, own_members, reached_sets};
 use crate::passed::named_rows;
 use crate::rows::{Member, Row};
+use crate::unions::tested_by_classes;
 use gq_document::Executable;
 use gq_graph::mark_all;
 use gq_text::NoMemory;
@@ -469,7 +471,52 @@ fn mark_together(
     Ok(())
 }
 
-/// The marks that tests leave which begin with these sets: one by one in few steps, together, and one by one in more.
+/// Tests all sets at once, by classes, and marks them where that passes.
+fn mark_by_classes(tables: Tables<'_>, marks: &mut Vec<bool>) -> Result<(), NoMemory>
+    requires range { InRange tables.spreads.now }
+    requires spreads { map (λ v. v.items) tables.spreads.now ≡ map (λ r. r.spreads.items) tables.rows.now }
+    requires tested { AreTested (types_view tables.types.now) (rows_view tables.rows.now) marks.old.items }
+    ensures tested { OnOk result (AreTested (types_view tables.entry.types.now) (rows_view tables.entry.rows.now) marks.new.items) }
+{
+    let numbers = joined_sets(tables)?;
+    let tested = tested_by_classes(tables, &numbers)?;
+    mark_all(marks, &tested);
+    Ok(())
+}
+
+/// Whether all of these are marked.
+fn are_marked(marks: &[bool], numbers: &[usize]) -> bool {
+    for number in numbers {
+        if !is_one_marked(marks, &[*number]) {
+            return false;
+        }
+    }
+    true
+}
+
+/// Tests these sets together, by classes, and one by one in more steps, as long as one of them is not marked.
+fn mark_otherwise(
+    tables: Tables<'_>,
+    starts: &[usize],
+    marks: &mut Vec<bool>,
+    steps: usize,
+) -> Result<(), NoMemory>
+    requires range { InRange tables.spreads.now }
+    requires spreads { map (λ v. v.items) tables.spreads.now ≡ map (λ r. r.spreads.items) tables.rows.now }
+    requires starts { All (λ n. n < length tables.rows.now) starts.now }
+    requires tested { AreTested (types_view tables.types.now) (rows_view tables.rows.now) marks.old.items }
+    ensures tested { OnOk result (AreTested (types_view tables.entry.types.now) (rows_view tables.entry.rows.now) marks.new.items) }
+{
+    mark_together(tables, starts, marks, steps)?;
+    if are_marked(marks, starts) {
+        return Ok(());
+    }
+    mark_by_classes(tables, marks)?;
+    mark_in_steps(tables, starts, marks, steps.saturating_mul(4))?;
+    Ok(())
+}
+
+/// The marks that tests leave which begin with these sets: one by one in few steps, and where these are used up, otherwise.
 fn marks_from(tables: Tables<'_>, starts: &[usize]) -> Result<Vec<bool>, NoMemory>
     requires range { InRange tables.spreads.now }
     requires spreads { map (λ v. v.items) tables.spreads.now ≡ map (λ r. r.spreads.items) tables.rows.now }
@@ -479,8 +526,7 @@ fn marks_from(tables: Tables<'_>, starts: &[usize]) -> Result<Vec<bool>, NoMemor
     let mut marks = vec![in tables.alloc; false; tables.rows.len()]?;
     let room = all_room(tables.rows);
     if !mark_in_steps(tables, starts, &mut marks, room / 4)? {
-        mark_together(tables, starts, &mut marks, room)?;
-        mark_in_steps(tables, starts, &mut marks, room.saturating_mul(4))?;
+        mark_otherwise(tables, starts, &mut marks, room)?;
     }
     Ok(marks)
 }

@@ -10,6 +10,7 @@ mod earliest;
 mod entries;
 mod faults;
 mod groups;
+mod joined;
 mod kept;
 mod marks;
 mod members;
@@ -24,6 +25,7 @@ mod same_strings;
 mod same_values;
 mod search;
 mod sets;
+mod unions;
 
 pub use faults::{add_merging_faults, add_merging_faults_by_threads};
 pub use purpose::Purpose;

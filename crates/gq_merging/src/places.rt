@@ -20,7 +20,7 @@ pub(crate) enum Places {
 }
 
 /// All numbers below the count.
-fn numbers_below(alloc: Global, count: usize) -> Result<Vec<usize>, NoMemory>
+pub(crate) fn numbers_below(alloc: Global, count: usize) -> Result<Vec<usize>, NoMemory>
     ensures within { IfOk result (λ numbers. (j : ℕ) → Contains numbers.items j → j < count) }
     ensures each { IfOk result (λ numbers. (j : ℕ) → j < count → Contains numbers.items j) }
 {
