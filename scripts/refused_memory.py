@@ -21,8 +21,9 @@ What a server may write, beside what it writes with ample memory. Where one grow
 With all growths refused from one on, several of these come, the last of them the end, and one document is lost at most. `check`, `exec`
 and `rename` end with `gqls: NoMemory` and the status 3, and write nothing to standard output; what `--verbose` says may be missing, too.
 
-A program of rows may say of a row that it has no answer, or one that names the refusal, and may end early. One of lists of events may
-end early too, or go on with a question refused as above.
+A program of rows may say of a row that it has no answer, or one that names the refusal, or that a project whose judgement found no
+memory is handed back, and may end early. One of lists of events may end early too, or go on with a question refused as above, or
+without what is wrong with the documents.
 
 Anything else is printed: the case, the growth and the first difference. Behind that a table counts what the runs came to, by the file of
 their case; the status is 1 where one differed."""
@@ -42,7 +43,8 @@ STATUS = 3
 ENDED = b"gqls: NoMemory\n"
 ASKS = {f"textDocument/{name}" for name in "hover definition references completion prepareRename rename codeAction".split()}
 MANY = 6
-NO_ANSWER = re.compile(rb'no answer"$|NoMemory|document lost|publishDiagnostics.*"diagnostics\\*":\[\]')
+NO_ANSWER = re.compile(rb'no answer"$|NoMemory|document lost|publishDiagnostics.*"diagnostics\\*":\[\]|told "\\n\d+ handed back"$')
+NOT_PUBLISHED = re.compile(rb': None, wanted "<- .*publishDiagnostics')
 OUTCOMES = "the same answer", "an ask refused", "not published", "a document lost", "ended with NoMemory", "else"
 SAME, REFUSED, UNPUBLISHED, LOST, END, WRONG = OUTCOMES
 
@@ -168,6 +170,8 @@ def judged_rows(case, ample, ran):
     wanted = ample.output.splitlines()
     other = [line for line in ran.output.splitlines() if line not in wanted]
     looked = other if case.name.startswith("gq_rows") else other[:1]
+    if looked and ran.status == 1 and not ran.errors and case.name.startswith("gq_sessions") and NOT_PUBLISHED.search(looked[0]):
+        return UNPUBLISHED, None
     if ran.status != 1 or ran.errors or not all(NO_ANSWER.search(line.partition(b", wanted ")[0]) for line in looked):
         return WRONG, f"it ends with {ran.status} {ran.errors[-200:]!r}, and writes {other[:1]!r}"
     return (REFUSED if other else END), None
