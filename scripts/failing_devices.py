@@ -36,6 +36,7 @@ TRUNCATED = 3, b"gqls: Truncated\n"
 NO_SHUTDOWN = 1, b""
 FAILS, INTERRUPTED = errno.EIO, errno.EINTR
 PIECES = 24
+PIECE_MOST = 1024
 REFUSED = b'{"error":{"code":-32803,"message":"shutdown"},"id":2,"jsonrpc":"2.0"}'
 
 
@@ -45,8 +46,8 @@ def places(count, most):
 
 
 def piece_of(length, most):
-    """How many bytes a call moves at most, so that there are some calls; of the stored run one."""
-    return 1 if most == ALL else max(1, length // PIECES)
+    """How many bytes a call moves at most, so that there are some calls, and less than a call asks for; of the stored run one."""
+    return 1 if most == ALL else min(PIECE_MOST, max(1, length // PIECES))
 
 
 def end_of(ran):
@@ -90,7 +91,7 @@ def tries(runner, case, most):
             for piece in (1, 7):
                 yield f"{name.lower()}s of {piece} bytes at most", runner.run(case, {f"{name}_MOST": piece}), same
     writes = {"WRITE_MOST": piece_of(len(ample.output), most)}
-    front = lambda number: lambda ran: ample.output.startswith(ran.output) and end_of(ran) == DEVICE and ran.writes == number
+    front = lambda number: lambda ran: ample.output.startswith(ran.front) and end_of(ran) == DEVICE and ran.writes == number
     for number in places(runner.run(case, writes).writes, most):
         yield "a write is interrupted", runner.run(case, writes | {"WRITE_AT": number, "WRITE_ERROR": INTERRUPTED}), same
         for error, what in ((FAILS, "a write fails"), (0, "a write takes no byte")):

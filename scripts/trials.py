@@ -151,12 +151,19 @@ class Case:
                 CHANGES[word](folder, rest)
 
 
+def without_start_of(name, output):
+    """The output, without a start of that name at its end, as a write that fails leaves one."""
+    length = next((length for length in range(len(name) - 1, 0, -1) if output.endswith(name[:length])), 0)
+    return output[: len(output) - length]
+
+
 class Ran:
     """What a run wrote, how it ended, and how many growths, reads and writes it asked for."""
 
     def __init__(self, output, errors, status, counts, folder):
         name = os.fsencode(folder)
         self.output = output.replace(name, b"/w")
+        self.front = without_start_of(name, self.output)
         self.errors = errors.replace(name, b"/w")
         self.status = status
         self.growths, self.reads, self.writes = counts
