@@ -26,4 +26,5 @@ pub mod MergingSame
 pub mod MergingFields
 pub mod MergingKept
 pub mod Both
+pub mod Rules
 pub mod Renames

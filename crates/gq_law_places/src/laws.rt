@@ -9,6 +9,7 @@ ghost use Rattle.gq_law_places.specs.Names.{FragmentRenamesKeepFaultless, NamesD
 ghost use Rattle.gq_law_places.specs.Places.{DocumentsAreSameButPlaces, PlacesDoNotMatter};
 ghost use Rattle.gq_law_places.specs.Types.{NoPlacesMatter, PlacesOfTypesDoNotMatter, ProjectsAreSameButPlaces, TreesSayWhatIsFaultless, TypesLookAlike};
 ghost use Rattle.gq_merging.specs.FieldsMerge.{IsMergingFault};
+ghost use Rattle.gq_rules.specs.RuleFaults.{IsRuleFault};
 ghost use Rattle.gq_spreads.specs.SpreadFaults.{IsSpreadFault};
 ghost use Rattle.gq_variables.specs.VariableFaults.{IsVariableFault};
 
@@ -92,6 +93,13 @@ pub fn no_places_matter()
     places_of_types_do_not_matter();
 }
 
+/// They matter to no rule of executable definitions.
+pub fn no_places_matter_to_rules()
+    ensures { NoPlacesMatter IsRuleFault }
+{
+    no_places_matter();
+}
+
 /// What is read of projects whose definitions are equal but for their places is equal but for its places.
 pub fn projects_are_same_but_places()
     ensures { ProjectsAreSameButPlaces }
@@ -107,6 +115,13 @@ pub fn trees_say_what_is_faultless()
     ensures merging { TreesSayWhatIsFaultless IsMergingFault }
 {
     no_places_matter();
+}
+
+/// Two projects with the same trees without places are both faultless by all rules of executable definitions, or neither is.
+pub fn trees_say_whether_rules_hold()
+    ensures { TreesSayWhatIsFaultless IsRuleFault }
+{
+    no_places_matter_to_rules();
 }
 
 /// Neither places nor the names of fragments and variables matter to these faults.
