@@ -19,7 +19,7 @@ use Rattle.gq_law_places.proofs.Bare.{by_names}
 use Rattle.gq_law_places.proofs.Operations.{repeated_by, names_of_unknown_conditions, names_of_other_conditions}
 use Rattle.gq_law_places.proofs.Selected.{selected_alike}
 
-fragment_name : (f g : FragmentOf) → erase_fragment f ≡ erase_fragment g → f.name.text ≡ g.name.text
+pub fragment_name : (f g : FragmentOf) → erase_fragment f ≡ erase_fragment g → f.name.text ≡ g.name.text
 fragment_name f g e =
     let defs = ap (λ z. z.1) e in
     let names : place_name no_place f.name ≡ place_name no_place g.name = cc in

@@ -17,5 +17,14 @@ pub mod LookupDefinitions
 pub mod LookupSpreads
 pub mod LookupVariables
 pub mod LookupMerging
+pub mod SpreadPlaces
+pub mod UsePlaces
+pub mod VariablePlaces
+pub mod MergingValues
+pub mod MergingBack
+pub mod MergingSame
+pub mod MergingFields
+pub mod MergingKept
 pub mod Both
+pub mod Rules
 pub mod Renames

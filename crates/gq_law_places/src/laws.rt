@@ -4,10 +4,12 @@ ghost use Rattle.gq_fragments.specs.FragmentFaults.{IsFragmentFault};
 ghost use Rattle.gq_fragments.specs.FragmentSpreadTypeExistence.{IsUnknownCondition};
 ghost use Rattle.gq_fragments.specs.FragmentsOnCompositeTypes.{IsConditionNotComposite};
 ghost use Rattle.gq_fragments.specs.OperationFaults.{IsOperationFault};
+ghost use Rattle.gq_law_places.specs.Merging.{DifferingIsSymmetric, FieldsThatAreKeptMerge, MeetingIsSymmetric};
 ghost use Rattle.gq_law_places.specs.Names.{FragmentRenamesKeepFaultless, NamesDoNotMatter, RenamedAreSameButNames, RenamesKeepFaultless};
 ghost use Rattle.gq_law_places.specs.Places.{DocumentsAreSameButPlaces, PlacesDoNotMatter};
 ghost use Rattle.gq_law_places.specs.Types.{NoPlacesMatter, PlacesOfTypesDoNotMatter, ProjectsAreSameButPlaces, TreesSayWhatIsFaultless, TypesLookAlike};
 ghost use Rattle.gq_merging.specs.FieldsMerge.{IsMergingFault};
+ghost use Rattle.gq_rules.specs.RuleFaults.{IsRuleFault};
 ghost use Rattle.gq_spreads.specs.SpreadFaults.{IsSpreadFault};
 ghost use Rattle.gq_variables.specs.VariableFaults.{IsVariableFault};
 
@@ -21,6 +23,37 @@ pub fn places_do_not_matter_to_field_faults()
 pub fn places_do_not_matter_to_definition_faults()
     ensures operations { PlacesDoNotMatter IsOperationFault }
     ensures fragments { PlacesDoNotMatter IsFragmentFault }
+{}
+
+/// The same of the faults of spreads and of the fragments that these reach.
+pub fn places_do_not_matter_to_spread_faults()
+    ensures { PlacesDoNotMatter IsSpreadFault }
+{}
+
+/// The same of the faults of variables.
+pub fn places_do_not_matter_to_variable_faults()
+    ensures { PlacesDoNotMatter IsVariableFault }
+{}
+
+/// The same of the faults of fields that do not merge.
+pub fn places_do_not_matter_to_merging_faults()
+    ensures { PlacesDoNotMatter IsMergingFault }
+{}
+
+/// Two fields meet in either order.
+pub fn meeting_is_symmetric()
+    ensures { MeetingIsSymmetric }
+{}
+
+/// Two fields differ in either order.
+pub fn differing_is_symmetric()
+    ensures { DifferingIsSymmetric }
+{}
+
+/// Where the fields of each selection set stand in one of another project, in whatever documents and fragments, all that merges
+/// there merges here.
+pub fn fields_that_are_kept_merge()
+    ensures { FieldsThatAreKeptMerge }
 {}
 
 /// What is read of documents that are equal but for their places is equal but for its places.
@@ -48,20 +81,47 @@ pub fn no_places_matter()
     ensures fields { NoPlacesMatter IsFieldFault }
     ensures operations { NoPlacesMatter IsOperationFault }
     ensures fragments { NoPlacesMatter IsFragmentFault }
-{}
+    ensures spreads { NoPlacesMatter IsSpreadFault }
+    ensures variables { NoPlacesMatter IsVariableFault }
+    ensures merging { NoPlacesMatter IsMergingFault }
+{
+    places_do_not_matter_to_field_faults();
+    places_do_not_matter_to_definition_faults();
+    places_do_not_matter_to_spread_faults();
+    places_do_not_matter_to_variable_faults();
+    places_do_not_matter_to_merging_faults();
+    places_of_types_do_not_matter();
+}
+
+/// They matter to no rule of executable definitions.
+pub fn no_places_matter_to_rules()
+    ensures { NoPlacesMatter IsRuleFault }
+{
+    no_places_matter();
+}
 
 /// What is read of projects whose definitions are equal but for their places is equal but for its places.
 pub fn projects_are_same_but_places()
     ensures { ProjectsAreSameButPlaces }
 {}
 
-/// Whether a project is faultless by these rules is seen in its trees without places.
+/// Whether a project is faultless by the rules of operations and fragments is seen in its trees without places.
 pub fn trees_say_what_is_faultless()
     ensures fields { TreesSayWhatIsFaultless IsFieldFault }
     ensures operations { TreesSayWhatIsFaultless IsOperationFault }
     ensures fragments { TreesSayWhatIsFaultless IsFragmentFault }
+    ensures spreads { TreesSayWhatIsFaultless IsSpreadFault }
+    ensures variables { TreesSayWhatIsFaultless IsVariableFault }
+    ensures merging { TreesSayWhatIsFaultless IsMergingFault }
 {
     no_places_matter();
+}
+
+/// Two projects with the same trees without places are both faultless by all rules of executable definitions, or neither is.
+pub fn trees_say_whether_rules_hold()
+    ensures { TreesSayWhatIsFaultless IsRuleFault }
+{
+    no_places_matter_to_rules();
 }
 
 /// Neither places nor the names of fragments and variables matter to these faults.

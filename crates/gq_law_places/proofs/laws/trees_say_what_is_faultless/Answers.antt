@@ -1,6 +1,9 @@
 use Rattle.gq_fields.specs.FieldFaults.{IsFieldFault}
 use Rattle.gq_fragments.specs.OperationFaults.{IsOperationFault}
 use Rattle.gq_fragments.specs.FragmentFaults.{IsFragmentFault}
+use Rattle.gq_spreads.specs.SpreadFaults.{IsSpreadFault}
+use Rattle.gq_variables.specs.VariableFaults.{IsVariableFault}
+use Rattle.gq_merging.specs.FieldsMerge.{IsMergingFault}
 use Rattle.gq_law_places.proofs.Both.{faultless}
 use Rattle.gq_law_places.proofs.laws.trees_say_what_is_faultless.Goals as goal
 
@@ -10,4 +13,7 @@ returns c =
       fields = faultless IsFieldFault law.fields;
       operations = faultless IsOperationFault law.operations;
       fragments = faultless IsFragmentFault law.fragments;
+      spreads = faultless IsSpreadFault law.spreads;
+      variables = faultless IsVariableFault law.variables;
+      merging = faultless IsMergingFault law.merging;
     }
