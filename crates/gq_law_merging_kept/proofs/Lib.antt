@@ -1,0 +1,4 @@
+pub mod Seen
+pub mod Rewritten
+pub mod Restated
+pub mod Edits

@@ -1,0 +1,3 @@
+pub mod Rewritten
+pub mod Restated
+pub mod Edits
