@@ -153,7 +153,8 @@ fn number_rows(alloc: Global, numbers: &[usize]) -> Result<Vec<Vec<usize>>, NoMe
     Ok(rows)
 }
 
-/// For each set a row with the number of its class.
+/// For each set a row with the number of its class; nothing where some sets of one class are still apart, since to test classes
+/// that reach into one another would take time for each pair of them.
 pub(crate) fn joined_sets(tables: Tables<'_>) -> Result<Vec<Vec<usize>>, NoMemory> {
     let mut numbers = numbers_below(tables.alloc, tables.rows.len())?;
     for _ in 0..MOST_TURNS {
@@ -161,5 +162,5 @@ pub(crate) fn joined_sets(tables: Tables<'_>) -> Result<Vec<Vec<usize>>, NoMemor
             return number_rows(tables.alloc, &numbers);
         }
     }
-    number_rows(tables.alloc, &numbers)
+    Ok(Vec::new(tables.alloc))
 }
