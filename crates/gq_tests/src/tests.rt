@@ -1,5 +1,6 @@
 mod check;
 mod devices;
+mod documents;
 mod gaps;
 mod kept;
 mod questions;

@@ -1,5 +1,5 @@
 //! What is kept of a project while its files change, beside what is found anew.
-use crate::tests::versions::file;
+use crate::tests::documents::file;
 use gq_fault::Code;
 use gq_index::Index;
 use gq_kept::Kept;

@@ -1,9 +1,10 @@
 //! Questions about a project that is read for each, and a rename on one thread. The server asks the same of what it keeps, and the
 //! command line by threads.
+use crate::tests::documents::document;
 use gq_check::File;
 use gq_codemod::rename;
 use gq_known::Learned;
-use gq_project::{Doc, Project};
+use gq_project::Project;
 use gq_query::{Occurrence, complete, definition, diagnostics, hover, references};
 use gq_rename::prepare;
 use gq_rules::validate_known;
@@ -15,20 +16,11 @@ const S: &str = "type Query{x:Int}";
 
 const Q: &str = "query Q($a:Boolean!){x @include(if:$a) ...A} fragment A on Query{x}";
 
-fn document(alloc: Global, key: &str, text: &str) -> Result<Doc, NoMemory> {
-    Ok(Doc {
-        key: OwnedText::from_str(alloc, key)?,
-        uri: OwnedText::from_str(alloc, key)?,
-        version: Some(1),
-        text: OwnedText::from_str(alloc, text)?,
-    })
-}
-
 /// The project of that text and the type system.
 fn project_of(alloc: Global, text: &str) -> Result<Project, NoMemory> {
     let mut project = Project::new(alloc);
-    project.put(document(alloc, "s", S)?)?;
-    project.put(document(alloc, "q", text)?)?;
+    project.put(document(alloc, "s", Some(1), S)?)?;
+    project.put(document(alloc, "q", Some(1), text)?)?;
     Ok(project)
 }
 

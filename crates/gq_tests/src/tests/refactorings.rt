@@ -3,24 +3,20 @@ ghost use Rattle.std.specs.Prelude.{◌≡◌, true, Some, OnOk};
 ghost use Rattle.gq_mentions.specs.declared.target.Target.{Target};
 ghost use Rattle.gq_rename.specs.Asks.{IsTarget};
 
+use crate::tests::documents::document;
 use gq_edit::{Edit, apply};
 use gq_project::{Doc, Project};
 use gq_rename::{Refusal, Target, TargetKind, rename_fragment, rename_variable, target};
 use gq_reshape::{Ask, offer};
 use gq_rules::Valid;
-use gq_text::{OwnedText, Span};
+use gq_text::Span;
 use std::alloc::Global;
 use std::test::Fail;
 
 /// The document of a line: its key, a blank, and its text.
 fn doc(alloc: Global, line: &str) -> Result<Doc, Fail> {
     let (key, text) = line.split_once(' ').ok_or("no text")?;
-    Ok(Doc {
-        key: OwnedText::from_str(alloc, key)?,
-        uri: OwnedText::from_str(alloc, key)?,
-        version: Some(3),
-        text: OwnedText::from_str(alloc, text)?,
-    })
+    Ok(document(alloc, key, Some(3), text)?)
 }
 
 /// The project of these lines, a document each.

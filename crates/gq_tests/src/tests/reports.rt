@@ -1,25 +1,17 @@
 //! The report of a project by threads.
-use gq_project::{Doc, Project};
+use crate::tests::documents::document;
+use gq_project::Project;
 use gq_rules::validate_by_threads;
-use gq_text::{NoMemory, OwnedText, Span};
+use gq_text::Span;
 use std::alloc::Global;
 use std::test::Fail;
-
-fn document(alloc: Global, key: &str, text: &str) -> Result<Doc, NoMemory> {
-    Ok(Doc {
-        key: OwnedText::from_str(alloc, key)?,
-        uri: OwnedText::from_str(alloc, key)?,
-        version: Some(1),
-        text: OwnedText::from_str(alloc, text)?,
-    })
-}
 
 #[test]
 fn a_project_is_reported_by_threads(rt: HostRuntime) -> Result<(), Fail> {
     let alloc = rt.alloc();
     let mut project = Project::new(alloc);
-    project.put(document(alloc, "s", "type Query{x:Int}")?)?;
-    project.put(document(alloc, "q", "{y ...F} fragment G on Query{x}")?)?;
+    project.put(document(alloc, "s", Some(1), "type Query{x:Int}")?)?;
+    project.put(document(alloc, "q", Some(1), "{y ...F} fragment G on Query{x}")?)?;
     let report = validate_by_threads(&rt, alloc, &project)?;
     let mut told = String::new(alloc);
     for one in &report.found {

@@ -1,27 +1,23 @@
 //! The values of an operation's variables (GraphQL, October 2021, section 6.1.2).
+use crate::tests::documents::document;
 use gq_exec::{CoercionRefusal, Variables, coerce_variables};
-use gq_project::{Doc, Project};
+use gq_project::Project;
 use gq_rules::Valid;
 use gq_table::{Leaf, Value};
-use gq_text::{NoMemory, OwnedText};
 use serde_json::Value as Json;
 use std::alloc::Global;
 use std::test::Fail;
 
-fn document(alloc: Global, key: &str, text: &str) -> Result<Doc, NoMemory> {
-    Ok(Doc {
-        key: OwnedText::from_str(alloc, key)?,
-        uri: OwnedText::from_str(alloc, key)?,
-        version: Some(1),
-        text: OwnedText::from_str(alloc, text)?,
-    })
-}
-
 /// A project with an operation of two variables.
 fn valid(alloc: Global) -> Result<Valid, Fail> {
     let mut project = Project::new(alloc);
-    project.put(document(alloc, "s", "type Query{f(a:Int b:Int):Int}")?)?;
-    project.put(document(alloc, "q", "query Q($b:Int $a:Int=3){f(a:$a b:$b)}")?)?;
+    project.put(document(alloc, "s", Some(1), "type Query{f(a:Int b:Int):Int}")?)?;
+    project.put(document(
+        alloc,
+        "q",
+        Some(1),
+        "query Q($b:Int $a:Int=3){f(a:$a b:$b)}",
+    )?)?;
     match Valid::new(alloc, project) {
         Ok(valid) => Ok(valid),
         Err(_) => Err("the project is not valid".into()),

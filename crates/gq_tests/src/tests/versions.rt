@@ -1,21 +1,13 @@
 //! Documents without a version, as of files that no client has open (LSP 3.17, TextDocumentEdit).
+use crate::tests::documents::file;
 use gq_edit::{TextDocumentEdit, WorkspaceEdit, apply};
-use gq_project::{Doc, Project};
+use gq_project::Project;
 use gq_reshape::{Ask, offer};
 use gq_rpc::{Id, Outgoing, encode};
 use gq_rules::Valid;
-use gq_text::{Items, NoMemory, OwnedText};
+use gq_text::{Items, OwnedText};
 use std::alloc::Global;
 use std::test::Fail;
-
-pub(crate) fn file(alloc: Global, key: &str, text: &str) -> Result<Doc, NoMemory> {
-    Ok(Doc {
-        key: OwnedText::from_str(alloc, key)?,
-        uri: OwnedText::from_str(alloc, key)?,
-        version: None,
-        text: OwnedText::from_str(alloc, text)?,
-    })
-}
 
 fn valid(alloc: Global) -> Result<Valid, Fail> {
     let mut project = Project::new(alloc);
