@@ -20,7 +20,8 @@ use Rattle.gq_document.specs.FieldSets.{SetOf, FieldAt, key, operation_set, frag
 use Rattle.gq_document.specs.FieldSets as sets
 use Rattle.gq_law_places.specs.Merging.{SayTheSame, HasFieldsTo, HasSets}
 use Rattle.gq_law_places.proofs.MergingKept.{kept_fields_merge}
-use Rattle.gq_law_merging_kept.specs.Rewritten.{static_in, definition_of, HasOrigin, IsRewritten, RewrittenFieldsMerge}
+use Rattle.gq_law_rewrites.specs.Statics.{static_of, seen_fragment}
+use Rattle.gq_law_merging_kept.specs.Rewritten.{HasOrigin, IsRewritten, RewrittenFieldsMerge}
 use Rattle.gq_law_merging_kept.proofs.Seen.{Seen, Has, it_is, past_field, in_typed, in_bare, past_inline, in_spread, past_spread, was}
 
 abbrev set_at : ℕ → Text → Sels Span → SetOf
@@ -38,7 +39,7 @@ record IsSeen (a : FieldAt) (b : Seen) : Type 0 where
   pub below : set_of a.below ≡ b.below
 
 -- a definition that is found is a fragment's
-pub fragment_in : (fs : List FragmentOf) (d : Definition) → IsIn d (map definition_of fs) → (g : FragmentOf) × Contains fs g × (d ≡ definition_of g)
+pub fragment_in : (fs : List FragmentOf) (d : Definition) → IsIn d (map seen_fragment fs) → (g : FragmentOf) × Contains fs g × (d ≡ seen_fragment g)
 fragment_in [] d h = absurd h
 fragment_in (g ∷ fs) d (inl e) = (g, contains_first g fs g refl, e)
 fragment_in (g ∷ fs) d (inr h) = let r = fragment_in fs d h in (r.0, contains_later g fs r.0 r.1, r.2)
@@ -67,10 +68,10 @@ module _ (es : List EntryOf) (os ps : List OperationOf) (fs gs : List FragmentOf
   after = record { entries = es; operations = ps; fragments = gs }
 
   abbrev old : List Definition
-  old = map definition_of fs
+  old = map seen_fragment fs
 
   abbrev new : List Definition
-  new = map definition_of gs
+  new = map seen_fragment gs
 
   module _ (is : IsRewritten before after) where
     -- a field after, as it is seen
@@ -80,7 +81,7 @@ module _ (es : List EntryOf) (os ps : List OperationOf) (fs gs : List FragmentOf
     from_set (sets.within {on = Some c} h) u e = let r = from_set h c.text refl in (r.0, r.1, r.2, in_typed r.3)
     from_set (sets.through {fragment} c m h) u e =
         let r = from_set h fragment.on.text refl in
-        (suc r.0, r.1, r.2, in_spread (definition_of fragment) (ap (find_definition new) m ∙ is.found fragment c) r.3)
+        (suc r.0, r.1, r.2, in_spread (seen_fragment fragment) (ap (find_definition new) m ∙ is.found fragment c) r.3)
     from_set (sets.after {head} {below} {rest} h) u e = let r = from_set h u e in (r.0, r.1, r.2, past head below rest r.3)
 
     -- a field that is seen before
@@ -136,7 +137,7 @@ module _ (es : List EntryOf) (os ps : List OperationOf) (fs gs : List FragmentOf
     empty zero s t e = tt
     empty (suc depth) s t e = λ a h. absurd (no_field h e)
 
-    parent_below : (a : FieldAt) (t : Text) (n : Text) (c : Text) → a.parent ≡ Some t → a.name.text ≡ n → static_in es t n ≡ Some c → (field_set es a).parent ≡ Some c
+    parent_below : (a : FieldAt) (t : Text) (n : Text) (c : Text) → a.parent ≡ Some t → a.name.text ≡ n → static_of es t n ≡ Some c → (field_set es a).parent ≡ Some c
     parent_below a t n c e f is_static =
         ap (λ z. option_map (λ d. base_name d.type_ref) (selected_field es z a.name.text)) e ∙ ap (λ z. option_map (λ d. base_name d.type_ref) (selected_field es (Some t) z)) f ∙ is_static
 
@@ -144,20 +145,20 @@ module _ (es : List EntryOf) (os ps : List OperationOf) (fs gs : List FragmentOf
     IsWithin file u ts t = (a : FieldAt) → InSet before (set_at file u ts) a → InSet before t a
 
     abbrev AtDepth : ℕ → Type 0
-    AtDepth depth = (s t : SetOf) (u : Text) (ts : Sels Span) → s.parent ≡ Some u → Rewritten (static_in es) old new u (set_of ts) (set_of s.selections) → IsWithin t.file u ts t → HasFieldsTo depth after before s t
+    AtDepth depth = (s t : SetOf) (u : Text) (ts : Sels Span) → s.parent ≡ Some u → Rewritten (static_of es) old new u (set_of ts) (set_of s.selections) → IsWithin t.file u ts t → HasFieldsTo depth after before s t
 
     by_below : (depth : ℕ) → AtDepth depth → (a b : FieldAt) (t : Text) (o : Seen) → a.parent ≡ Some t → t ≡ o.parent → a.name.text ≡ o.name → IsSeen b o →
-        (set_of a.below ≡ selected.none) ⊎ ((c : Text) × (static_in es o.parent o.name ≡ Some c) × Rewritten (static_in es) old new c o.below (set_of a.below)) → HasFieldsTo depth after before (field_set es a) (field_set es b)
+        (set_of a.below ≡ selected.none) ⊎ ((c : Text) × (static_of es o.parent o.name ≡ Some c) × Rewritten (static_of es) old new c o.below (set_of a.below)) → HasFieldsTo depth after before (field_set es a) (field_set es b)
     by_below depth next a b t o e f g sees (inl none_there) = empty depth (field_set es a) (field_set es b) none_there
     by_below depth next a b t o e f g sees (inr k) =
-        next (field_set es a) (field_set es b) k.0 b.below (parent_below a o.parent o.name k.0 (e ∙ ap (λ z. Some z) f) g k.1) (subst (λ z. Rewritten (static_in es) old new k.0 z (set_of a.below)) (sym sees.below) k.2)
+        next (field_set es a) (field_set es b) k.0 b.below (parent_below a o.parent o.name k.0 (e ∙ ap (λ z. Some z) f) g k.1) (subst (λ z. Rewritten (static_of es) old new k.0 z (set_of a.below)) (sym sees.below) k.2)
         (λ c i. subst (λ z. InSet before (record { file = b.file; parent = z; selections = b.below }) c) (sym (parent_below b o.parent o.name k.0 sees.parent sees.name k.1)) i)
 
     has_fields : (depth : ℕ) → AtDepth depth
     has_fields zero s t u ts e r into = tt
     has_fields (suc depth) s t u ts e r into = λ a h.
         let p = from_set h u e in
-        let w = was (static_in es) old new is.kept p.0 u (set_of ts) (set_of s.selections) (seen p.1 a) r p.3 in
+        let w = was (static_of es) old new is.kept p.0 u (set_of ts) (set_of s.selections) (seen p.1 a) r p.3 in
         let q = to_set w.has t.file ts refl in
         let same : SayTheSame a q.0 = record {
           parent = p.2 ∙ ap (λ z. Some z) (sym w.parent) ∙ sym q.2.parent;

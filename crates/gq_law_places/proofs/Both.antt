@@ -2,8 +2,10 @@
 use Rattle.std.proofs.Common.{refl, sym}
 use Rattle.gq_fault.specs.declared.fault.Fault.{Fault}
 use Rattle.gq_document.specs.Executable.{ExecutableOf}
-use Rattle.gq_law_places.specs.Places.{PlacesDoNotMatter, together}
-use Rattle.gq_law_places.specs.Types.{PlacesOfTypesDoNotMatter, NoPlacesMatter, project, TreesSayWhatIsFaultless}
+use Rattle.gq_law_places.specs.Places.{PlacesDoNotMatter}
+use Rattle.gq_rules.specs.Files.{together}
+use Rattle.gq_law_places.specs.Types.{PlacesOfTypesDoNotMatter, NoPlacesMatter, TreesSayWhatIsFaultless}
+use Rattle.gq_rules.specs.Project.{executable_of}
 use Rattle.gq_law_places.specs.Names.{SameButNames, NamesDoNotMatter, RenamesKeepFaultless}
 use Rattle.gq_law_places.proofs.Documents.{projects_are_same, renamed_are_same}
 use Rattle.gq_law_places.proofs.Entries.{types_look_alike}
@@ -15,7 +17,7 @@ both IsFault places types x y s f h =
 
 pub faultless : (IsFault : ExecutableOf → Fault → Type 0) → NoPlacesMatter IsFault → TreesSayWhatIsFaultless IsFault
 faultless IsFault law rs qs e none f h =
-    let g = law (project qs) (project rs) (projects_are_same qs rs (sym e)) f h in
+    let g = law (executable_of qs) (executable_of rs) (projects_are_same qs rs (sym e)) f h in
     none g.0 g.1
 
 turned : (x y : ExecutableOf) → SameButNames x y → SameButNames y x

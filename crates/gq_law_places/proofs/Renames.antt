@@ -25,7 +25,8 @@ use Rattle.gq_fragments.specs.FragmentSpreadTypeExistence.{IsUnknownCondition}
 use Rattle.gq_fragments.specs.FragmentsOnCompositeTypes.{IsConditionNotComposite}
 use Rattle.gq_fragments.specs.FragmentSpreadIsPossible.{IsSpread, of_fragment, of_inline_fragment, IsSpreadNotPossible}
 use Rattle.gq_fragments.specs.FragmentFaults.{IsFragmentFault, repeated_fragment_name, unknown_condition, condition_not_composite, spread_not_possible}
-use Rattle.gq_law_places.specs.Places.{HasLike, together}
+use Rattle.gq_law_places.specs.Places.{HasLike}
+use Rattle.gq_rules.specs.Files.{together}
 use Rattle.gq_law_places.specs.Names.{shown_name, named_head, IsFresh, FragmentRenamesKeepFaultless}
 use Rattle.gq_law_places.proofs.Alike.{back}
 use Rattle.gq_law_places.proofs.Lists.{weaken_by, stands_by, contains_by}

@@ -12,7 +12,8 @@ use Rattle.gq_renamed.specs.Renamings.{Renaming, fragment_called}
 use Rattle.gq_renamed.specs.Projects.{rename_trees}
 use Rattle.gq_document.specs.Definitions.{OperationOf, FragmentOf}
 use Rattle.gq_document.specs.Executable.{ExecutableOf}
-use Rattle.gq_law_places.specs.Places.{HasLike, together}
+use Rattle.gq_law_places.specs.Places.{HasLike}
+use Rattle.gq_rules.specs.Files.{together}
 use Rattle.gq_law_places.specs.Types.{IsFaultless}
 
 -- what stands for a name that is forgotten

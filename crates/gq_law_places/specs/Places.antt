@@ -4,8 +4,9 @@ use Rattle.gq_fault.specs.declared.fault.Fault.{Fault}
 use Rattle.gq_tree.specs.Plain.{Def, operation, fragment, place_def, no_place, erase_document}
 use Rattle.gq_tree.specs.Readings.{ParsedOf, definitions_read}
 use Rattle.gq_types.specs.Entries.{EntryOf}
-use Rattle.gq_document.specs.Definitions.{OperationOf, FragmentOf, operations_of, fragments_of}
+use Rattle.gq_document.specs.Definitions.{OperationOf, FragmentOf}
 use Rattle.gq_document.specs.Executable.{ExecutableOf}
+use Rattle.gq_rules.specs.Files.{together}
 
 -- a definition and the number of its document, its places forgotten
 abbrev pub erase_operation : OperationOf → ℕ × Def (Unit {0})
@@ -30,10 +31,6 @@ PlacesDoNotMatter IsFault = (x y : ExecutableOf) → SameButPlaces x y → (f : 
 -- the definitions of a document, their places forgotten
 abbrev pub erase_read : ParsedOf → List (Def (Unit {0}))
 erase_read reading = erase_document (definitions_read reading)
-
--- all documents together, over a type system
-abbrev pub together : List EntryOf → List ParsedOf → ExecutableOf
-together es rs = record { entries = es; operations = operations_of rs; fragments = fragments_of rs }
 
 -- What is read of documents whose definitions are equal but for places is so.
 abbrev pub DocumentsAreSameButPlaces : Type 0

@@ -1,18 +1,18 @@
 -- Type systems that are equal but for their places.
-use Rattle.std.specs.Prelude.{◌≡◌, List, ◌++◌, map}
+use Rattle.std.specs.Prelude.{◌≡◌, List, map}
 use Rattle.std.specs.Option.{option_map}
 use Rattle.gq_fault.specs.declared.fault.Fault.{Fault}
 use Rattle.gq_tree.specs.Plain.{TypeSystemOf, place_field, place_input, place_type_system, no_place}
 use Rattle.gq_tree.specs.declared.tree.OperationKind.{OperationKind}
 use Rattle.gq_tree.specs.Readings.{ParsedOf}
-use Rattle.gq_types.specs.BuiltIn.{built_in}
 use Rattle.gq_types.specs.Entries.{Text, EntryOf}
 use Rattle.gq_types.specs.Joined.{kind_named}
 use Rattle.gq_types.specs.Names.{field_named, input_named, has_value, has_member, declares, directive_named}
 use Rattle.gq_types.specs.Roots.{root_of}
-use Rattle.gq_document.specs.Definitions.{OperationOf, FragmentOf, entries_of}
+use Rattle.gq_document.specs.Definitions.{OperationOf, FragmentOf}
 use Rattle.gq_document.specs.Executable.{ExecutableOf}
-use Rattle.gq_law_places.specs.Places.{erase_operation, erase_fragment, HasLike, erase_read, together}
+use Rattle.gq_rules.specs.Project.{executable_of}
+use Rattle.gq_law_places.specs.Places.{erase_operation, erase_fragment, HasLike, erase_read}
 
 -- What the rules ask of a type system, its places forgotten.
 pub record LooksAlike (es us : List EntryOf) : Type 0 where
@@ -48,13 +48,9 @@ pub record SameButAllPlaces (x y : ExecutableOf) : Type 0 where
 abbrev pub NoPlacesMatter : (ExecutableOf → Fault → Type 0) → Type 0
 NoPlacesMatter IsFault = (x y : ExecutableOf) → SameButAllPlaces x y → (f : Fault) → IsFault x f → HasLike (IsFault y) f
 
--- a project as its documents are read, the built-in definitions first
-abbrev pub project : List ParsedOf → ExecutableOf
-project rs = together (built_in ++ entries_of rs) rs
-
 -- What is read of projects whose definitions are equal but for places is so.
 abbrev pub ProjectsAreSameButPlaces : Type 0
-ProjectsAreSameButPlaces = (rs qs : List ParsedOf) → map erase_read rs ≡ map erase_read qs → SameButAllPlaces (project rs) (project qs)
+ProjectsAreSameButPlaces = (rs qs : List ParsedOf) → map erase_read rs ≡ map erase_read qs → SameButAllPlaces (executable_of rs) (executable_of qs)
 
 -- no fault of those rules is told
 abbrev pub IsFaultless : (ExecutableOf → Fault → Type 0) → ExecutableOf → Type 0
@@ -62,4 +58,4 @@ IsFaultless IsFault x = (f : Fault) → IsFault x f → ⊥
 
 -- Whether a project is faultless is seen in its trees without places.
 abbrev pub TreesSayWhatIsFaultless : (ExecutableOf → Fault → Type 0) → Type 0
-TreesSayWhatIsFaultless IsFault = (rs qs : List ParsedOf) → map erase_read rs ≡ map erase_read qs → IsFaultless IsFault (project rs) → IsFaultless IsFault (project qs)
+TreesSayWhatIsFaultless IsFault = (rs qs : List ParsedOf) → map erase_read rs ≡ map erase_read qs → IsFaultless IsFault (executable_of rs) → IsFaultless IsFault (executable_of qs)

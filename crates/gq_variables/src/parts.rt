@@ -1,4 +1,5 @@
-//! The spreads of operations in two parts: those of fragments that several operations spread, and those of others.
+//! The spreads of operations in two parts: those of fragments that several operations spread, or one of them twice, and those of
+//! others.
 ghost use Rattle.std.specs.Prelude.{◌≡◌, ◌<◌, All, IfOk, OnOk, length, map, not};
 ghost use Rattle.gq_variables.specs.Helping.Leading.{AreInParts};
 
@@ -27,7 +28,7 @@ fn mark_again(numbers: &[usize], seen: &mut Vec<bool>, again: &mut Vec<bool>)
     }
 }
 
-/// A mark at each of so many numbers that stands in several rows.
+/// A mark at each of so many numbers that stands in several rows, or twice in one.
 fn in_several(alloc: Global, rows: &[Vec<usize>], count: usize) -> Result<Vec<bool>, NoMemory>
     requires { All (λ v. All (λ n. n < count) v.items) rows.now }
     ensures { IfOk result (λ marks. length marks.items ≡ count) }
@@ -51,7 +52,7 @@ fn inverted(alloc: Global, marks: &[bool]) -> Result<Vec<bool>, NoMemory>
     Ok(others)
 }
 
-/// Leaves to operations the spreads of fragments that several of them spread, and returns the others.
+/// Leaves to operations the spreads of fragments that several of them spread, or one of them twice, and returns the others.
 pub(crate) fn take_own(alloc: Global, spreads: &mut Spreads) -> Result<Vec<Vec<usize>>, NoMemory>
     requires { All (λ v. All (λ n. n < length spreads.now.of_fragments.items) v.items) spreads.now.of_operations.items }
     ensures { IfOk result (λ own. AreInParts spreads.old spreads.new own.items) }
