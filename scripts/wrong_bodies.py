@@ -3,11 +3,20 @@
 
     python3 scripts/wrong_bodies.py NAME..        the crates of these names
     python3 scripts/wrong_bodies.py               each crate that has a folder wrong-bodies
+    python3 scripts/wrong_bodies.py --over-statements [--work DIR] [--only TEXT].. NAME..
 
 A crate's wrong-bodies/*.edit have the form of must-fail/*.edit. They are tried on a copy, in a folder for temporary files, that begins with what
 `rt check` kept in the folders out/. So run `rt check` in the crate first: what is not proved yet is proved in the copy, and lost with it. The
-repository stays as it is. The last line is `N refused, M not`. The status is 1 if M is not 0 or `rt must-fail` failed for a crate, and 2 if a name is
+repository stays as it is.
+
+With --over-statements only the functions that an edit changes are checked, over the statements of the crates below, of which none need be proved
+(scripts/over_statements.py says what DIR is). That takes a minute or two where a whole crate takes many. The functions as they are must be proved
+so first. --only keeps the edits that have one of these texts in their names. An edit that is refused only where its function is used counts as not
+refused there, so try it without --over-statements.
+
+The last line is `N refused, M not`. The status is 1 if M is not 0 or `rt must-fail` failed for a crate, and 2 if a name is
 none of a crate with a folder wrong-bodies, in which case nothing is tried."""
+import argparse
 import os
 import re
 import shutil
@@ -15,6 +24,8 @@ import signal
 import subprocess
 import sys
 import tempfile
+
+from over_statements import body_of, closing, is_function, tokens
 
 ROOT = os.path.dirname(os.path.dirname(os.path.abspath(__file__)))
 NOT_COPIED = ("out", "must-fail", "wrong-bodies")
@@ -111,13 +122,136 @@ def stop(ran):
                 pass
 
 
-def main(names):
-    known = libraries()
+def edited(lines, folder):
+    """The texts of a crate that an edit changes, by their paths, and where each change begins."""
+    texts, places, path, old = {}, [], None, None
+    for line in lines:
+        word, _, text = line.rstrip("\n").partition(":")
+        text = text.removeprefix(" ")
+        if word == "file":
+            path = text.strip()
+        elif word == "old":
+            old = text
+        elif word == "new":
+            if path not in texts:
+                with open(f"{folder}/{path}", encoding="utf-8") as file:
+                    texts[path] = file.read()
+            if texts[path].count(old) != 1:
+                raise ValueError(f"an old text is in {path} {texts[path].count(old)} times")
+            places.append((path, texts[path].index(old)))
+            texts[path] = texts[path].replace(old, text)
+    return texts, places
+
+
+def function_at(text, place):
+    """The name of the innermost function that a place of a text is in."""
+    found, names = tokens(text), []
+    for at in range(len(found)):
+        body = body_of(found, at) if is_function(found, at) else None
+        if body is not None and found[at][1] <= place < found[closing(found, body)][2]:
+            names.append(found[at + 1][0])
+    return names[-1] if names else None
+
+
+def check(name, room, work, functions):
+    """Checks functions of a crate over the statements of the crates below. Its lines, and its status."""
+    words = [sys.executable, f"{room}/scripts/over_statements.py", name, "--work", work, "--jobs", "1"]
+    words += [word for one in functions for word in ("--only", one)]
+    ran = subprocess.run(words, stdin=subprocess.DEVNULL, stdout=subprocess.PIPE, stderr=subprocess.STDOUT, errors="replace")
+    return ran.stdout.rstrip("\n").split("\n"), ran.returncode
+
+
+def verdict(lines, status):
+    """What a check of an edit comes to, and the first line that says why."""
+    why = next((line for line in lines if re.match(r"(note: )?\S+:\d+:\d+:.*error", line)), "")
+    if status == 1 and lines[-1].startswith("logic=not-proved"):
+        return "refused", why
+    if status == 1 and any(re.search(r"\berror\[[\w-]+\]", line) for line in lines):
+        return "BAD EDIT", why
+    only = re.match(r"only=(\d+) proved=(\d+)", lines[-1])
+    if status == 1 and only and only[1] != only[2]:
+        return "refused", why
+    return ("NOT REFUSED", "its functions alone are still proved") if status == 0 else ("NOT TRIED", lines[-1])
+
+
+def try_one(name, room, work, edit):
+    """Tries one wrong body. What it comes to."""
+    crate = f"{room}/crates/{name}"
+    with open(f"{ROOT}/crates/{name}/wrong-bodies/{edit}", encoding="utf-8") as lines:
+        texts, places = edited(lines, crate)
+    functions = sorted({function_at(texts[path], place) for path, place in places} - {None})
+    for path, text in texts.items():
+        with open(f"{crate}/{path}", "w", encoding="utf-8") as file:
+            file.write(text)
+    found = verdict(*check(name, room, work, functions)) if functions else ("BAD EDIT", "it changes no function")
+    for path in texts:
+        shutil.copy2(f"{ROOT}/crates/{name}/{path}", f"{crate}/{path}")
+    return found
+
+
+def functions_of_edits(name, edits):
+    """The functions that these edits change."""
+    folder, names = f"{ROOT}/crates/{name}", set()
+    for edit in edits:
+        with open(f"{folder}/wrong-bodies/{edit}", encoding="utf-8") as lines:
+            texts, places = edited(lines, folder)
+        names |= {function_at(texts[path], place) for path, place in places}
+    return sorted(names - {None})
+
+
+def try_over_statements(name, room, work, texts):
+    """Tries the wrong bodies of a crate over the statements of the crates below. How many were refused, and how many not."""
+    edits = sorted(it for it in os.listdir(f"{ROOT}/crates/{name}/wrong-bodies") if it.endswith(".edit"))
+    edits = [it for it in edits if not texts or any(text in it for text in texts)]
+    lines, status = check(name, room, work, functions_of_edits(name, edits))
+    if status:
+        print(f"{name}: NOT TRIED: its functions as they are are not proved: {lines[-1]}", flush=True)
+        return 0, len(edits)
+    refused = 0
+    for edit in edits:
+        found, why = try_one(name, room, work, edit)
+        refused += found == "refused"
+        print(f"{name}/{edit}: {found}: {why[:160]}", flush=True)
+    return refused, len(edits) - refused
+
+
+def over_statements(names, known, work, texts):
+    """Tries the wrong bodies of these crates so, and returns the status."""
+    room, counts = tempfile.mkdtemp(prefix="gqls-wrong-bodies-"), []
+    try:
+        shutil.copytree(f"{ROOT}/scripts", f"{room}/scripts", ignore=shutil.ignore_patterns("__pycache__"))
+        shutil.copy2(f"{ROOT}/crates.txt", f"{room}/crates.txt")
+        for name in set().union(*[all_below(name, known) for name in names]):
+            shutil.copytree(f"{ROOT}/crates/{name}", f"{room}/crates/{name}", ignore=shutil.ignore_patterns(*NOT_COPIED))
+        for name in names:
+            counts.append(try_over_statements(name, room, work, texts))
+    finally:
+        shutil.rmtree(room, ignore_errors=True)
+    refused, others = sum(one[0] for one in counts), sum(one[1] for one in counts)
+    print(f"{refused} refused, {others} not")
+    return 1 if others else 0
+
+
+def words_of(words):
+    """The names, whether they are tried over statements, and the folder that keeps what was checked."""
+    parser = argparse.ArgumentParser(description=__doc__, formatter_class=argparse.RawDescriptionHelpFormatter, allow_abbrev=False)
+    parser.add_argument("names", metavar="NAME", nargs="*", help="a crate that has a folder wrong-bodies")
+    parser.add_argument("--over-statements", action="store_true", help="checks the functions that an edit changes, and no more")
+    parser.add_argument("--only", metavar="TEXT", action="append", help="an edit with this in its name")
+    parser.add_argument("--work", metavar="DIR", default=f"{tempfile.gettempdir()}/over-statements{ROOT.replace(os.sep, '-')}")
+    return parser.parse_args(words)
+
+
+def main(words):
+    known, asked = libraries(), words_of(words)
+    names = asked.names
     names = names or [it for it in known if os.path.isdir(f"{ROOT}/crates/{it}/wrong-bodies")]
     for name in names:
         if name not in known or not os.path.isdir(f"{ROOT}/crates/{name}/wrong-bodies"):
             print(f"{name} is no crate with a folder wrong-bodies", file=sys.stderr)
             return 2
+    if asked.over_statements:
+        return over_statements(names, known, os.path.abspath(asked.work), asked.only)
     refused, others, is_well = 0, 0, True
     # (a run that is ended leaves by the finally parts)
     for one in (signal.SIGTERM, signal.SIGHUP):

@@ -35,6 +35,7 @@ exec_verdict name table variables files rows raw verdict t v f (inl r) = record 
   is_outcome = (no_fault table variables files rows raw t v f, r.valid, record { rows = rows; rows_are = t; raw = raw; raw_is = v; executed = r.executed });
   text = r.text;
   no_error = refl;
+  no_reason = λ b t v. refl;
   status = r.status;
 }
 exec_verdict name table variables files rows raw verdict t v f (inr i) = record {
@@ -42,6 +43,7 @@ exec_verdict name table variables files rows raw verdict t v f (inr i) = record 
   is_outcome = (no_fault table variables files rows raw t v f, i.invalid, i.report);
   text = i.text;
   no_error = refl;
+  no_reason = λ b t v. refl;
   status = i.status;
 }
 

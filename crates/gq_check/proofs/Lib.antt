@@ -6,3 +6,5 @@ pub mod WriteLemmas
 pub mod VerdictLemmas
 pub mod BodyLemmas
 pub mod ExecLemmas
+pub mod FlawLemmas
+pub mod ReasonLemmas

@@ -36,11 +36,11 @@ documents_told format documents project w report found text same is_why is shown
 
 -- so it is of files
 pub verdict_told : (format : Format) (files : List File) (verdict : Verdict) → files_fault files ≡ None → IsTold format (documents_of files) verdict → IsVerdict format files verdict
-verdict_told format files verdict fine t = record { outcome = told t.found; is_outcome = (fine, t.invalid, t.report); text = t.text; no_error = refl; status = t.status }
+verdict_told format files verdict fine t = record { outcome = told t.found; is_outcome = (fine, t.invalid, t.report); text = t.text; no_error = λ b. refl; status = t.status }
 
 -- nothing is told of a project that is valid
 pub verdict_valid : (format : Format) (files : List File) (text : Vec ℕ Global) → files_fault files ≡ None → ∥ IsValid (documents_of files) ∥₁ → text.items ≡ valid_text format → IsVerdict format files (record { text = text; status = 0 })
-verdict_valid format files text fine is_valid ok = record { outcome = valid; is_outcome = (fine, is_valid); text = ok; no_error = refl; status = refl }
+verdict_valid format files text fine is_valid ok = record { outcome = valid; is_outcome = (fine, is_valid); text = ok; no_error = λ b. refl; status = refl }
 
 -- a project is judged as the documents that it is
 module _ (project documents : List Doc) (are : project ≡ documents) where

@@ -1,5 +1,5 @@
 -- A check of files: what it comes to, what is written, and the status of the process.
-use Rattle.std.specs.Prelude.{◌≡◌, ℕ, List, [], Bool, true, false, Option, None}
+use Rattle.std.specs.Prelude.{◌≡◌, ℕ, List, [], ◌++◌, Bool, true, false, Option, None}
 use Rattle.std.specs.Io.KnownBytes.{Appends}
 use Rattle.gq_rpc.specs.Devices.{Sent}
 use Rattle.gq_fault.specs.declared.found.Found.{Found}
@@ -9,6 +9,7 @@ use Rattle.gq_check.specs.declared.fault.CheckFault.TheVariants.{Device}
 use Rattle.gq_check.specs.declared.files.File.{File}
 use Rattle.gq_check.specs.Faults.{fault_line, IsFaultOr}
 use Rattle.gq_check.specs.Files.{files_fault, documents_of}
+use Rattle.gq_check.specs.Reasons.{refusal_reason}
 use Rattle.gq_check.specs.declared.formats.Format.{Format}
 use Rattle.gq_check.specs.Formats.{printed_all, valid_text}
 
@@ -30,10 +31,10 @@ output_of format files (refused fault) = []
 output_of format files valid = valid_text format
 output_of format files (told found) = printed_all format (documents_of files) found
 
-abbrev pub error_of : Outcome → List ℕ
-error_of (refused fault) = fault_line fault
-error_of valid = []
-error_of (told found) = []
+abbrev pub error_of : (is_verbose : Bool) → List File → Outcome → List ℕ
+error_of is_verbose files (refused fault) = refusal_reason is_verbose files fault ++ fault_line fault
+error_of is_verbose files valid = []
+error_of is_verbose files (told found) = []
 
 abbrev pub status_of : Outcome → ℕ
 status_of (refused fault) = 3
@@ -68,11 +69,17 @@ pub data EndsWith (output error : List ℕ) (wanted : ℕ) (out_held : Option (L
   error_fails : Wrote out_held out output → WroteInPart err_held err error → status ≡ 3 → EndsWith output error wanted out_held out err_held err status
 
 -- the same of an outcome
-abbrev pub Ends : Format → List File → Outcome → Option (List ℕ) → SinkAfter → Option (List ℕ) → SinkAfter → ℕ → Type 0
-Ends format files outcome = EndsWith (output_of format files outcome) (error_of outcome) (status_of outcome)
+abbrev pub Ends : Format → (is_verbose : Bool) → List File → Outcome → Option (List ℕ) → SinkAfter → Option (List ℕ) → SinkAfter → ℕ → Type 0
+Ends format is_verbose files outcome = EndsWith (output_of format files outcome) (error_of is_verbose files outcome) (status_of outcome)
 
 -- a check of files: an outcome, and what was written of it
-pub record Checks (format : Format) (files : List File) (out_held : Option (List ℕ)) (out : SinkAfter) (err_held : Option (List ℕ)) (err : SinkAfter) (status : ℕ) : Type 0 where
+pub record Checks (format : Format) (is_verbose : Bool) (files : List File) (out_held : Option (List ℕ)) (out : SinkAfter) (err_held : Option (List ℕ)) (err : SinkAfter) (status : ℕ) : Type 0 where
   pub outcome : Outcome
   pub is_outcome : IsOutcome files outcome
-  pub ends : Ends format files outcome out_held out err_held err status
+  pub ends : Ends format is_verbose files outcome out_held out err_held err status
+
+-- files that are refused: by their fault, or for want of memory, and what was written of it
+pub record Refuses (is_verbose : Bool) (files : List File) (out_held : Option (List ℕ)) (out : SinkAfter) (err_held : Option (List ℕ)) (err : SinkAfter) (status : ℕ) : Type 0 where
+  pub fault : CheckFault
+  pub is_fault : IsFaultOr (files_fault files) fault
+  pub ends : EndsWith [] (refusal_reason is_verbose files fault ++ fault_line fault) 3 out_held out err_held err status

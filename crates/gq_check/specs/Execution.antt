@@ -1,5 +1,5 @@
 -- Execution of an operation of files over a table: what it comes to, what is written, and the status of the process.
-use Rattle.std.specs.Prelude.{◌≡◌, ℕ, List, [], ◌++◌, Option, Some, None, codes, is_none, option_and_then, if◌then◌else◌}
+use Rattle.std.specs.Prelude.{◌≡◌, ℕ, Bool, List, [], ◌++◌, Option, Some, None, codes, is_none, option_and_then, if◌then◌else◌}
 use Rattle.std.specs.Option.{option_map, option_or}
 use Rattle.gq_rpc.specs.Decoding.{body_value}
 use Rattle.gq_fault.specs.declared.found.Found.{Found}
@@ -16,7 +16,8 @@ use Rattle.gq_check.specs.declared.exec_fault.ExecFault.TheVariants.{BadTable, B
 use Rattle.gq_check.specs.declared.files.File.{File}
 use Rattle.gq_check.specs.Checks.{SinkAfter, EndsWith}
 use Rattle.gq_check.specs.Faults.{fault_line}
-use Rattle.gq_check.specs.Files.{files_fault, documents_of}
+use Rattle.gq_check.specs.Files.{content_of, files_fault, documents_of}
+use Rattle.gq_check.specs.Flaws.{IsExecReason}
 use Rattle.gq_check.specs.declared.formats.Format.TheVariants as format
 use Rattle.gq_check.specs.Formats.{printed_all}
 
@@ -79,7 +80,7 @@ IsExecOutcome name table variables files (refused fault) = IsExecFaultOr (exec_f
 IsExecOutcome name table variables files (told found) = (exec_fault table variables files ≡ None) × IsInvalid (documents_of files) × IsReportOf (documents_of files) found
 IsExecOutcome name table variables files (responded response) = (exec_fault table variables files ≡ None) × ∥ IsValid (documents_of files) ∥₁ × Responds name table variables files response
 
--- what is written to standard output, and to standard error
+-- what is written to standard output, and to standard error behind what `--verbose` adds
 abbrev pub exec_output : List File → ExecOutcome → List ℕ
 exec_output files (refused fault) = []
 exec_output files (told found) = printed_all format.Text (documents_of files) found
@@ -95,8 +96,16 @@ exec_status (refused fault) = exec_fault_status fault
 exec_status (told found) = 1
 exec_status (responded response) = 0
 
+-- what `--verbose` adds to an outcome
+abbrev pub IsReasonOf : (is_verbose : Bool) → (table variables : File) → List File → ExecOutcome → List ℕ → Type 0
+IsReasonOf is_verbose table variables files (refused fault) reason = IsExecReason is_verbose table variables files fault reason
+IsReasonOf is_verbose table variables files (told found) reason = reason ≡ []
+IsReasonOf is_verbose table variables files (responded response) reason = reason ≡ []
+
 -- an execution: an outcome, and what was written of it
-pub record Executes (name : Option Text) (table variables : Option (List ℕ)) (files : List File) (out_held : Option (List ℕ)) (out : SinkAfter) (err_held : Option (List ℕ)) (err : SinkAfter) (status : ℕ) : Type 0 where
+pub record Executes (is_verbose : Bool) (name : Option Text) (table variables : File) (files : List File) (out_held : Option (List ℕ)) (out : SinkAfter) (err_held : Option (List ℕ)) (err : SinkAfter) (status : ℕ) : Type 0 where
   pub outcome : ExecOutcome
-  pub is_outcome : IsExecOutcome name table variables files outcome
-  pub ends : EndsWith (exec_output files outcome) (exec_error outcome) (exec_status outcome) out_held out err_held err status
+  pub is_outcome : IsExecOutcome name (content_of table) (content_of variables) files outcome
+  pub reason : List ℕ
+  pub is_reason : IsReasonOf is_verbose table variables files outcome reason
+  pub ends : EndsWith (exec_output files outcome) (reason ++ exec_error outcome) (exec_status outcome) out_held out err_held err status

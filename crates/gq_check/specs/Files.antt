@@ -1,6 +1,7 @@
 -- Files of the command line: those that count, what is wrong with them, and the documents that they are.
 use Rattle.std.specs.Prelude.{ℕ, pos, List, [], ◌∷◌, ◌++◌, length, Option, Some, None, Vec, nat_lt, if◌then◌else◌}
 use Rattle.std.specs.List.{list_any}
+use Rattle.std.specs.Option.{option_map}
 use Rattle.std.specs.Str.{bytes_eq, is_utf8}
 use Rattle.std.specs.declared.alloc.Global.{Global}
 use Rattle.gq_project.specs.Documents.{with_doc}
@@ -39,6 +40,10 @@ first_fault (file ∷ files) = fault_or (file_fault file) (first_fault files)
 -- what is wrong with files: more than 4,096 names, else the first fault
 abbrev pub files_fault : List File → Option CheckFault
 files_fault files = if nat_lt 4096 (length (distinct files)) then Some TooMany else first_fault (distinct files)
+
+-- the bytes of a file that could be read
+abbrev pub content_of : File → Option (List ℕ)
+content_of file = option_map (λ (bytes : Vec ℕ Global). bytes.items) file.bytes
 
 -- the bytes of a file
 abbrev pub bytes_in : Option (Vec ℕ Global) → List ℕ

@@ -1,5 +1,7 @@
 pub mod Faults
 pub mod Files
+pub mod Reasons
+pub mod Flaws
 pub mod Formats
 pub mod Lines
 pub mod Checks

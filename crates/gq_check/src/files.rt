@@ -1,9 +1,12 @@
 //! Files of the command line, and the documents that they are.
-ghost use Rattle.std.specs.Prelude.{◌≡◌, ◌≤◌, ◌^◌, [], All, length, map, None, IfOk, IfErr, OnOk};
-ghost use Rattle.gq_check.specs.Files.{doc_of, documents_of_each, distinct, file_fault, first_fault, files_fault, documents_of};
+ghost use Rattle.std.specs.Prelude.{◌≡◌, ◌≤◌, ◌^◌, [], All, length, map, None, is_none, IfOk, IfErr, OnOk};
+ghost use Rattle.std.specs.Option.{option_map};
+ghost use Rattle.gq_check.specs.Files.{content_of, doc_of, documents_of_each, distinct, file_fault, first_fault, files_fault, documents_of};
 ghost use Rattle.gq_check.specs.Faults.{IsFaultOr};
+ghost use Rattle.gq_check.specs.Reasons.{file_flaw};
 
 use crate::fault::CheckFault;
+use crate::reasons::flaw_of;
 use gq_names::NameList;
 use gq_project::{Doc, Project};
 use gq_text::text::TEXT_MAX;
@@ -14,11 +17,32 @@ use std::str::from_utf8;
 /// How many names may be given.
 pub const FILES_MAX: usize = 4_096;
 
-/// A file of the command line: its name as it was given, and its bytes, or none where it cannot be read.
+/// A file of the command line: its name as it was given, and its bytes, or none where it cannot be read. What `--verbose`
+/// says of it then is `why`.
 #[derive(Debug, Drop)]
 pub struct File {
     pub name: OwnedText,
     pub bytes: Option<Vec<u8>>,
+    pub why: OwnedText,
+}
+
+impl File {
+    /// Whether it is a file of a project: it can be read, has at most 4 MiB, and is UTF-8.
+    pub fn is_fit(&self) -> bool
+        ensures { result ≡ is_none (file_flaw self.now) }
+    {
+        flaw_of(self).is_none()
+    }
+
+    /// Its bytes, if it can be read.
+    pub(crate) fn content(&self) -> Option<&[u8]>
+        ensures { option_map (λ bytes. bytes.now) result ≡ content_of self.now }
+    {
+        match &self.bytes {
+            Some(bytes) => Some(bytes.as_slice()),
+            None => None,
+        }
+    }
 }
 
 /// The project of the files: a document of each name, of the file that stands first.
@@ -36,7 +60,7 @@ pub fn read_project(alloc: Global, files: &[File]) -> Result<Project, CheckFault
 }
 
 /// The files whose names stand in no earlier one.
-fn first_files<'a>(alloc: Global, files: &'a [File]) -> Result<Vec<&'a File>, NoMemory>
+pub(crate) fn first_files<'a>(alloc: Global, files: &'a [File]) -> Result<Vec<&'a File>, NoMemory>
     ensures { IfOk result (λ firsts. map (λ file. file.now) firsts.items ≡ distinct files.now) }
 {
     let mut names = NameList::new(alloc);

@@ -3,14 +3,15 @@ ghost use Rattle.std.specs.Prelude.{◌≡◌, Some, IfOk, IfErr, option_and_the
 ghost use Rattle.std.specs.Option.{option_map};
 ghost use Rattle.serde_json.specs.View.{view};
 ghost use Rattle.gq_rpc.specs.Decoding.{body_value};
-ghost use Rattle.gq_types.specs.Look.{text_of};
 ghost use Rattle.gq_table.specs.Views.{entries_view, rows_view};
 ghost use Rattle.gq_table.specs.Json.{rows_of_json, variables_of_json};
 ghost use Rattle.gq_check.specs.Helping.ExecVerdicts.{IsFaultOfTable, IsFaultOfVariables};
+ghost use Rattle.gq_check.specs.Files.{content_of};
 ghost use Rattle.gq_check.specs.Execution.{rows_in, variables_in, table_fault, variables_fault, IsExecFaultOr};
 
 use crate::exec_fault::ExecFault;
 use crate::fault::CheckFault;
+use crate::files::File;
 use gq_exec::{Table, TableFault, Variables, VariablesFault};
 use gq_table_text::read_in_rows;
 use gq_text::NoMemory;
@@ -29,11 +30,11 @@ fn json_in(alloc: Global, bytes: &[u8]) -> Result<Option<Json>, NoMemory>
 }
 
 /// The table of a file.
-pub(crate) fn read_table(alloc: Global, bytes: Option<&[u8]>) -> Result<Table, ExecFault>
-    ensures ok { IfOk result (λ table. option_and_then rows_in (text_of bytes.entry) ≡ Some (rows_view table)) }
-    ensures err { IfErr result (IsExecFaultOr (table_fault (text_of bytes.entry))) }
+pub(crate) fn read_table(alloc: Global, file: &File) -> Result<Table, ExecFault>
+    ensures ok { IfOk result (λ table. option_and_then rows_in (content_of file.now) ≡ Some (rows_view table)) }
+    ensures err { IfErr result (IsExecFaultOr (table_fault (content_of file.now))) }
 {
-    let Some(bytes) = bytes else {
+    let Some(bytes) = file.content() else {
         return Err(ExecFault::Check(CheckFault::Device));
     };
     match read_in_rows(alloc, bytes)? {
@@ -69,11 +70,11 @@ fn table_of(alloc: Global, json: &Json) -> Result<Table, ExecFault>
 }
 
 /// The variables of a file.
-pub(crate) fn read_variables(alloc: Global, bytes: Option<&[u8]>) -> Result<Variables, ExecFault>
-    ensures ok { IfOk result (λ variables. option_and_then variables_in (text_of bytes.entry) ≡ Some (entries_view variables.entries.items)) }
-    ensures err { IfErr result (IsExecFaultOr (variables_fault (text_of bytes.entry))) }
+pub(crate) fn read_variables(alloc: Global, file: &File) -> Result<Variables, ExecFault>
+    ensures ok { IfOk result (λ variables. option_and_then variables_in (content_of file.now) ≡ Some (entries_view variables.entries.items)) }
+    ensures err { IfErr result (IsExecFaultOr (variables_fault (content_of file.now))) }
 {
-    let Some(bytes) = bytes else {
+    let Some(bytes) = file.content() else {
         return Err(ExecFault::Check(CheckFault::Device));
     };
     match json_in(alloc, bytes)? {

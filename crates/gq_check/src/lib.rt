@@ -7,15 +7,17 @@ pub mod exec_fault;
 pub mod executing;
 pub mod fault;
 pub mod files;
+mod flaws;
 pub mod formats;
 mod inputs;
 mod judging;
 pub mod lines;
 mod places;
 pub mod printing;
+mod reasons;
 pub mod sections;
 
-pub use checking::{check, check_by_threads};
+pub use checking::{check, check_by_threads, refuse};
 pub use exec_fault::ExecFault;
 pub use executing::exec;
 pub use fault::CheckFault;

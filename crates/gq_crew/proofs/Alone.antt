@@ -50,6 +50,7 @@ answered_goes t (answer.Report messages) = reports_go messages
     reports_go (message ∷ messages) = reports_go messages
 answered_goes (task.Ask encoding id q) answer.NoMemory = refl
 answered_goes (task.Check encoding) answer.NoMemory = refl
+answered_goes t answer.Superseded = refl
 
 pub brought_goes : (t : Option Task) (a : Answer) → stop_in (answer_to t a) ≡ None
 brought_goes None a = refl
@@ -146,8 +147,8 @@ quiet_of (File key ∷ inputs) = (content.Gone, refl, tt, tt, quiet_of inputs)
 
 no_memory_fits : (documents : List SessionDocument) (t : Option Task) → FitsTaken (docs_of documents) t answer.NoMemory
 no_memory_fits documents None = tt
-no_memory_fits documents (Some (task.Ask encoding id q)) = ∣ tt ∣₁
-no_memory_fits documents (Some (task.Check encoding)) = ∣ tt ∣₁
+no_memory_fits documents (Some (task.Ask encoding id q)) = (∣ tt ∣₁, refl)
+no_memory_fits documents (Some (task.Check encoding)) = (∣ tt ∣₁, refl)
 
 pub quiet_fits : (s : State) (inputs : List Input) → FitsRun s (quiet inputs)
 quiet_fits s [] = tt

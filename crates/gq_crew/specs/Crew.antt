@@ -11,12 +11,14 @@ use Rattle.gq_events.specs.declared.event.Event.TheVariants as event
 use Rattle.gq_events.specs.declared.event.InputEnd.TheVariants.{Border, Fault}
 use Rattle.gq_events.specs.declared.event.LoadedContent.{LoadedContent}
 use Rattle.gq_events.specs.Jobs.{DoneOf}
+use Rattle.gq_events.specs.Tasks.{is_superseded}
 use Rattle.gq_events.specs.Rules.{Turn}
 use Rattle.gq_events.specs.History.{outputs}
 use Rattle.gq_events.specs.Lifecycle.{is_load, is_stop, exits, notification_in}
 use Rattle.gq_events.specs.Headline.{Headline}
 use Rattle.gq_board.specs.Published.{docs_after}
 use Rattle.gq_workers.specs.declared.order.OrderOf.{OrderOf}
+use Rattle.gq_workers.specs.Orders.{is_behind}
 use Rattle.gq_desk.specs.Frames.{frames_in, stop_in}
 use Rattle.gq_desk.specs.Driving.{AreExact, events_of, events_max}
 use Rattle.gq_reader.specs.declared.fault.RunFault.{RunFault}
@@ -29,13 +31,14 @@ use Rattle.gq_crew.specs.declared.one_thread.Ended.{Ended}
 -- ---- what the desk takes
 
 -- What a worker made came out of what it sent: under the number of its order, and about the documents after a list of changes that begins
--- with those that had been published when the job was put.
+-- with those that had been published when the job was put. That another check comes it says where it is of a check and that list is longer, and there alone.
 pub record IsSent (done : DoneOf) : Type 0 where
   pub order : OrderOf
   pub seen : List DocChange
   pub number : done.job ≡ order.number
   pub later : ∥ IsPrefix order.told seen ∥₁
   pub texts : done.texts ≡ docs_after [] seen
+  pub behind : is_superseded done.answer ≡ is_behind done.task order.told seen
 
 -- of the events these were read, in order; each other one is what a worker sent
 abbrev pub AreTaken : List Event → List Event → Type 0

@@ -185,7 +185,7 @@ tree_constant : (file : ℕ) (tree : List (Def Span)) → AllByRecursion IsConst
 tree_constant file [] h = tt
 tree_constant file (d ∷ ds) h = all_append (λ e. IsConstant e.definition) (executable_in file d) (flat_map (executable_in file) ds) (constant_in file d h.0) (tree_constant file ds h.1)
 
-project_constant : (file : ℕ) (documents : List Doc) (rs : List ParsedOf) (trees : List (List (Def Span))) → AreParsed documents rs → AreTrees documents trees → AllByRecursion (λ e. IsConstant e.definition) (executables_from file rs)
+pub project_constant : (file : ℕ) (documents : List Doc) (rs : List ParsedOf) (trees : List (List (Def Span))) → AreParsed documents rs → AreTrees documents trees → AllByRecursion (λ e. IsConstant e.definition) (executables_from file rs)
 project_constant file [] [] [] readings.none none = tt
 project_constant file [] [] (tree ∷ trees) p q = elim q [ ]
 project_constant file [] (r ∷ rs) trees p q = elim p [ ]

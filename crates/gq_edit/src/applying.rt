@@ -41,8 +41,8 @@ fn first_moved<'a>(project: &Project, edit: &'a Edit) -> Option<&'a DocumentEdit
         .find(|document_edit| document(project, document_edit).is_none())
 }
 
-/// The first document edit that would make a text too large.
-fn first_too_large<'a>(project: &Project, edit: &'a Edit) -> Option<&'a DocumentEdit>
+/// The first document edit that would leave a text of more than 4 MiB, if there is one. It only adds up lengths.
+pub fn first_too_large<'a>(project: &Project, edit: &'a Edit) -> Option<&'a DocumentEdit>
     requires { FitDocuments project.now edit.now }
     ensures { option_copied result ≡ find (is_too_large project.now) edit.now }
 {

@@ -7,7 +7,7 @@ pub mod positions;
 pub mod replacements;
 pub mod workspace;
 
-pub use applying::{apply, document};
+pub use applying::{apply, document, first_too_large};
 pub use edit::{DocumentEdit, Edit, EditFault};
 pub use gq_text::Replacement;
 pub use positions::to_positions;

@@ -75,8 +75,8 @@ answered_at_once events j =
 -- want of memory is an answer to each task
 no_memory_fits : (docs : List Doc) (t : Option Task) → FitsTaken docs t answer.NoMemory
 no_memory_fits docs None = tt
-no_memory_fits docs (Some (task.Ask encoding id q)) = ∣ tt ∣₁
-no_memory_fits docs (Some (task.Check encoding)) = ∣ tt ∣₁
+no_memory_fits docs (Some (task.Ask encoding id q)) = (∣ tt ∣₁, refl)
+no_memory_fits docs (Some (task.Check encoding)) = (∣ tt ∣₁, refl)
 
 pub steps_exist : StepsExist
 steps_exist s e = (_, _, record { text_refused = false; answer = answer.NoMemory; fits = λ alone. no_memory_fits _ _; outputs = refl; state = refl })

@@ -41,6 +41,7 @@ answered_written : (t : Task) (a : Answer) → IsWritten (answered t a)
 answered_written t (answer.Response message) = refl
 answered_written t (answer.Report messages) = messages_written messages
 answered_written t answer.NoMemory = refused_as_written t _
+answered_written t answer.Superseded = refl
 
 verdict_written : (e : Effect) (job : JobOf) → IsWritten (verdict e job)
 verdict_written (effect.Changes c) job = refused_as_written job.task _

@@ -116,6 +116,7 @@ module _ (respond : AnswersRespond) where
   answer_may e events j t (answer.Response message) given = (response_may e events j t message given, tt)
   answer_may e events j t (answer.Report messages) given = all_notify e messages
   answer_may e events j t answer.NoMemory given = refused_other e t _ (λ h. cc)
+  answer_may e events j t answer.Superseded given = tt
 
 -- how an ask is denied
 cond_other : (b : Bool) (x y : Option Denial) → IsOtherIfAny x → IsOtherIfAny y → IsOtherIfAny (cond b x y)

@@ -198,6 +198,7 @@ module _ (events : List Turn) (j : ℕ) where
   of_answer t (answer.Response message) given = ((λ h. ∥∥₁_map (of_response t message given) inl), tt)
   of_answer t (answer.Report messages) given = of_messages messages (weaker (Contains messages) IsRightNotice (of_report t messages given) messages (contains_each messages))
   of_answer t answer.NoMemory given = of_refused t _
+  of_answer t answer.Superseded given = tt
 
   of_denied : (id : Id) (asked : Option Question) (denied : Option Denial) → effect_at events j ≡ effect.Asks id asked → IsFair (session_at events j) asked denied → All_right (denied_with id denied)
   of_denied id asked None is h = tt

@@ -138,7 +138,7 @@ module _ (workers : ℕ) (events : List Turn) (j : ℕ) (P : Out → Type 0)
 
   of_once : (alone : Bool) (t : Option Task) (a : Answer) → IsTakenBy (encoding_at events j) (effect_at events j) t → (alone ≡ true → FitsTaken (docs_at events (suc j)) t a) → All_hold (cond alone (answer_to t a) [])
   of_once true None a h f = tt
-  of_once true (Some t) a h f = of_answer t a (record { place = j; earlier = omega arith; brought = h; still = refl; fits = f refl })
+  of_once true (Some t) a h f = of_answer t a (record { place = j; earlier = omega arith; brought = h; still = refl; fits = (f refl).0 })
   of_once false t a h f = tt
 
   alone_is : (n : ℕ) → (n == 0) ≡ true → n ≡ 0

@@ -43,7 +43,7 @@ use Rattle.gq_events.specs.declared.effect.Effect.{Effect}
 use Rattle.gq_events.specs.declared.effect.Effect.TheVariants as effect
 use Rattle.gq_events.specs.Positions.{default_encoding, encoding_for}
 use Rattle.gq_events.specs.Documents.{document_at, is_open, is_any_lost, is_change, is_one_too_many, changed, loaded, key_of, with_changed, behind_after, published}
-use Rattle.gq_events.specs.Tasks.{same_task, same_docs, place_of, is_of, is_ask, Answers}
+use Rattle.gq_events.specs.Tasks.{same_task, same_docs, place_of, is_of, is_ask, Answers, is_superseded}
 
 -- an event, and what was free to choose: whether the edit that it is was refused memory, and the answer to the task that
 -- it brings, where there is no worker to answer that
@@ -332,11 +332,12 @@ abbrev pub refused_as : Task → ResponseError → List Out
 refused_as (task.Ask encoding id q) why = out.Reply (outgoing.Error (Some id) why) ∷ []
 refused_as (task.Check encoding) why = []
 
--- what is written for a task's answer
+-- what is written for a task's answer: nothing for a check that is superseded
 abbrev pub answered : Task → Answer → List Out
 answered t (answer.Response message) = out.Reply message ∷ []
 answered t (answer.Report messages) = map out.Notify messages
 answered t answer.NoMemory = refused_as t (failed (codes "12 NoMemory"))
+answered t answer.Superseded = []
 
 abbrev pub verdict : Effect → JobOf → List Out
 verdict (effect.Changes c) job = refused_as job.task error.ContentModified
@@ -427,10 +428,10 @@ abbrev pub answer_to : Option Task → Answer → List Out
 answer_to None a = []
 answer_to (Some t) a = answered t a
 
--- it is an answer to that task about these documents
+-- it is an answer to that task about these documents, of which no other check is on its way
 abbrev pub FitsTaken : List Doc → Option Task → Answer → Type 0
 FitsTaken docs None a = Unit {0}
-FitsTaken docs (Some t) a = Answers docs t a
+FitsTaken docs (Some t) a = Answers docs t a × (is_superseded a ≡ false)
 
 -- ---- which jobs are out
 

@@ -153,14 +153,23 @@ is_ask (task.Check encoding) = false
 
 -- ---- which answers are right
 
--- an answer to a task about these documents: the defined one, or that memory was refused
+-- an answer to a task about these documents: the defined one, that memory was refused, or of a check that another one comes
 abbrev pub IsAnswerTo : List Doc → Task → Answer → Type 0
 IsAnswerTo docs (task.Ask encoding i q) (answer.Response message) = IsAnswer encoding docs i q message
 IsAnswerTo docs (task.Ask encoding i q) (answer.Report messages) = ⊥
 IsAnswerTo docs (task.Ask encoding i q) answer.NoMemory = Unit {0}
+IsAnswerTo docs (task.Ask encoding i q) answer.Superseded = ⊥
 IsAnswerTo docs (task.Check encoding) (answer.Response message) = ⊥
 IsAnswerTo docs (task.Check encoding) (answer.Report messages) = AreDiagnosticsMessages encoding docs messages
 IsAnswerTo docs (task.Check encoding) answer.NoMemory = Unit {0}
+IsAnswerTo docs (task.Check encoding) answer.Superseded = Unit {0}
 
 abbrev pub Answers : List Doc → Task → Answer → Type 0
 Answers docs t a = ∥ IsAnswerTo docs t a ∥₁
+
+-- it says that another check comes, and nothing of the documents
+abbrev pub is_superseded : Answer → Bool
+is_superseded (answer.Response message) = false
+is_superseded (answer.Report messages) = false
+is_superseded answer.NoMemory = false
+is_superseded answer.Superseded = true

@@ -37,7 +37,8 @@ pub fn refuse(task: Task, why: ResponseError, outs: &mut Vec<Out>) -> Result<(),
     }
 }
 
-/// Adds the answer to a task.
+/// Adds the answer to a task. Nothing is written for a check that is superseded. None such is pending where its answer comes:
+/// the change that its worker saw came to the desk before, and a change decides all that is pending. No clause says that.
 pub fn write_answer(
     alloc: Global,
     task: Task,
@@ -56,6 +57,7 @@ pub fn write_answer(
             let why = failed(alloc, "12 NoMemory")?;
             refuse(task, why, outs)
         }
+        Answer::Superseded => Ok(()),
     }
 }
 

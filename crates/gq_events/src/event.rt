@@ -47,6 +47,9 @@ pub enum Answer {
     Report(Items<Outgoing>),
     /// A growth was refused.
     NoMemory,
+    /// Documents changed behind what the check is of, as its worker saw. So it looked for nothing, and another check is on
+    /// its way.
+    Superseded,
 }
 
 /// What a worker made of a job. Contracts see all but the pieces.
@@ -60,7 +63,8 @@ pub struct Done {
     pub answer: Answer,
     /// Pieces of the documents whose texts the worker read for it.
     pub pieces: Vec<Arc<Piece>>,
-    /// The answer is the one that is defined for this task and these documents, or that memory was refused.
+    /// The answer is the one that is defined for this task and these documents, or that memory was refused, or that a check
+    /// is superseded.
     ghost fits: { Answers texts task answer },
 }
 

@@ -1,12 +1,12 @@
 //! What is kept of the documents, where no worker is to answer.
-ghost use Rattle.std.specs.Prelude.{◌≡◌, ◌≢◌, ℕ, Bool, List, [], true, None, Some, IfOk, IfSome, OnOk, is_some, find, option_map, Contains};
+ghost use Rattle.std.specs.Prelude.{◌≡◌, ◌≢◌, ℕ, Bool, List, [], true, false, None, Some, IfOk, IfSome, OnOk, is_some, find, option_map, Contains};
 ghost use Rattle.gq_edit.specs.Workspace.{AreTexts};
 ghost use Rattle.gq_project.specs.declared.document.Doc.{Doc};
 ghost use Rattle.gq_project.specs.Documents.{has_key};
 ghost use Rattle.gq_events.specs.Documents.{docs_of};
 ghost use Rattle.gq_events.specs.Keeping.{IsKeptOf, AgreeBut};
 ghost use Rattle.gq_events.specs.Rules.{Session, changed_by, session_after};
-ghost use Rattle.gq_events.specs.Tasks.{Answers};
+ghost use Rattle.gq_events.specs.Tasks.{Answers, is_superseded};
 
 use crate::bringing::bring;
 use crate::documents::SessionDocuments;
@@ -101,6 +101,7 @@ impl Keeping {
     ) -> Result<Answer, NoMemory>
         requires { IsKeptOf self.old (docs_of documents.now) }
         ensures answer { IfOk result (λ answer. Answers (docs_of documents.now) task.now answer) }
+        ensures made { IfOk result (λ answer. is_superseded answer ≡ false) }
         ensures kept { IsKeptOf self.new (docs_of documents.now) }
     {
         documents.texts_fit();
@@ -117,6 +118,7 @@ impl Keeping {
     ) -> Answer
         requires { IsKeptOf self.old (docs_of documents.now) }
         ensures answer { Answers (docs_of documents.now) task.now result }
+        ensures made { is_superseded result ≡ false }
         ensures kept { IsKeptOf self.new (docs_of documents.now) }
     {
         match self.find_answer(alloc, documents, task) {
@@ -154,6 +156,7 @@ fn answer_by(alloc: Global, kept: &mut Option<Kept>, task: &Task) -> Result<Answ
     requires some { is_some kept.old ≡ true }
     requires texts { IfSome kept.old (λ k. AreTexts k.documents) }
     ensures answer { IfOk result (λ answer. IfSome kept.old (λ k. Answers k.documents task.now answer)) }
+    ensures made { IfOk result (λ answer. is_superseded answer ≡ false) }
     ensures documents { option_map (λ k. k.documents) kept.new ≡ option_map (λ k. k.documents) kept.old }
 {
     match kept {

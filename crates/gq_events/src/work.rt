@@ -1,8 +1,10 @@
 //! What a worker makes of a job.
-ghost use Rattle.std.specs.Prelude.{◌≡◌, IfOk};
+ghost use Rattle.std.specs.Prelude.{◌≡◌, false, IfOk};
 ghost use Rattle.gq_edit.specs.Workspace.{AreTexts};
 ghost use Rattle.gq_replies.specs.Answers.{IsAnswer, AreDiagnosticsMessages};
-ghost use Rattle.gq_events.specs.Tasks.{Answers};
+ghost use Rattle.gq_events.specs.declared.event.Answer.TheVariants as answers;
+ghost use Rattle.gq_events.specs.declared.event.Task.TheVariants as tasks;
+ghost use Rattle.gq_events.specs.Tasks.{Answers, is_superseded};
 
 use crate::copies::copy_id;
 use crate::event::{Answer, Done, Task};
@@ -49,6 +51,7 @@ fn report(
 pub(crate) fn find_answer(alloc: Global, kept: &mut Kept, task: &Task) -> Result<Answer, NoMemory>
     requires { AreTexts kept.old.documents }
     ensures answer { IfOk result (λ answer. Answers kept.old.documents task.now answer) }
+    ensures made { IfOk result (λ answer. is_superseded answer ≡ false) }
     ensures documents { kept.new.documents ≡ kept.old.documents }
 {
     match task {
@@ -70,7 +73,8 @@ fn bring_and_answer(
     kept: &mut Kept,
 ) -> Result<Answer, NoMemory>
     requires { AreTexts texts.now }
-    ensures { IfOk result (λ answer. Answers texts.now task.now answer) }
+    ensures answer { IfOk result (λ answer. Answers texts.now task.now answer) }
+    ensures made { IfOk result (λ answer. is_superseded answer ≡ false) }
 {
     kept.bring_to(alloc, texts, pieces, parsed)?;
     find_answer(alloc, kept, task)
@@ -86,7 +90,8 @@ fn answer_task(
     kept: &mut Kept,
 ) -> Answer
     requires { AreTexts texts.now }
-    ensures { Answers texts.now task.now result }
+    ensures answer { Answers texts.now task.now result }
+    ensures made { is_superseded result ≡ false }
 {
     match bring_and_answer(alloc, task, texts, pieces, parsed, kept) {
         Ok(answer) => answer,
@@ -113,6 +118,7 @@ impl Done {
         ensures job { result.job ≡ job }
         ensures task { result.task ≡ task }
         ensures texts { result.texts ≡ texts }
+        ensures made { is_superseded result.answer ≡ false }
     {
         let mut parsed = Vec::new(alloc);
         let answer = answer_task(alloc, &task, &texts, pieces, &mut parsed, kept);
@@ -122,6 +128,23 @@ impl Done {
             texts,
             answer,
             pieces: parsed,
+        }
+    }
+
+    /// What a worker makes of a check in that encoding, under that number, where another check is on its way: that it is
+    /// superseded. It takes no memory, and reads no text.
+    pub fn superseded(alloc: Global, job: u64, encoding: PositionEncoding, texts: Project) -> Done
+        ensures job { result.job ≡ job }
+        ensures task { result.task ≡ tasks.Check encoding }
+        ensures texts { result.texts ≡ texts }
+        ensures answer { result.answer ≡ answers.Superseded }
+    {
+        Done {
+            job,
+            task: Task::Check(encoding),
+            texts,
+            answer: Answer::Superseded,
+            pieces: Vec::new(alloc),
         }
     }
 }

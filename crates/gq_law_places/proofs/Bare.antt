@@ -19,7 +19,7 @@ use Rattle.gq_law_places.proofs.Lists.{weaken}
 
 -- a change that is not seen in the parts is not seen in the whole
 module _ {A B K : Type 0} (f : A → B) (g : B → K) (k : A → K) (each : (a : A) → g (f a) ≡ k a) where
-  list_same : (xs : List A) → map g (map f xs) ≡ map k xs
+  pub list_same : (xs : List A) → map g (map f xs) ≡ map k xs
   list_same [] = refl
   list_same (x ∷ xs) = ap (λ z. z ∷ map g (map f xs)) (each x) ∙ ap (λ z. k x ∷ z) (list_same xs)
 
@@ -27,7 +27,7 @@ module _ {A B K : Type 0} (f : A → B) (g : B → K) (k : A → K) (each : (a :
   option_same None = refl
   option_same (Some a) = ap (λ z. Some z) (each a)
 
-  forest_same : (t : Forest A) → relabel g (relabel f t) ≡ relabel k t
+  pub forest_same : (t : Forest A) → relabel g (relabel f t) ≡ relabel k t
   forest_same none = refl
   forest_same (more l b r) =
       ap (λ z. more z (relabel g (relabel f b)) (relabel g (relabel f r))) (each l) ∙ ap (λ z. more (k l) z (relabel g (relabel f r))) (forest_same b)
@@ -119,7 +119,7 @@ module _ {P Q : Type 0} (shown : Text → Text) (f : P → Q) where
   def_placed (type_system definition) = refl
 
 -- how names were shown before a rename
-abbrev shown_before : (Text → Text) → Renaming → List ℕ → Text → Text
+abbrev pub shown_before : (Text → Text) → Renaming → List ℕ → Text → Text
 shown_before shown renaming new text = shown (renamed_text renaming.fragments new text)
 
 -- other names

@@ -14,7 +14,7 @@ use Rattle.gq_law_places.specs.Names.{named_def, forgotten, RenamedAreSameButNam
 use Rattle.gq_law_places.proofs.Bare.{named_read, def_renamed, renamed_alike}
 
 -- what is found everywhere in documents
-abbrev everywhere : {D K : Type 0} → (ℕ → D → List K) → List (List D) → List K
+abbrev pub everywhere : {D K : Type 0} → (ℕ → D → List K) → List (List D) → List K
 everywhere that documents = flat_map (λ p. flat_map (that p.0) p.1) (enumerate_from 0 documents)
 
 -- what is gathered in documents, erased, is gathered in erased documents
@@ -26,7 +26,7 @@ module _ {A K D : Type 0} (forget : Def Span → D) (h : A → K) (what : ℕ �
   in_one n [] = refl
   in_one n (d ∷ ds) = map-append h (what n d) (flat_map (what n) ds) ∙ ap (λ z. z ++ map h (flat_map (what n) ds)) (each n d) ∙ ap (λ z. that n (forget d) ++ z) (in_one n ds)
 
-  in_all : (n : ℕ) (rs : List ParsedOf) → map h (flat_map (λ r. in_document what r.0 r.1) (enumerate_from n rs)) ≡ flat_map (λ p. flat_map (that p.0) p.1) (enumerate_from n (map forget_read rs))
+  pub in_all : (n : ℕ) (rs : List ParsedOf) → map h (flat_map (λ r. in_document what r.0 r.1) (enumerate_from n rs)) ≡ flat_map (λ p. flat_map (that p.0) p.1) (enumerate_from n (map forget_read rs))
   in_all n [] = refl
   in_all n (r ∷ rs) =
       map-append h (in_document what n r) (flat_map (λ r. in_document what r.0 r.1) (enumerate_from (n + 1) rs))
@@ -36,22 +36,22 @@ module _ {A K D : Type 0} (forget : Def Span → D) (h : A → K) (what : ℕ �
   documents_alike : (rs qs : List ParsedOf) → map forget_read rs ≡ map forget_read qs → map h (in_documents what rs) ≡ map h (in_documents what qs)
   documents_alike rs qs e = in_all 0 rs ∙ ap (everywhere that) e ∙ sym (in_all 0 qs)
 
-abbrev operation_that : ℕ → Def (Unit {0}) → List (ℕ × Def (Unit {0}))
+abbrev pub operation_that : ℕ → Def (Unit {0}) → List (ℕ × Def (Unit {0}))
 operation_that n (operation kind name variables directives set braces place) = (n, operation kind name variables directives set braces place) ∷ []
 operation_that n (fragment name on directives set braces place) = []
 operation_that n (type_system definition) = []
 
-abbrev fragment_that : ℕ → Def (Unit {0}) → List (ℕ × Def (Unit {0}))
+abbrev pub fragment_that : ℕ → Def (Unit {0}) → List (ℕ × Def (Unit {0}))
 fragment_that n (operation kind name variables directives set braces place) = []
 fragment_that n (fragment name on directives set braces place) = (n, fragment name on directives set braces place) ∷ []
 fragment_that n (type_system definition) = []
 
-operation_each : (n : ℕ) (d : Def Span) → map erase_operation (operation_in n d) ≡ operation_that n (place_def no_place d)
+pub operation_each : (n : ℕ) (d : Def Span) → map erase_operation (operation_in n d) ≡ operation_that n (place_def no_place d)
 operation_each n (operation kind name variables directives set braces place) = refl
 operation_each n (fragment name on directives set braces place) = refl
 operation_each n (type_system definition) = refl
 
-fragment_each : (n : ℕ) (d : Def Span) → map erase_fragment (fragment_in n d) ≡ fragment_that n (place_def no_place d)
+pub fragment_each : (n : ℕ) (d : Def Span) → map erase_fragment (fragment_in n d) ≡ fragment_that n (place_def no_place d)
 fragment_each n (operation kind name variables directives set braces place) = refl
 fragment_each n (fragment name on directives set braces place) = refl
 fragment_each n (type_system definition) = refl

@@ -17,6 +17,7 @@ pub mod LookupDefinitions
 pub mod LookupSpreads
 pub mod LookupVariables
 pub mod LookupMerging
+pub mod SpreadNames
 pub mod SpreadPlaces
 pub mod UsePlaces
 pub mod VariablePlaces
@@ -28,3 +29,9 @@ pub mod MergingKept
 pub mod Both
 pub mod Rules
 pub mod Renames
+pub mod OtherNames
+pub mod OtherNamesSpreads
+pub mod OtherNamesUses
+pub mod OtherNamesVariables
+pub mod OtherNamesMerging
+pub mod OtherNamesRead

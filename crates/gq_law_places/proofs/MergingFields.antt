@@ -70,10 +70,10 @@ sets_of_fields es a b e = record {
   selections = e.below;
 }
 
-abbrev set_from : ℕ → Option Text → Sels Span → SetOf
+abbrev pub set_from : ℕ → Option Text → Sels Span → SetOf
 set_from file parent ss = record { file = file; parent = parent; selections = ss }
 
-in_alike_set : (x : ExecutableOf) (s t : SetOf) (a : FieldAt) → s.file ≡ t.file → s.parent ≡ t.parent → InSet x (set_from s.file s.parent t.selections) a → InSet x t a
+pub in_alike_set : (x : ExecutableOf) (s t : SetOf) (a : FieldAt) → s.file ≡ t.file → s.parent ≡ t.parent → InSet x (set_from s.file s.parent t.selections) a → InSet x t a
 in_alike_set x s t a e f h = subst (λ n. InSet x (set_from n t.parent t.selections) a) e (subst (λ p. InSet x (set_from s.file p t.selections) a) f h)
 
 module _ (es : List EntryOf) (os ps : List OperationOf) (fs gs : List FragmentOf) (eo : map erase_operation os ≡ map erase_operation ps) (ef : map erase_fragment fs ≡ map erase_fragment gs) where

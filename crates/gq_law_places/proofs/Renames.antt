@@ -1,5 +1,5 @@
--- The faults of fragments before and after a fragment is renamed to a fresh name.
-use Rattle.std.proofs.Common.{◌≡◌, Bool, true, false, List, [], ◌++◌, Option, Some, None, map, refl, sym, ap, ◌∙◌, subst, Contains}
+-- The faults of fragments before and after a fragment is renamed to a fresh name, or variables are renamed.
+use Rattle.std.proofs.Common.{◌≡◌, ℕ, Bool, true, false, List, [], ◌++◌, Option, Some, None, map, refl, sym, ap, ◌∙◌, subst, Contains}
 use Rattle.std.specs.Prelude.{if◌then◌else◌}
 use Rattle.std.specs.Str.{bytes_eq}
 use Rattle.std.proofs.lemmas.List.Elements.{Contains-append_left, Contains-append_right}
@@ -10,10 +10,12 @@ use Rattle.gq_fault.specs.FaultPlaces.{fault_at, fault_over, first_bytes}
 use Rattle.gq_fault.specs.declared.code.Code.TheVariants.{FragmentNameNotUnique, SpreadNotPossible}
 use Rattle.gq_tree.specs.Forest.{labels, relabel, relabel_tree}
 use Rattle.gq_tree.specs.Names.{spread_name, spread_names}
-use Rattle.gq_tree.specs.Plain.{NameOf, Head, field, spread, inline, Sel, Sels, place_name, place_head, no_place}
+use Rattle.gq_tree.specs.Plain.{NameOf, Head, field, spread, inline, Sel, Sels, place_name, place_head, no_place, erase_document}
+use Rattle.gq_tree.specs.Readings.{ParsedOf, definitions_read}
 use Rattle.gq_types.specs.Entries.{Text, EntryOf}
 use Rattle.gq_types.proofs.Gathered.{first, later, to_flat}
-use Rattle.gq_renamed.specs.Renamings.{fragment_called, renamed_text}
+use Rattle.gq_renamed.specs.Renamings.{Renaming, fragment_called, renamed_text}
+use Rattle.gq_renamed.specs.Projects.{rename_trees}
 use Rattle.gq_document.specs.Definitions.{OperationOf, FragmentOf, operations_of, fragments_of}
 use Rattle.gq_document.specs.Selections.{SelectedOf, parent_below, IsSelectionWithin, here, within, after, IsSelected}
 use Rattle.gq_document.specs.Selections as selections
@@ -27,11 +29,12 @@ use Rattle.gq_fragments.specs.FragmentSpreadIsPossible.{IsSpread, of_fragment, o
 use Rattle.gq_fragments.specs.FragmentFaults.{IsFragmentFault, repeated_fragment_name, unknown_condition, condition_not_composite, spread_not_possible}
 use Rattle.gq_law_places.specs.Places.{HasLike}
 use Rattle.gq_rules.specs.Files.{together}
-use Rattle.gq_law_places.specs.Names.{shown_name, named_head, IsFresh, FragmentRenamesKeepFaultless}
+use Rattle.gq_law_places.specs.Names.{shown_name, named_head, named_def, FragmentRenamesKeepFaultless, ChangesNoFragment, VariableRenamesKeepFaultless}
+use Rattle.gq_law_places.specs.Types.{IsFaultless}
 use Rattle.gq_law_places.proofs.Alike.{back}
 use Rattle.gq_law_places.proofs.Lists.{weaken_by, stands_by, contains_by}
 use Rattle.gq_law_places.proofs.Forgetting.{all_three, selects_operation, selects_fragment, selected_by}
-use Rattle.gq_law_places.proofs.Bare.{named_read, def_renamed, renamed_alike}
+use Rattle.gq_law_places.proofs.Bare.{named_read, shown_before, def_renamed, renamed_alike}
 use Rattle.gq_law_places.proofs.Documents.{named_operation, named_fragment, operations_named, fragments_named}
 use Rattle.gq_law_places.proofs.Operations.{names_of_unknown_conditions, names_of_other_conditions}
 use Rattle.gq_law_places.proofs.Both.{renames_keep}
@@ -44,7 +47,7 @@ abbrev called : (old new : Text) → Text → Text
 called old new text = renamed_text (λ t. bytes_eq t old) new text
 
 -- names that are not the new one stay apart
-apart : (old new a b : Text) → (a ≡ new → ⊥) → (b ≡ new → ⊥) → called old new a ≡ called old new b → a ≡ b
+pub apart : (old new a b : Text) → (a ≡ new → ⊥) → (b ≡ new → ⊥) → called old new a ≡ called old new b → a ≡ b
 apart old new a b not_a not_b e = by (bytes_eq a old) (bytes_eq b old) refl refl e
   where
     by : (s t : Bool) → bytes_eq a old ≡ s → bytes_eq b old ≡ t → (if s then new else a) ≡ (if t then new else b) → a ≡ b
@@ -74,10 +77,7 @@ parent_erased shown es parent (spread name directives place) = refl
 parent_erased shown es parent (inline None directives braces place) = refl
 parent_erased shown es parent (inline (Some condition) directives braces place) = refl
 
-module _ (old new : Text) where
-  abbrev earlier : Text → Text
-  earlier text = called old new text
-
+module _ (earlier : Text → Text) where
   parent_alike : (es : List EntryOf) (parent : Option Text) (h k : Head Span) → named_head itself h ≡ named_head earlier k → parent_below es parent h ≡ parent_below es parent k
   parent_alike es parent h k e = parent_erased itself es parent h ∙ ap (λ z. parent_below es parent (place_head back z)) e ∙ sym (parent_erased earlier es parent k)
 
@@ -120,15 +120,19 @@ module _ (old new : Text) where
         (weaken_by (named_operation itself) (named_operation earlier) (selects_operation (named_head itself)) (selects_operation (named_head earlier)) operation_selects os ps eo)
         (weaken_by (named_fragment itself) (named_fragment earlier) (selects_fragment (named_head itself)) (selects_fragment (named_head earlier)) fragment_selects fs gs ef) s c
 
-    module _ (fresh : IsFresh y new) where
+    -- names that are looked for in one another stay apart
+    record AreApart : Type 0 where
+      pub of_fragments : (f g : FragmentOf) → Contains gs f → Contains gs g → earlier f.name.text ≡ earlier g.name.text → f.name.text ≡ g.name.text
+      pub of_spreads : (f : FragmentOf) (file : ℕ) (name : NameOf Span) → Contains gs f → IsSpreadName y file name → earlier f.name.text ≡ earlier name.text → f.name.text ≡ name.text
+
+    module _ (apart : AreApart) where
       repeated : (f : Fault) → IsRepeatedFragmentName x f → HasLike (IsRepeatedFragmentName y) f
       repeated f h =
           let c = h.is_repeated in
           let r = stands_by (named_fragment itself) (named_fragment earlier) fs gs ef c.0 h.later c.1.here in
           let o = stands_by (named_fragment itself) (named_fragment earlier) fs gs ef c.1.earlier c.1.other c.1.stands_earlier in
           let same : earlier o.0.name.text ≡ earlier r.0.name.text = sym (name_alike c.1.other o.0 o.2) ∙ c.1.same_text ∙ name_alike h.later r.0 r.2 in
-          let texts : o.0.name.text ≡ r.0.name.text =
-          apart old new o.0.name.text r.0.name.text (fresh.in_fragments o.0 (c.1.earlier, o.1.0, o.1.1)) (fresh.in_fragments r.0 (c.0, r.1.0, r.1.1)) same in (
+          let texts = apart.of_fragments o.0 r.0 (c.1.earlier, o.1.0, o.1.1) (c.0, r.1.0, r.1.1) same in (
             fault_at r.0.file FragmentNameNotUnique r.0.name,
             record {
               later = r.0;
@@ -139,28 +143,29 @@ module _ (old new : Text) where
             ap (λ z. z.code) (sym h.is),
           )
 
-      spread_back : {h : Head Span} {condition : Text} {place : Span} → IsSpread fs h condition place → (k : Head Span) → ((name : NameOf Span) → Contains (spread_name k) name → name.text ≡ new → ⊥) →
+      spread_back : {h : Head Span} {condition : Text} {place : Span} → IsSpread fs h condition place → (file : ℕ) (k : Head Span) →
+          ((name : NameOf Span) → Contains (spread_name k) name → IsSpreadName y file name) →
           named_head itself h ≡ named_head earlier k → (place2 : Span) × IsSpread gs k condition place2
-      spread_back (of_fragment {f = f} {name = name} c same) (spread n ds p) unnamed e =
+      spread_back (of_fragment {f = f} {name = name} c same) file (spread n ds p) stands e =
           let names : shown_name itself name ≡ shown_name earlier n = cc in
           let d = contains_by (named_fragment itself) (named_fragment earlier) fs gs ef f c in
           let shown : earlier d.0.name.text ≡ earlier n.text = sym (name_alike f d.0 d.2) ∙ same ∙ ap (λ z. z.text) names in
-          let texts : d.0.name.text ≡ n.text = apart old new d.0.name.text n.text (fresh.in_fragments d.0 d.1) (unnamed n (first n n [] refl)) shown in
+          let texts = apart.of_spreads d.0 file n d.1 (stands n (first n n [] refl)) shown in
           (n.place, subst (λ z. IsSpread gs (spread n ds p) z n.place) (sym (on_alike f d.0 d.2)) (of_fragment d.1 texts))
-      spread_back (of_inline_fragment {condition = condition}) (inline (Some n) ds b p) unnamed e =
+      spread_back (of_inline_fragment {condition = condition}) file (inline (Some n) ds b p) stands e =
           let names : place_name no_place condition ≡ place_name no_place n = cc in
           (first_bytes 3 p, subst (λ z. IsSpread gs (inline (Some n) ds b p) z (first_bytes 3 p)) (ap (λ z. z.text) (sym names)) of_inline_fragment)
-      spread_back (of_fragment c same) (field a n vs ds b p) unnamed e = absurd (cc)
-      spread_back (of_fragment c same) (inline o ds b p) unnamed e = absurd (cc)
-      spread_back of_inline_fragment (field a n vs ds b p) unnamed e = absurd (cc)
-      spread_back of_inline_fragment (spread n ds p) unnamed e = absurd (cc)
-      spread_back of_inline_fragment (inline None ds b p) unnamed e = absurd (cc)
+      spread_back (of_fragment c same) file (field a n vs ds b p) stands e = absurd (cc)
+      spread_back (of_fragment c same) file (inline o ds b p) stands e = absurd (cc)
+      spread_back of_inline_fragment file (field a n vs ds b p) stands e = absurd (cc)
+      spread_back of_inline_fragment file (spread n ds p) stands e = absurd (cc)
+      spread_back of_inline_fragment file (inline None ds b p) stands e = absurd (cc)
 
       not_possible : (f : Fault) → IsSpreadNotPossible x f → HasLike (IsSpreadNotPossible y) f
       not_possible f h =
           let r = selected h.selected h.is_selected in
           let s : SelectedOf = record { file = h.selected.file; parent = h.selected.parent; selection = r.0 } in
-          let m = spread_back h.is_spread r.0.label (λ name c. fresh.in_spreads h.selected.file name (among_selected es ps gs s r.1 name c)) (ap (λ z. z.label) r.2) in (
+          let m = spread_back h.is_spread h.selected.file r.0.label (λ name c. among_selected es ps gs s r.1 name c) (ap (λ z. z.label) r.2) in (
             fault_over h.selected.file SpreadNotPossible m.0,
             record {
               selected = s;
@@ -177,20 +182,61 @@ module _ (old new : Text) where
             ap (λ z. z.code) (sym h.is),
           )
 
+-- what is read before and after
+abbrev ReadAs : (Text → Text) → (rs qs : List ParsedOf) → Type 0
+ReadAs earlier rs qs = map (named_read itself) qs ≡ map (named_read earlier) rs
+
+module _ (es : List EntryOf) (earlier : Text → Text) (rs qs : List ParsedOf) (reads : ReadAs earlier rs qs) where
+  eo : map (named_operation itself) (operations_of qs) ≡ map (named_operation earlier) (operations_of rs)
+  eo = operations_named itself earlier rs qs reads
+
+  ef : map (named_fragment itself) (fragments_of qs) ≡ map (named_fragment earlier) (fragments_of rs)
+  ef = fragments_named itself earlier rs qs reads
+
+  -- of the faults that name fragments
+  named_faults : AreApart earlier es (operations_of qs) (operations_of rs) (fragments_of qs) (fragments_of rs) eo ef → IsFaultless IsFragmentFault (together es rs) →
+      IsFaultless IsUnknownCondition (together es qs) → IsFaultless IsConditionNotComposite (together es qs) → IsFaultless IsFragmentFault (together es qs)
+  named_faults apart none unknown other f (repeated_fragment_name h) =
+      let g = repeated earlier es (operations_of qs) (operations_of rs) (fragments_of qs) (fragments_of rs) eo ef apart f h in
+      none g.0 (repeated_fragment_name g.1)
+  named_faults apart none unknown other f (unknown_condition h) = unknown f h
+  named_faults apart none unknown other f (condition_not_composite h) = other f h
+  named_faults apart none unknown other f (spread_not_possible h) =
+      let g = not_possible earlier es (operations_of qs) (operations_of rs) (fragments_of qs) (fragments_of rs) eo ef apart f h in
+      none g.0 (spread_not_possible g.1)
+
+-- of those of type conditions
+abbrev pub AreRenamed : (ℕ → Renaming) → Text → (rs qs : List ParsedOf) → Type 0
+AreRenamed rule new rs qs = map erase_document (map definitions_read qs) ≡ rename_trees rule 0 new (map erase_document (map definitions_read rs))
+
+unknown_keep : (es : List EntryOf) (rule : ℕ → Renaming) (new : Text) (rs qs : List ParsedOf) → AreRenamed rule new rs qs →
+    IsFaultless IsFragmentFault (together es rs) → IsFaultless IsUnknownCondition (together es qs)
+unknown_keep es rule new rs qs e none f h = renames_keep IsUnknownCondition names_of_unknown_conditions es rule new rs qs e (λ g u. none g (unknown_condition u)) f h
+
+other_keep : (es : List EntryOf) (rule : ℕ → Renaming) (new : Text) (rs qs : List ParsedOf) → AreRenamed rule new rs qs →
+    IsFaultless IsFragmentFault (together es rs) → IsFaultless IsConditionNotComposite (together es qs)
+other_keep es rule new rs qs e none f h = renames_keep IsConditionNotComposite names_of_other_conditions es rule new rs qs e (λ g u. none g (condition_not_composite u)) f h
+
 pub fragment_renames_keep : FragmentRenamesKeepFaultless IsFragmentFault
-fragment_renames_keep es old new rs qs e fresh faultless f h = by h
+fragment_renames_keep es old new rs qs e fresh none =
+    let reads = renamed_alike itself (called old new) (λ n. fragment_called old) new (λ n d. def_renamed itself (fragment_called old) new d) rs qs e in
+    named_faults es (called old new) rs qs reads (record {
+      of_fragments = λ f g c d. apart old new f.name.text g.name.text (fresh.in_fragments f c) (fresh.in_fragments g d);
+      of_spreads = λ f file name c s. apart old new f.name.text name.text (fresh.in_fragments f c) (fresh.in_spreads file name s);
+    }) none (unknown_keep es (λ n. fragment_called old) new rs qs e none) (other_keep es (λ n. fragment_called old) new rs qs e none)
+
+-- A rename that changes no fragment's name shows each definition as it was.
+pub names_stay : (rule : ℕ → Renaming) (new : Text) → ChangesNoFragment rule → (rs qs : List ParsedOf) → AreRenamed rule new rs qs → ReadAs itself rs qs
+names_stay rule new none rs qs e = renamed_alike itself itself rule new (λ n d. def_renamed itself (rule n) new d ∙ ap (λ z. named_def z d) (same n)) rs qs e
   where
-    reads : map (named_read itself) qs ≡ map (named_read (called old new)) rs
-    reads = renamed_alike itself (called old new) (λ n. fragment_called old) new (λ n d. def_renamed itself (fragment_called old) new d) rs qs e
+    text_stays : (b : Bool) (text : Text) → b ≡ false → (if b then new else text) ≡ text
+    text_stays true text f = absurd (cc)
+    text_stays false text f = refl
 
-    eo : map (named_operation itself) (operations_of qs) ≡ map (named_operation (called old new)) (operations_of rs)
-    eo = operations_named itself (called old new) rs qs reads
+    same : (n : ℕ) → shown_before itself (rule n) new ≡ itself
+    same n = λ i text. text_stays ((rule n).fragments text) text (none n text) i
 
-    ef : map (named_fragment itself) (fragments_of qs) ≡ map (named_fragment (called old new)) (fragments_of rs)
-    ef = fragments_named itself (called old new) rs qs reads
-
-    by : IsFragmentFault (together es qs) f → ⊥
-    by (repeated_fragment_name h) = let g = repeated old new es (operations_of qs) (operations_of rs) (fragments_of qs) (fragments_of rs) eo ef fresh f h in faultless g.0 (repeated_fragment_name g.1)
-    by (unknown_condition h) = renames_keep IsUnknownCondition names_of_unknown_conditions es (λ n. fragment_called old) new rs qs e (λ g u. faultless g (unknown_condition u)) f h
-    by (condition_not_composite h) = renames_keep IsConditionNotComposite names_of_other_conditions es (λ n. fragment_called old) new rs qs e (λ g u. faultless g (condition_not_composite u)) f h
-    by (spread_not_possible h) = let g = not_possible old new es (operations_of qs) (operations_of rs) (fragments_of qs) (fragments_of rs) eo ef fresh f h in faultless g.0 (spread_not_possible g.1)
+pub variable_renames_keep : VariableRenamesKeepFaultless IsFragmentFault
+variable_renames_keep es rule new rs qs stay e none =
+    named_faults es itself rs qs (names_stay rule new stay rs qs e) (record { of_fragments = λ f g c d same. same; of_spreads = λ f file name c s same. same }) none
+    (unknown_keep es rule new rs qs e none) (other_keep es rule new rs qs e none)

@@ -1,5 +1,5 @@
 -- Executable definitions that are equal but for their places and for the names of fragments and variables.
-use Rattle.std.specs.Prelude.{◌≡◌, ◌≢◌, ℕ, List, [], Option, Some, None, Contains, map}
+use Rattle.std.specs.Prelude.{◌≡◌, ◌≢◌, ℕ, false, List, [], Option, Some, None, Contains, map}
 use Rattle.std.specs.Option.{option_map}
 use Rattle.gq_text.specs.declared.place.Span.{Span}
 use Rattle.gq_fault.specs.declared.fault.Fault.{Fault}
@@ -114,3 +114,13 @@ abbrev pub FragmentRenamesKeepFaultless : (ExecutableOf → Fault → Type 0) �
 FragmentRenamesKeepFaultless IsFault = (es : List EntryOf) (old new : Text) (before after : List ParsedOf) →
     map erase_document (map definitions_read after) ≡ rename_trees (λ n. fragment_called old) 0 new (map erase_document (map definitions_read before)) →
     IsFresh (together es before) new → IsFaultless IsFault (together es before) → IsFaultless IsFault (together es after)
+
+-- names of variables alone change
+abbrev pub ChangesNoFragment : (ℕ → Renaming) → Type 0
+ChangesNoFragment rule = (n : ℕ) (text : Text) → (rule n).fragments text ≡ false
+
+-- A rename of variables, whatever the rule, brings no fault of those rules.
+abbrev pub VariableRenamesKeepFaultless : (ExecutableOf → Fault → Type 0) → Type 0
+VariableRenamesKeepFaultless IsFault = (es : List EntryOf) (rule : ℕ → Renaming) (new : Text) (before after : List ParsedOf) → ChangesNoFragment rule →
+    map erase_document (map definitions_read after) ≡ rename_trees rule 0 new (map erase_document (map definitions_read before)) →
+    IsFaultless IsFault (together es before) → IsFaultless IsFault (together es after)

@@ -5,7 +5,7 @@ ghost use Rattle.gq_fragments.specs.FragmentSpreadTypeExistence.{IsUnknownCondit
 ghost use Rattle.gq_fragments.specs.FragmentsOnCompositeTypes.{IsConditionNotComposite};
 ghost use Rattle.gq_fragments.specs.OperationFaults.{IsOperationFault};
 ghost use Rattle.gq_law_places.specs.Merging.{DifferingIsSymmetric, FieldsThatAreKeptMerge, MeetingIsSymmetric};
-ghost use Rattle.gq_law_places.specs.Names.{FragmentRenamesKeepFaultless, NamesDoNotMatter, RenamedAreSameButNames, RenamesKeepFaultless};
+ghost use Rattle.gq_law_places.specs.Names.{FragmentRenamesKeepFaultless, NamesDoNotMatter, RenamedAreSameButNames, RenamesKeepFaultless, VariableRenamesKeepFaultless};
 ghost use Rattle.gq_law_places.specs.Places.{DocumentsAreSameButPlaces, PlacesDoNotMatter};
 ghost use Rattle.gq_law_places.specs.Types.{NoPlacesMatter, PlacesOfTypesDoNotMatter, ProjectsAreSameButPlaces, TreesSayWhatIsFaultless, TypesLookAlike};
 ghost use Rattle.gq_merging.specs.FieldsMerge.{IsMergingFault};
@@ -147,7 +147,25 @@ pub fn renames_keep_what_is_faultless()
     names_do_not_matter();
 }
 
-/// A rename of a fragment to a name that no fragment and no spread has brings no fault of fragments and type conditions.
+/// A rename of a fragment to a name that no fragment and no spread has brings no fault of fragments and type conditions, of
+/// spreads, of variables and of fields that do not merge.
 pub fn fragment_renames_keep_what_is_faultless()
-    ensures { FragmentRenamesKeepFaultless IsFragmentFault }
+    ensures fragments { FragmentRenamesKeepFaultless IsFragmentFault }
+    ensures spreads { FragmentRenamesKeepFaultless IsSpreadFault }
+    ensures variables { FragmentRenamesKeepFaultless IsVariableFault }
+    ensures merging { FragmentRenamesKeepFaultless IsMergingFault }
+{}
+
+/// So it brings no fault of any rule of executable definitions.
+pub fn fragment_renames_keep_all_rules()
+    ensures { FragmentRenamesKeepFaultless IsRuleFault }
+{
+    renames_keep_what_is_faultless();
+    fragment_renames_keep_what_is_faultless();
+}
+
+/// A rename of variables brings no fault of fragments and type conditions, nor of spreads.
+pub fn variable_renames_keep_what_is_faultless()
+    ensures fragments { VariableRenamesKeepFaultless IsFragmentFault }
+    ensures spreads { VariableRenamesKeepFaultless IsSpreadFault }
 {}

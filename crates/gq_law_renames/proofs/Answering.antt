@@ -27,11 +27,11 @@ pub data BothFound {A : Type 0} (R : A → A → Type 0) : Option A → Option A
   neither : BothFound R None None
   both : {x y : A} → R x y → BothFound R (Some x) (Some y)
 
-none_found : {A : Type 0} {R : A → A → Type 0} {a b : Option A} → BothFound R a b → a ≡ None → b ≡ None
+pub none_found : {A : Type 0} {R : A → A → Type 0} {a b : Option A} → BothFound R a b → a ≡ None → b ≡ None
 none_found neither e = refl
 none_found (both r) e = absurd (cc)
 
-some_found : {A : Type 0} {R : A → A → Type 0} {a b : Option A} → BothFound R a b → (x : A) → a ≡ Some x → (y : A) × (b ≡ Some y) × R x y
+pub some_found : {A : Type 0} {R : A → A → Type 0} {a b : Option A} → BothFound R a b → (x : A) → a ≡ Some x → (y : A) × (b ≡ Some y) × R x y
 some_found neither x e = absurd (cc)
 some_found {R = R} (both {x = z} {y = y} r) x e = let same : z ≡ x = cc in (y, refl, subst (λ w. R w y) same r)
 

@@ -165,13 +165,13 @@ module _ (k r : Renaming) (new : Text) where
 
 -- Directives and arguments with names changed, where none becomes one with another; and a fragment that keeps its name, of which something is known.
 module _ (r : Renaming) (new : Text) (Led : Text → Type 0) where
-  abbrev IsLed : Text → Text → Type 0
+  abbrev pub IsLed : Text → Text → Type 0
   IsLed f f_after = (f ≡ f_after) × Led f
 
-  abbrev DirectivesFresh : Directives → Directives → Type 0
+  abbrev pub DirectivesFresh : Directives → Directives → Type 0
   DirectivesFresh w w_after = (w_after ≡ map (rename_directive r new) w) × AreFresh r new (directive_variables w)
 
-  abbrev ArgumentsFresh : Arguments → Arguments → Type 0
+  abbrev pub ArgumentsFresh : Arguments → Arguments → Type 0
   ArgumentsFresh a a_after = (a_after ≡ map (rename_value r new) a) × AreFresh r new (argument_variables a)
 
   abbrev SetsFresh : Set → Set → Type 0
@@ -341,7 +341,7 @@ module _ (ds ds_after : List DefinitionOf) (old new : Text) (definition : ℕ) (
   r = variable_in group old n
 
   -- each fragment of that name is reached
-  abbrev Led : Text → Type 0
+  abbrev pub Led : Text → Type 0
   Led f = (k : ℕ) (g : FragmentOf) → IsFragmentAt ds k g → g.name.text ≡ f → Reaches (fragments_among ds) o.set g
 
   is_fresh : (t : Text) → DefinesVariable o t → IsFresh r new t
@@ -371,7 +371,7 @@ module _ (ds ds_after : List DefinitionOf) (old new : Text) (definition : ℕ) (
       let user : ReachesUser ds old n k = record { operation = o; fragment = g; is_operation = stands; is_fragment = there; reached = reached; uses = uses } in
       ((λ h. with_fragment h user), (λ h. with_operation h user))
 
-  operation_fresh : (s_after : Sels Span) → erase_all s_after ≡ rename_selections r new (erase_all o.set) → SetsFresh r new Led (set_of o.set) (set_of s_after)
+  pub operation_fresh : (s_after : Sels Span) → erase_all s_after ≡ rename_selections r new (erase_all o.set) → SetsFresh r new Led (set_of o.set) (set_of s_after)
   operation_fresh s_after e =
       placed_fresh r new Led r (no_fragment_in old group n) o.set s_after e
       (λ v c. (refl, is_fresh v.text ((defined n o stands v.text).0 (operation_uses ds n o stands v c))))
@@ -397,7 +397,7 @@ module _ (ds ds_after : List DefinitionOf) (old new : Text) (definition : ℕ) (
         by None = refl
         by (Some d) = ap (λ (vs : Option Values). option_map {U = Call} (λ v. record { type_name = p; number = m; field = f; arguments = v }) vs) (sym (arguments r new before after values es d.arguments a fresh))
 
-    are_alike : AreAlike (IsLed r new Led) (DirectivesFresh r new Led) (ArgumentsFresh r new Led) (given_in es rows before) (map definition_of (fragments_among ds)) (given_in es rows after) (map definition_of (fragments_among ds_after))
+    pub are_alike : AreAlike (IsLed r new Led) (DirectivesFresh r new Led) (ArgumentsFresh r new Led) (given_in es rows before) (map definition_of (fragments_among ds)) (given_in es rows after) (map definition_of (fragments_among ds_after))
     are_alike = record {
       count = same_count (variable_in group old) new paired;
       fragments = λ f g k. subst (λ (x : Text). FoundAlike (IsLed r new Led) (DirectivesFresh r new Led) (ArgumentsFresh r new Led) (find_definition (map definition_of (fragments_among ds)) f) (find_definition (map definition_of (fragments_among ds_after)) x)) k.0 (found_fresh f k.1);

@@ -27,7 +27,7 @@ use Rattle.gq_law_renames.proofs.VariableKept.{variable_kept}
 use Rattle.gq_law_renames.proofs.Promises.{NoneIsMixedIn, SpreadsAreDefinedIn, VariablesAreDefinedIn, of_one_kind}
 
 -- what executes a project, by its executable definitions
-executing_is : (rs : List ParsedOf) (es : List EntryOf) → type_system_of rs ≡ es → executable_of rs ≡ executing es (executables rs)
+pub executing_is : (rs : List ParsedOf) (es : List EntryOf) → type_system_of rs ≡ es → executable_of rs ≡ executing es (executables rs)
 executing_is rs es e =
     ap (λ (x : List EntryOf). let y : ExecutableOf = record { entries = x; operations = (executable_of rs).operations; fragments = (executable_of rs).fragments } in y) e
     ∙ ap (λ (x : List OperationOf). let y : ExecutableOf = record { entries = es; operations = x; fragments = (executable_of rs).fragments } in y) (operations_are rs)
@@ -41,7 +41,7 @@ same_by x x_is y y_is rows name raw raw_after response e f h =
     subst (λ (z : ExecutableOf). IsResponse x rows name raw response ↔ IsResponse z rows name raw_after response) (sym f) half
 
 module _ (one_tree : OneTree) (unmixed : NoneIsMixedIn) where
-  same_types : (rule : ℕ → Renaming) (new : Text) (documents : List Doc) (before after : List ParsedOf) → ∥ IsValid documents ∥₁ → AreRenamed rule new documents before after → type_system_of after ≡ type_system_of before
+  pub same_types : (rule : ℕ → Renaming) (new : Text) (documents : List Doc) (before after : List ParsedOf) → ∥ IsValid documents ∥₁ → AreRenamed rule new documents before after → type_system_of after ≡ type_system_of before
   same_types rule new documents before after valid h =
       ap (λ (es : List EntryOf). built_in ++ es)
       (same_entries one_tree rule new documents before after h.in_order h.are_read h.are_trees h.are_read_after h.renamed (of_one_kind before (unmixed documents before valid h.are_read)))

@@ -1,5 +1,5 @@
 mod Keyed
-mod UseLaws
+pub mod UseLaws
 pub mod Fresh
 pub mod TakesSame
 pub mod ArgumentsSame

@@ -53,7 +53,7 @@ project_over es readings = record { entries = es; operations = operations_of rea
 
 module _ (es : List EntryOf) (readings : List ParsedOf) (no_rule : (item : Fault) → IsRuleFault (project_over es readings) item → ⊥) where
   -- an operation defines the variables of the uses that it reaches
-  defines_used : (o : OperationOf) → Contains (operations_of readings) o → (u : UseOf) → ReachesUse (project_over es readings) o u → DefinesVariable o u.name.text
+  pub defines_used : (o : OperationOf) → Contains (operations_of readings) o → (u : UseOf) → ReachesUse (project_over es readings) o u → DefinesVariable o u.name.text
   defines_used o there u reached = elim (search_text (λ (v : VariableOf Span). v.name.text) o.variables u.name.text) [
     | inl v ↦ record { variable = v.0; defined = v.1; named = v.2 }
     | inr nowhere ↦ absurd (no_rule (fault_at u.file VariableNotDefined u.name) (of_variables (record {

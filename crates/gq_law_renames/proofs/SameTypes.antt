@@ -50,7 +50,7 @@ executable_after r new (fragment name on directives set braces place) (fragment 
 executable_after r new (fragment name on directives set braces place) (type_system one) e h = absurd (cc)
 executable_after r new (type_system one) d_after e h = absurd h
 
-executables_after : (rule : ℕ → Renaming) (new : Text) (k : ℕ) (ds ds_after : List (Def Span)) → erase_document ds_after ≡ rename_document rule k new (erase_document ds) → AllByRecursion IsExecutable ds → AllByRecursion IsExecutable ds_after
+pub executables_after : (rule : ℕ → Renaming) (new : Text) (k : ℕ) (ds ds_after : List (Def Span)) → erase_document ds_after ≡ rename_document rule k new (erase_document ds) → AllByRecursion IsExecutable ds → AllByRecursion IsExecutable ds_after
 executables_after rule new k [] [] e h = tt
 executables_after rule new k [] (d_after ∷ ds_after) e h = absurd (cc)
 executables_after rule new k (d ∷ ds) [] e h = tt

@@ -24,7 +24,7 @@ use Rattle.gq_law_renames.specs.Uses.{UsedInOperation, UsedInFragment, UsesAreTh
 use Rattle.gq_law_renames.proofs.Keyed.{HasKey, KeyedArguments, KeyedDirectives, KeyedHead, KeyedSelections, KeyedDef, document_keyed}
 
 -- a member of a list of which all has a property
-of_all : {A : Type 0} (P : A → Type 0) (xs : List A) (x : A) → AllByRecursion P xs → Contains xs x → P x
+pub of_all : {A : Type 0} (P : A → Type 0) (xs : List A) (x : A) → AllByRecursion P xs → Contains xs x → P x
 of_all P xs x h c = All-contains P xs x (All-from_recursion P xs h) c
 
 -- the variable that a literal is
@@ -102,7 +102,7 @@ module _ (es : List EntryOf) where
       let w = arguments_stand (directive_arguments es d.0.name.text) d.0.arguments name (of_all (λ (x : DirectiveOf Span). KeyedArguments x.arguments) ds d.0 keyed d.1) d.2 in
       (w.0, record { directive = d.0; given = d.1; stands = w.1 })
 
-  from_directives : (ds : List (DirectiveOf Span)) (name : NameOf Span) (place : PlaceOf) → StandsInDirectives es ds name place → Contains (directive_variables ds) name
+  pub from_directives : (ds : List (DirectiveOf Span)) (name : NameOf Span) (place : PlaceOf) → StandsInDirectives es ds name place → Contains (directive_variables ds) name
   from_directives ds name place s = to_flat In ds s.directive name s.given (from_arguments (directive_arguments es s.directive.name.text) s.directive.arguments name place s.stands)
 
   -- selections

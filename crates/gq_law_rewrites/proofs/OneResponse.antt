@@ -22,15 +22,15 @@ use Rattle.gq_collect.specs.Given.{given_in}
 use Rattle.gq_executor.specs.Operations.{operation_of, fragments_in, root_name, IsResponse, no_operation, bad_variables, executed}
 use Rattle.gq_law_rewrites.specs.Executed.{RequestsHaveOneResponse}
 
-some_same : {A : Type 0} (a b : A) → Some a ≡ Some b → a ≡ b
+pub some_same : {A : Type 0} (a b : A) → Some a ≡ Some b → a ≡ b
 some_same a b e = cc
 
-none_some : {A : Type 0} (a : A) (o : Option A) → o ≡ None → o ≡ Some a → ⊥
+pub none_some : {A : Type 0} (a : A) (o : Option A) → o ≡ None → o ≡ Some a → ⊥
 none_some a None p q = cc
 none_some a (Some b) p q = cc
 
 -- the definitions of documents are the same by all readings
-same_executable : OneTree → (documents : List Doc) (xs ys : List ParsedOf) → AreParsed documents xs → AreParsed documents ys → executable_of xs ≡ executable_of ys
+pub same_executable : OneTree → (documents : List Doc) (xs ys : List ParsedOf) → AreParsed documents xs → AreParsed documents ys → executable_of xs ≡ executable_of ys
 same_executable one_tree documents xs ys p q =
     let make : List EntryOf → List OperationOf → List FragmentOf → ExecutableOf = λ es os fs. record { entries = es; operations = os; fragments = fs } in
     ap (λ es. make (built_in ++ es) (operations_of xs) (fragments_of xs)) (same_in_documents one_tree entry_in documents xs ys p q)

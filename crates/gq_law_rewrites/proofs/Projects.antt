@@ -121,48 +121,58 @@ module _ (docs : List Doc) (rs : List ParsedOf) (are : AreParsed docs rs) (es : 
         let b = bounds roots 0 home.tree (project_in_place are f.file home.tree home.is_tree) (fragment_def f) home.stands documents.of_fragment in
         ranked_other rank f.name.text b.from b.to f.set (ranked.each (seen_fragment f) m) b.nested
 
-    pub inlined_project : (s : SelectedOf) → Selected rs es s → (name : NameOf Span) (directives : List (DirectiveOf Span)) (place : Span) → s.selection.label ≡ tree.spread name directives place → f.name.text ≡ name.text → (with_fragment : Bool) →
-        (with_fragment ≡ true → (t : SelectedOf) → Selected rs es t → IsLastSpread (Some f.name.text) (spread_at s.file place true) t.file t.selection.label) → Restates static roots trees (rewritten_from (inlining (spread_at s.file place with_fragment)) 0 trees)
-    inlined_project s selects name directives place label named with_fragment last = by with_fragment last
+    -- it can be inlined
+    pub can_inline : (s : SelectedOf) → Selected rs es s → (name : NameOf Span) (directives : List (DirectiveOf Span)) (place : Span) → s.selection.label ≡ tree.spread name directives place → f.name.text ≡ name.text → (with_fragment : Bool) →
+        (with_fragment ≡ true → (t : SelectedOf) → Selected rs es t → IsLastSpread (Some f.name.text) (spread_at s.file place true) t.file t.selection.label) →
+        (can : CanInline static roots trees (if with_fragment then Some f.name.text else None) (spread_at s.file place with_fragment)) × (can.name ≡ name) × (can.directives ≡ directives)
+    can_inline s selects name directives place label named with_fragment last = by with_fragment last
       where
         document : HasDocument trees s.file
         document = selected_document s selects
 
         can : (old : Option Text) (dropped : Option DefinitionPlace) → EachFrom (GoesAs (inlining (record { file = s.file; place = place; on = f.on.text; set = f.set; dropped = dropped })) old) 0 trees → Each (IsSpreadOther old) f.set →
             EachFrom (λ file d. OfSet roots (λ t set. Each (IsLastSpread old (record { file = s.file; place = place; on = f.on.text; set = f.set; dropped = dropped }) file) set) d) 0 trees →
-            CanInline static roots trees old (record { file = s.file; place = place; on = f.on.text; set = f.set; dropped = dropped })
+            (can : CanInline static roots trees old (record { file = s.file; place = place; on = f.on.text; set = f.set; dropped = dropped })) × (can.name ≡ name) × (can.directives ≡ directives)
         can old dropped gone other last_one =
             let b = selection_ends rs es rooted sound.typed s selects document in
-            let home = fragment_stands rs f stands in record {
-              document = document;
-              parent = b.parent;
-              name = name;
-              directives = directives;
-              below = s.selection.below;
-              rest = b.rest;
-              ends = subst (λ h. EndsSetIn static roots document.tree b.parent (forest.more h s.selection.below b.rest)) label b.ends;
-              is_of = record { definition = seen_fragment f; is_found = subst (λ z. find_definition (definitions_of trees) z ≡ Some (seen_fragment f)) named (name_is rs f stands unique); is_on = refl; selects = refl };
-              home = home.tree;
-              is_home = number_in trees f.file home.tree home.is_tree;
-              definition = fragment_def f;
-              stands = home.stands;
-              is_set = documents.of_fragment;
-              goes = gone;
-              other = other;
-              last = last_one;
-            }
+            let home = fragment_stands rs f stands in (
+              record {
+                document = document;
+                parent = b.parent;
+                name = name;
+                directives = directives;
+                below = s.selection.below;
+                rest = b.rest;
+                ends = subst (λ h. EndsSetIn static roots document.tree b.parent (forest.more h s.selection.below b.rest)) label b.ends;
+                is_of = record { definition = seen_fragment f; is_found = subst (λ z. find_definition (definitions_of trees) z ≡ Some (seen_fragment f)) named (name_is rs f stands unique); is_on = refl; selects = refl };
+                home = home.tree;
+                is_home = number_in trees f.file home.tree home.is_tree;
+                definition = fragment_def f;
+                stands = home.stands;
+                is_set = documents.of_fragment;
+                goes = gone;
+                other = other;
+                last = last_one;
+              },
+              refl,
+              refl,
+            )
 
-        by : (b : Bool) → (b ≡ true → (t : SelectedOf) → Selected rs es t → IsLastSpread (Some f.name.text) (spread_at s.file place true) t.file t.selection.label) → Restates static roots trees (rewritten_from (inlining (spread_at s.file place b)) 0 trees)
+        by : (b : Bool) → (b ≡ true → (t : SelectedOf) → Selected rs es t → IsLastSpread (Some f.name.text) (spread_at s.file place true) t.file t.selection.label) →
+            (can : CanInline static roots trees (if b then Some f.name.text else None) (spread_at s.file place b)) × (can.name ≡ name) × (can.directives ≡ directives)
         by true l =
-            inline_restates static roots trees (Some f.name.text) (spread_at s.file place true) sound
-            (can (Some f.name.text) (Some (record { file = f.file; place = f.place })) (goes rs roots f stands (fragment_document f stands) unique (spread_at s.file place true) refl) no_other (are_last rs es (Some f.name.text) (spread_at s.file place true) (l refl)))
+            can (Some f.name.text) (Some (record { file = f.file; place = f.place })) (goes rs roots f stands (fragment_document f stands) unique (spread_at s.file place true) refl) no_other (are_last rs es (Some f.name.text) (spread_at s.file place true) (l refl))
         by false l =
-            inline_restates static roots trees None (spread_at s.file place false) sound
-            (can None None (each_always (GoesAs (inlining (spread_at s.file place false)) None) (all_stay (inlining (spread_at s.file place false)) refl) 0 trees) (deep_always (IsSpreadOther None) none_goes f.set)
+            can None None (each_always (GoesAs (inlining (spread_at s.file place false)) None) (all_stay (inlining (spread_at s.file place false)) refl) 0 trees) (deep_always (IsSpreadOther None) none_goes f.set)
             (each_always (λ file d. OfSet roots (λ t set. Each (IsLastSpread None (spread_at s.file place false) file) set) d)
-            (λ file d. set_always roots (λ t set. Each (IsLastSpread None (spread_at s.file place false) file) set) (λ t set. deep_always (IsLastSpread None (spread_at s.file place false) file) (none_last file) set) d) 0 trees))
+            (λ file d. set_always roots (λ t set. Each (IsLastSpread None (spread_at s.file place false) file) set) (λ t set. deep_always (IsLastSpread None (spread_at s.file place false) file) (none_last file) set) d) 0 trees)
           where
             none_last : (file : ℕ) (h : Head Span) → IsLastSpread None (spread_at s.file place false) file h
             none_last file (tree.field alias n arguments ds braces p) = tt
             none_last file (tree.spread n ds p) = λ e. cc
             none_last file (tree.inline on ds braces p) = tt
+
+    pub inlined_project : (s : SelectedOf) → Selected rs es s → (name : NameOf Span) (directives : List (DirectiveOf Span)) (place : Span) → s.selection.label ≡ tree.spread name directives place → f.name.text ≡ name.text → (with_fragment : Bool) →
+        (with_fragment ≡ true → (t : SelectedOf) → Selected rs es t → IsLastSpread (Some f.name.text) (spread_at s.file place true) t.file t.selection.label) → Restates static roots trees (rewritten_from (inlining (spread_at s.file place with_fragment)) 0 trees)
+    inlined_project s selects name directives place label named with_fragment last =
+        inline_restates static roots trees (if with_fragment then Some f.name.text else None) (spread_at s.file place with_fragment) sound (can_inline s selects name directives place label named with_fragment last).0

@@ -30,16 +30,8 @@ use Rattle.gq_law_rewrites.specs.Documents.{Operation, OperationBecomes, Restate
 use Rattle.gq_law_rewrites.specs.Statics.{static_of, roots_in, seen_operation}
 use Rattle.gq_law_rewrites.proofs.Executables.{trees_read, fragments_seen, operations_seen}
 use Rattle.gq_law_rewrites.proofs.After.{erase_operation, operations_after, meaning_kept}
-use Rattle.gq_law_renames.proofs.Answering.{BothFound, neither, both, found_operations}
+use Rattle.gq_law_renames.proofs.Answering.{BothFound, none_found, some_found, found_operations}
 use Rattle.gq_law_rewrites.proofs.VariableValues.{values_same}
-
-none_found : {A : Type 0} {R : A → A → Type 0} {a b : Option A} → BothFound R a b → a ≡ None → b ≡ None
-none_found neither e = refl
-none_found (both r) e = absurd (cc)
-
-some_found : {A : Type 0} {R : A → A → Type 0} {a b : Option A} → BothFound R a b → (x : A) → a ≡ Some x → (y : A) × (b ≡ Some y) × R x y
-some_found neither x e = absurd (cc)
-some_found {R = R} (both {x = z} {y = y} r) x e = let same : z ≡ x = cc in (y, refl, subst (λ w. R w y) same r)
 
 zip_back : {A B : Type 0} (R : B → B → Type 0) (f : A → B) (xs ys : List A) → AllZip R (map f xs) (map f ys) → AllZip (λ x y. R (f x) (f y)) xs ys
 zip_back R f [] [] h = tt
@@ -70,7 +62,7 @@ abbrev pub HaveOneName : List EntryOf → List ParsedOf → Type 0
 HaveOneName es rs = (o : OperationOf) → Contains (operations_of rs) o → (rows : List RowOf) (values : Values) → NamesAgree (given_in es rows values) (map definition_of (fragments_of rs)) (root (roots_in es o.kind) (set_of o.set))
 
 module _ (es : List EntryOf) (bs rs : List ParsedOf) (restates : Restates (static_of es) (roots_in es) (trees_read bs) (map erase_document (trees_read rs))) where
-  abbrev Becomes : OperationOf → OperationOf → Type 0
+  abbrev pub Becomes : OperationOf → OperationOf → Type 0
   Becomes o p = OperationBecomes (static_of es) (definitions_of (trees_read bs)) (definitions_of (trees_read rs)) (roots_in es) (seen_operation o) (erase_operation (seen_operation p))
 
   -- the operations go one to one
@@ -81,7 +73,7 @@ module _ (es : List EntryOf) (bs rs : List ParsedOf) (restates : Restates (stati
       (subst (λ z. AllZip R z (map seen_operation (operations_of rs))) (operations_seen bs)
       (subst (AllZip R (documents.operations_of (trees_read bs))) (operations_seen rs) (operations_after (static_of es) (roots_in es) (trees_read bs) (trees_read rs) restates)))
 
-  meant : (name : Option Text) → BothFound Becomes (operation_of (operations_of bs) name) (operation_of (operations_of rs) name)
+  pub meant : (name : Option Text) → BothFound Becomes (operation_of (operations_of bs) name) (operation_of (operations_of rs) name)
   meant name = found_operations Becomes (λ o p r text. same_name text o.name p.name r.name) name (operations_of bs) (operations_of rs) one_to_one
 
   -- an operation and what it becomes are answered alike

@@ -29,10 +29,10 @@ use Rattle.gq_law_rewrites.proofs.Executables.{trees_read}
 use Rattle.gq_law_rewrites.specs.Unchanged.{RestatedProjectsKeepResponses}
 use Rattle.gq_law_rewrites.proofs.Requests.{project_over, HaveSubtypes, responses_stay}
 
-abbrev Ranked : ExecutableOf → Type 0
+abbrev pub Ranked : ExecutableOf → Type 0
 Ranked x = (o : OperationOf) → Contains x.operations o → Rankable (map definition_of x.fragments) (set_of o.set)
 
-abbrev Agree : ExecutableOf → Type 0
+abbrev pub Agree : ExecutableOf → Type 0
 Agree x = (o : OperationOf) → Contains x.operations o → (rows : List RowOf) (values : Values) → OperationAgrees x o rows values
 
 over_types : (es : List EntryOf) (bs rs : List ParsedOf) → Restates (static_of es) (roots_in es) (trees_read bs) (map erase_document (trees_read rs)) → Ranked (project_over es bs) → Ranked (project_over es rs) → HaveSubtypes es → Agree (project_over es bs) →
@@ -47,7 +47,7 @@ over_equal x y es bs rs e f restates ranked ranked' subtypes agree rows name raw
     subst (λ (z : ExecutableOf). IsResponse z rows name raw response) (sym f)
     (over_types es bs rs restates (subst Ranked e ranked) (subst Ranked f ranked') subtypes (subst Agree e agree) rows name raw response (subst (λ (z : ExecutableOf). IsResponse z rows name raw response) e h))
 
-project_is : (rs : List ParsedOf) (es : List EntryOf) → type_system_of rs ≡ es → executable_of rs ≡ project_over es rs
+pub project_is : (rs : List ParsedOf) (es : List EntryOf) → type_system_of rs ≡ es → executable_of rs ≡ project_over es rs
 project_is rs es e = ap (λ (x : List EntryOf). let y : ExecutableOf = record { entries = x; operations = operations_of rs; fragments = fragments_of rs } in y) e
 
 one_way : FragmentsAreRanked → ObjectsHaveSubtypes → NamesAgreeInValid → (documents edited : List Doc) → ∥ IsValid documents ∥₁ → ∥ IsValid edited ∥₁ → (bs rs : List ParsedOf) → AreParsed documents bs → AreParsed edited rs → entries_of bs ≡ entries_of rs →

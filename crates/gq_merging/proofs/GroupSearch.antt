@@ -9,7 +9,7 @@ use Rattle.gq_names.proofs.RepeatLemmas.{contains_none, contains_first, contains
 use Rattle.gq_fault.specs.declared.fault.Fault.{Fault}
 use Rattle.gq_document.specs.Executable.{ExecutableOf}
 use Rattle.gq_document.specs.FieldSets.{key}
-use Rattle.gq_merging.specs.Helping.SetTables.{MemberOf, RowOf, AreRows, IsRow, HasNumber, IsMember, names_of}
+use Rattle.gq_merging.specs.Helping.SetTables.{MemberOf, RowOf, AreRows, IsRow, HasNumber, IsMember}
 use Rattle.gq_merging.specs.Helping.GroupTables.{IsOfGroup, IsUnder}
 use Rattle.gq_merging.specs.Helping.PairTables.{MetOf, LookOf, IsGiven, IsMetAt, IsReached, start, step, IsMetReached, IsFaultOf}
 use Rattle.gq_merging.specs.Helping.SearchTables.{AreInGroup, AreInOne, AreUnder, Searched, IsFirst, HasFields, AreFirst, HaveSets, Search, WasThere}
@@ -22,7 +22,7 @@ use Rattle.gq_merging.proofs.GrowLemmas.{of_one, in_either, still_in_one, search
 pub sets_there : (x : ExecutableOf) (rows : List RowOf) → AreRows x rows → HaveSets rows
 sets_there x rows a n m c =
     let r = row_of_member rows n m c in
-    let w : IsRow x.entries (names_of x) (map (λ r. r.set) rows) r.0 = All-contains (IsRow x.entries (names_of x) (map (λ r. r.set) rows)) rows r.0 a.each (get_contains rows n r.0 r.1) in
+    let w : IsRow x (map (λ r. r.set) rows) r.0 = All-contains (IsRow x (map (λ r. r.set) rows)) rows r.0 a.each (get_contains rows n r.0 r.1) in
     let h : HasNumber x.entries (map (λ r. r.set) rows) m = All-contains (HasNumber x.entries (map (λ r. r.set) rows)) r.0.members m w.numbers (subst (λ ms. Contains ms m) (members_there rows n r.0 r.1) c) in
     subst (λ k. m.below < k) (length-map rows (λ r. r.set)) (slice_get_within (map (λ r. r.set) rows) m.below h.set h.is_set)
 

@@ -1,7 +1,10 @@
 pub mod Worklist
 pub mod Numbered
+pub mod HubSets
+pub mod Listing
 pub mod RowSteps
 pub mod MemberLemmas
+pub mod HubLemmas
 pub mod MemberSteps
 pub mod CompareLemmas
 pub mod PairNumbers

@@ -4,7 +4,7 @@ use Rattle.std.specs.List.{slice_get}
 use Rattle.std.specs.Option.{option_map_or}
 use Rattle.std.specs.Str.{bytes_eq}
 use Rattle.std.specs.Cmp.Lexicographic.{bytes_decides}
-use Rattle.std.proofs.lemmas.Option.{same_Some, none-some, slice_get_within}
+use Rattle.std.proofs.lemmas.Option.{same_Some, none-some}
 use Rattle.std.proofs.lemmas.List.Elements.{Contains-append_left, Contains-append_right, Contains-append_cases, All-contains}
 use Rattle.gq_names.proofs.RepeatLemmas.{contains_none, contains_later, contains_first, contains_cases}
 use Rattle.gq_types.specs.Entries.{Text}
@@ -16,11 +16,11 @@ use Rattle.gq_spreads.specs.Spreads.{places_from}
 use Rattle.gq_document.specs.Definitions.{FragmentOf}
 use Rattle.gq_document.specs.Executable.{ExecutableOf}
 use Rattle.gq_document.specs.FieldSets.{SetOf, FieldAt, narrowed, operation_set, fragment_set, field_set, InSet, here, within, through, after, Stands, of_operation, of_fragment, of_field}
-use Rattle.gq_merging.specs.Helping.SetTables.{MemberOf, RowOf, IsRow, AreRows, AreAlike, HasNumber, own_fields, own_spreads, first_sets, names_of, members_at, spreads_at, IsMember}
+use Rattle.gq_merging.specs.Helping.SetTables.{MemberOf, RowOf, IsRow, AreRows, AreAlike, HasNumber, IsLedTo, own_fields, own_spreads, first_sets, names_of, members_at, spreads_at, IsMember}
 use Rattle.gq_merging.proofs.Worklist.{own_in, get_longer}
 use Rattle.gq_types.proofs.Gathered.{from_map_as as from_map, to_map}
 
-nothing : (x : ExecutableOf) (file : ℕ) (parent : Option Text) (ss : Sels Span) → ss ≡ none → (f : FieldAt) → InSet x (record { file = file; parent = parent; selections = ss }) f → ⊥
+pub nothing : (x : ExecutableOf) (file : ℕ) (parent : Option Text) (ss : Sels Span) → ss ≡ none → (f : FieldAt) → InSet x (record { file = file; parent = parent; selections = ss }) f → ⊥
 nothing x file parent none e f i = elim i [ ]
 nothing x file parent (more head below rest) e f i = absurd (cc)
 
@@ -50,7 +50,7 @@ get_below [] k l = absurd (omega (arith, l))
 get_below (x ∷ xs) zero l = (x, refl)
 get_below (x ∷ xs) (suc k) l = get_below xs k (omega (arith, l))
 
-get_map : {A B : Type 0} (f : A → B) (xs : List A) (k : ℕ) (y : A) → slice_get xs k ≡ Some y → slice_get (map f xs) k ≡ Some (f y)
+pub get_map : {A B : Type 0} (f : A → B) (xs : List A) (k : ℕ) (y : A) → slice_get xs k ≡ Some y → slice_get (map f xs) k ≡ Some (f y)
 get_map f [] k y e = absurd (none-some y e)
 get_map f (x ∷ xs) zero y e = ap (λ z. Some (f z)) (same_Some x y e)
 get_map f (x ∷ xs) (suc k) y e = get_map f xs k y e
@@ -61,7 +61,7 @@ map_get f (x ∷ xs) zero z e = (x, refl, same_Some (f x) z e)
 map_get f (x ∷ xs) (suc k) z e = map_get f xs k z e
 
 -- the places of a name
-from_places : (j : ℕ) (text : Text) (names : List Text) (k : ℕ) → Contains (places_from j text names) k → (i : ℕ) × (k ≡ j + i) × (slice_get names i ≡ Some text)
+pub from_places : (j : ℕ) (text : Text) (names : List Text) (k : ℕ) → Contains (places_from j text names) k → (i : ℕ) × (k ≡ j + i) × (slice_get names i ≡ Some text)
 from_places j text [] k c = absurd (contains_none k c)
 from_places j text (name ∷ names) k c = by_test (bytes_eq text name) refl c (λ d. let q = from_places (j + 1) text names k d in (suc q.0, omega (arith, q.1), q.2))
   where
@@ -73,7 +73,7 @@ from_places j text (name ∷ names) k c = by_test (bytes_eq text name) refl c (�
     ]
     by_test false e d rest = rest d
 
-to_places : (j : ℕ) (text : Text) (names : List Text) (i : ℕ) → slice_get names i ≡ Some text → Contains (places_from j text names) (j + i)
+pub to_places : (j : ℕ) (text : Text) (names : List Text) (i : ℕ) → slice_get names i ≡ Some text → Contains (places_from j text names) (j + i)
 to_places j text [] i e = absurd (none-some text e)
 to_places j text (name ∷ names) zero e =
     rw ((bytes_decides text name).1 (sym (same_Some name text e))) (contains_first j (places_from (j + 1) text names) (j + 0) (omega arith))
@@ -83,21 +83,8 @@ to_places j text (name ∷ names) (suc i) e = by_test (bytes_eq text name) (subs
     by_test true later = contains_later j (places_from (j + 1) text names) (j + suc i) later
     by_test false later = later
 
--- the numbers of spreads are those of fragments
-pub spreads_within : (names : List Text) (ss : Sels Span) (k : ℕ) → Contains (own_spreads names ss) k → k < length names
-spreads_within names none k c = absurd (contains_none k c)
-spreads_within names (more (field alias name arguments directives braces place) below rest) k c = spreads_within names rest k c
-spreads_within names (more (spread name directives place) below rest) k c = elim (Contains-append_cases (places_from 0 name.text names) (own_spreads names rest) k c) [
-  | inl a ↦ let q = from_places 0 name.text names k a in (let l = slice_get_within names q.0 name.text q.2 in omega (arith, l, q.1))
-  | inr b ↦ spreads_within names rest k b
-]
-spreads_within names (more (inline on directives braces place) below rest) k c = elim (Contains-append_cases (own_spreads names below) (own_spreads names rest) k c) [
-  | inl a ↦ spreads_within names below k a
-  | inr b ↦ spreads_within names rest k b
-]
-
 -- what stands in a fragment that is spread stands in the set
-spread_in : (x : ExecutableOf) (file : ℕ) (parent : Option Text) (ss : Sels Span) (k : ℕ) (g : FragmentOf) (f : FieldAt) →
+pub spread_in : (x : ExecutableOf) (file : ℕ) (parent : Option Text) (ss : Sels Span) (k : ℕ) (g : FragmentOf) (f : FieldAt) →
     Contains (own_spreads (names_of x) ss) k → slice_get x.fragments k ≡ Some g → InSet x (fragment_set g) f → InSet x (record { file = file; parent = parent; selections = ss }) f
 spread_in x file parent none k g f c e i = absurd (contains_none k c)
 spread_in x file parent (more (field alias name arguments directives braces place) below rest) k g f c e i = after (spread_in x file parent rest k g f c e i)
@@ -177,9 +164,14 @@ row_there rows n k c = is_there (λ (r : RowOf). r.spreads) (slice_get rows n) k
 pub row_of_member : (rows : List RowOf) (n : ℕ) (m : MemberOf) → Contains (members_at rows n) m → (r : RowOf) × (slice_get rows n ≡ Some r)
 row_of_member rows n m c = is_there (λ (r : RowOf). r.members) (slice_get rows n) m c
 
+-- the way to what a fragment reaches begins where that is spread
+reach_led : (rows : List RowOf) (n k j : ℕ) → IsLedTo rows n k → Reach (k ∷ []) (spreads_at rows) j → Reach (n ∷ []) (spreads_at rows) j
+reach_led rows n k j (inl c) h = reach_earlier (spreads_at rows) n k j c h
+reach_led rows n k j (inr t) h = reach_earlier (spreads_at rows) n t.hub j t.there (reach_earlier (spreads_at rows) t.hub k j t.leads h)
+
 module _ (x : ExecutableOf) (rows : List RowOf) (a : AreRows x rows) where
-  is_row : (n : ℕ) (r : RowOf) → slice_get rows n ≡ Some r → IsRow x.entries (names_of x) (map (λ r. r.set) rows) r
-  is_row n r e = All-contains (IsRow x.entries (names_of x) (map (λ r. r.set) rows)) rows r a.each (get_contains rows n r e)
+  is_row : (n : ℕ) (r : RowOf) → slice_get rows n ≡ Some r → IsRow x (map (λ r. r.set) rows) r
+  is_row n r e = All-contains (IsRow x (map (λ r. r.set) rows)) rows r a.each (get_contains rows n r e)
 
   -- the set of a fragment has the fragment's number
   fragment_row : (k : ℕ) (g : FragmentOf) → slice_get x.fragments k ≡ Some g → (r : RowOf) × (slice_get rows k ≡ Some r) × (r.set ≡ fragment_set g)
@@ -196,9 +188,8 @@ module _ (x : ExecutableOf) (rows : List RowOf) (a : AreRows x rows) where
   found_member s f n r (spread_there k g c at h) e is =
       let p = fragment_row k g at in
       let q = found_member (fragment_set g) f k p.0 h p.1 p.2 in
-      let there : Contains (spreads_at rows n) k =
-      subst (λ ns. Contains ns k) (ap (λ (t : SetOf). own_spreads (names_of x) t.selections) (sym is) ∙ sym (is_row n r e).spreads ∙ sym (spreads_there rows n r e)) c in
-      (q.0, record { reached = q.1.reached; reach = reach_earlier (spreads_at rows) n k q.1.reached there q.1.reach; stands = q.1.stands }, q.2)
+      let led : IsLedTo rows n k = a.leads n k s (get_map (λ (r : RowOf). r.set) rows n r e ∙ ap Some is) c in
+      (q.0, record { reached = q.1.reached; reach = reach_led rows n k q.1.reached led q.1.reach; stands = q.1.stands }, q.2)
 
   -- what stands in a set that is reached stands in the set
   reached_in : (n : ℕ) (r : RowOf) → slice_get rows n ≡ Some r → (k : ℕ) → Reach (n ∷ []) (spreads_at rows) k → (q : RowOf) → slice_get rows k ≡ Some q → (f : FieldAt) → InSet x q.set f → InSet x r.set f
@@ -208,13 +199,9 @@ module _ (x : ExecutableOf) (rows : List RowOf) (a : AreRows x rows) where
   ]
   reached_in n r e k (step {m = m} h c) q at f i =
       let p = row_there rows m k c in
-      let spread_k : Contains (own_spreads (names_of x) p.0.set.selections) k = subst (λ ns. Contains ns k) (spreads_there rows m p.0 p.1 ∙ (is_row m p.0 p.1).spreads) c in
-      let within_names = spreads_within (names_of x) p.0.set.selections k spread_k in
-      let g = get_below (names_of x) k within_names in
-      let fragment = map_get (λ (h : FragmentOf). h.name.text) x.fragments k g.0 g.1 in
-      let w = fragment_row k fragment.0 fragment.1 in
-      let same : q.set ≡ fragment_set fragment.0 = ap (λ (t : RowOf). t.set) (same_Some q w.0 (sym at ∙ w.1)) ∙ w.2 in
-      reached_in n r e m h p.0 p.1 f (spread_in x p.0.set.file p.0.set.parent p.0.set.selections k fragment.0 f spread_k fragment.1 (subst (λ s. InSet x s f) same i))
+      let w = (is_row m p.0 p.1).inside k (subst (λ ns. Contains ns k) (spreads_there rows m p.0 p.1) c) in
+      let same : q.set ≡ w.set = same_Some q.set w.set (sym (get_map (λ (r : RowOf). r.set) rows k q at) ∙ w.is_set) in
+      reached_in n r e m h p.0 p.1 f (w.within f (subst (λ s. InSet x s f) same i))
 
   pub member_in : (n : ℕ) (r : RowOf) → slice_get rows n ≡ Some r → (m : MemberOf) → IsMember rows n m → InSet x r.set m.field_at × HasNumber x.entries (map (λ r. r.set) rows) m
   member_in n r e m h =

@@ -1,20 +1,18 @@
 -- Members in the code's rows and tables.
-use Rattle.std.proofs.Common.{◌≡◌, ℕ, zero, suc, ◌≤◌, ◌<◌, List, [], ◌∷◌, ◌++◌, Option, Some, None, All, Contains, map, length, refl, sym, ◌∙◌, ap, subst, arith, inl, inr, Vec, Global, Bool, ⊎_elim, append-nil, get_or}
+use Rattle.std.proofs.Common.{◌≡◌, ℕ, zero, suc, ◌<◌, List, [], ◌∷◌, ◌++◌, Option, Some, None, All, Contains, map, length, refl, sym, ◌∙◌, ap, subst, arith, inl, inr, Vec, Global, Bool, ⊎_elim, append-nil, get_or}
 use Rattle.std.specs.List.{slice_get, flat_map}
 use Rattle.std.specs.Option.{option_map, option_map_or}
 use Rattle.std.specs.Prelude.{unwrap_or}
-use Rattle.std.proofs.lemmas.List.{length-map, length-append}
-use Rattle.std.proofs.lemmas.Option.{slice_get-map}
+use Rattle.std.proofs.lemmas.List.{length-map}
+use Rattle.std.proofs.lemmas.Option.{slice_get-map, slice_get_within}
 use Rattle.std.proofs.lemmas.List.Elements.{All-contains, All-weaker, All-contains_itself}
 use Rattle.gq_names.proofs.RepeatLemmas.{contains_none, contains_later, contains_first}
 use Rattle.gq_graph.specs.Reach.{Reach, start, step, row, InRange}
 use Rattle.gq_document.specs.Executable.{ExecutableOf}
-use Rattle.gq_document.specs.FieldSets.{fragment_set, operation_set}
-use Rattle.gq_merging.specs.Helping.SetTables.{RowOf, IsRow, AreRows, first_sets, names_of, members_at, spreads_at}
+use Rattle.gq_merging.specs.Helping.SetTables.{RowOf, IsRow, AreRows, members_at, spreads_at}
 use Rattle.gq_merging.specs.Helping.StartTables.{Passes}
 use Rattle.gq_merging.specs.Helping.Views.{members_view, row_view, rows_view}
 use Rattle.gq_merging.specs.declared.rows.Row.{Row}
-use Rattle.gq_merging.proofs.MemberLemmas.{spreads_within}
 use Rattle.gq_types.proofs.Gathered.{from_map_as as from_map, to_map}
 
 pub members_of_row : (rows : List Row) (n : ℕ) (r : Row) → slice_get rows n ≡ Some r → members_at (rows_view rows) n ≡ members_view r.members.items
@@ -72,20 +70,14 @@ module _ (rows : List Row) (table : List (Vec ℕ Global)) (same : map (λ v. v.
 
   pub spreads_in_range : (x : ExecutableOf) → AreRows x (rows_view rows) → InRange table
   spreads_in_range x a =
-      let names = names_of x in
-      let count : length (rows_view rows) ≡ length (first_sets x ++ a.others) = sym (length-map (rows_view rows) (λ r. r.set)) ∙ ap length a.begin in
-      let c1 = length-append (first_sets x) a.others in
-      let c2 = length-append (map fragment_set x.fragments) (map (operation_set x.entries) x.operations) in
-      let c3 = length-map x.fragments fragment_set in
-      let c4 = length-map x.fragments (λ f. f.name.text) in
-      let c5 = count_alike in
-      let bound : length names ≤ length table = omega (arith, count, c1, c2, c3, c4, c5) in
+      let sets = map (λ r. r.set) (rows_view rows) in
+      let count : length sets ≡ length table = length-map (rows_view rows) (λ r. r.set) ∙ sym count_alike in
       All-weaker (Contains table) (λ v. All (λ n. n < length table) v.items)
       (λ v c.
       let q = from_map (λ (r : Row). r.spreads.items) rows v.items (subst (λ ls. Contains ls v.items) same (to_map (λ (v : Vec ℕ Global). v.items) table v c)) in
-      let w : IsRow x.entries names (map (λ r. r.set) (rows_view rows)) (row_view q.0) = All-contains (IsRow x.entries names (map (λ r. r.set) (rows_view rows))) (rows_view rows) (row_view q.0) a.each (to_map row_view rows q.0 q.1) in
+      let w : IsRow x sets (row_view q.0) = All-contains (IsRow x sets) (rows_view rows) (row_view q.0) a.each (to_map row_view rows q.0 q.1) in
       All-weaker (Contains v.items) (λ n. n < length table)
-      (λ n d. let l = spreads_within names (row_view q.0).set.selections n (subst (λ ns. Contains ns n) (q.2 ∙ w.spreads) d) in omega (arith, l, bound))
+      (λ n d. let i = w.inside n (subst (λ ns. Contains ns n) q.2 d) in subst (λ m. n < m) count (slice_get_within sets n i.set i.is_set))
       v.items (All-contains_itself v.items))
       table (All-contains_itself table)
 

@@ -10,7 +10,7 @@ use Rattle.gq_document.specs.Executable.{ExecutableOf}
 use Rattle.gq_document.specs.FieldSets.{SetOf, FieldAt, key, InSet, Stands, field_set}
 use Rattle.gq_merging.specs.FieldsMerge.{HaveOneKey, leads_on, Differ, IsNoLater, fault_of, Meet, together, deeper, IsFaultFor}
 use Rattle.gq_merging.specs.Helping.Groups.{MeetFrom, AreMerged, together as together_there, deeper as deeper_there}
-use Rattle.gq_merging.specs.Helping.SetTables.{MemberOf, RowOf, AreRows, AreAlike, HasNumber, IsMember, spreads_at}
+use Rattle.gq_merging.specs.Helping.SetTables.{MemberOf, RowOf, AreRows, AreAlike, HasNumber, IsMember, StandsWithin, spreads_at}
 use Rattle.gq_merging.specs.Helping.StartTables.{LeadsTo, Passes}
 use Rattle.gq_merging.specs.Helping.PairTables.{MetOf, LookOf, IsMetAt, IsGiven, IsReached, start, step, IsMetReached, IsFaultOf}
 use Rattle.gq_merging.specs.declared.purpose.Purpose.{Purpose}
@@ -81,7 +81,9 @@ module _ (x : ExecutableOf) (purpose : Purpose) (rows : List RowOf) (are : AreRo
   reached_meet : (n : ℕ) → IsReached look passed n → (p : MetOf) → IsMetAt look n p → Meet x purpose p.left.field_at p.right.field_at
   reached_meet n (start s) p h =
       let t = get_below sets s.row (subst (λ k. s.row < k) (passes.count ∙ merged.count ∙ sym (length-map rows (λ r. r.set))) s.before) in
-      together (All-contains (Stands x) sets t.0 are.stand (get_contains sets s.row t.0 t.1)) (one_key s.row s.row n t.0 t.0 p t.1 t.1 s.number.is h)
+      let w = All-contains (StandsWithin x) sets t.0 are.stand (get_contains sets s.row t.0 t.1) in
+      let k = one_key s.row s.row n t.0 t.0 p t.1 t.1 s.number.is h in
+      together w.stands (record { first = w.within p.left.field_at k.first; second = w.within p.right.field_at k.second; one_key = k.one_key })
   reached_meet n (step {m = k} r g) p h =
       let l = within look passed k r in
       let a = left_number k g.one l g.these in
@@ -170,22 +172,19 @@ module _ (x : ExecutableOf) (purpose : Purpose) (rows : List RowOf) (are : AreRo
   to_reached fault h =
       let t = meet_somewhere x purpose h.first h.later h.meet in
       let n = set_numbered x rows are t.set t.stands in
-      let q : MeetSomewhere x purpose h.first h.later = record {
-        set = n.1;
-        stands = All-contains (Stands x) sets n.1 are.stand (get_contains sets n.0 n.1 n.2);
-        meet = meet_wider x purpose t.set n.1 (alike_in x t.set n.1 (alike_back n.1 t.set n.3)) h.first h.later t.meet;
-      } in
-      by_mark q n.0 n.2 (slice_index_or passed n.0 false) refl
+      let meet = meet_wider x purpose t.set n.1 (alike_in x t.set n.1 (alike_back n.1 t.set n.3)) h.first h.later t.meet in
+      by_mark n.1 meet n.0 n.2 (slice_index_or passed n.0 false) refl
     where
-      by_reason : (t : MeetSomewhere x purpose h.first h.later) (n : ℕ) → slice_get sets n ≡ Some t.set → (slice_index_or marks n false ≡ true) ⊎ LeadsTo (spreads_at rows) passed n →
+      by_reason : (s : SetOf) → MeetFrom x purpose s h.first h.later → (n : ℕ) → slice_get sets n ≡ Some s → (slice_index_or marks n false ≡ true) ⊎ LeadsTo (spreads_at rows) passed n →
           IsGiven (IsMetReached look passed) (IsFaultOf look) fault
-      by_reason t n at (inl e) = absurd ((merged.merged n t.set at e).none purpose h.first h.later t.meet h.differ)
-      by_reason t n at (inr l) =
-          let s = set_there l.from (subst (λ k. l.from < k) (passes.count ∙ merged.count ∙ sym counted) l.within) in
+      by_reason s meet n at (inl e) = absurd ((merged.merged n s at e).none purpose h.first h.later meet h.differ)
+      by_reason s meet n at (inr l) =
+          let t = set_there l.from (subst (λ k. l.from < k) (passes.count ∙ merged.count ∙ sym counted) l.within) in
           met_fault fault h
-          (meet_reached l.from s.0 s.1 l.stays h.first h.later
-          (meet_wider x purpose t.set s.0 (reached_field x rows are l.from n s.0 t.set s.1 l.reach at) h.first h.later t.meet))
+          (meet_reached l.from t.0 t.1 l.stays h.first h.later
+          (meet_wider x purpose s t.0 (reached_field x rows are l.from n t.0 s t.1 l.reach at) h.first h.later meet))
 
-      by_mark : (t : MeetSomewhere x purpose h.first h.later) (n : ℕ) → slice_get sets n ≡ Some t.set → (b : Bool) → slice_index_or passed n false ≡ b → IsGiven (IsMetReached look passed) (IsFaultOf look) fault
-      by_mark t n at true e = by_reason t n at (passes.why n e)
-      by_mark t n at false e = met_fault fault h (meet_reached n t.set at e h.first h.later t.meet)
+      by_mark : (s : SetOf) → MeetFrom x purpose s h.first h.later → (n : ℕ) → slice_get sets n ≡ Some s → (b : Bool) → slice_index_or passed n false ≡ b →
+          IsGiven (IsMetReached look passed) (IsFaultOf look) fault
+      by_mark s meet n at true e = by_reason s meet n at (passes.why n e)
+      by_mark s meet n at false e = met_fault fault h (meet_reached n s at e h.first h.later meet)

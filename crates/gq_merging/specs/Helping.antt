@@ -4,6 +4,7 @@ pub mod Entries
 pub mod GroupTables
 pub mod GroupViews
 pub mod Groups
+pub mod HubTables
 pub mod KeptTables
 pub mod Marks
 pub mod NameTables

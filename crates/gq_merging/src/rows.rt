@@ -1,13 +1,15 @@
 //! A row for each selection set that stands in the project.
-ghost use Rattle.std.specs.Prelude.{◌≡◌, IfOk, OnOk};
+ghost use Rattle.std.specs.Prelude.{◌≡◌, ◌<◌, ◌++◌, ◌∷◌, [], ℕ, All, Some, None, IfSome, IfOk, OnOk, length, set, slice_get, slice_index_or};
 ghost use Rattle.gq_tree.specs.Views.{sels_view};
 ghost use Rattle.gq_types.specs.Look.{types_view, text_of};
 ghost use Rattle.gq_document.specs.Executable.{executable_view};
-ghost use Rattle.gq_merging.specs.Helping.SetTables.{AreRows, AreNumbered, IsEmptyAt, IsPut, first_sets, own_fields, own_spreads, names_of};
-ghost use Rattle.gq_merging.specs.Helping.Views.{field_at, fields_at, set_at, sets_at, members_view, rows_view};
+ghost use Rattle.gq_merging.specs.Helping.HubTables.{AreHubs, AreLed, AreMade, IsAlone, IsFirstOf, PutsLed};
+ghost use Rattle.gq_merging.specs.Helping.SetTables.{AreRows, AreNumbered, IsEmptyAt, IsPut, first_sets};
+ghost use Rattle.gq_merging.specs.Helping.Views.{all_spreads_at, field_at, fields_at, set_at, sets_at, spread_at, members_view, row_view, rows_view};
 
 use crate::sets::{
-    StandingField, StandingSet, field_set, fragment_set, operation_set, put_fields, put_spreads,
+    StandingField, StandingSet, StandingSpread, field_set, fragment_set, operation_set, put_fields,
+    put_spreads,
 };
 use gq_document::Executable;
 use gq_spreads::FragmentNames;
@@ -22,8 +24,8 @@ pub(crate) struct Member<'a> {
     pub(crate) below: usize,
 }
 
-/// A selection set, its fields with those of its inline fragments, and the numbers of the fragments spread among them. A
-/// fragment's number is its place among all fragments, and the number of its set too.
+/// A selection set, its fields with those of its inline fragments, and the numbers that the spreads among them lead to: those of
+/// fragments and of hubs. A fragment's number is its place among all fragments, and the number of its set too.
 #[derive(Drop)]
 pub(crate) struct Row<'a> {
     pub(crate) set: StandingSet<'a>,
@@ -91,6 +93,116 @@ fn numbered<'a>(
     Ok(members)
 }
 
+/// A place for the hub of each name, at the number of its first fragment. None is noted.
+fn no_hubs(alloc: Global, count: usize) -> Result<Vec<Option<usize>>, NoMemory>
+    ensures { IfOk result (λ hubs. (i : ℕ) → slice_index_or hubs.items i None ≡ None) }
+{
+    let hubs = vec![in alloc; None; count]?;
+    Ok(hubs)
+}
+
+/// A selection set, its number, and the names by which the fragments are found that are spread in it.
+#[derive(Clone, Copy)]
+struct Spreading<'n, 'a> {
+    names: &'n FragmentNames,
+    set: StandingSet<'a>,
+    number: usize,
+}
+
+/// The first of these numbers, where they are several and it is below the count.
+fn first_of_several(numbers: &[usize], count: usize) -> Option<usize>
+    ensures { IfSome result (λ first. IsFirstOf numbers.now count first) }
+{
+    if numbers.len() < 2 {
+        return None;
+    }
+    let first = numbers[0];
+    if first >= count {
+        return None;
+    }
+    Some(first)
+}
+
+/// Puts a set in which the spread stands alone behind the others, and its number behind the numbers. It is the hub of the fragments of
+/// that name, noted at the first of them.
+fn put_hub<'a>(
+    from: Spreading<'_, 'a>,
+    spread: StandingSpread<'a>,
+    first: usize,
+    hubs: &mut Vec<Option<usize>>,
+    sets: &mut Vec<StandingSet<'a>>,
+    numbers: &mut Vec<usize>,
+) -> Result<(), NoMemory>
+    requires { first < length hubs.old.items }
+    ensures hubs { OnOk result (hubs.new.items ≡ set hubs.old.items first (Some (length sets.old.items))) }
+    ensures sets { OnOk result (sets_at sets.new.items ≡ sets_at sets.old.items
+        ++ record { file = from.entry.set.file; parent = text_of from.entry.set.parent; selections = sels_view spread.entry.alone.now } ∷ []) }
+    ensures numbers { OnOk result (numbers.new.items ≡ numbers.old.items ++ length sets.old.items ∷ []) }
+{
+    let hub = sets.len();
+    sets.push(StandingSet {
+        file: from.set.file,
+        parent: from.set.parent,
+        selections: spread.alone,
+    })?;
+    numbers.push(hub)?;
+    hubs[first] = Some(hub);
+    Ok(())
+}
+
+/// Puts the numbers that a spread leads to behind the others: that of the fragment of its name, or of the hub where several have that
+/// name. The hub itself leads to all of these.
+fn put_led<'a>(
+    from: Spreading<'_, 'a>,
+    spread: StandingSpread<'a>,
+    hubs: &mut Vec<Option<usize>>,
+    sets: &mut Vec<StandingSet<'a>>,
+    numbers: &mut Vec<usize>,
+) -> Result<(), NoMemory>
+    requires hubs { AreHubs from.names.now.names.items (sets_at sets.old.items) hubs.old.items }
+    requires alone { IsAlone spread.name.now (sels_view spread.alone.now) }
+    requires number { from.number < length sets.old.items }
+    ensures { OnOk result (PutsLed from.entry.names.now.names.items from.entry.number (spread_at spread.entry ∷ []) (sets_at sets.old.items) (sets_at sets.new.items)
+        hubs.old.items hubs.new.items numbers.old.items numbers.new.items) }
+{
+    let fragments = from.names.numbers(spread.name);
+    let Some(first) = first_of_several(fragments, hubs.len()) else {
+        numbers.extend_from_slice(fragments)?;
+        return Ok(());
+    };
+    let Some(hub) = hubs[first] else {
+        put_hub(from, spread, first, hubs, sets, numbers)?;
+        return Ok(());
+    };
+    if hub == from.number {
+        numbers.extend_from_slice(fragments)?;
+        return Ok(());
+    }
+    numbers.push(hub)?;
+    Ok(())
+}
+
+/// The numbers that these spreads lead to. Hubs are put behind the other sets.
+fn all_led<'a>(
+    alloc: Global,
+    from: Spreading<'_, 'a>,
+    spreads: &[StandingSpread<'a>],
+    hubs: &mut Vec<Option<usize>>,
+    sets: &mut Vec<StandingSet<'a>>,
+) -> Result<Vec<usize>, NoMemory>
+    requires hubs { AreHubs from.names.now.names.items (sets_at sets.old.items) hubs.old.items }
+    requires alone { All (λ s. IsAlone s.text s.alone) (all_spreads_at spreads.now) }
+    requires number { from.number < length sets.old.items }
+    ensures { IfOk result (λ numbers. AreLed from.entry.names.now.names.items from.entry.number (all_spreads_at spreads.now) (sets_at sets.old.items) (sets_at sets.new.items)
+        hubs.old.items hubs.new.items numbers.items) }
+{
+    let mut numbers = Vec::new(alloc);
+    for spread in spreads {
+        put_led(from, *spread, hubs, sets, &mut numbers)?;
+    }
+    Ok(numbers)
+}
+
 /// What the rows of a project are made by: its types, and the names of its fragments.
 #[derive(Clone, Copy)]
 struct Project<'n, 'a> {
@@ -99,25 +211,33 @@ struct Project<'n, 'a> {
     names: &'n FragmentNames,
 }
 
-/// The row of a selection set. The sets of its fields are put behind the others. The fields are gathered in a list whose room
-/// is used again.
+/// The row of the selection set with that number. Hubs and the sets of its fields are put behind the others. The fields are gathered in
+/// a list whose room is used again.
 fn row_of<'a>(
     project: Project<'_, 'a>,
-    set: StandingSet<'a>,
+    number: usize,
     fields: &mut Vec<StandingField<'a>>,
     empty: &mut Option<usize>,
+    hubs: &mut Vec<Option<usize>>,
     sets: &mut Vec<StandingSet<'a>>,
 ) -> Result<Row<'a>, NoMemory>
+    requires number { number < length sets.old.items }
     requires empty { IsEmptyAt (sets_at sets.old.items) empty.old }
+    requires hubs { AreHubs project.names.now.names.items (sets_at sets.old.items) hubs.old.items }
     ensures empty { OnOk result (IsEmptyAt (sets_at sets.new.items) empty.new) }
-    ensures set { IfOk result (λ row. row.set ≡ set.entry) }
-    ensures members { IfOk result (λ row.
-        AreNumbered (types_view project.entry.types.now) (own_fields set.entry.file (text_of set.entry.parent) (sels_view set.entry.selections.now))
-        (sets_at sets.old.items) (sets_at sets.new.items) (members_view row.members.items)) }
-    ensures spreads { IfOk result (λ row. row.spreads.items ≡ own_spreads project.entry.names.now.names.items (sels_view set.entry.selections.now)) }
+    ensures set { IfOk result (λ row. slice_get sets.old.items number ≡ Some row.set) }
+    ensures made { IfOk result (λ row. AreMade (types_view project.entry.types.now) project.entry.names.now.names.items number (set_at row.set)
+        (sets_at sets.old.items) (sets_at sets.new.items) hubs.old.items hubs.new.items (row_view row)) }
 {
-    let mut spreads = Vec::new(project.alloc);
-    put_spreads(project.names, set.selections, &mut spreads)?;
+    let set = sets[number];
+    let from = Spreading {
+        names: project.names,
+        set,
+        number,
+    };
+    let mut alone = Vec::new(project.alloc);
+    put_spreads(set.selections, &mut alone)?;
+    let spreads = all_led(project.alloc, from, &alone, hubs, sets)?;
     fields.clear();
     put_fields(set.file, set.parent, set.selections, fields)?;
     let members = numbered(project.alloc, project.types, fields, empty, sets)?;
@@ -128,7 +248,9 @@ fn row_of<'a>(
     })
 }
 
-/// A row for each selection set that stands in the project, those of fragments and of operations first.
+/// A row for each selection set that stands in the project, those of fragments and of operations first. Where several fragments have a
+/// name that is spread, they have a hub: a row for a spread of that name alone, which leads to all of them. So a set that spreads the name
+/// leads to one number, and not to as many as there are fragments.
 pub(crate) fn all_rows<'a>(
     alloc: Global,
     executable: &Executable<'a>,
@@ -145,9 +267,17 @@ pub(crate) fn all_rows<'a>(
     let mut rows = Vec::new(alloc);
     let mut fields = Vec::new(alloc);
     let mut empty = None;
+    let mut hubs = no_hubs(alloc, executable.fragments.len())?;
     while rows.len() < sets.len() {
-        let set = sets[rows.len()];
-        let row = row_of(project, set, &mut fields, &mut empty, &mut sets)?;
+        let number = rows.len();
+        let row = row_of(
+            project,
+            number,
+            &mut fields,
+            &mut empty,
+            &mut hubs,
+            &mut sets,
+        )?;
         rows.push(row)?;
     }
     Ok(rows)

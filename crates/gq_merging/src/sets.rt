@@ -4,14 +4,15 @@ ghost use Rattle.gq_tree.specs.Views.{sel_view, sels_view};
 ghost use Rattle.gq_types.specs.Look.{types_view, text_of};
 ghost use Rattle.gq_document.specs.Definitions.{operation_view, fragment_view};
 ghost use Rattle.gq_document.specs.FieldSets.{operation_set, fragment_set, field_set};
-ghost use Rattle.gq_merging.specs.Helping.SetTables.{own_fields, own_fields_at, own_spreads, own_spreads_at};
-ghost use Rattle.gq_merging.specs.Helping.Views.{field_at, fields_at, set_at};
+ghost use Rattle.gq_merging.specs.Helping.HubTables.{spreads_in, spreads_of_one};
+ghost use Rattle.gq_merging.specs.Helping.SetTables.{own_fields, own_fields_at};
+ghost use Rattle.gq_merging.specs.Helping.Views.{all_spreads_at, field_at, fields_at, set_at};
 
 use gq_document::{FragmentEntry, OperationEntry, selected_field};
-use gq_spreads::FragmentNames;
 use gq_text::{NoMemory, Span};
 use gq_tree::{Argument, Name, Selection};
 use gq_types::Types;
+use std::slice::from_ref;
 
 /// A field, the number of its document, and the name of the type of its parent where that is known.
 #[derive(Clone, Copy)]
@@ -31,6 +32,13 @@ pub(crate) struct StandingSet<'a> {
     pub(crate) file: usize,
     pub(crate) parent: Option<&'a str>,
     pub(crate) selections: &'a [Selection],
+}
+
+/// The name in a spread, and the spread alone.
+#[derive(Clone, Copy)]
+pub(crate) struct StandingSpread<'a> {
+    pub(crate) name: &'a str,
+    pub(crate) alone: &'a [Selection],
 }
 
 /// The selection set of an operation.
@@ -127,32 +135,36 @@ pub(crate) fn put_fields<'a>(
 
 #[cycle(spreads)]
 #[tactic(auto, using(gq_tree::proofs::Trees::gathers))]
-fn put_spread(
-    names: &FragmentNames,
-    selection: &Selection,
-    numbers: &mut Vec<usize>,
+fn put_spread<'a>(
+    selection: &'a Selection,
+    spreads: &mut Vec<StandingSpread<'a>>,
 ) -> Result<(), NoMemory>
-    ensures { OnOk result (numbers.new.items ≡ numbers.old.items ++ own_spreads_at names.now.names.items (sel_view selection.now)) }
+    ensures { OnOk result (all_spreads_at spreads.new.items ≡ all_spreads_at spreads.old.items ++ spreads_of_one (sel_view selection.now)) }
 {
     match selection {
         Selection::Field(_) => Ok(()),
-        Selection::Spread(spread) => names.put_numbers(spread.name.text.as_str(), numbers),
-        Selection::Inline(inline) => put_spreads(names, &inline.set.items, numbers),
+        Selection::Spread(spread) => {
+            spreads.push(StandingSpread {
+                name: spread.name.text.as_str(),
+                alone: from_ref(selection),
+            })?;
+            Ok(())
+        }
+        Selection::Inline(inline) => put_spreads(&inline.set.items, spreads),
     }
 }
 
-/// Puts the numbers of the fragments that are spread in selections and in the inline fragments among them behind the others.
+/// Puts the spreads in selections and in the inline fragments among them behind the others.
 #[cycle(spreads)]
 #[tactic(auto, using(gq_tree::proofs::Trees::gathers))]
-pub(crate) fn put_spreads(
-    names: &FragmentNames,
-    selections: &[Selection],
-    numbers: &mut Vec<usize>,
+pub(crate) fn put_spreads<'a>(
+    selections: &'a [Selection],
+    spreads: &mut Vec<StandingSpread<'a>>,
 ) -> Result<(), NoMemory>
-    ensures { OnOk result (numbers.new.items ≡ numbers.old.items ++ own_spreads names.now.names.items (sels_view selections.now)) }
+    ensures { OnOk result (all_spreads_at spreads.new.items ≡ all_spreads_at spreads.old.items ++ spreads_in (sels_view selections.now)) }
 {
     for selection in selections {
-        put_spread(names, selection, numbers)?;
+        put_spread(selection, spreads)?;
     }
     Ok(())
 }

@@ -18,7 +18,7 @@ use Rattle.gq_rename.specs.Asks.{RenameAsk, trees_of, target_of, MayBeCalled, Is
 use Rattle.gq_rename.specs.Rename.{Renames, cut, AtTarget, IsTooLarge, ReadsAsRenamed, PassesCheck, Refuses, IsRenameAnswer, KeepsTrees}
 use Rattle.gq_rename.specs.Sound.{IsSound, edits_by}
 use Rattle.gq_rename.specs.Helping.NameRefusals.{IsNameRefusal}
-use Rattle.gq_rename.specs.Checked.{IsChecked}
+use Rattle.gq_rename.specs.Checked.{IsMeasured}
 use Rattle.gq_rename.proofs.Edited.{too_large}
 use Rattle.gq_rename.proofs.Groups.{one_rule}
 
@@ -143,8 +143,8 @@ module _ (documents : List Doc) (rs : List ParsedOf) (key : List ℕ) (offset : 
       below SelfCheck = omega arith
       below NoMemory = omega arith
 
-      -- an edit that was checked
-      pub answered : IsNameRefusal (executables rs) t.kind t.name.text t.definition new None → (edits : List DocumentEdit) → edits ≡ Edits → (result : Result (List DocumentEdit) Refusal) → IsChecked documents edits result →
+      -- an edit that was measured
+      pub answered : IsNameRefusal (executables rs) t.kind t.name.text t.definition new None → (edits : List DocumentEdit) → edits ≡ Edits → (result : Result (List DocumentEdit) Refusal) → IsMeasured documents edits result →
           (result ≡ Err NoMemory) ⊎ IsRenameAnswer documents key offset new result
       unfolding own
       answered name edits is (Ok made) h =
@@ -171,24 +171,17 @@ module _ (documents : List Doc) (rs : List ParsedOf) (key : List ℕ) (offset : 
             are_readings = are;
             offer = ((own, too_large documents Edits h.0 large), none_before 10 (λ l. name.0) (λ l. name.1) (λ l. name.2) (λ l. absurd (omega (arith, l))) (λ l. absurd (omega (arith, l))));
           })
-      answered name edits is (Err SelfCheck) h =
-          let large : find (is_too_large documents) Edits ≡ None = subst (λ (es : List DocumentEdit). find (is_too_large documents) es ≡ None) is h.0 in
-          let no : IsValid (after_edit Edits documents) → ⊥ = subst (λ (es : List DocumentEdit). IsValid (after_edit es documents) → ⊥) is h.1 in
-          inr (record {
-            readings = rs;
-            are_readings = are;
-            offer = ((own, (λ passes. no passes.1)), none_before 11 (λ l. name.0) (λ l. name.1) (λ l. name.2) (λ l. fits_each large) (λ l. absurd (omega (arith, l))));
-          })
+      answered name edits is (Err SelfCheck) h = absurd h
       answered name edits is (Err NoMemory) h = inl refl
 
       -- what an edit keeps
-      pub keeps : (edits : List DocumentEdit) → edits ≡ Edits → (result : Result (List DocumentEdit) Refusal) → IsChecked documents edits result → IfOk result (KeepsTrees documents key offset new)
+      pub keeps : (edits : List DocumentEdit) → edits ≡ Edits → (result : Result (List DocumentEdit) Refusal) → IsMeasured documents edits result → IfOk result (KeepsTrees documents key offset new)
       unfolding own
       keeps edits is (Ok made) h =
           let R : List DocumentEdit → Type 0 = λ es. ReadsAsRenamed documents (trees_of rs) rule new es in
           record { readings = rs; are_readings = are; renames = own; reads = subst R (sym (h.0 ∙ is)) sound.reads }
       keeps edits is (Err why) h = tt
 
-pub valid_after : (documents : List Doc) (edits : List DocumentEdit) (result : Result (List DocumentEdit) Refusal) → IsChecked documents edits result → IfOk result (λ made. ∥ IsValid (after_edit made documents) ∥₁)
+pub valid_after : (documents : List Doc) (edits : List DocumentEdit) (result : Result (List DocumentEdit) Refusal) → IsMeasured documents edits result → IfOk result (λ made. ∥ IsValid (after_edit made documents) ∥₁)
 valid_after documents edits (Ok made) h = subst (λ (es : List DocumentEdit). ∥ IsValid (after_edit es documents) ∥₁) (sym h.0) h.2
 valid_after documents edits (Err why) h = tt

@@ -13,6 +13,7 @@ mod Answering
 mod Propositions
 mod Offering
 mod Soundness
+mod Passing
 mod Responding
 pub mod Solid
 pub mod Whole

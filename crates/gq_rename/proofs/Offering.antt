@@ -1,13 +1,13 @@
 -- The answer to the rename of a target, from what its steps answered.
 use Rattle.std.proofs.Common.{◌≡◌, ◌↔◌, ℕ, ◌<◌, List, length, Option, Some, None, Result, Ok, Err, Contains, refl, sym, ap, subst, ◌∙◌, inr, ◌⊎◌}
-use Rattle.std.specs.Prelude.{find, IfOk}
+use Rattle.std.specs.Prelude.{IfOk}
 use Rattle.std.specs.List.Sorted.{IsStrictlyIncreasing}
 use Rattle.gq_text.specs.declared.place.Span.{Span}
 use Rattle.gq_tree.specs.Plain.{Def}
 use Rattle.gq_project.specs.declared.document.Doc.{Doc}
 use Rattle.gq_project.specs.Documents.{IsInOrder}
 use Rattle.gq_edit.specs.declared.edit.DocumentEdit.{DocumentEdit}
-use Rattle.gq_edit.specs.Edits.{FitDocuments, after_edit, is_moved}
+use Rattle.gq_edit.specs.Edits.{FitDocuments, after_edit}
 use Rattle.gq_tree.specs.Readings.{ParsedOf}
 use Rattle.gq_parse.specs.Parsed.{AreParsed}
 use Rattle.gq_index.specs.declared.index.Index.{Index}
@@ -28,7 +28,7 @@ use Rattle.gq_rename.specs.Asks.{trees_of, target_of, IsTarget, IsGroup, Changes
 use Rattle.gq_rename.specs.Rename.{IsRenameAnswer, KeepsTrees}
 use Rattle.gq_rename.specs.Sound.{IsSound, RenamesAreSound, ValidDocumentsAreTrees, AreUtf8, edits_by}
 use Rattle.gq_rename.specs.Helping.NameRefusals.{IsNameRefusal}
-use Rattle.gq_rename.specs.Checked.{IsChecked}
+use Rattle.gq_rename.specs.Checked.{IsMeasured}
 use Rattle.gq_rename.proofs.Below.{target_below}
 use Rattle.gq_rename.proofs.Answering.{nothing_here, name_refused, answered, keeps}
 
@@ -68,18 +68,18 @@ have_trees listed documents index same trees valid i =
 
 -- the edit that is made fits, and leaves a valid project
 module _ (held documents : List Doc) (is_held : held ≡ documents) (edit : List DocumentEdit) where
-  pub made_fits : (result : Result (List DocumentEdit) Refusal) → IsChecked held edit result → FitDocuments held edit → IfOk result (FitDocuments documents)
-  made_fits (Ok made) checked fit =
+  pub made_fits : (result : Result (List DocumentEdit) Refusal) → IsMeasured held edit result → FitDocuments held edit → IfOk result (FitDocuments documents)
+  made_fits (Ok made) measured fit =
       let F : List Doc → Type 0 = λ ds. FitDocuments ds made in
-      subst F is_held (subst (FitDocuments held) (sym checked.0) fit)
-  made_fits (Err why) checked fit = tt
+      subst F is_held (subst (FitDocuments held) (sym measured.0) fit)
+  made_fits (Err why) measured fit = tt
 
-  pub made_valid : (result : Result (List DocumentEdit) Refusal) → IsChecked held edit result → IfOk result (λ made. ∥ IsValid (after_edit made documents) ∥₁)
-  made_valid (Ok made) checked =
+  pub made_valid : (result : Result (List DocumentEdit) Refusal) → IsMeasured held edit result → IfOk result (λ made. ∥ IsValid (after_edit made documents) ∥₁)
+  made_valid (Ok made) measured =
       let V : List Doc → Type 0 = λ ds. ∥ IsValid (after_edit made ds) ∥₁ in
       let W : List DocumentEdit → Type 0 = λ es. ∥ IsValid (after_edit es held) ∥₁ in
-      subst V is_held (subst W (sym checked.0) checked.2)
-  made_valid (Err why) checked = tt
+      subst V is_held (subst W (sym measured.0) measured.2)
+  made_valid (Err why) measured = tt
 
 module _ (one_list : OneList) (listed documents : List Doc) (same : listed ≡ documents) (index : Index) (i : IsIndexOfProject documents index) (valid : ∥ IsValid documents ∥₁) where
   -- the index, of any reading of the documents
@@ -124,29 +124,29 @@ module _ (one_list : OneList) (listed documents : List Doc) (same : listed ≡ d
       pub fits : FitDocuments held edit
       fits = let F : List Doc → Type 0 = λ ds. FitDocuments ds edit in subst F (sym is_held) fit_all
 
-      pub stays : find (is_moved held) edit ≡ None
-      unfolding Rs
-      stays =
-          let M : List Doc → Type 0 = λ ds. find (is_moved ds) edit ≡ None in
-          let N : List DocumentEdit → Type 0 = λ es. find (is_moved documents) es ≡ None in
-          subst M (sym is_held) (subst N (sym (edit_of Rs i.of_documents.are_readings)) (sound_of Rs i.of_documents.are_readings).there)
+      -- a valid project, where a reading says that the edit leaves one
+      pub leaves_valid : (rs : List ParsedOf) → AreParsed documents rs → (IsIndexOf (executables rs) index → IsValid (after_edit (edits_by rule new documents rs) documents)) → IsValid (after_edit edit held)
+      leaves_valid rs are left =
+          let V : List Doc → Type 0 = λ ds. IsValid (after_edit edit ds) in
+          let W : List DocumentEdit → Type 0 = λ es. IsValid (after_edit es documents) in
+          subst V (sym is_held) (subst W (sym (edit_of rs are)) (left (index_of rs are)))
 
-      module _ (changes : (ds : List DefinitionOf) → IsIndexOf ds index → t.definition < length ds → Changes ds t.name.text t.definition t.kind rule) (result : Result (List DocumentEdit) Refusal) (checked : IsChecked held edit result) where
-        checked_there : IsChecked documents edit result
-        checked_there = let C : List Doc → Type 0 = λ ds. IsChecked ds edit result in subst C is_held checked
+      module _ (changes : (ds : List DefinitionOf) → IsIndexOf ds index → t.definition < length ds → Changes ds t.name.text t.definition t.kind rule) (result : Result (List DocumentEdit) Refusal) (measured : IsMeasured held edit result) where
+        measured_there : IsMeasured documents edit result
+        measured_there = let C : List Doc → Type 0 = λ ds. IsMeasured ds edit result in subst C is_held measured
 
         pub made : ((ds : List DefinitionOf) → IsIndexOf ds index → t.definition < length ds → IsNameRefusal ds t.kind t.name.text t.definition new None) → Answers documents t new result
         made name key offset w =
             let of = index_of w.readings w.are_readings in
             let in_range = inside key offset w in
             answered documents w.readings key offset new w.are_readings valid t w.here rule (changes (executables w.readings) of in_range) (sound_of w.readings w.are_readings)
-            (name (executables w.readings) of in_range) edit (edit_of w.readings w.are_readings) result checked_there
+            (name (executables w.readings) of in_range) edit (edit_of w.readings w.are_readings) result measured_there
 
         pub kept : Keeps documents t new result
         kept key offset w =
             let of = index_of w.readings w.are_readings in
             let in_range = inside key offset w in
-            keeps documents w.readings key offset new w.are_readings valid t w.here rule (changes (executables w.readings) of in_range) (sound_of w.readings w.are_readings) edit (edit_of w.readings w.are_readings) result checked_there
+            keeps documents w.readings key offset new w.are_readings valid t w.here rule (changes (executables w.readings) of in_range) (sound_of w.readings w.are_readings) edit (edit_of w.readings w.are_readings) result measured_there
 
 -- the names that change, by the kind of the target
 pub fragment_changes : (ds : List DefinitionOf) (t : Target) (old : List ℕ) → t.kind ≡ kind.Fragment → old ≡ t.name.text → Changes ds t.name.text t.definition t.kind (λ n. fragment_called old)

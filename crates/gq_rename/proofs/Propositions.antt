@@ -1,7 +1,6 @@
 -- What is said of an edit has one proof at most, so it follows from what is only known to be there.
-use Rattle.std.proofs.Common.{◌≡◌, ℕ, List, [], ◌∷◌, Option, Some, None, refl}
+use Rattle.std.proofs.Common.{ℕ, List, [], ◌∷◌}
 use Rattle.std.proofs.Math.Bridge.{le_prop}
-use Rattle.std.proofs.Math.Logic.{∥∥₁_elim}
 use Rattle.std.specs.List.{AllByRecursion-prop}
 use Rattle.gq_text.specs.declared.replacement.Replacement.{Replacement}
 use Rattle.gq_project.specs.declared.document.Doc.{Doc}
@@ -16,8 +15,3 @@ FitText-prop text (r ∷ rs) = let rest = FitText-prop text rs in hlevel (le_pro
 -- the spans fit the texts
 pub FitDocuments-prop : (documents : List Doc) (edits : List DocumentEdit) → IsProp (FitDocuments documents edits)
 FitDocuments-prop documents edits = AllByRecursion-prop _ (λ edit. hlevel FitText-prop) edits
-
--- There is none, where that follows from what is only known to be there.
-pub none_there : {A B : Type 0} (o : Option B) → ∥ A ∥₁ → (A → o ≡ None) → o ≡ None
-none_there None a f = refl
-none_there (Some x) a f = absurd (∥∥₁_elim a (λ p q. absurd p) (λ y. let e : Some x ≡ None = f y in cc))

@@ -1,5 +1,5 @@
 -- What is true of the edit of a rename in a valid project.
-use Rattle.std.specs.Prelude.{◌≡◌, ℕ, List, find, None}
+use Rattle.std.specs.Prelude.{◌≡◌, ℕ, List, find, None, Err}
 use Rattle.std.specs.List.{AllByRecursion}
 use Rattle.std.specs.Str.{IsUtf8}
 use Rattle.gq_project.specs.declared.document.Doc.{Doc}
@@ -12,8 +12,9 @@ use Rattle.gq_renamed.specs.Names.{IsNameText}
 use Rattle.gq_renamed.specs.Renamings.{Renaming, MayName}
 use Rattle.gq_renamed.specs.Projects.{AreTrees, rename_edits}
 use Rattle.gq_rules.specs.Validity.{IsValid}
+use Rattle.gq_rename.specs.declared.refusal.Refusal.TheVariants.{SelfCheck}
 use Rattle.gq_rename.specs.Asks.{trees_of, target_of}
-use Rattle.gq_rename.specs.Rename.{IsTooLarge, ReadsAsRenamed}
+use Rattle.gq_rename.specs.Rename.{IsRenameAnswer, IsTooLarge, ReadsAsRenamed}
 
 abbrev pub edits_by : (ℕ → Renaming) → List ℕ → List Doc → List ParsedOf → List DocumentEdit
 edits_by rule new documents readings = rename_edits rule 0 new documents (trees_of readings)
@@ -34,6 +35,10 @@ abbrev pub RenamesAreSound : Type 0
 RenamesAreSound =
     (documents : List Doc) (readings : List ParsedOf) (rule : ℕ → Renaming) (new : List ℕ) → IsInOrder documents → AreUtf8 documents → AreParsed documents readings → ∥ IsValid documents ∥₁ → IsNameText new → ((n : ℕ) → MayName (rule n) new) →
     IsSound documents readings rule new
+
+-- A rename in a valid project is not refused for what its edit would leave.
+abbrev pub RenamesPass : Type 0
+RenamesPass = (documents : List Doc) (key : List ℕ) (offset : ℕ) (new : List ℕ) → IsInOrder documents → ∥ IsValid documents ∥₁ → IsRenameAnswer documents key offset new (Err SelfCheck) → ⊥
 
 -- the documents of a valid project have trees, which are what is read
 abbrev pub ValidDocumentsAreTrees : Type 0

@@ -7,9 +7,10 @@ ghost use Rattle.gq_rename.specs.Determined.{RenamesAreDetermined, RenamesAreThe
 ghost use Rattle.gq_rename.specs.Rename.{IsRenameAnswer};
 ghost use Rattle.gq_rename.specs.Responses.{RenamesKeepResponses};
 ghost use Rattle.gq_rename.specs.Standing.{PreparedNamesStandInTexts};
-ghost use Rattle.gq_rename.specs.Sound.{RenamesAreSound, ValidDocumentsAreTrees, OffsetsMeanOneTarget};
+ghost use Rattle.gq_rename.specs.Sound.{RenamesAreSound, RenamesPass, ValidDocumentsAreTrees, OffsetsMeanOneTarget};
 
 use gq_law_renames::laws::{fragment_renames_keep_responses, variable_renames_keep_responses};
+use gq_law_renames_valid::laws::{fragment_renames_stay_valid, variable_renames_stay_valid};
 use gq_parse::laws::{no_tree_past_limits, one_tree};
 use gq_renamed::laws::{renamed_projects_read, renamed_texts_read};
 use gq_rules::laws::{no_project_is_valid_and_invalid, valid_documents_have_trees};
@@ -31,6 +32,16 @@ pub fn renames_are_sound()
     renamed_projects_read();
     renamed_texts_read();
     no_tree_past_limits();
+}
+
+/// In a valid project a rename is not refused for what its edit would leave.
+pub fn renames_pass()
+    ensures { RenamesPass }
+{
+    valid_documents_are_trees();
+    renamed_projects_read();
+    fragment_renames_stay_valid();
+    variable_renames_stay_valid();
 }
 
 /// What is read of the documents of a valid project are their trees.

@@ -28,7 +28,7 @@ pub enum Refusal {
     NotRedundant,
     /// An edited text would have more than 4 MiB, too many tokens or too deep a nesting.
     TooLarge,
-    /// The edited texts do not read as wanted, or the edited project is not valid.
+    /// The edited texts do not read as wanted, or the edited project is not valid. No refactoring of a valid project is refused so.
     SelfCheck,
     /// A growth was refused.
     NoMemory,

@@ -12,7 +12,7 @@ ghost use Rattle.gq_rename.specs.Rename.{IsRenameAnswer, KeepsTrees};
 ghost use Rattle.gq_rename.specs.Responses.{KeepsResponses};
 
 use crate::checking::documents_are_texts;
-use crate::laws::renames_keep_responses;
+use crate::laws::{renames_keep_responses, renames_pass};
 use crate::offers::{offer_fragment, offer_variable};
 use crate::refusal::Refusal;
 use crate::targets::target_by;
@@ -28,9 +28,9 @@ use std::alloc::Global;
 ///
 /// It is refused, in this order, as NothingHere where nothing that can be renamed is at the offset or the project has
 /// no such document, BadName where the new name may not be its name, SameName where it is the old one, NameTaken where
-/// a fragment of that name is defined or an operation of the group defines a variable of it, TooLarge where an edited
-/// text would pass a limit, and SelfCheck where the edited project is not valid; and as NoMemory where a growth was
-/// refused.
+/// a fragment of that name is defined or an operation of the group defines a variable of it, and TooLarge where an edited
+/// text would pass a limit; and as NoMemory where a growth was refused. It is never refused as SelfCheck, since such an
+/// edit leaves a valid project.
 pub fn rename(
     alloc: Global,
     valid: &Valid,
@@ -43,6 +43,7 @@ pub fn rename(
     ensures kept { IfOk result (KeepsTrees valid.now key.now offset new_name.now) }
     ensures responses { IfOk result (KeepsResponses valid.now key.now offset new_name.now) }
     ensures valid { IfOk result (λ edit. ∥ IsValid (after_edit edit valid.now) ∥₁) }
+    ensures never_self_check { result ≡ Err refusal.SelfCheck → ⊥ }
 {
     let project = valid.project();
     let learned = Learned::of(alloc, project)?;
@@ -58,7 +59,7 @@ pub fn rename(
     )
 }
 
-/// The same of a project that is known, and its index. Only the texts that the edit changes are read.
+/// The same of a project that is known, and its index. No text is read.
 pub fn rename_by(
     alloc: Global,
     valid: &Valid,
@@ -76,12 +77,14 @@ pub fn rename_by(
     ensures kept { IsKnown known.entry → IsIndexOfProject valid.now index.now → IfOk result (KeepsTrees valid.now key.now offset new_name.now) }
     ensures responses { IsKnown known.entry → IsIndexOfProject valid.now index.now → IfOk result (KeepsResponses valid.now key.now offset new_name.now) }
     ensures valid { IfOk result (λ edit. ∥ IsValid (after_edit edit valid.now) ∥₁) }
+    ensures never_self_check { result ≡ Err refusal.SelfCheck → ⊥ }
 {
     renames_keep_responses();
+    renames_pass();
     let project = valid.project();
     documents_are_texts(project);
     match target_by(alloc, known.project, known.readings, key, offset)? {
-        Some(target) => offer(alloc, valid, known, index, &target, new_name),
+        Some(target) => offer(alloc, valid, index, &target, new_name),
         None => Err(Refusal::NothingHere),
     }
 }
@@ -90,14 +93,12 @@ pub fn rename_by(
 fn offer(
     alloc: Global,
     valid: &Valid,
-    known: Known<'_>,
     index: &Index,
     target: &Target,
     new_name: &str,
 ) -> Result<Edit, Refusal>
-    requires known { ∥ IsKnown known ∥₁ }
-    requires project { known.project.now ≡ valid.now }
     requires index { ∥ IsIndexOfProject valid.now index.now ∥₁ }
+    requires there { ∥ ((key : List ℕ) × (offset : ℕ) × IsTarget valid.now key offset target.now) ∥₁ }
     ensures answer { IsIndexOfProject valid.now index.now → (key : List ℕ) (offset : ℕ) → IsTarget valid.now key offset target.now →
         (result ≡ Err refusal.NoMemory) ⊎ IsRenameAnswer valid.now key offset new_name.now result }
     ensures fits { IfOk result (FitDocuments valid.now) }
@@ -105,8 +106,8 @@ fn offer(
     ensures valid { IfOk result (λ edit. ∥ IsValid (after_edit edit valid.now) ∥₁) }
 {
     match target.kind {
-        TargetKind::Fragment => offer_fragment(alloc, valid, known, index, target, new_name),
-        TargetKind::Variable => offer_variable(alloc, valid, known, index, target, new_name),
+        TargetKind::Fragment => offer_fragment(alloc, valid, index, target, new_name),
+        TargetKind::Variable => offer_variable(alloc, valid, index, target, new_name),
     }
 }
 
@@ -124,6 +125,7 @@ pub fn rename_fragment(
     ensures kept { IfOk result (KeepsTrees valid.now key.now offset new_name.now) }
     ensures responses { IfOk result (KeepsResponses valid.now key.now offset new_name.now) }
     ensures valid { IfOk result (λ edit. ∥ IsValid (after_edit edit valid.now) ∥₁) }
+    ensures never_self_check { result ≡ Err refusal.SelfCheck → ⊥ }
 {
     rename(alloc, valid, key, offset, new_name)
 }
@@ -142,6 +144,7 @@ pub fn rename_variable(
     ensures kept { IfOk result (KeepsTrees valid.now key.now offset new_name.now) }
     ensures responses { IfOk result (KeepsResponses valid.now key.now offset new_name.now) }
     ensures valid { IfOk result (λ edit. ∥ IsValid (after_edit edit valid.now) ∥₁) }
+    ensures never_self_check { result ≡ Err refusal.SelfCheck → ⊥ }
 {
     rename(alloc, valid, key, offset, new_name)
 }

@@ -66,7 +66,7 @@ selected_holds es rs s (of_fragment {f = f} c w) = subst (HoldsExecutable (trees
 
 module _ (one_tree : OneTree) where
   -- what is read of texts that have trees are these
-  read_trees : {documents : List Doc} {rs : List ParsedOf} {trees : List (List (Def Span))} → AreParsed documents rs → AreTrees documents trees → trees_read rs ≡ trees
+  pub read_trees : {documents : List Doc} {rs : List ParsedOf} {trees : List (List (Def Span))} → AreParsed documents rs → AreTrees documents trees → trees_read rs ≡ trees
   read_trees readings.none none = refl
   read_trees (readings.more {document = document} {one = reading.tree d} {readings = rs} p ps) (more {tree = tree} {trees = trees} q qs) =
       ap (λ (t : List (Def Span)). t ∷ trees_read rs) (one_tree document.text d tree p q) ∙ ap (λ (ts : List (List (Def Span))). tree ∷ ts) (read_trees ps qs)
@@ -75,7 +75,7 @@ module _ (one_tree : OneTree) where
 
   module _ (apart : NoneIsBoth) (stay : RestatedProjectsKeepResponses) (documents : List Doc) (in_order : IsInOrder documents) (valid : ∥ IsValid documents ∥₁) (es : List EntryOf) (of_documents : IsTypeSystemOf documents es) where
     -- the types are those of each reading
-    types_are : (rs : List ParsedOf) → AreParsed documents rs → type_system_of rs ≡ es
+    pub types_are : (rs : List ParsedOf) → AreParsed documents rs → type_system_of rs ≡ es
     types_are rs are = ap (λ (xs : List EntryOf). built_in ++ xs) (same_in_documents one_tree entry_in documents rs of_documents.readings are of_documents.are_readings) ∙ sym of_documents.is
 
     pub all_promised : (rs : List ParsedOf) → AreParsed documents rs → Promised es rs

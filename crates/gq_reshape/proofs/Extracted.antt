@@ -14,13 +14,13 @@ use Rattle.gq_law_rewrites.specs.Edits.{HasDocument, RunAt}
 use Rattle.gq_law_rewrites.specs.Statics.{static_of, roots_in}
 use Rattle.gq_law_rewrites.proofs.Named.{name_free}
 use Rattle.gq_law_rewrites.proofs.Projects.{project_in_place, sound, extracted_project}
-use Rattle.gq_rewritten.specs.Views.{IsExecutable}
+use Rattle.gq_rewritten.specs.Executables.{IsExecutable}
 use Rattle.gq_select.specs.Meant.{document_sets}
 use Rattle.gq_select.specs.Runs.{RunOf}
 use Rattle.gq_reshape.specs.Asks.{RangeAsk, tree_at}
 use Rattle.gq_reshape.specs.Extract.{Extraction, extract_replacements, extract_cut}
 use Rattle.gq_reshape.specs.Naming.{extracted_name}
-use Rattle.gq_reshape.specs.Texts.{spread_text, fragment_text}
+use Rattle.gq_law_cuts_read.specs.Texts.{spread_text, fragment_text}
 use Rattle.gq_reshape.specs.declared.placed.PlacedReplacement.{PlacedReplacement}
 use Rattle.gq_reshape.specs.Placed.{replacements_in}
 use Rattle.gq_reshape.proofs.Changed.{IsKeeping, it_holds}
@@ -32,7 +32,7 @@ use Rattle.gq_reshape.proofs.SameEntries.{trees_read, from_first}
 use Rattle.gq_reshape.proofs.Standing.{document_at, set_there}
 
 -- the tree at a number
-tree_there : (rs : List ParsedOf) (k : ℕ) (r : ParsedOf) → slice_get rs k ≡ Some r → slice_get (trees_read rs) k ≡ Some (definitions_read r)
+pub tree_there : (rs : List ParsedOf) (k : ℕ) (r : ParsedOf) → slice_get rs k ≡ Some r → slice_get (trees_read rs) k ≡ Some (definitions_read r)
 tree_there [] k r e = cc
 tree_there (x ∷ rs) zero r e = let same : x ≡ r = cc in ap (λ z. Some (definitions_read z)) same
 tree_there (x ∷ rs) (suc k) r e = tree_there rs k r e

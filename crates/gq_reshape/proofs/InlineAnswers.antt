@@ -17,17 +17,21 @@ use Rattle.gq_types.proofs.Gathered.{found}
 use Rattle.gq_document.specs.Definitions.{FragmentOf, fragments_of}
 use Rattle.gq_document.specs.Selections.{SelectedOf}
 use Rattle.gq_meaning.proofs.TextLemmas.{same_text}
+use Rattle.gq_schema.specs.SchemaOf.{IsTypeSystemOf}
 use Rattle.gq_law_rewrites.specs.Parts.{IsPartOf, DirectivesFit, HeadFits}
 use Rattle.gq_law_rewrites.proofs.Executables.{Selected, fragment_def, fragment_stands}
 use Rattle.gq_law_rewrites.proofs.ValidityLemmas.{NoneIsBoth}
 use Rattle.gq_select.specs.Meant.{StandingOf, is_spread, meant}
 use Rattle.gq_rename.specs.Asks.{trees_of}
+use Rattle.gq_rename.specs.Rename.{IsTooLarge}
 use Rattle.gq_rename.specs.declared.refusal.Refusal.{Refusal}
 use Rattle.gq_rename.specs.declared.refusal.Refusal.TheVariants.{NothingHere, DirectiveInWay}
 use Rattle.gq_reshape.specs.declared.asked.Asked.{Asked}
 use Rattle.gq_reshape.specs.declared.reshaping.Reshaping.TheVariants.{Inline}
 use Rattle.gq_reshape.specs.Asks.{tree_at}
+use Rattle.gq_reshape.specs.Cuts.{edits_of, PassesCheck}
 use Rattle.gq_reshape.specs.Inline.{has_directive, inline_at, is_in_way, is_only_spread}
+use Rattle.gq_reshape.specs.Passing.{InlinesPass}
 use Rattle.gq_reshape.specs.Helping.About.{IsAbout, IsDirectiveFree, IsSpreadOf, ask_of, sets_of_asked, spread_head}
 use Rattle.gq_reshape.specs.Helping.Judged.{IsJudged}
 use Rattle.gq_reshape.specs.Helping.Making.{CanBeMade, SomeExecutable}
@@ -118,6 +122,16 @@ module _ (asked : Asked) (about : IsAbout asked) where
         pub in_way : (list_any is_in_way Directives || has_directive f.directives) ≡ true → IsOffered Inline asked (Err DirectiveInWay)
         in_way =
             offers.in_way Documents Types Readings (ask_of asked) about.valid asked.file asked.document.now about.is_document of.selected of.is_meant (name_of s.name) Directives s.span of.is_spread f of.is_definition Home.0 Home.1
+
+        -- where no limit is passed, it can become an inline fragment
+        pub passes : InlinesPass → IsDirectiveFree Directives f → (home : Doc) → slice_get Documents f.file ≡ Some home →
+            (IsTooLarge Documents (edits_of (inline_at asked.file asked.document.now.text Directives s.span f home.text (is_only_spread Readings (name_of s.name).text)) Documents) → ⊥) →
+            PassesCheck Documents (trees_of Readings) (inline_at asked.file asked.document.now.text Directives s.span f home.text (is_only_spread Readings (name_of s.name).text))
+        passes pass free home at =
+            let types : IsTypeSystemOf Documents Types = record { readings = Readings; are_readings = are_readings asked about known; is = known.is_type_system } in
+            pass Documents about.in_order about.valid Readings (are_readings asked about known) (ask_of asked) Types types
+            (offers.own Documents Types Readings (ask_of asked) about.valid asked.file asked.document.now about.is_document of.selected of.is_meant (name_of s.name) Directives s.span of.is_spread f of.is_definition home at)
+            (offers.own_not Documents Types Readings (ask_of asked) about.valid asked.file asked.document.now about.is_document of.selected of.is_meant (name_of s.name) Directives s.span of.is_spread f of.is_definition home at free)
 
       pub spread_inlined : IsDirectiveFree Directives f → (home : Doc) → slice_get Documents f.file ≡ Some home → (result : Result (List DocumentEdit) Refusal) →
           IsJudged Documents Readings (inline_at asked.file asked.document.now.text Directives s.span f home.text (is_only_spread Readings (name_of s.name).text)) result → IsOffered Inline asked result

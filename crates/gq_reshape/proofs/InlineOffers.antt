@@ -83,7 +83,7 @@ module _ (documents : List Doc) (es : List EntryOf) (readings : List ParsedOf) (
       no_fragment none = nothing (λ u. let e : None ≡ Some u.definition = sym none ∙ Found u in cc)
 
       module _ (f : FragmentOf) (is_definition : find (λ f. bytes_eq f.name.text name.text) (fragments_of readings) ≡ Some f) (home : Doc) (is_home : slice_get documents f.file ≡ Some home) where
-        abbrev own : Inlining documents es readings ask
+        abbrev pub own : Inlining documents es readings ask
         own = record {
           file = file;
           document = document;
@@ -125,7 +125,7 @@ module _ (documents : List Doc) (es : List EntryOf) (readings : List ParsedOf) (
         pub in_way : Says ≡ true → InlineOffer documents es readings ask (Err DirectiveInWay)
         in_way says = inr (record { inlining = own; in_way = says }, none_before 6 (λ l none. none own) (λ l. absurd (omega (arith, l))) (λ l. absurd (omega (arith, l))) (λ l. absurd (omega (arith, l))))
 
-        own_not : Says ≡ false → IsDirectiveInWay documents es readings ask → ⊥
+        pub own_not : Says ≡ false → IsDirectiveInWay documents es readings ask → ⊥
         own_not says h =
             let e : Says ≡ true = ap (λ (ds : List (DirectiveOf Span)). list_any is_in_way ds || has_directive f.directives) (same_directives h.inlining) ∙ ap (λ (g : FragmentOf). list_any is_in_way h.inlining.directives || has_directive g.directives) (same_definition h.inlining) ∙ h.in_way in
             let g : false ≡ true = sym says ∙ e in cc

@@ -50,20 +50,20 @@ two_elsewhere a b k e f = by (comes_first b a)
 
 module _ (documents : List Doc) (ask : RangeAsk) (rs : List ParsedOf) (are : AreParsed documents rs) (es : List EntryOf) (promise : Promised es rs) where
   module _ (i : Inlining documents es rs ask) where
-    abbrev asked : SelectedOf
+    abbrev pub asked : SelectedOf
     asked = record { file = i.file; parent = i.selected.parent; selection = i.selected.selection }
 
-    selects : Selected rs es asked
+    pub selects : Selected rs es asked
     selects = selected_asked es rs i.file i.selected (meant_stands is_spread ask.range (document_sets es (tree_at rs i.file)) i.selected i.is_meant)
 
-    stands : Contains (fragments_of rs) i.definition × (bytes_eq i.definition.name.text i.name.text ≡ true)
+    pub stands : Contains (fragments_of rs) i.definition × (bytes_eq i.definition.name.text i.name.text ≡ true)
     stands = found (λ (f : FragmentOf). bytes_eq f.name.text i.name.text) (fragments_of rs) i.definition i.is_definition
 
-    named : i.definition.name.text ≡ i.name.text
+    pub named : i.definition.name.text ≡ i.name.text
     named = same_text i.definition.name.text i.name.text stands.1
 
     -- where the fragment goes, the spread is its last
-    last_one : is_only_spread rs i.name.text ≡ true → (t : SelectedOf) → Selected rs es t → (h : Head Span) → t.selection.label ≡ h →
+    pub last_one : is_only_spread rs i.name.text ≡ true → (t : SelectedOf) → Selected rs es t → (h : Head Span) → t.selection.label ≡ h →
         IsLastSpread (Some i.definition.name.text) (record { file = i.file; place = i.place; on = i.definition.on.text; set = i.definition.set; dropped = Some (record { file = i.definition.file; place = i.definition.place }) }) t.file h
     last_one only t c (tree.field alias name arguments directives braces place) e = tt
     last_one only t c (tree.inline on directives braces place) e = tt

@@ -81,7 +81,7 @@ module _ (rs : List ParsedOf) (es : List EntryOf) (text : Text) where
   name_below : {parent inner : Option Text} {sels : Sels Span} {x : tree.Sel Span} → IsSelectionWithin es parent sels inner x → (name : NameOf Span) → Contains (spread_name x.label) name → Contains (spread_names sels) name
   name_below {sels = sels} {x = x} w name c = to_flat spread_name (labels sels) x.label name (label_in w) c
 
-  spread_there : (s : SelectedOf) → IsSelected es (operations_of rs) (fragments_of rs) s → (name : NameOf Span) (directives : List (DirectiveOf Span)) (place : Span) → s.selection.label ≡ tree.spread name directives place → bytes_eq text name.text ≡ true →
+  pub spread_there : (s : SelectedOf) → IsSelected es (operations_of rs) (fragments_of rs) s → (name : NameOf Span) (directives : List (DirectiveOf Span)) (place : Span) → s.selection.label ≡ tree.spread name directives place → bytes_eq text name.text ≡ true →
       Contains (fragment_spreads (executables rs) text) (at s.file name)
   spread_there s (of_operation {o = o} c w) name directives place e t = of_file s.file o.file name w.0 (in_operation o c name (name_below w.1 name (own_name s name directives place e)) t)
   spread_there s (of_fragment {f = f} c w) name directives place e t = of_file s.file f.file name w.0 (in_fragment f c name (name_below w.1 name (own_name s name directives place e)) t)

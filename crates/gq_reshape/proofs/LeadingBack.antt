@@ -41,7 +41,7 @@ use Rattle.gq_reshape.specs.Determined.{EditsNameVersions, AnsweredEditsLeadBack
 use Rattle.gq_reshape.specs.Extract.{Extraction, extract_cut}
 use Rattle.gq_reshape.specs.Inline.{Inlining, inline_cut, inline_replacements, comes_first, is_only_spread}
 use Rattle.gq_reshape.specs.Remove.{Removal, remove_cut}
-use Rattle.gq_reshape.specs.Texts.{inlined_text}
+use Rattle.gq_law_cuts_read.specs.Texts.{inlined_text}
 use Rattle.gq_reshape.specs.Reshape.{IsExtractAnswer, IsInlineAnswer, IsRemoveAnswer}
 use Rattle.gq_reshape.proofs.PlacedEnds.{EndsLeadBack, edits_lead}
 use Rattle.gq_reshape.proofs.PlacedLemmas.{edits_there}

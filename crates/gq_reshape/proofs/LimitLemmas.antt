@@ -1,5 +1,5 @@
 -- Which edited text passes a limit.
-use Rattle.std.proofs.Common.{◌≡◌, ℕ, zero, suc, ◌+◌, ◌<◌, ◌^◌, Bool, true, false, List, [], ◌∷◌, length, drop, get_or, slice_get, Option, Some, None, Contains, refl, sym, ap, subst, ◌∙◌, map, find, arith, inl, inr, ⊎_elim}
+use Rattle.std.proofs.Common.{◌≡◌, ℕ, zero, suc, ◌+◌, ◌<◌, ◌^◌, Bool, true, false, List, [], ◌∷◌, length, slice_get, Option, Some, None, Contains, refl, sym, ap, subst, ◌∙◌, map, find, arith, inl, inr, ⊎_elim}
 use Rattle.std.specs.Prelude.{nat_lt}
 use Rattle.std.specs.Option.{option_map_or}
 use Rattle.std.proofs.lemmas.Bool.Decides.{nat_tests}
@@ -12,34 +12,23 @@ use Rattle.gq_project.specs.Documents.{IsInOrder}
 use Rattle.gq_parse.specs.Derives.{Derives}
 use Rattle.gq_parse.specs.Limits.{PassesLimitAt}
 use Rattle.gq_tree.specs.Readings.{ParsedOf}
-use Rattle.gq_parse.specs.Parsed.{IsParsed, AreParsed}
+use Rattle.gq_parse.specs.Parsed.{AreParsed}
 use Rattle.gq_parse.specs.Parsed as readings
-use Rattle.gq_types.proofs.Gathered.{nothing_in, cases_cons, found, from_map, to_map}
+use Rattle.gq_types.proofs.Gathered.{nothing_in, cases_cons, found, from_map, to_map, first, later}
 use Rattle.gq_edit.specs.declared.edit.DocumentEdit.{DocumentEdit}
 use Rattle.gq_edit.specs.Edits.{document_of, edited_text, is_too_large}
 use Rattle.gq_renamed.specs.Projects.{AreTrees, none, more}
 use Rattle.gq_renamed.proofs.EditedParts.{Part, documents_of, edits_of, made_in}
 use Rattle.gq_rename.specs.Rename.{IsTooLarge}
-use Rattle.gq_reshape.proofs.PlacedLemmas.{of_part, edit_of_part, its_document}
-use Rattle.gq_reshape.proofs.LowLemmas.{drop_read}
+use Rattle.gq_reshape.specs.declared.placed.PlacedReplacement.{PlacedReplacement}
+use Rattle.gq_reshape.specs.Placed.{edits_from, replacements_in}
+use Rattle.gq_reshape.proofs.PlacedLemmas.{parts_from, documents_are, edits_are, of_part, edit_of_part, its_document}
 use Rattle.gq_reshape.specs.Helping.Limits.{PassesSomeLimit, OnePasses, NonePasses}
 
 -- as many readings as documents, each of its own
 pub as_many : {documents : List Doc} {rs : List ParsedOf} → AreParsed documents rs → length documents ≡ length rs
 as_many readings.none = refl
 as_many (readings.more h hs) = ap suc (as_many hs)
-
-pub reading_at : (documents : List Doc) (rs : List ParsedOf) → AreParsed documents rs → (i : ℕ) (d : Doc) (r : ParsedOf) → i < length documents → d ≡ get_or documents i d → slice_get rs i ≡ Some r → IsParsed d.text r
-reading_at [] rs p i d r inside is at = absurd (omega (arith, inside))
-reading_at (x ∷ documents) [] p i d r inside is at = elim p [ ]
-reading_at (x ∷ documents) (q ∷ rs) (readings.more h hs) zero d r inside is at =
-    let same : q ≡ r = cc in subst (λ (y : Doc). IsParsed y.text r) (sym is) (subst (IsParsed x.text) same h)
-reading_at (x ∷ documents) (q ∷ rs) (readings.more h hs) (suc i) d r inside is at = reading_at documents rs hs i d r (omega (arith, inside)) is at
-
-pub passes_later : (documents : List Doc) (i : ℕ) (d : Doc) → i < length documents → d ≡ get_or documents i d → (PassesSomeLimit d.text → ⊥) → (NonePasses (drop i documents) → NonePasses documents) → NonePasses (drop (i + 1) documents) → NonePasses documents
-passes_later documents i d h is fine so rest =
-    let e : i + 1 ≡ suc i = omega arith in
-    so (subst NonePasses (sym (drop_read documents i d h is)) (fine, subst (λ (n : ℕ). NonePasses (drop n documents)) e rest))
 
 -- a document that passes none
 pub none_of_these : (documents : List Doc) (d : Doc) → NonePasses documents → Contains documents d → PassesSomeLimit d.text → ⊥
@@ -103,3 +92,39 @@ first_too_large documents edits edit e = by (document_of documents edit) refl ((
     by (Some document) of t =
         let more : 2 ^ 22 < length (edited_text edit document) = grind (arith, nat_tests) in
         record { edit = edit; stands = (found (is_too_large documents) edits edit e).0; document = document; of = of; passes = inl more }
+
+-- each document stands with its replacements
+part_there : (placed : List PlacedReplacement) (file : ℕ) (documents : List Doc) (k : ℕ) (d : Doc) → slice_get documents k ≡ Some d →
+    Contains (parts_from placed file documents) (record { document = d; replacements = replacements_in placed (file + k) })
+part_there placed file [] k d e = cc
+part_there placed file (x ∷ documents) zero d e =
+    let part : Doc → ℕ → Part = λ y n. record { document = y; replacements = replacements_in placed n } in
+    let same : x ≡ d = cc in
+    let number : file ≡ file + 0 = omega arith in
+    first (part x file) (part d (file + 0)) (parts_from placed (suc file) documents) (ap (λ (y : Doc). part y file) same ∙ ap (part d) number)
+part_there placed file (x ∷ documents) (suc k) d e =
+    let number : suc file + k ≡ file + suc k = omega arith in
+    let C : ℕ → Type 0 = λ n. Contains (parts_from placed (suc file) documents) (record { document = d; replacements = replacements_in placed n }) in
+    later _ _ (parts_from placed (suc file) documents) (subst C number (part_there placed (suc file) documents k d e))
+
+-- the text of a document in which something is replaced, where it passes a limit
+pub text_too_large : (placed : List PlacedReplacement) (documents : List Doc) → IsInOrder documents → (k : ℕ) (d : Doc) → slice_get documents k ≡ Some d → (r : Replacement) (rs : List Replacement) →
+    replacements_in placed k ≡ r ∷ rs → PassesSomeLimit (replaced (r ∷ rs) d.text) → IsTooLarge documents (edits_from placed 0 documents)
+text_too_large placed documents in_order k d at r rs e passes =
+    let number : 0 + k ≡ k = omega arith in
+    let parts : List Part = parts_from placed 0 documents in
+    let p : Part = record { document = d; replacements = replacements_in placed (0 + k) } in
+    let stands : Contains parts p = part_there placed 0 documents k d at in
+    let some : p.replacements ≡ r ∷ rs = ap (replacements_in placed) number ∙ e in
+    let sorted : IsInOrder (documents_of parts) = subst IsInOrder (sym (documents_are placed 0 documents)) in_order in
+    let edit : DocumentEdit = record { key = d.key; version = d.version; replacements = p.replacements } in
+    let own : document_of (documents_of parts) edit ≡ Some d = its_document parts p sorted stands in
+    let C : List DocumentEdit → Type 0 = λ es. Contains es edit in
+    let F : List Doc → Type 0 = λ ds. document_of ds edit ≡ Some d in
+    record {
+      edit = edit;
+      stands = subst C (edits_are placed 0 documents) (edit_of_part parts p r rs stands some);
+      document = d;
+      of = subst F (documents_are placed 0 documents) own;
+      passes = inr (subst (λ (xs : List Replacement). PassesSomeLimit (replaced xs d.text)) (sym some) passes);
+    }

@@ -1,5 +1,5 @@
 -- What loops over readings and directives come to.
-use Rattle.std.proofs.Common.{◌≡◌, ◌↔◌, ℕ, zero, suc, ◌+◌, ◌-◌, ◌<◌, ◌≤◌, Bool, true, List, [], ◌∷◌, ◌++◌, length, drop, get_or, slice_get, Option, Some, None, refl, sym, ap, subst, ◌∙◌, map, arith, ◌^◌, find, flat_map, append_assoc, ⊎_elim}
+use Rattle.std.proofs.Common.{◌≡◌, ℕ, zero, suc, ◌+◌, ◌-◌, ◌<◌, ◌≤◌, Bool, List, [], ◌∷◌, ◌++◌, length, drop, get_or, Option, Some, None, refl, sym, ap, subst, ◌∙◌, map, arith, ◌^◌, find, flat_map, append_assoc, ⊎_elim}
 use Rattle.std.specs.Prelude.{slice_range}
 use Rattle.std.specs.List.{enumerate_from}
 use Rattle.std.specs.Option.{option_map, option_or}
@@ -14,51 +14,18 @@ use Rattle.gq_tree.specs.declared.value.Directive.{Directive}
 use Rattle.gq_tree.specs.Views.{directive_view}
 use Rattle.gq_parse.specs.Limits.{IsNestedWithin}
 use Rattle.gq_parse.proofs.Nesting.{nested_front}
-use Rattle.gq_tree.specs.Readings.{ParsedOf, SharedParsed, in_document, shared_view, readings_view}
+use Rattle.gq_tree.specs.Readings.{SharedParsed, in_document, shared_view, readings_view}
 use Rattle.gq_document.specs.Definitions.{FragmentOf, fragment_in}
-use Rattle.gq_rewritten.specs.Rewrites.{Rewrite}
 use Rattle.gq_law_rewrites.specs.Parts.{DirectivesFit}
 use Rattle.gq_reshape.specs.declared.fragments.FragmentIn.{FragmentIn}
 use Rattle.gq_reshape.specs.Helping.Fragments.{fragment_found}
 use Rattle.gq_reshape.specs.Helping.Limits.{PassesSomeLimit}
-use Rattle.gq_reshape.specs.Helping.Rereading.{is_edited, IsRewrittenAt, AreRewrittenFrom}
-use Rattle.gq_reshape.specs.Texts.{last_directive_end, directives_text}
+use Rattle.gq_law_cuts_read.specs.Texts.{last_directive_end, directives_text}
 
 pub drop_read : {X : Type 0} (xs : List X) (i : ℕ) (x : X) → i < length xs → x ≡ get_or xs i x → drop i xs ≡ x ∷ drop (suc i) xs
 drop_read [] i x h is = absurd (omega (arith, h))
 drop_read (y ∷ ys) zero x h is = ap (λ z. z ∷ ys) (sym is)
 drop_read (y ∷ ys) (suc i) x h is = drop_read ys i x (omega (arith, h)) is
-
--- what stands at a place, and what behind it
-drop_at : {X : Type 0} (xs : List X) (i : ℕ) (x : X) → slice_get xs i ≡ Some x → drop i xs ≡ x ∷ drop (suc i) xs
-drop_at [] i x e = absurd (cc)
-drop_at (y ∷ ys) zero x e = let same : y ≡ x = cc in ap (λ z. z ∷ ys) same
-drop_at (y ∷ ys) (suc i) x e = drop_at ys i x e
-
--- the readings at one place, and those behind
-module _ (r : Rewrite) (file : ℕ) (before after : List ParsedOf) (b a : ParsedOf) (b_at : slice_get before file ≡ Some b) (a_at : slice_get after file ≡ Some a)
-    (invariant : AreRewrittenFrom r file (drop file before) (drop file after) ↔ AreRewrittenFrom r 0 before after) where
-  Here : Type 0
-  Here = (is_edited r file ≡ true → IsRewrittenAt r file b a) × AreRewrittenFrom r (suc file) (drop (suc file) before) (drop (suc file) after)
-
-  here : AreRewrittenFrom r file (drop file before) (drop file after) ≡ Here
-  unfolding Here
-  here =
-      ap (λ (xs : List ParsedOf). AreRewrittenFrom r file xs (drop file after)) (drop_at before file b b_at)
-      ∙ ap (λ (ys : List ParsedOf). AreRewrittenFrom r file (b ∷ drop (suc file) before) ys) (drop_at after file a a_at)
-
-  -- it is not as it should be
-  pub not_here : is_edited r file ≡ true → (IsRewrittenAt r file b a → ⊥) → AreRewrittenFrom r 0 before after → ⊥
-  unfolding Here
-  not_here edited wrong all = wrong ((subst (λ (T : Type 0). T) here (invariant.1 all)).0 edited)
-
-  -- it is, or need not be
-  pub behind : (is_edited r file ≡ true → IsRewrittenAt r file b a) → AreRewrittenFrom r (file + 1) (drop (file + 1) before) (drop (file + 1) after) ↔ AreRewrittenFrom r 0 before after
-  unfolding Here
-  behind right =
-      let more : file + 1 ≡ suc file = omega arith in
-      subst (λ (n : ℕ). AreRewrittenFrom r n (drop n before) (drop n after) ↔ AreRewrittenFrom r 0 before after) (sym more)
-      (λ rest. invariant.0 (subst (λ (T : Type 0). T) (sym here) (right, rest)), λ all. (subst (λ (T : Type 0). T) here (invariant.1 all)).1)
 
 -- the end of the last directive
 last_end : (d : Directive) (ds : List Directive) (last : Directive) → last_directive_end d.span (map directive_view ds) ≡ (get_or (d ∷ ds) (length ds) last).span.end

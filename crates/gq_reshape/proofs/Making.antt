@@ -20,7 +20,7 @@ use Rattle.gq_reshape.specs.Extract.{extract_at}
 use Rattle.gq_reshape.specs.Inline.{inline_at, comes_first, in_order}
 use Rattle.gq_reshape.specs.Placed.{replacements_in}
 use Rattle.gq_reshape.specs.Remove.{remove_at}
-use Rattle.gq_reshape.specs.Texts.{inlined_text, opened_text, spread_text, fragment_text}
+use Rattle.gq_law_cuts_read.specs.Texts.{inlined_text, opened_text, spread_text, fragment_text}
 use Rattle.gq_reshape.specs.Helping.Fitting.{AllFit}
 use Rattle.gq_reshape.specs.Helping.Making.{CanBeMade, SomeExecutable}
 use Rattle.gq_reshape.proofs.Quiet.{skipped, extract_quiet, inline_quiet, remove_quiet}
@@ -41,7 +41,7 @@ all_fit : (placed : List PlacedReplacement) (documents : List Doc) → ((k : ℕ
 all_fit placed documents each = fit_from placed 0 documents (λ k d e. let same : k ≡ 0 + k = omega arith in subst (λ (n : ℕ). Fit d.text (replacements_in placed n)) same (each k d e))
 
 -- a replacement in the document
-kept : (p : PlacedReplacement) (ps : List PlacedReplacement) (file : ℕ) → nat_eq p.file file ≡ true → replacements_in (p ∷ ps) file ≡ p.replacement ∷ replacements_in ps file
+pub kept : (p : PlacedReplacement) (ps : List PlacedReplacement) (file : ℕ) → nat_eq p.file file ≡ true → replacements_in (p ∷ ps) file ≡ p.replacement ∷ replacements_in ps file
 kept p ps file e = ap (λ (b : Bool). map (λ p. p.replacement) (if b then p ∷ filter (λ p. nat_eq p.file file) ps else filter (λ p. nat_eq p.file file) ps)) e
 
 -- the document of a number

@@ -19,7 +19,11 @@ use Rattle.gq_rename.specs.declared.refusal.Refusal.{Refusal}
 use Rattle.gq_rename.specs.declared.refusal.Refusal.TheVariants.{NothingHere, NotRedundant}
 use Rattle.gq_reshape.specs.declared.asked.Asked.{Asked}
 use Rattle.gq_reshape.specs.declared.reshaping.Reshaping.TheVariants.{Remove}
+use Rattle.gq_schema.specs.SchemaOf.{IsTypeSystemOf}
+use Rattle.gq_rename.specs.Asks.{trees_of}
 use Rattle.gq_reshape.specs.Asks.{tree_at}
+use Rattle.gq_reshape.specs.Cuts.{PassesCheck}
+use Rattle.gq_reshape.specs.Passing.{RemovalsPass}
 use Rattle.gq_reshape.specs.Remove.{remove_at, says_nothing}
 use Rattle.gq_reshape.specs.Helping.About.{IsAbout, IsInlineAsked, ask_of, inline_head, sets_of_asked}
 use Rattle.gq_reshape.specs.Helping.Judged.{IsJudged}
@@ -73,6 +77,14 @@ module _ (asked : Asked) (about : IsAbout asked) where
         pub inline_opened : CanBeMade Documents Readings (remove_at asked.file asked.document.now.text i.span i.set.span)
         inline_opened =
             remove_made Documents Readings asked.file asked.document.now about.is_document.stands (meant_executable Types (tree_at Readings asked.file) is_inline asked.range of.selected of.is_meant) i.span i.set.span head_fits.0
+
+        -- what is opened can go
+        pub passes : RemovalsPass → PassesCheck Documents (trees_of Readings) (remove_at asked.file asked.document.now.text i.span i.set.span)
+        passes pass =
+            let types : IsTypeSystemOf Documents Types = record { readings = Readings; are_readings = are_readings asked about known; is = known.is_type_system } in
+            pass Documents about.in_order about.valid Readings (are_readings asked about known) (ask_of asked) Types types
+            (offers.own Documents Types Readings (ask_of asked) about.valid asked.file asked.document.now about.is_document of.selected of.is_meant On Directives i.set.span i.span of.is_inline)
+            (offers.own_not Documents Types Readings (ask_of asked) about.valid asked.file asked.document.now about.is_document of.selected of.is_meant On Directives i.set.span i.span of.is_inline of.says)
 
       pub removed : (result : Result (List DocumentEdit) Refusal) → IsJudged Documents Readings (remove_at asked.file asked.document.now.text i.span i.set.span) result → IsOffered Remove asked result
       removed =

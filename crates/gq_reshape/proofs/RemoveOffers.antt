@@ -76,7 +76,7 @@ module _ (documents : List Doc) (es : List EntryOf) (readings : List ParsedOf) (
       same_place : (u : Removal documents es readings ask) → place ≡ u.place
       same_place u = let e = same_head u in cc
 
-      abbrev own : Removal documents es readings ask
+      abbrev pub own : Removal documents es readings ask
       own = record { file = file; document = document; asked_of = asked; selected = s; is_meant = is_meant; on = on; directives = directives; braces = braces; place = place; is_inline = is }
 
       abbrev pub OwnCut : Cut
@@ -95,7 +95,7 @@ module _ (documents : List Doc) (es : List EntryOf) (readings : List ParsedOf) (
       pub says_something : Says ≡ false → RemoveOffer documents es readings ask (Err NotRedundant)
       says_something says = inr (record { removal = own; says = says }, none_before 9 (λ l none. none own) (λ l. absurd (omega (arith, l))) (λ l. absurd (omega (arith, l))) (λ l. absurd (omega (arith, l))))
 
-      own_not : Says ≡ true → IsNotRedundant documents es readings ask → ⊥
+      pub own_not : Says ≡ true → IsNotRedundant documents es readings ask → ⊥
       own_not says h =
           let e : Says ≡ false = ap (λ (o : Option (NameOf Span)). says_nothing o directives s.parent) (same_on h.removal) ∙ ap (λ (ds : List (DirectiveOf Span)). says_nothing h.removal.on ds s.parent) (same_directives h.removal) ∙ ap (λ (x : StandingOf). says_nothing h.removal.on h.removal.directives x.parent) (same_selected h.removal) ∙ h.says in
           let g : true ≡ false = sym says ∙ e in cc

@@ -62,20 +62,32 @@ nothing_said (Some on) directives braces place p e =
     (no_directive directives parts.0, sym (same_text p on.text parts.1))
 
 module _ (documents : List Doc) (ask : RangeAsk) (rs : List ParsedOf) (are : AreParsed documents rs) (es : List EntryOf) (promise : Promised es rs) where
-  pub removed_keeping : (r : Removal documents es rs ask) → (IsNotRedundant documents es rs ask → ⊥) → IsKeeping es rs (remove_cut r)
-  removed_keeping r redundant =
+  -- what is removed, as a selection of the project whose parent has a known type
+  pub record RemovalStands (r : Removal documents es rs ask) : Type 0 where
+    pub selects : Selected rs es (record { file = r.file; parent = r.selected.parent; selection = r.selected.selection })
+    pub parent : Text
+    pub is_parent : r.selected.parent ≡ Some parent
+    pub says : SaysNothing parent r.selected.selection.label
+
+  pub removal_stands : (r : Removal documents es rs ask) → (IsNotRedundant documents es rs ask → ⊥) → RemovalStands r
+  removal_stands r redundant =
       let s : SelectedOf = record { file = r.file; parent = r.selected.parent; selection = r.selected.selection } in
       let selects : Selected rs es s = selected_asked es rs r.file r.selected (meant_stands is_inline ask.range (document_sets es (tree_at rs r.file)) r.selected r.is_meant) in
       let p = promise.known s selects in
       let says : says_nothing r.on r.directives r.selected.parent ≡ true = not_false (says_nothing r.on r.directives r.selected.parent) (λ e. redundant (record { removal = r; says = e })) in
       let said : SaysNothing p.0 (inline r.on r.directives r.braces r.place) =
       nothing_said r.on r.directives r.braces r.place p.0 (subst (λ (z : Option Text). says_nothing r.on r.directives z ≡ true) p.1 says) in
-      let here : SaysNothing p.0 r.selected.selection.label = subst (SaysNothing p.0) (sym r.is_inline) said in
+      record { selects = selects; parent = p.0; is_parent = p.1; says = subst (SaysNothing p.0) (sym r.is_inline) said }
+
+  pub removed_keeping : (r : Removal documents es rs ask) → (IsNotRedundant documents es rs ask → ⊥) → IsKeeping es rs (remove_cut r)
+  removed_keeping r redundant =
+      let s : SelectedOf = record { file = r.file; parent = r.selected.parent; selection = r.selected.selection } in
+      let w = removal_stands r redundant in
       let place : head_place r.selected.selection.label ≡ r.place = ap head_place r.is_inline in
       let R : Span → Type 0 = λ z. Restates (static_of es) (roots_in es) (trees_read rs) (rewritten_from (removal r.file z) 0 (trees_read rs)) in
       record {
         quiet = λ k e. other_document _ [] k (neither (nat_eq r.file k) false e).0;
         added = tt;
-        some = from_first (remove_cut r).rewrite (trees_read rs) (λ i tree there e. it_holds (trees_read rs) r.file i (selected_holds es rs s selects) tree there (edited_there (remove_cut r).rewrite i refl e));
-        restates = subst R place (removed_project documents rs are es promise.rooted promise.known promise.defined s selects p.0 p.1 here);
+        some = from_first (remove_cut r).rewrite (trees_read rs) (λ i tree there e. it_holds (trees_read rs) r.file i (selected_holds es rs s w.selects) tree there (edited_there (remove_cut r).rewrite i refl e));
+        restates = subst R place (removed_project documents rs are es promise.rooted promise.known promise.defined s w.selects w.parent w.is_parent w.says);
       }

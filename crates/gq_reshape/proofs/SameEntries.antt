@@ -17,7 +17,7 @@ use Rattle.gq_tree.specs.Readings.{ParsedOf, definitions_read, in_document}
 use Rattle.gq_document.specs.Definitions.{entry_in, entries_of}
 use Rattle.gq_meaning.specs.Thin.{IsIn}
 use Rattle.gq_renamed.proofs.EditedParts.{made_in}
-use Rattle.gq_rewritten.specs.Views as rewritten
+use Rattle.gq_rewritten.specs.Executables as rewritten
 use Rattle.gq_rewritten.specs.Rewrites.{Bare, Rewrite, with_set, is_kept, rewritten_document, rewritten_from}
 use Rattle.gq_reshape.specs.declared.placed.PlacedReplacement.{PlacedReplacement}
 use Rattle.gq_reshape.specs.Placed.{edits_from, replacements_in}
@@ -84,7 +84,7 @@ executables_more : {P : Type 0} (ds es : List (Def P)) → AllByRecursion IsExec
 executables_more [] es all more = more
 executables_more (d ∷ ds) es all more = (all.0, executables_more ds es all.1 more)
 
-rewritten_executables : (r : Rewrite) (k : ℕ) (ds : List (Def Span)) → AllByRecursion IsExecutable r.added → AllByRecursion IsExecutable ds → AllByRecursion IsExecutable (rewritten_document r k ds)
+pub rewritten_executables : (r : Rewrite) (k : ℕ) (ds : List (Def Span)) → AllByRecursion IsExecutable r.added → AllByRecursion IsExecutable ds → AllByRecursion IsExecutable (rewritten_document r k ds)
 rewritten_executables r k ds added all = by (nat_eq r.file k) (executables_kept (is_kept r.dropped k) ds all)
   where
     by : (b : Bool) → AllByRecursion IsExecutable (filter (is_kept r.dropped k) ds) → AllByRecursion IsExecutable (if b then map (with_set r.change) (filter (is_kept r.dropped k) ds) ++ r.added else map (place_def no_place) (filter (is_kept r.dropped k) ds))

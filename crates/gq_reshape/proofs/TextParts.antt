@@ -134,7 +134,7 @@ module _ (documents : List Doc) (rs : List ParsedOf) (are : AreParsed documents 
   home : StandsIn (trees_read rs) f.file (fragment_def f)
   home = fragment_stands rs f stands
 
-  no_other : Each (IsSpreadOther (Some f.name.text)) f.set
+  pub no_other : Each (IsSpreadOther (Some f.name.text)) f.set
   no_other =
       let c : Contains (definitions_of (trees_read rs)) (seen_fragment f) = subst (λ ds. Contains ds (seen_fragment f)) (sym (fragments_seen rs)) (to_map seen_fragment (fragments_of rs) f stands) in
       ranked_other rank f.name.text f.place.start f.place.end f.set (ranked.each (seen_fragment f) (is_in (seen_fragment f) (definitions_of (trees_read rs)) c))

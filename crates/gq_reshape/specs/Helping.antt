@@ -4,6 +4,7 @@ pub mod Fitting
 pub mod Fragments
 pub mod Judged
 pub mod Limits
+pub mod Limited
 pub mod Making
 pub mod Rereading
 pub mod Steps

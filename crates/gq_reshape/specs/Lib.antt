@@ -1,5 +1,4 @@
 pub mod Asks
-pub mod Texts
 pub mod Naming
 pub mod Placed
 pub mod Cuts
@@ -12,4 +11,5 @@ pub mod Reshape
 pub mod Asked
 pub mod Determined
 pub mod Responses
+pub mod Passing
 pub mod Helping

@@ -1,7 +1,6 @@
 //! Extract: selections are put into a new fragment (GraphQL, October 2021, section 2.8).
 ghost use Rattle.std.specs.Prelude.{◌≡◌, ◌⊎◌, Err, IfOk};
 ghost use Rattle.std.specs.Option.{option_map};
-ghost use Rattle.gq_tree.specs.Views.{sels_view};
 ghost use Rattle.gq_edit.specs.Edits.{FitDocuments, after_edit};
 ghost use Rattle.gq_index.specs.Indexed.{IsIndexOfProject};
 ghost use Rattle.gq_known.specs.Known.{IsKnown};
@@ -11,13 +10,14 @@ ghost use Rattle.gq_document.specs.SetViews.{set_view};
 ghost use Rattle.gq_law_rewrites.specs.Parts.{IsPartOf};
 ghost use Rattle.gq_rename.specs.declared.refusal.Refusal.TheVariants as refusal;
 ghost use Rattle.gq_reshape.specs.Extract.{extract_replacements};
-ghost use Rattle.gq_reshape.specs.Helping.About.{IsAbout, IsRunOn};
+ghost use Rattle.gq_reshape.specs.Helping.About.{IsAbout, IsSomeRunOn};
 ghost use Rattle.gq_reshape.specs.Reshape.{IsExtractAnswer};
 ghost use Rattle.gq_reshape.specs.Responses.{KeepsResponses};
 ghost use Rattle.gq_reshape.specs.Helping.Steps.{HasObject, IsOffered, IsPossibleParent, IsNoRun};
 
 use crate::asked::{Asked, sets_of};
-use crate::checking::checked_edit;
+use crate::laws::extracts_pass;
+use crate::limits::limited_edit;
 use crate::naming::{extracted_name, free_number};
 use crate::placed::PlacedReplacement;
 use crate::reshaping::{Reshaping, reshape, reshape_by};
@@ -29,11 +29,10 @@ use gq_index::laws::documents_have_one_list;
 use gq_known::Known;
 use gq_lex::laws::one_reading;
 use gq_rename::Refusal;
-use gq_rewritten::{Added, Change, Rewrite};
+use gq_rename::checking::documents_are_texts;
 use gq_rules::Valid;
 use gq_select::{find_run, innermost, touched};
 use gq_text::{NoMemory, Replacement, Span};
-use gq_tree::Selection;
 use gq_types::Types;
 use std::alloc::Global;
 
@@ -113,19 +112,15 @@ fn extract_replacements(
     Ok(replacements)
 }
 
-/// The edit that puts the run of that place into a new fragment on that type, if it passes the checks.
-fn extract_run(
-    alloc: Global,
-    asked: Asked<'_>,
-    place: Span,
-    on: &str,
-    run: &[Selection],
-) -> Result<Edit, Refusal>
+/// The edit that puts the run of that place into a new fragment on that type, if no edited text passes a limit. It leaves a valid
+/// project, so no edited text is compared with a tree.
+fn extract_run(alloc: Global, asked: Asked<'_>, place: Span, on: &str) -> Result<Edit, Refusal>
     requires about { IsAbout asked }
-    requires run { IsRunOn asked place on.now (sels_view run.now) }
+    requires run { IsSomeRunOn asked place on.now }
     ensures answer { IsKnown asked.entry.known → IsIndexOfProject asked.entry.valid.now asked.entry.index.now → IsOffered Reshaping.Extract asked.entry result }
     ensures fits { IfOk result (FitDocuments asked.entry.valid.now) }
 {
+    extracts_pass();
     one_reading();
     documents_have_one_list();
     let number = free_number(alloc, asked.index)?;
@@ -133,17 +128,7 @@ fn extract_run(
     let name = name.as_str();
     let text = asked.document.text.as_str();
     let replacements = extract_replacements(alloc, asked.file, text, place, name, on)?;
-    let rewrite = Rewrite {
-        file: asked.file,
-        change: Change::Extract {
-            start: place.start,
-            end: place.end,
-            name,
-        },
-        added: Some(Added { name, on, run }),
-        dropped: None,
-    };
-    checked_edit(alloc, asked, &replacements, &rewrite)
+    limited_edit(alloc, asked, &replacements)
 }
 
 /// The answer to an extract of what the range touches.
@@ -161,7 +146,7 @@ pub(crate) fn extract_range(alloc: Global, asked: Asked<'_>) -> Result<Edit, Ref
         return Err(no_run(alloc, asked.known.types, innermost(&sets, place))?);
     };
     match possible_parent(alloc, asked.known.types, run.parent)? {
-        Some(on) => extract_run(alloc, asked, place, on, run.selections),
+        Some(on) => extract_run(alloc, asked, place, on),
         None => Err(Refusal::NoPossibleType),
     }
 }
@@ -172,15 +157,18 @@ pub(crate) fn extract_range(alloc: Global, asked: Asked<'_>) -> Result<Edit, Ref
 /// least N from 1 that is free.
 ///
 /// It is refused, in this order, as NothingHere where no token is touched or the tokens stand in no selection set,
-/// NoPossibleType where no object type is possible for the parent, NotSiblings where there are no such selections,
-/// TooLarge where an edited text would pass a limit, and SelfCheck where the edited texts do not read as wanted or the
-/// edited project is not valid; and as NoMemory where a growth was refused.
+/// NoPossibleType where no object type is possible for the parent, NotSiblings where there are no such selections, and TooLarge
+/// where an edited text would pass a limit; and as NoMemory where a growth was refused. It is never refused as SelfCheck, since
+/// such an edit leaves a valid project.
 pub fn extract(alloc: Global, valid: &Valid, key: &str, range: Span) -> Result<Edit, Refusal>
     ensures answer { (result ≡ Err refusal.NoMemory) ⊎ IsExtractAnswer valid.now (record { key = key.now; range = range }) result }
     ensures fits { IfOk result (FitDocuments valid.now) }
     ensures responses { IfOk result (KeepsResponses valid.now) }
     ensures valid { IfOk result (λ edit. ∥ IsValid (after_edit edit valid.now) ∥₁) }
+    ensures never_self_check { result ≡ Err refusal.SelfCheck → ⊥ }
 {
+    extracts_pass();
+    documents_are_texts(valid.project());
     reshape(alloc, Reshaping::Extract, valid, key, range)
 }
 
@@ -201,6 +189,9 @@ pub fn extract_by(
     ensures fits { IfOk result (FitDocuments valid.now) }
     ensures responses { IsKnown known.entry → IsIndexOfProject valid.now index.now → IfOk result (KeepsResponses valid.now) }
     ensures valid { IfOk result (λ edit. ∥ IsValid (after_edit edit valid.now) ∥₁) }
+    ensures never_self_check { result ≡ Err refusal.SelfCheck → ⊥ }
 {
+    extracts_pass();
+    documents_are_texts(valid.project());
     reshape_by(alloc, Reshaping::Extract, valid, known, index, key, range)
 }

@@ -1,12 +1,10 @@
 //! Inline: a spread becomes an inline fragment with what its fragment selects (GraphQL, October 2021, section 2.8.2).
-ghost use Rattle.std.specs.Prelude.{◌≡◌, ◌⊎◌, ◌||◌, Err, Some, None, true, IfOk, map, if◌then◌else◌};
+ghost use Rattle.std.specs.Prelude.{◌≡◌, ◌⊎◌, ◌||◌, Err, true, IfOk, map};
 ghost use Rattle.std.specs.List.{list_any};
-ghost use Rattle.std.specs.Option.{option_map};
 ghost use Rattle.gq_tree.specs.Views.{directive_view, sel_view};
 ghost use Rattle.gq_edit.specs.Edits.{FitDocuments, after_edit};
 ghost use Rattle.gq_index.specs.Indexed.{IsIndexOfProject};
 ghost use Rattle.gq_known.specs.Known.{IsKnown};
-ghost use Rattle.gq_rewritten.specs.Views.{dropped_of};
 ghost use Rattle.gq_rules.specs.Validity.{IsValid};
 ghost use Rattle.gq_select.specs.Meant.{is_spread};
 ghost use Rattle.gq_law_rewrites.specs.Parts.{DirectivesFit, IsPartOf};
@@ -19,8 +17,9 @@ ghost use Rattle.gq_reshape.specs.Responses.{KeepsResponses};
 ghost use Rattle.gq_reshape.specs.Helping.Steps.{IsOffered};
 
 use crate::asked::{Asked, meant_in};
-use crate::checking::checked_edit;
 use crate::fragments::{FragmentIn, fragment_called};
+use crate::laws::inlines_pass;
+use crate::limits::limited_edit;
 use crate::naming::is_only_spread;
 use crate::placed::PlacedReplacement;
 use crate::reshaping::{Reshaping, reshape, reshape_by};
@@ -30,7 +29,7 @@ use gq_index::Index;
 use gq_index::laws::documents_have_one_list;
 use gq_known::Known;
 use gq_rename::Refusal;
-use gq_rewritten::{Change, Dropped, Rewrite};
+use gq_rename::checking::documents_are_texts;
 use gq_rules::Valid;
 use gq_rules::laws::no_project_is_valid_and_invalid;
 use gq_select::SelectionKind;
@@ -128,20 +127,6 @@ fn inline_replacements(
     Ok(replacements)
 }
 
-/// The definition, where it goes.
-fn dropped(found: &FragmentIn<'_>, goes: bool) -> Option<Dropped>
-    ensures { option_map dropped_of result ≡ (if goes then Some (record { file = (fragment_found found.now).file; place = (fragment_found found.now).place }) else None) }
-{
-    if goes {
-        Some(Dropped {
-            file: found.file,
-            place: found.definition.span,
-        })
-    } else {
-        None
-    }
-}
-
 /// Whether a directive of the spread or of the definition is in the way.
 fn is_directive_in_way(spread: &Spread, found: &FragmentIn<'_>) -> bool
     ensures { result ≡ (list_any is_in_way (map directive_view spread.now.directives.items) || has_directive (fragment_found found.now).directives) }
@@ -149,7 +134,8 @@ fn is_directive_in_way(spread: &Spread, found: &FragmentIn<'_>) -> bool
     is_one_in_way(&spread.directives) || !found.definition.directives.is_empty()
 }
 
-/// The edit that puts what its fragment selects for the spread, if it passes the checks.
+/// The edit that puts what its fragment selects for the spread, if the edited texts pass no limit. It leaves a valid project, so
+/// no edited text is parsed.
 fn inline_spread(
     alloc: Global,
     asked: Asked<'_>,
@@ -162,6 +148,7 @@ fn inline_spread(
     ensures answer { IsKnown asked.entry.known → IsIndexOfProject asked.entry.valid.now asked.entry.index.now → IsOffered Reshaping.Inline asked.entry result }
     ensures fits { IfOk result (FitDocuments asked.entry.valid.now) }
 {
+    inlines_pass();
     no_project_is_valid_and_invalid();
     documents_have_one_list();
     let project = asked.valid.project();
@@ -169,17 +156,7 @@ fn inline_spread(
     let text = asked.document.text.as_str();
     let home = project.documents()[found.file].text.as_str();
     let replacements = inline_replacements(alloc, asked.file, text, spread, found, home, goes)?;
-    let rewrite = Rewrite {
-        file: asked.file,
-        change: Change::Inline {
-            place: spread.span,
-            on: found.definition.on.text.as_str(),
-            set: &found.definition.set.items,
-        },
-        added: None,
-        dropped: dropped(found, goes),
-    };
-    checked_edit(alloc, asked, &replacements, &rewrite)
+    limited_edit(alloc, asked, &replacements)
 }
 
 /// The spread that a selection is.
@@ -219,15 +196,17 @@ pub(crate) fn inline_range(alloc: Global, asked: Asked<'_>) -> Result<Edit, Refu
 /// its directives; where it was the only one of its fragment, the definition goes.
 ///
 /// It is refused, in this order, as NothingHere where no spread is meant, DirectiveInWay where the spread has another
-/// directive than `@skip` and `@include` or the definition has any, TooLarge where an edited text would pass a limit, and
-/// SelfCheck where the edited texts do not read as wanted or the edited project is not valid; and as NoMemory where a
-/// growth was refused.
+/// directive than `@skip` and `@include` or the definition has any, and TooLarge where an edited text would pass a limit; and as
+/// NoMemory where a growth was refused. It is never refused as SelfCheck, since such an edit leaves a valid project.
 pub fn inline(alloc: Global, valid: &Valid, key: &str, range: Span) -> Result<Edit, Refusal>
     ensures answer { (result ≡ Err refusal.NoMemory) ⊎ IsInlineAnswer valid.now (record { key = key.now; range = range }) result }
     ensures fits { IfOk result (FitDocuments valid.now) }
     ensures responses { IfOk result (KeepsResponses valid.now) }
     ensures valid { IfOk result (λ edit. ∥ IsValid (after_edit edit valid.now) ∥₁) }
+    ensures never_self_check { result ≡ Err refusal.SelfCheck → ⊥ }
 {
+    inlines_pass();
+    documents_are_texts(valid.project());
     reshape(alloc, Reshaping::Inline, valid, key, range)
 }
 
@@ -248,6 +227,9 @@ pub fn inline_by(
     ensures fits { IfOk result (FitDocuments valid.now) }
     ensures responses { IsKnown known.entry → IsIndexOfProject valid.now index.now → IfOk result (KeepsResponses valid.now) }
     ensures valid { IfOk result (λ edit. ∥ IsValid (after_edit edit valid.now) ∥₁) }
+    ensures never_self_check { result ≡ Err refusal.SelfCheck → ⊥ }
 {
+    inlines_pass();
+    documents_are_texts(valid.project());
     reshape_by(alloc, Reshaping::Inline, valid, known, index, key, range)
 }

@@ -6,15 +6,19 @@ ghost use Rattle.gq_rename.specs.declared.refusal.Refusal.TheVariants.{ProjectIn
 ghost use Rattle.gq_reshape.specs.Asks.{RangeAsk};
 ghost use Rattle.gq_reshape.specs.Determined.{OffersAreDetermined, OffersAreThere, AnswersAreDetermined, EditsNameVersions, AnsweredEditsLeadBack};
 ghost use Rattle.gq_reshape.specs.LastSpread.{GoesExactlyAlone, GoesWithTheLast};
+ghost use Rattle.gq_reshape.specs.Passing.{AnswersPass, ExtractsPass, InlinesPass, RemovalsPass};
 ghost use Rattle.gq_reshape.specs.Reshape.{IsExtractAnswer, IsInlineAnswer, IsRemoveAnswer};
 ghost use Rattle.gq_reshape.specs.Responses.{EditsKeepResponses};
 ghost use Rattle.gq_reshape.specs.RunPlaces.{RunsTouchTheirPlace};
 
+use gq_law_cuts_read::laws::{extracted_texts_read, inlined_texts_read, removed_texts_read};
 use gq_law_rewrites::responses::restated_projects_keep_responses;
+use gq_law_rewrites_valid::inlines::inlines_keep_all_rules;
+use gq_law_rewrites_valid::laws::{extracts_keep_all_rules, removals_keep_all_rules};
 use gq_lex::laws::one_reading;
 use gq_parse::laws::one_tree;
 use gq_rename::laws::{renames_are_determined, renames_are_there};
-use gq_rules::laws::no_project_is_valid_and_invalid;
+use gq_rules::laws::{no_project_is_valid_and_invalid, valid_documents_have_trees};
 use gq_text::laws::positions_lead_back;
 
 /// In a project that is not valid every one of them is refused as that.
@@ -35,6 +39,50 @@ pub fn refactorings_keep_responses()
     one_tree();
     no_project_is_valid_and_invalid();
     restated_projects_keep_responses();
+}
+
+/// In a valid project an inline fragment that says nothing can go: the edited texts read as the trees without its braces, and
+/// the edited project is valid. So a remove is not refused for what its edit would leave.
+pub fn removals_pass()
+    ensures pass { RemovalsPass }
+    ensures never { AnswersPass IsRemoveAnswer }
+{
+    one_tree();
+    no_project_is_valid_and_invalid();
+    restated_projects_keep_responses();
+    valid_documents_have_trees();
+    removed_texts_read();
+    removals_keep_all_rules();
+}
+
+/// In a valid project a spread can become an inline fragment, where no directive is in the way and no edited text passes a limit:
+/// the edited texts read as the trees with that change, and the edited project is valid. So an inline is not refused for what its
+/// edit would leave.
+pub fn inlines_pass()
+    ensures pass { InlinesPass }
+    ensures never { AnswersPass IsInlineAnswer }
+{
+    one_tree();
+    no_project_is_valid_and_invalid();
+    restated_projects_keep_responses();
+    valid_documents_have_trees();
+    inlined_texts_read();
+    inlines_keep_all_rules();
+}
+
+/// In a valid project a run can go into a new fragment, where some object type is possible for it and no edited text passes a
+/// limit: the edited texts read as the trees with the spread and the fragment, and the edited project is valid. So an extract is
+/// not refused for what its edit would leave.
+pub fn extracts_pass()
+    ensures pass { ExtractsPass }
+    ensures never { AnswersPass IsExtractAnswer }
+{
+    one_tree();
+    no_project_is_valid_and_invalid();
+    restated_projects_keep_responses();
+    valid_documents_have_trees();
+    extracted_texts_read();
+    extracts_keep_all_rules();
 }
 
 /// An ask has one answer: two that meet its definition are equal, however the documents are read.

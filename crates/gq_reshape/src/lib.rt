@@ -2,16 +2,15 @@
 #![tactic(auto)]
 
 mod asked;
-mod checking;
 mod depth;
 pub mod extracting;
 mod fragments;
 pub mod inlining;
 pub mod laws;
+mod limits;
 mod naming;
 pub mod offering;
 pub mod placed;
-mod reading;
 pub mod removing;
 mod reshaping;
 mod texts;

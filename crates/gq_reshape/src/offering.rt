@@ -47,6 +47,7 @@ pub fn offer(alloc: Global, valid: &Valid, ask: Ask<'_>) -> Result<Edit, Refusal
     ensures fits { IfOk result (FitDocuments valid.now) }
     ensures responses { IfOk result (KeepsResponsesFor valid.now ask.entry) }
     ensures valid { IfOk result (λ edit. ∥ IsValid (after_edit edit valid.now) ∥₁) }
+    ensures never_self_check { result ≡ Err refusal.SelfCheck → ⊥ }
 {
     match ask {
         Ask::Rename {

@@ -18,15 +18,18 @@ ghost use Rattle.gq_reshape.specs.Responses.{KeepsResponses};
 ghost use Rattle.gq_reshape.specs.Helping.Steps.{IsOffered};
 
 use crate::asked::{Asked, meant_in};
-use crate::checking::checked_edit;
+use crate::laws::removals_pass;
+use crate::limits::sound_edit;
 use crate::placed::PlacedReplacement;
 use crate::reshaping::{Reshaping, reshape, reshape_by};
 use crate::texts::opened_text;
 use gq_edit::Edit;
 use gq_index::Index;
 use gq_known::Known;
+use gq_parse::laws::no_tree_past_limits;
 use gq_rename::Refusal;
-use gq_rewritten::{Change, Rewrite};
+use gq_rename::checking::documents_are_texts;
+use gq_rename::laws::valid_documents_are_trees;
 use gq_rules::Valid;
 use gq_select::SelectionKind;
 use gq_text::{NoMemory, Replacement, Span};
@@ -73,22 +76,20 @@ fn remove_replacements(
     Ok(replacements)
 }
 
-/// The edit that puts what stands between its braces for the inline fragment, if it passes the checks.
+/// The edit that puts what stands between its braces for the inline fragment. It leaves a valid project, so no edited text is
+/// read.
 fn open_fragment(alloc: Global, asked: Asked<'_>, inline: &InlineFragment) -> Result<Edit, Refusal>
     requires about { IsAbout asked }
     requires of { IsInlineAsked asked inline.now }
     ensures answer { IsKnown asked.entry.known → IsIndexOfProject asked.entry.valid.now asked.entry.index.now → IsOffered Reshaping.Remove asked.entry result }
     ensures fits { IfOk result (FitDocuments asked.entry.valid.now) }
 {
+    removals_pass();
+    valid_documents_are_trees();
+    no_tree_past_limits();
     let text = asked.document.text.as_str();
     let replacements = remove_replacements(alloc, asked.file, text, inline.span, inline.set.span)?;
-    let rewrite = Rewrite {
-        file: asked.file,
-        change: Change::Remove { place: inline.span },
-        added: None,
-        dropped: None,
-    };
-    checked_edit(alloc, asked, &replacements, &rewrite)
+    sound_edit(alloc, asked, &replacements)
 }
 
 /// The inline fragment that a selection is.
@@ -124,8 +125,8 @@ pub(crate) fn remove_range(alloc: Global, asked: Asked<'_>) -> Result<Edit, Refu
 /// in its place: of the inline fragments whose place holds the range, the one that begins last.
 ///
 /// It is refused, in this order, as NothingHere where none is meant, NotRedundant where it has a directive or a condition
-/// other than the type of its parent, TooLarge where an edited text would pass a limit, and SelfCheck where the edited
-/// texts do not read as wanted or the edited project is not valid; and as NoMemory where a growth was refused.
+/// other than the type of its parent, and TooLarge where an edited text would pass a limit; and as NoMemory where a growth was
+/// refused. It is never refused as SelfCheck, since such an edit leaves a valid project.
 pub fn remove_redundant(
     alloc: Global,
     valid: &Valid,
@@ -136,7 +137,10 @@ pub fn remove_redundant(
     ensures fits { IfOk result (FitDocuments valid.now) }
     ensures responses { IfOk result (KeepsResponses valid.now) }
     ensures valid { IfOk result (λ edit. ∥ IsValid (after_edit edit valid.now) ∥₁) }
+    ensures never_self_check { result ≡ Err refusal.SelfCheck → ⊥ }
 {
+    removals_pass();
+    documents_are_texts(valid.project());
     reshape(alloc, Reshaping::Remove, valid, key, range)
 }
 
@@ -157,6 +161,9 @@ pub fn remove_redundant_by(
     ensures fits { IfOk result (FitDocuments valid.now) }
     ensures responses { IsKnown known.entry → IsIndexOfProject valid.now index.now → IfOk result (KeepsResponses valid.now) }
     ensures valid { IfOk result (λ edit. ∥ IsValid (after_edit edit valid.now) ∥₁) }
+    ensures never_self_check { result ≡ Err refusal.SelfCheck → ⊥ }
 {
+    removals_pass();
+    documents_are_texts(valid.project());
     reshape_by(alloc, Reshaping::Remove, valid, known, index, key, range)
 }

@@ -1,3 +1,2 @@
 pub mod Rewrites
-pub mod Views
-pub mod Helping
+pub mod Executables

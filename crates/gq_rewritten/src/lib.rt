@@ -1,10 +1,2 @@
-//! Executable definitions with selections regrouped, places forgotten, and whether a document reads as that.
+//! Definitions of what refactorings make of trees: selections moved into a fragment or out of one, places forgotten.
 #![tactic(auto)]
-
-mod marks;
-pub mod reading;
-pub mod rewrite;
-mod same;
-
-pub use reading::reads_as_rewritten;
-pub use rewrite::{Added, Change, Dropped, Rewrite};

@@ -54,6 +54,7 @@ fn files_of(alloc: Global, row: &Row<'_>) -> Result<Vec<File>, NoAnswer> {
         files.push(File {
             name: OwnedText::from_str(alloc, entry.key)?,
             bytes: entry.bytes(alloc)?,
+            why: OwnedText::from_str(alloc, "")?,
         })?;
     }
     Ok(files)
@@ -85,7 +86,7 @@ impl Outcome {
 fn outcome_of(alloc: Global, files: &[File]) -> Outcome {
     let mut output = Page::new(alloc);
     let mut errors = Page::new(alloc);
-    let status = check(alloc, Format::Text, files, &mut output, &mut errors);
+    let status = check(alloc, Format::Text, false, files, &mut output, &mut errors);
     Outcome {
         output,
         errors,
@@ -100,6 +101,7 @@ fn outcome_by_threads<R: Threads + Sync>(threads: &R, alloc: Global, files: &[Fi
         threads,
         alloc,
         Format::Text,
+        false,
         files,
         &mut output,
         &mut errors,

@@ -3,6 +3,10 @@ pub mod RowLemmas
 pub mod ReachLemmas
 pub mod NameRowLemmas
 pub mod NameWays
+pub mod LinkLemmas
+pub mod SpreadLemmas
+pub mod OnceLemmas
+pub mod RoomLemmas
 pub mod UnusedLemmas
 pub mod UnknownLemmas
 pub mod CycleLemmas

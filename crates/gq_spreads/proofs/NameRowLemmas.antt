@@ -60,11 +60,11 @@ from_option (Some n) k found = ap Some (sym (only n k found))
 to_option : (o : Option ℕ) (k : ℕ) → o ≡ Some k → Contains (option_map_or (λ n. n ∷ []) o []) k
 to_option o k is = subst (λ q. Contains (option_map_or (λ (n : ℕ). n ∷ []) q []) k) (sym is) (first k k [] refl)
 
-is_first : (o : Option ℕ) (m : ℕ) → option_map_or (λ n. nat_eq n m) o false ≡ true → o ≡ Some m
+pub is_first : (o : Option ℕ) (m : ℕ) → option_map_or (λ n. nat_eq n m) o false ≡ true → o ≡ Some m
 is_first None m h = absurd (cc)
 is_first (Some n) m h = ap Some (eqb-true n m h)
 
-first_is : (o : Option ℕ) (m : ℕ) → o ≡ Some m → option_map_or (λ n. nat_eq n m) o false ≡ true
+pub first_is : (o : Option ℕ) (m : ℕ) → o ≡ Some m → option_map_or (λ n. nat_eq n m) o false ≡ true
 first_is o m is = subst (λ q. option_map_or (λ (n : ℕ). nat_eq n m) q false ≡ true) (sym is) (eq-eqb m m refl)
 
 module _ (fs : List FragmentOf) where
@@ -111,7 +111,7 @@ module _ (fs : List FragmentOf) where
       (to_flat (spreads_at (texts fs) fs) (places_from 0 text (texts fs)) n.0 k place (to_spreads n.0 s.fragment n.1 s.name s.spread k s.to))
 
 -- items by their numbers
-enumerated_at : {X : Type 0} (k : ℕ) (xs : List X) (j : ℕ) (x : X) → slice_get xs j ≡ Some x → slice_get (enumerate_from k xs) j ≡ Some (k + j, x)
+pub enumerated_at : {X : Type 0} (k : ℕ) (xs : List X) (j : ℕ) (x : X) → slice_get xs j ≡ Some x → slice_get (enumerate_from k xs) j ≡ Some (k + j, x)
 enumerated_at k [] j x at = absurd (none-some x at)
 enumerated_at k (y ∷ xs) zero x at =
     let here : k ≡ k + 0 = omega arith in
@@ -120,11 +120,11 @@ enumerated_at {X} k (y ∷ xs) (suc j) x at =
     let there : (k + 1) + j ≡ k + suc j = omega arith in
     subst (λ n. slice_get (enumerate_from (k + 1) xs) j ≡ Some (n, x)) there (enumerated_at (k + 1) xs j x at)
 
-length_enumerated : {X : Type 0} (k : ℕ) (xs : List X) → length (enumerate_from k xs) ≡ length xs
+pub length_enumerated : {X : Type 0} (k : ℕ) (xs : List X) → length (enumerate_from k xs) ≡ length xs
 length_enumerated k [] = refl
 length_enumerated k (x ∷ xs) = ap suc (length_enumerated (k + 1) xs)
 
-text_at : (fs : List FragmentOf) (n : ℕ) (f : FragmentOf) → slice_get fs n ≡ Some f → slice_get (texts fs) n ≡ Some f.name.text
+pub text_at : (fs : List FragmentOf) (n : ℕ) (f : FragmentOf) → slice_get fs n ≡ Some f → slice_get (texts fs) n ≡ Some f.name.text
 text_at [] n f at = absurd (none-some f at)
 text_at (g ∷ fs) zero f at = ap (λ (t : FragmentOf). Some t.name.text) (same_Some g f at)
 text_at (g ∷ fs) (suc n) f at = text_at fs n f at

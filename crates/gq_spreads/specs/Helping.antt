@@ -2,5 +2,6 @@
 pub mod FragmentSpreadTargetDefinedPlaces
 pub mod FragmentSpreadsMustNotFormCyclesPlaces
 pub mod FragmentsMustBeUsedPlaces
+pub mod Links
 pub mod NameRows
 pub mod Rows

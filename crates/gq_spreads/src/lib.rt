@@ -6,6 +6,7 @@ pub mod fragment_names;
 mod fragment_spread_target_defined;
 mod fragment_spreads_must_not_form_cycles;
 mod fragments_must_be_used;
+mod links;
 mod name_rows;
 pub mod spreads;
 

@@ -94,7 +94,7 @@ fn row_at(
 }
 
 /// Whether the place is the first of that name.
-fn is_first_at(names: &FragmentNames, place: usize, name: &str) -> bool
+pub(crate) fn is_first_at(names: &FragmentNames, place: usize, name: &str) -> bool
     ensures { result ≡ is_first_at names.now.names.items place name.now }
 {
     match names.first_number(name) {

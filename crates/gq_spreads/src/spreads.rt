@@ -1,22 +1,26 @@
 //! Which fragments are spread in each operation and each fragment, and which an operation reaches.
-ghost use Rattle.std.specs.Prelude.{◌≡◌, ◌++◌, ◌<◌, IfOk, OnOk, length, map};
+ghost use Rattle.std.specs.Prelude.{◌≡◌, ◌<◌, IfOk, filter, length, map};
+ghost use Rattle.std.specs.Bool.{nat_lt};
 ghost use Rattle.gq_graph.specs.Reach.{NoneTwice};
-ghost use Rattle.gq_tree.specs.Names.{names_at};
 ghost use Rattle.gq_tree.specs.Views.{sels_view};
 ghost use Rattle.gq_document.specs.Definitions.{operations_view, fragments_view};
 ghost use Rattle.gq_document.specs.Executable.{executable_view};
-ghost use Rattle.gq_spreads.specs.Helping.Rows.{numbers_of, spread_numbers, operation_numbers, fragment_numbers, row_items};
-ghost use Rattle.gq_spreads.specs.Spreads.{AreSpreads, AreReached};
+ghost use Rattle.gq_spreads.specs.Helping.Links.{links, operation_links, fragment_links};
+ghost use Rattle.gq_spreads.specs.Helping.Rows.{row_items};
+ghost use Rattle.gq_spreads.specs.Spreads.{AreSpreads, AreShort, AreReached};
 
 use crate::fragment_names::FragmentNames;
+use crate::links::{put_groups, put_links};
 use gq_document::{Executable, FragmentEntry, OperationEntry};
 use gq_graph::reach_rows;
 use gq_text::NoMemory;
-use gq_tree::{Name, Selection, spread_names};
+use gq_tree::{Selection, spread_names};
 use std::alloc::Global;
 
-/// For each operation and each fragment, the numbers of the fragments that are spread in it. A fragment's number is its
-/// place among all fragments, from 0.
+/// For each operation and each fragment a row of numbers that leads to the fragments that are spread in it. A fragment's number is
+/// its place among all fragments, from 0. Numbers behind these are those of names that several fragments have: each leads to the
+/// fragments of its name by a row of its own behind those of fragments. So there are no more numbers in the rows than spreads and
+/// fragments.
 #[derive(Drop)]
 pub struct Spreads {
     pub of_operations: Vec<Vec<usize>>,
@@ -26,11 +30,13 @@ pub struct Spreads {
 impl Spreads {
     /// Where the fragments are spread.
     pub fn of(alloc: Global, executable: &Executable<'_>) -> Result<Spreads, NoMemory>
-        ensures { IfOk result (λ spreads. AreSpreads (executable_view executable.now) spreads) }
+        ensures are { IfOk result (λ spreads. AreSpreads (executable_view executable.now) spreads) }
+        ensures short { IfOk result (λ spreads. AreShort (executable_view executable.now) spreads) }
     {
         let names = FragmentNames::of(alloc, executable.fragments)?;
         let of_operations = operation_rows(alloc, &names, executable.operations)?;
-        let of_fragments = fragment_rows(alloc, &names, executable.fragments)?;
+        let mut of_fragments = fragment_rows(alloc, &names, executable.fragments)?;
+        put_groups(alloc, &names, &mut of_fragments)?;
         Ok(Spreads {
             of_operations,
             of_fragments,
@@ -44,11 +50,11 @@ fn operation_rows(
     names: &FragmentNames,
     operations: &[OperationEntry<'_>],
 ) -> Result<Vec<Vec<usize>>, NoMemory>
-    ensures { IfOk result (λ rows. row_items rows.items ≡ map (operation_numbers names.now.names.items) (operations_view operations.now)) }
+    ensures { IfOk result (λ rows. row_items rows.items ≡ map (operation_links names.now.names.items) (operations_view operations.now)) }
 {
     let mut rows = Vec::new(alloc);
     for operation in operations {
-        rows.push(numbers_in(alloc, names, &operation.definition.set.items)?)?;
+        rows.push(links_in(alloc, names, &operation.definition.set.items)?)?;
     }
     Ok(rows)
 }
@@ -59,40 +65,39 @@ fn fragment_rows(
     names: &FragmentNames,
     fragments: &[FragmentEntry<'_>],
 ) -> Result<Vec<Vec<usize>>, NoMemory>
-    ensures { IfOk result (λ rows. row_items rows.items ≡ map (fragment_numbers names.now.names.items) (fragments_view fragments.now)) }
+    ensures { IfOk result (λ rows. row_items rows.items ≡ map (fragment_links names.now.names.items) (fragments_view fragments.now)) }
 {
     let mut rows = Vec::new(alloc);
     for fragment in fragments {
-        rows.push(numbers_in(alloc, names, &fragment.definition.set.items)?)?;
+        rows.push(links_in(alloc, names, &fragment.definition.set.items)?)?;
     }
     Ok(rows)
 }
 
-/// The numbers of the fragments that are spread in the selections.
-fn numbers_in(
+/// The numbers by which the spreads in the selections lead to fragments.
+fn links_in(
     alloc: Global,
     names: &FragmentNames,
     selections: &[Selection],
 ) -> Result<Vec<usize>, NoMemory>
-    ensures { IfOk result (λ numbers. numbers.items ≡ spread_numbers names.now.names.items (sels_view selections.now)) }
+    ensures { IfOk result (λ row. row.items ≡ links names.now.names.items (sels_view selections.now)) }
 {
-    let mut numbers = Vec::new(alloc);
-    put_numbers_of(names, &spread_names(alloc, selections)?, &mut numbers)?;
-    Ok(numbers)
+    let mut row = Vec::new(alloc);
+    put_links(names, &spread_names(alloc, selections)?, &mut row)?;
+    Ok(row)
 }
 
-/// Puts the numbers of the fragments of these names behind the others.
-fn put_numbers_of(
-    names: &FragmentNames,
-    spread: &[&Name],
-    numbers: &mut Vec<usize>,
-) -> Result<(), NoMemory>
-    ensures { OnOk result (numbers.new.items ≡ numbers.old.items ++ numbers_of names.now.names.items (names_at spread.now)) }
+/// Those of the numbers that are below the count.
+fn below(alloc: Global, count: usize, numbers: &[usize]) -> Result<Vec<usize>, NoMemory>
+    ensures { IfOk result (λ all. all.items ≡ filter (λ n. nat_lt n count) numbers.now) }
 {
-    for name in spread {
-        names.put_numbers(name.text.as_str(), numbers)?;
+    let mut all = Vec::new(alloc);
+    for number in numbers {
+        if *number < count {
+            all.push(*number)?;
+        }
     }
-    Ok(())
+    Ok(all)
 }
 
 /// The numbers of the fragments that the operation with that number reaches, each once.
@@ -107,9 +112,7 @@ pub fn reached_fragments(
     ensures reached { IfOk result (λ numbers. AreReached (executable_view executable.now) operation numbers.items) }
     ensures once { IfOk result (λ numbers. NoneTwice numbers.items) }
 {
-    reach_rows(
-        alloc,
-        &spreads.of_fragments,
-        &spreads.of_operations[operation],
-    )
+    let starts = &spreads.of_operations[operation];
+    let found = reach_rows(alloc, &spreads.of_fragments, starts)?;
+    below(alloc, executable.fragments.len(), &found)
 }

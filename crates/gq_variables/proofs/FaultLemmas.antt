@@ -146,7 +146,7 @@ module _ (x : ExecutableOf) (s : Spreads) (own_rows : List (Vec ℕ Global)) (le
     behind_both = behind_as (map (fragment_uses x.entries) x.fragments) s number follows.before behind (sym follows.same) are
 
     reached_before : (u : UseOf) → Contains behind u → ReachesUse x follows.earlier u
-    reached_before u there = from_behind x follows.earlier s.of_fragments.items (row s.of_operations.items follows.before) (λ k. lead.sound follows.before follows.earlier k follows.at_before) behind behind_both u there
+    reached_before u there = from_behind x follows.earlier s.of_fragments.items (row s.of_operations.items follows.before) (λ k below. lead.sound follows.before follows.earlier k follows.at_before below) behind behind_both u there
 
     alike : AreAsBefore (use_texts behind) follows.earlier.variables o.variables
     alike = subst (λ (p : OperationOf). AreAsBefore (use_texts behind) follows.earlier.variables p.variables) (same_Some follows.now o (sym follows.at ∙ is)) follows.alike

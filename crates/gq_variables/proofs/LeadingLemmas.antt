@@ -4,7 +4,7 @@ use Rattle.std.specs.Prelude.{All, filter, not, slice_get, slice_index_or}
 use Rattle.std.specs.Option.{option_map_or, option_map}
 use Rattle.std.proofs.Math.Dec.{eqb-suc-zero}
 use Rattle.std.proofs.lemmas.Bool.{false≢true, cases_lt}
-use Rattle.std.proofs.lemmas.Option.{slice_get-map}
+use Rattle.std.proofs.lemmas.Option.{slice_get-map, slice_get_within}
 use Rattle.std.proofs.lemmas.List.{length-map, get_or-replicate, get_or_past, length-replicate}
 use Rattle.std.proofs.lemmas.List.Elements.{All-nil, All-cons, All-append, All-weaker, All-contains, Contains-get_or, Contains-append_left, Contains-append_right}
 use Rattle.gq_names.specs.UnderNames.{one_if}
@@ -18,8 +18,6 @@ use Rattle.gq_document.specs.Definitions.{FragmentOf}
 use Rattle.gq_document.specs.Executable.{ExecutableOf}
 use Rattle.gq_spreads.specs.Spreads.{AreSpreads}
 use Rattle.gq_spreads.specs.declared.spreads.Spreads.{Spreads}
-use Rattle.gq_spreads.proofs.RowLemmas.{operation_rows_below, fragment_rows_below}
-use Rattle.gq_spreads.proofs.ReachLemmas.{to_reached, from_reached}
 use Rattle.gq_variables.specs.Uses.{UseOf}
 use Rattle.gq_variables.specs.Helping.UsesPlaces.{fragment_uses, row_at}
 use Rattle.gq_variables.specs.Helping.Leading.{numbers_with_uses, LeadToUses, AreLeading, AreInParts, AreLeadingInParts}
@@ -126,10 +124,10 @@ module _ (x : ExecutableOf) (s leading : Spreads) (are : AreSpreads x s) (rows :
   count = kept_count marks s.of_fragments.items leading.of_fragments.items fragments
 
   in_range : (m n : ℕ) → Contains (row s.of_fragments.items m) n → n < length leading.of_fragments.items
-  in_range m n there = subst (λ c. n < c) (sym (count ∙ are.fragments)) (row_below_all s.of_fragments.items (length x.fragments) m n (fragment_rows_below x s are) there)
+  in_range m n there = subst (λ c. n < c) (sym count) (row_below_all s.of_fragments.items (length s.of_fragments.items) m n are.range there)
 
   starts_in_range : (m n : ℕ) → Contains (row s.of_operations.items m) n → n < length leading.of_fragments.items
-  starts_in_range m n there = subst (λ c. n < c) (sym (count ∙ are.fragments)) (row_below_all s.of_operations.items (length x.fragments) m n (operation_rows_below x s are) there)
+  starts_in_range m n there = subst (λ c. n < c) (sym count) (row_below_all s.of_operations.items (length s.of_fragments.items) m n are.starts there)
 
   pub are_leading : AreLeading x leading
   are_leading = record {
@@ -143,10 +141,9 @@ module _ (x : ExecutableOf) (s leading : Spreads) (are : AreSpreads x s) (rows :
     starts = λ n i e b.
         let m : ℕ = get_or (row leading.of_operations.items n) i e in
         starts_in_range n m (from_kept marks s.of_operations.items leading.of_operations.items operations n m (Contains-get_or (row leading.of_operations.items n) i e b));
-    sound = λ n o k at way. to_reached x.fragments (row s.of_fragments.items) are.of_fragment o.set (row s.of_operations.items n) (are.of_operation n o at) k (narrower n k way);
+    sound = λ n o k at below way. (are.of_operation n o at k below).0 (narrower n k way);
     complete = λ n o k f u at at_fragment used reached.
-        wider n k (used_at k f u at_fragment used)
-        (from_reached x.fragments (row s.of_fragments.items) are.of_fragment o.set (row s.of_operations.items n) (are.of_operation n o at) reached.fragment reached.reached k reached.at);
+        wider n k (used_at k f u at_fragment used) ((are.of_operation n o at k (slice_get_within x.fragments k f at_fragment)).1 reached);
   }
 
 -- marks turned over
@@ -196,8 +193,8 @@ lead_in_parts x old new own lead parts = record {
   range = subst InRange (sym parts.fragments) lead.range;
   starts = λ n. below n (row new.of_operations.items n) (parts.of_shared n);
   own_starts = λ n. below n (row own n) (parts.of_own n);
-  sound = λ n o k at way. lead.sound n o k at (led n (row new.of_operations.items n) (parts.of_shared n) k way);
-  own_sound = λ n o k at way. lead.sound n o k at (led n (row own n) (parts.of_own n) k way);
+  sound = λ n o k at below way. lead.sound n o k at below (led n (row new.of_operations.items n) (parts.of_shared n) k way);
+  own_sound = λ n o k at below way. lead.sound n o k at below (led n (row own n) (parts.of_own n) k way);
   complete = λ n o k f u at at_fragment used reached.
       subst (λ (fs : List (Vec ℕ Global)). Reach (row new.of_operations.items n) (row fs) k ⊎ Reach (row own n) (row fs) k) (sym parts.fragments)
       (of_one_part (row old.of_operations.items n) (row new.of_operations.items n) (row own n) (row old.of_fragments.items) (parts.all n) k (lead.complete n o k f u at at_fragment used reached));

@@ -1,8 +1,9 @@
 -- The lists of uses hold the uses that stand in values, arguments, directives, selections, operations and fragments.
-use Rattle.std.proofs.Common.{◌≡◌, ◌↔◌, ℕ, List, [], ◌++◌, Option, Some, None, refl, sym, ap, subst, ◌∙◌, Contains, map, inl, inr, Vec, Global}
+use Rattle.std.proofs.Common.{◌≡◌, ◌↔◌, ℕ, zero, suc, ◌<◌, List, [], ◌∷◌, ◌++◌, Option, Some, None, length, refl, sym, ap, subst, ◌∙◌, arith, Contains, map, inl, inr, Vec, Global}
 use Rattle.std.specs.Prelude.{All, flat_map, slice_get}
 use Rattle.std.specs.Option.{option_map, option_map_or}
 use Rattle.std.proofs.lemmas.List.Elements.{Contains-append_left, Contains-append_right, Contains-append_cases, All-contains}
+use Rattle.std.proofs.lemmas.List.{length-map}
 use Rattle.std.proofs.lemmas.Option.{slice_get-map, slice_get-get_or}
 use Rattle.gq_text.specs.declared.place.Span.{Span}
 use Rattle.gq_tree.specs.Forest.{none, more}
@@ -23,7 +24,7 @@ use Rattle.gq_variables.specs.ReachedUses.{ReachesUse, of_itself, of_fragment}
 use Rattle.gq_variables.specs.Helping.UsesPlaces.{own_uses, uses_among, value_uses, uses_under, uses_of_argument, argument_uses, uses_of_directive, directive_uses, head_uses, uses_of_selection, selection_uses, variable_uses, operation_uses, fragment_uses, row_at}
 use Rattle.gq_variables.specs.Helping.Leading.{AreLeadingInParts}
 use Rattle.gq_variables.specs.Helping.Behind.{IsBehind, AreBehindStarts, AreBehind}
-use Rattle.gq_types.proofs.Gathered.{only, from_flat, to_flat}
+use Rattle.gq_types.proofs.Gathered.{nothing_in, only, from_flat, to_flat}
 
 abbrev use_of : ℕ → NameOf Span → PlaceOf → UseOf
 use_of file name place = record { file = file; name = name; place = place }
@@ -207,12 +208,22 @@ row_of x k f at =
     ap (λ (r : Option (List UseOf)). option_map_or (λ (row : List UseOf). row) r [])
     (slice_get-map (fragment_uses x.entries) x.fragments k ∙ ap (option_map (fragment_uses x.entries)) at)
 
--- uses behind spreads by which an operation reaches only what it reaches belong to it
-pub from_behind : (x : ExecutableOf) (o : OperationOf) (of_fragments : List (Vec ℕ Global)) (starts : List ℕ) → ((k : ℕ) → Reach starts (row of_fragments) k → ReachesNumber x.fragments o.set k) →
+-- where a use stands in a row, a fragment has its number
+row_within : (rows : List (List UseOf)) (k : ℕ) (u : UseOf) → Contains (row_at rows k) u → k < length rows
+row_within [] k u there = nothing_in u there
+row_within (r ∷ rows) zero u there = omega arith
+row_within (r ∷ rows) (suc k) u there = let rest = row_within rows k u there in omega (arith, rest)
+
+used_inside : (x : ExecutableOf) (k : ℕ) (u : UseOf) → Contains (row_at (map (fragment_uses x.entries) x.fragments) k) u → k < length x.fragments
+used_inside x k u there = subst (λ n. k < n) (length-map x.fragments (fragment_uses x.entries)) (row_within (map (fragment_uses x.entries) x.fragments) k u there)
+
+-- uses behind rows by which an operation leads only to what it reaches belong to it
+pub from_behind : (x : ExecutableOf) (o : OperationOf) (of_fragments : List (Vec ℕ Global)) (starts : List ℕ)
+    → ((k : ℕ) → k < length x.fragments → Reach starts (row of_fragments) k → ReachesNumber x.fragments o.set k) →
     (behind : List UseOf) → AreBehindStarts (map (fragment_uses x.entries) x.fragments) of_fragments starts behind → (u : UseOf) → Contains behind u → ReachesUse x o u
 from_behind x o of_fragments starts sound behind are u c =
     let w = (are u).0 c in
-    let r = sound w.number w.led in
+    let r = sound w.number (used_inside x w.number u w.stands) w.led in
     of_fragment r.reached (from_fragment x.entries r.fragment u (subst (λ us. Contains us u) (row_of x w.number r.fragment r.at) w.stands))
 
 -- The uses behind both parts of the spreads of an operation are with its own all that belong to it.
@@ -223,9 +234,9 @@ module _ (x : ExecutableOf) (s : Spreads) (own_rows : List (Vec ℕ Global)) (le
   from_reached u c = elim (Contains-append_cases (operation_uses x.entries o ++ own) behind u c) [
     | inl first ↦ elim (Contains-append_cases (operation_uses x.entries o) own u first) [
       | inl itself ↦ of_itself (from_operation x.entries o u itself)
-      | inr beside ↦ from_behind x o s.of_fragments.items (row own_rows number) (λ k. lead.own_sound number o k is) own own_are u beside
+      | inr beside ↦ from_behind x o s.of_fragments.items (row own_rows number) (λ k below. lead.own_sound number o k is below) own own_are u beside
     ]
-    | inr others ↦ from_behind x o s.of_fragments.items (row s.of_operations.items number) (λ k. lead.sound number o k is) behind are u others
+    | inr others ↦ from_behind x o s.of_fragments.items (row s.of_operations.items number) (λ k below. lead.sound number o k is below) behind are u others
   ]
 
   to_reached : (u : UseOf) → ReachesUse x o u → Contains ((operation_uses x.entries o ++ own) ++ behind) u

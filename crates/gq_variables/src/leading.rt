@@ -1,6 +1,6 @@
 //! The fragments that have to be gone over for the uses of variables: those in which one stands, and those that lead to such a
 //! fragment by spreads.
-ghost use Rattle.std.specs.Prelude.{◌≡◌, ◌<◌, All, IfOk, filter, length, map, slice_index_or, false};
+ghost use Rattle.std.specs.Prelude.{◌≡◌, ◌<◌, ◌≤◌, All, IfOk, filter, length, map, slice_index_or, false};
 ghost use Rattle.gq_graph.specs.Reach.{row, InRange};
 ghost use Rattle.gq_types.specs.Look.{types_view};
 ghost use Rattle.gq_document.specs.Definitions.{fragments_view};
@@ -31,14 +31,14 @@ fn numbers_with_uses(alloc: Global, rows: &[Vec<Use<'_>>]) -> Result<Vec<usize>,
     Ok(numbers)
 }
 
-/// A mark at each fragment that leads to a use. For each fragment there are rows of what it spreads and of its uses.
+/// A mark at each number that leads to a use. For each fragment there is a row of its uses.
 fn marks_of(
     alloc: Global,
     spreads: &[Vec<usize>],
     rows: &[Vec<Use<'_>>],
 ) -> Result<Vec<bool>, NoMemory>
     requires range { InRange spreads.now }
-    requires rows { length (rows_view rows.now) ≡ length spreads.now }
+    requires rows { length (rows_view rows.now) ≤ length spreads.now }
     ensures count { IfOk result (λ marks. length marks.items ≡ length spreads.now) }
     ensures marks { IfOk result (λ marks. LeadToUses (row spreads.now) (rows_view rows.now) marks.items) }
 {

@@ -1,3 +1,4 @@
+pub mod Behind
 pub mod Crossing
 pub mod InboxMoves
 pub mod JobMoves

@@ -1,6 +1,15 @@
--- What rules see of an order.
+-- What rules see of an order, and which checks are superseded.
+use Rattle.std.specs.Prelude.{Bool, false, List, length, nat_lt}
+use Rattle.gq_project.specs.declared.document.DocChange.{DocChange}
+use Rattle.gq_events.specs.declared.event.Task.{Task}
+use Rattle.gq_events.specs.declared.event.Task.TheVariants as task
 use Rattle.gq_workers.specs.declared.order.Order.{Order}
 use Rattle.gq_workers.specs.declared.order.OrderOf.{OrderOf}
 
 abbrev pub order_of : {J : Type 0} → Order J → OrderOf
 order_of o = record { number = o.job.number; told = o.told }
+
+-- a check, where more was seen than had been published when its order was put
+abbrev pub is_behind : Task → List DocChange → List DocChange → Bool
+is_behind (task.Ask encoding id q) told seen = false
+is_behind (task.Check encoding) told seen = nat_lt (length told) (length seen)

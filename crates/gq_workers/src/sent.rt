@@ -1,14 +1,18 @@
 //! What a worker makes of an order.
-ghost use Rattle.std.specs.Prelude.{◌≡◌, MatchResult, IfSome, true};
+ghost use Rattle.std.specs.Prelude.{◌≡◌, length, nat_lt, MatchOption, MatchResult, IfSome, true, false};
 ghost use mathlib.Core.List.{IsPrefix};
 ghost use Rattle.gq_edit.specs.Workspace.{AreTexts};
+ghost use Rattle.gq_events.specs.declared.event.Task.TheVariants as tasks;
+ghost use Rattle.gq_events.specs.Tasks.{is_superseded};
 ghost use Rattle.gq_board.specs.Published.{docs_after};
+ghost use Rattle.gq_workers.specs.Orders.{is_behind};
 
 use crate::order::Order;
 use gq_board::{Looker, Room, Told};
-use gq_events::{Done, copy_task};
+use gq_events::{Done, Task, copy_task};
 use gq_kept::Kept;
 use gq_project::Project;
+use gq_text::PositionEncoding;
 use gq_text::text::TEXT_MAX;
 use std::alloc::Global;
 
@@ -25,6 +29,8 @@ pub struct Sent<J: Room> {
     pub ghost later: { ∥ IsPrefix order.told seen ∥₁ },
     /// Its documents are those that the changes seen make.
     pub ghost texts: { done.texts ≡ docs_after J.base seen },
+    /// That another check comes is said of a check whose worker saw more than had been published when the order was put, and of no other task.
+    pub ghost behind: { is_superseded done.answer ≡ is_behind done.task order.told seen },
 }
 
 impl<J: Room> Sent<J> {
@@ -71,8 +77,36 @@ fn see<J: Room>(
     }
 }
 
-/// Answers an order about the texts that were seen. It comes back where there is no memory for a copy of its task.
-fn answer_about<J: Room>(
+/// Whether more was seen than was told.
+#[tactic(auto, using(crate::proofs::Behind::more_seen))]
+fn saw_more<J: Room>(told: &Told<J>, seen: &Told<J>) -> bool
+    requires { IsPrefix told.now seen.now }
+    ensures { result ≡ nat_lt (length told.now) (length seen.now) }
+{
+    !seen.is(told)
+}
+
+/// The encoding of a check that is superseded: documents changed behind its order. The desk has taken that change by now, which decides all
+/// that was pending and brings a check of its own.
+fn superseded<J: Room>(order: &Order<J>, seen: &Told<J>) -> Option<PositionEncoding>
+    requires { IsPrefix order.now.told seen.now }
+    ensures { MatchOption result (is_behind order.now.job.task order.now.told seen.now ≡ false)
+        (λ encoding. (order.now.job.task ≡ tasks.Check encoding) × (is_behind order.now.job.task order.now.told seen.now ≡ true)) }
+{
+    match &order.job.task {
+        Task::Ask(..) => None,
+        Task::Check(encoding) => {
+            if saw_more(&order.told, seen) {
+                Some(*encoding)
+            } else {
+                None
+            }
+        }
+    }
+}
+
+/// Makes what an order asks for, of the texts that were seen. It comes back where there is no memory for a copy of its task.
+fn make<J: Room>(
     alloc: Global,
     order: Order<J>,
     seen: Told<J>,
@@ -81,6 +115,7 @@ fn answer_about<J: Room>(
 ) -> Result<Sent<J>, Order<J>>
     requires later { IsPrefix order.told seen }
     requires texts { texts ≡ docs_after J.base seen }
+    requires not_behind { is_behind order.job.task order.told seen ≡ false }
     ensures { MatchResult result (λ s. (s.order ≡ order) × (s.seen ≡ seen)) (λ o. o ≡ order) }
 {
     if !texts_fit(&texts) {
@@ -100,8 +135,28 @@ fn answer_about<J: Room>(
     Ok(Sent { order, seen, done })
 }
 
-/// Answers an order about documents as they are no earlier than when it was put. The order comes back where the look is refused, or there
-/// is no memory for a copy of the texts or of the task. It waits for nobody.
+/// Answers an order about the texts that were seen: that it is superseded, where it is, without a look at them.
+fn answer_about<J: Room>(
+    alloc: Global,
+    order: Order<J>,
+    seen: Told<J>,
+    texts: Project,
+    kept: &mut Kept,
+) -> Result<Sent<J>, Order<J>>
+    requires later { IsPrefix order.told seen }
+    requires texts { texts ≡ docs_after J.base seen }
+    ensures { MatchResult result (λ s. (s.order ≡ order) × (s.seen ≡ seen)) (λ o. o ≡ order) }
+{
+    let Some(encoding) = superseded(&order, &seen) else {
+        return make(alloc, order, seen, texts, kept);
+    };
+    let done = Done::superseded(alloc, order.job.number, encoding, texts);
+    Ok(Sent { order, seen, done })
+}
+
+/// Answers an order about documents as they are no earlier than when it was put. A check behind which documents changed is superseded: the
+/// answer says so, and what is kept stays as it is. The order comes back where the look is refused, or there is no memory for a copy of the
+/// texts or of the task. It waits for nobody.
 pub fn attend<J: Room>(
     alloc: Global,
     looker: Looker<J>,

@@ -9,27 +9,15 @@ use gq_text::{NoMemory, OwnedText};
 use std::alloc::Global;
 use std::collections::BTreeSet;
 use std::io;
-use std::str::from_utf8;
 
 /// How many bytes a table or variables may have.
 const INPUT_MAX: u64 = 1_073_741_824;
 
-/// The disk, and whether standard error is to say why a file cannot be read.
+/// The disk, and whether standard error is to say why a file cannot be read or written.
 #[derive(Clone, Copy)]
 pub struct Disk<'a> {
     pub rt: &'a HostRuntime,
     pub is_verbose: bool,
-}
-
-/// Why these bytes are no file of a project.
-fn flaw_of(bytes: &[u8]) -> Option<&'static str> {
-    if bytes.len() > TEXT_MAX {
-        Some("more than 4 MiB")
-    } else if from_utf8(bytes).is_err() {
-        Some("not UTF-8")
-    } else {
-        None
-    }
 }
 
 /// Whether there are more names than may be given.
@@ -41,56 +29,63 @@ fn are_too_many(alloc: Global, names: &[&str]) -> Result<bool, NoMemory> {
     Ok(seen.len() > FILES_MAX)
 }
 
+/// A file with these bytes.
+pub fn file_of(alloc: Global, name: &str, bytes: Vec<u8>) -> Result<File, NoMemory> {
+    Ok(File {
+        name: OwnedText::from_str(alloc, name)?,
+        bytes: Some(bytes),
+        why: OwnedText::from_str(alloc, "")?,
+    })
+}
+
+/// A file that cannot be read, or is not, and why.
+fn unread(alloc: Global, name: &str, why: &str) -> Result<File, NoMemory> {
+    Ok(File {
+        name: OwnedText::from_str(alloc, name)?,
+        bytes: None,
+        why: OwnedText::from_str(alloc, why)?,
+    })
+}
+
 impl Disk<'_> {
-    /// Says on standard error what is wrong with a file, where that is asked for.
+    /// Says on standard error what is wrong with a folder, where that is asked for.
     pub fn explain(&self, name: &str, why: &str) {
         if self.is_verbose {
             let _ = eprintln!(self.rt; "gqls: {name}: {why}");
         }
     }
 
-    /// The same of an answer of the system.
+    /// The same of a file that cannot be written, by an answer of the system.
     pub fn explain_error(&self, name: &str, error: &io::Error) {
         if self.is_verbose {
             let _ = eprintln!(self.rt; "gqls: {name}: {error}");
         }
     }
 
-    /// Up to that many bytes of a file, or none where it cannot be read.
-    fn read_file(&self, name: &str, limit: u64) -> Result<Option<Vec<u8>>, NoMemory>
+    /// A file, with up to that many of its bytes, or with what the system says where it cannot be read.
+    fn read_file(&self, name: &str, limit: u64) -> Result<File, NoMemory>
         requires { limit ≤ 2 ^ 32 }
     {
+        let alloc = self.rt.alloc();
         match read_front(self.rt, name, limit) {
-            Ok(bytes) => Ok(Some(bytes)),
+            Ok(bytes) => file_of(alloc, name, bytes),
             Err(error) if error.kind() == io::ErrorKind::OutOfMemory => Err(NoMemory),
             Err(error) => {
-                self.explain_error(name, &error);
-                Ok(None)
+                let why = format!(in alloc; "{error}")?;
+                unread(alloc, name, why.as_str())
             }
         }
     }
 
-    /// The bytes of a table or of variables, or none where they cannot be read or are too many.
-    pub fn read_input(&self, name: &str) -> Result<Option<Vec<u8>>, NoMemory> {
-        match self.read_file(name, INPUT_MAX + 1)? {
+    /// The file of a table or of variables. One of more than 1 GiB counts as one that cannot be read.
+    pub fn read_input(&self, name: &str) -> Result<File, NoMemory> {
+        let file = self.read_file(name, INPUT_MAX + 1)?;
+        match &file.bytes {
             Some(bytes) if bytes.len() as u64 > INPUT_MAX => {
-                self.explain(name, "more than 1 GiB");
-                Ok(None)
+                unread(self.rt.alloc(), name, "more than 1 GiB")
             }
-            read => Ok(read),
+            _ => Ok(file),
         }
-    }
-
-    /// The bytes of a file of the project, or none where they cannot be read, and whether they are such a file.
-    fn read_text(&self, name: &str) -> Result<(Option<Vec<u8>>, bool), NoMemory> {
-        let Some(bytes) = self.read_file(name, TEXT_MAX as u64 + 1)? else {
-            return Ok((None, false));
-        };
-        let flaw = flaw_of(&bytes);
-        if let Some(flaw) = flaw {
-            self.explain(name, flaw);
-        }
-        Ok((Some(bytes), flaw.is_none()))
     }
 
     /// The files of these names, each read where its name first stands. None is read where there are too many, nor any behind
@@ -101,12 +96,13 @@ impl Disk<'_> {
         let mut seen = BTreeSet::new(alloc);
         let mut files = Vec::new(alloc);
         for name in names {
-            let mut bytes = None;
             if seen.insert(*name)? && goes_on {
-                (bytes, goes_on) = self.read_text(name)?;
+                let file = self.read_file(name, TEXT_MAX as u64 + 1)?;
+                goes_on = file.is_fit();
+                files.push(file)?;
+            } else {
+                files.push(unread(alloc, name, "")?)?;
             }
-            let name = OwnedText::from_str(alloc, name)?;
-            files.push(File { name, bytes })?;
         }
         Ok(files)
     }

@@ -7,18 +7,16 @@ mod commands;
 mod disk;
 mod folder;
 mod rewriting;
-mod tables;
 
 ghost use Rattle.std.specs.Prelude.{◌≡◌, false};
 
 use crate::commands::{no_folder, no_place, not_utf8, parse_words};
-use crate::disk::Disk;
+use crate::disk::{Disk, file_of};
 use crate::folder::{Folder, paths_in, read_root};
 use crate::rewriting::write_files;
-use crate::tables::{flaw_of_table, flaw_of_variables};
 use clap::error::ErrorKind;
 use clap::{ArgMatches, Error};
-use gq_check::{CheckFault, File, Format, check_by_threads, exec, print};
+use gq_check::{File, Format, check_by_threads, exec, print, refuse};
 use gq_codemod::{Renaming, rename_by_threads};
 use gq_crew::{Ended, Files, NoFiles, Open, Ran, RunFault};
 use gq_reader::loads::fault_of;
@@ -38,12 +36,6 @@ const FAULT_STATUS: u8 = 3;
 
 /// Tells a fault on the standard error, and answers the status.
 fn tell_fault(rt: &HostRuntime, fault: RunFault) -> u8 {
-    let _ = eprintln!(rt; "gqls: {fault}");
-    FAULT_STATUS
-}
-
-/// Tells a fault of files on the standard error, and answers the status.
-fn tell_check_fault(rt: &HostRuntime, fault: CheckFault) -> u8 {
     let _ = eprintln!(rt; "gqls: {fault}");
     FAULT_STATUS
 }
@@ -132,7 +124,7 @@ fn lent<'a>(alloc: Global, texts: &'a [String]) -> Result<Vec<&'a str>, NoMemory
     Ok(all)
 }
 
-/// The disk, and whether the words ask for what is wrong with a file.
+/// The disk, and whether the words ask for which file is at fault, and why.
 fn disk_of<'a>(rt: &'a HostRuntime, words: &ArgMatches<'_>) -> Disk<'a> {
     Disk {
         rt,
@@ -185,7 +177,8 @@ fn format_of(words: &ArgMatches<'_>) -> Format {
 
 /// Checks the files that the words name, by threads.
 fn check<R: Threads + Sync>(threads: &R, rt: &HostRuntime, words: &ArgMatches<'_>) -> u8 {
-    let files = match files_of(disk_of(rt, words), words) {
+    let disk = disk_of(rt, words);
+    let files = match files_of(disk, words) {
         Ok(files) => files,
         Err(status) => return status,
     };
@@ -195,6 +188,7 @@ fn check<R: Threads + Sync>(threads: &R, rt: &HostRuntime, words: &ArgMatches<'_
         threads,
         rt.alloc(),
         format_of(words),
+        disk.is_verbose,
         &files,
         &mut output,
         &mut errors,
@@ -204,16 +198,17 @@ fn check<R: Threads + Sync>(threads: &R, rt: &HostRuntime, words: &ArgMatches<'_
 /// What is given to an execution beside the name of the operation.
 #[derive(Drop)]
 struct Inputs {
-    table: Option<Vec<u8>>,
-    variables: Option<Vec<u8>>,
+    table: File,
+    variables: File,
     files: Vec<File>,
 }
 
-/// The bytes of the variables; those of no variables where no file of them is named.
-fn read_variables(disk: Disk<'_>, name: Option<&str>) -> Result<Option<Vec<u8>>, NoMemory> {
+/// The file of the variables; one of no variables where none is named.
+fn read_variables(disk: Disk<'_>, name: Option<&str>) -> Result<File, NoMemory> {
+    let alloc = disk.rt.alloc();
     match name {
         Some(name) => disk.read_input(name),
-        None => Ok(Some(Vec::from_slice(disk.rt.alloc(), b"{}")?)),
+        None => file_of(alloc, "", Vec::from_slice(alloc, b"{}")?),
     }
 }
 
@@ -232,41 +227,18 @@ fn exec_files(rt: &HostRuntime, words: &ArgMatches<'_>) -> u8 {
     let Ok(inputs) = read_inputs(disk, words) else {
         return tell_fault(rt, RunFault::NoMemory);
     };
-    explain_inputs(disk, words, &inputs);
     let mut output = Flagged::new(rt.stdout());
     let mut errors = Flagged::new(rt.stderr());
     exec(
         rt.alloc(),
+        disk.is_verbose,
         words.get_str("op"),
-        inputs.table.as_deref(),
-        inputs.variables.as_deref(),
+        &inputs.table,
+        &inputs.variables,
         &inputs.files,
         &mut output,
         &mut errors,
     )
-}
-
-/// Says what is wrong with the table, or else with the variables, where that is asked for.
-fn explain_inputs(disk: Disk<'_>, words: &ArgMatches<'_>, inputs: &Inputs) {
-    if !disk.is_verbose {
-        return;
-    }
-    let alloc = disk.rt.alloc();
-    let table = words.get_str("table").unwrap_or("");
-    let variables = words.get_str("vars").unwrap_or("");
-    if let Some(Ok(Some(why))) = inputs
-        .table
-        .as_deref()
-        .map(|bytes| flaw_of_table(alloc, bytes))
-    {
-        disk.explain(table, why.as_str());
-    } else if let Some(Ok(Some(why))) = inputs
-        .variables
-        .as_deref()
-        .map(|bytes| flaw_of_variables(alloc, bytes))
-    {
-        disk.explain(variables, why.as_str());
-    }
 }
 
 /// The file and the position that a word names as `FILE:LINE:COLUMN`. The position is counted from 0.
@@ -311,7 +283,18 @@ fn rename_at<R: Threads + Sync>(
     let name = words.get_str("name").unwrap_or("");
     match rename_by_threads(threads, rt.alloc(), &files, file, position, name) {
         Ok(renaming) => end_rename(disk, words.get_flag("write"), &renaming),
-        Err(fault) => tell_check_fault(rt, fault),
+        Err(fault) => {
+            let mut output = Flagged::new(rt.stdout());
+            let mut errors = Flagged::new(rt.stderr());
+            refuse(
+                rt.alloc(),
+                disk.is_verbose,
+                &files,
+                fault,
+                &mut output,
+                &mut errors,
+            )
+        }
     }
 }
 

@@ -1,5 +1,5 @@
 -- What an execution that is not refused comes to, as it is computed.
-use Rattle.std.specs.Prelude.{◌≡◌, ℕ, List, [], ◌++◌, Option, None, ◌⊎◌, codes}
+use Rattle.std.specs.Prelude.{◌≡◌, ℕ, Bool, true, List, [], ◌++◌, Option, None, ◌⊎◌, codes}
 use Rattle.gq_meaning.specs.Values.{Text, Values}
 use Rattle.gq_check.specs.declared.files.File.{File}
 use Rattle.gq_check.specs.declared.judging.Verdict.{Verdict}
@@ -14,14 +14,22 @@ use Rattle.gq_response.specs.Texts.{response_text}
 use Rattle.gq_law_rewrites.specs.Executed.{IsExecuted}
 use Rattle.gq_check.specs.declared.formats.Format.TheVariants as format
 use Rattle.gq_check.specs.Helping.Verdicts.{IsTold}
-use Rattle.gq_check.specs.Execution.{ExecOutcome, IsExecOutcome, exec_output, exec_error, exec_status}
+use Rattle.gq_check.specs.Execution.{ExecOutcome, IsExecOutcome, IsReasonOf, exec_output, exec_error, exec_fault_line, exec_status}
+use Rattle.gq_check.specs.Flaws.{IsExecReason}
 
 pub record IsExecVerdict (name : Option Text) (table variables : Option (List ℕ)) (files : List File) (verdict : Verdict) : Type 0 where
   pub outcome : ExecOutcome
   pub is_outcome : IsExecOutcome name table variables files outcome
   pub text : verdict.text.items ≡ exec_output files outcome
   pub no_error : exec_error outcome ≡ []
+  pub no_reason : (is_verbose : Bool) (t v : File) → IsReasonOf is_verbose t v files outcome []
   pub status : verdict.status ≡ exec_status outcome
+
+-- what is written of a fault with `--verbose`
+pub record IsExplained (table variables : File) (files : List File) (fault : ExecFault) (text : List ℕ) : Type 0 where
+  pub reason : List ℕ
+  pub is_reason : IsExecReason true table variables files fault reason
+  pub told : text ≡ reason ++ exec_fault_line fault
 
 -- why JSON is no table, or no variables: what it reads as is nothing, or memory was refused
 abbrev pub IsFaultOfTable : Option (List RowOf) → ExecFault → Type 0

@@ -1,5 +1,5 @@
 -- What files that are not refused come to, as it is computed.
-use Rattle.std.specs.Prelude.{◌≡◌, List, []}
+use Rattle.std.specs.Prelude.{◌≡◌, Bool, List, []}
 use Rattle.gq_check.specs.declared.files.File.{File}
 use Rattle.gq_check.specs.declared.judging.Verdict.{Verdict}
 use Rattle.gq_project.specs.declared.document.Doc.{Doc}
@@ -13,7 +13,7 @@ pub record IsVerdict (format : Format) (files : List File) (verdict : Verdict) :
   pub outcome : Outcome
   pub is_outcome : IsOutcome files outcome
   pub text : verdict.text.items ≡ output_of format files outcome
-  pub no_error : error_of outcome ≡ []
+  pub no_error : (is_verbose : Bool) → error_of is_verbose files outcome ≡ []
   pub status : verdict.status ≡ status_of outcome
 
 -- what is told of documents that are no valid project

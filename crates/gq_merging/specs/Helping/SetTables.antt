@@ -8,7 +8,7 @@ use Rattle.gq_graph.specs.Reach.{Reach}
 use Rattle.gq_spreads.specs.Spreads.{places_from}
 use Rattle.gq_types.specs.Entries.{Text, EntryOf}
 use Rattle.gq_document.specs.Executable.{ExecutableOf}
-use Rattle.gq_document.specs.FieldSets.{SetOf, FieldAt, narrowed, operation_set, fragment_set, field_set, Stands}
+use Rattle.gq_document.specs.FieldSets.{SetOf, FieldAt, narrowed, operation_set, fragment_set, field_set, InSet, Stands}
 
 -- the fields of selections, those in inline fragments among them, without those in fragments that are spread
 abbrev pub own_fields : ℕ → Option Text → Sels Span → List FieldAt
@@ -33,14 +33,6 @@ own_spreads names none = []
 own_spreads names (more (field alias name arguments directives braces place) below rest) = own_spreads names rest
 own_spreads names (more (spread name directives place) below rest) = places_from 0 name.text names ++ own_spreads names rest
 own_spreads names (more (inline on directives braces place) below rest) = own_spreads names below ++ own_spreads names rest
-
-abbrev pub own_spreads_in : List Text → Head Span → Sels Span → List ℕ
-own_spreads_in names (field alias name arguments directives braces place) below = []
-own_spreads_in names (spread name directives place) below = places_from 0 name.text names
-own_spreads_in names (inline on directives braces place) below = own_spreads names below
-
-abbrev pub own_spreads_at : List Text → Sel Span → List ℕ
-own_spreads_at names s = own_spreads_in names s.label s.below
 
 -- how many fields stand in selections, at any depth
 abbrev pub weight : Sels Span → ℕ
@@ -108,21 +100,26 @@ pub record AreNumbered (es : List EntryOf) (fs : List FieldAt) (sets new : List 
   pub each : All (IsOfOne es fs) added
   pub few : weights added ≤ field_weights fs
 
-pub record IsRow (es : List EntryOf) (names : List Text) (sets : List SetOf) (r : RowOf) : Type 0 where
+-- all fields that stand in the set with that number stand in the other one too
+pub record IsWithin (x : ExecutableOf) (sets : List SetOf) (number : ℕ) (s : SetOf) : Type 0 where
+  pub set : SetOf
+  pub is_set : slice_get sets number ≡ Some set
+  pub within : (f : FieldAt) → InSet x set f → InSet x s f
+
+-- all fields that stand in the set stand in one that stands
+pub record StandsWithin (x : ExecutableOf) (s : SetOf) : Type 0 where
+  pub set : SetOf
+  pub stands : Stands x set
+  pub within : (f : FieldAt) → InSet x s f → InSet x set f
+
+pub record IsRow (x : ExecutableOf) (sets : List SetOf) (r : RowOf) : Type 0 where
   pub fields : map (λ m. m.field_at) r.members ≡ own_fields r.set.file r.set.parent r.set.selections
-  pub numbers : All (HasNumber es sets) r.members
-  pub spreads : r.spreads ≡ own_spreads names r.set.selections
+  pub numbers : All (HasNumber x.entries sets) r.members
+  pub inside : (k : ℕ) → Contains r.spreads k → IsWithin x sets k r.set
 
 -- the names of the fragments
 abbrev pub names_of : ExecutableOf → List Text
 names_of x = map (λ f. f.name.text) x.fragments
-
--- a row for each selection set that stands, those of fragments and of operations first
-pub record AreRows (x : ExecutableOf) (rows : List RowOf) : Type 0 where
-  pub others : List SetOf
-  pub begin : map (λ r. r.set) rows ≡ first_sets x ++ others
-  pub stand : All (Stands x) (map (λ r. r.set) rows)
-  pub each : All (IsRow x.entries (names_of x) (map (λ r. r.set) rows)) rows
 
 -- the members and the spreads of the row with that number, none past the end
 abbrev pub members_at : List RowOf → ℕ → List MemberOf
@@ -130,6 +127,25 @@ members_at rows n = option_map_or (λ r. r.members) (slice_get rows n) []
 
 abbrev pub spreads_at : List RowOf → ℕ → List ℕ
 spreads_at rows n = option_map_or (λ r. r.spreads) (slice_get rows n) []
+
+-- a row leads to a number through another row
+pub record IsThroughHub (rows : List RowOf) (from number : ℕ) : Type 0 where
+  pub hub : ℕ
+  pub there : Contains (spreads_at rows from) hub
+  pub leads : Contains (spreads_at rows hub) number
+
+-- a row leads to a number at once, or through another row
+abbrev pub IsLedTo : List RowOf → ℕ → ℕ → Type 0
+IsLedTo rows from number = Contains (spreads_at rows from) number ⊎ IsThroughHub rows from number
+
+-- A row for each selection set that stands, those of fragments and of operations first, and for some sets whose fields stand together in
+-- such a one. A row leads to each fragment that is spread in its set, and to nothing else that stands in it.
+pub record AreRows (x : ExecutableOf) (rows : List RowOf) : Type 0 where
+  pub others : List SetOf
+  pub begin : map (λ r. r.set) rows ≡ first_sets x ++ others
+  pub stand : All (StandsWithin x) (map (λ r. r.set) rows)
+  pub each : All (IsRow x (map (λ r. r.set) rows)) rows
+  pub leads : (n k : ℕ) (s : SetOf) → slice_get (map (λ r. r.set) rows) n ≡ Some s → Contains (own_spreads (names_of x) s.selections) k → IsLedTo rows n k
 
 -- a field of the set of that number, or of a fragment that it reaches by spreads
 pub record IsMember (rows : List RowOf) (number : ℕ) (m : MemberOf) : Type 0 where

@@ -5,8 +5,10 @@ use Rattle.gq_tree.specs.Views.{name_of, argument_view, sels_view}
 use Rattle.gq_types.specs.Look.{types_view, text_of}
 use Rattle.gq_document.specs.FieldSets.{SetOf, FieldAt}
 use Rattle.gq_merging.specs.Helping.SetTables.{MemberOf, RowOf}
+use Rattle.gq_merging.specs.Helping.HubTables.{SpreadOf}
 use Rattle.gq_merging.specs.declared.sets.StandingField.{StandingField}
 use Rattle.gq_merging.specs.declared.sets.StandingSet.{StandingSet}
+use Rattle.gq_merging.specs.declared.sets.StandingSpread.{StandingSpread}
 use Rattle.gq_merging.specs.declared.rows.Member.{Member}
 use Rattle.gq_merging.specs.declared.rows.Row.{Row}
 use Rattle.gq_merging.specs.Helping.PairTables.{MetOf, LookOf}
@@ -32,6 +34,12 @@ set_at s = record { file = s.file; parent = text_of s.parent; selections = sels_
 
 abbrev pub sets_at : List StandingSet → List SetOf
 sets_at ss = map set_at ss
+
+abbrev pub spread_at : StandingSpread → SpreadOf
+spread_at s = record { text = s.name.now; alone = sels_view s.alone.now }
+
+abbrev pub all_spreads_at : List StandingSpread → List SpreadOf
+all_spreads_at ss = map spread_at ss
 
 abbrev pub member_view : Member → MemberOf
 member_view m = record { field_at = field_at m.it; below = m.below }

@@ -50,6 +50,9 @@ pub record IsRunOn (asked : Asked) (place : Span) (on : Text) (run : Sels Span) 
   pub is_run : run_at place (sets_of_asked asked) ≡ Some (record { parent = Some on; run = run })
   pub has_object : HasNoObject (types_view asked.known.types.now) (Some on) → ⊥
 
+abbrev pub IsSomeRunOn : Asked → Span → Text → Type 0
+IsSomeRunOn asked place on = (run : Sels Span) × IsRunOn asked place on run
+
 -- what a spread and an inline fragment of the code are in the tree
 abbrev pub spread_head : Spread → Head Span
 spread_head s = spread (name_of s.name) (map directive_view s.directives.items) s.span

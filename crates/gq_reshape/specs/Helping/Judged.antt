@@ -1,5 +1,5 @@
 -- What comes of the checks of an edit.
-use Rattle.std.specs.Prelude.{◌≡◌, ℕ, false, List, [], Option, Some, None, Result, Ok, Err}
+use Rattle.std.specs.Prelude.{◌≡◌, ℕ, false, List, [], Result, Ok, Err}
 use Rattle.gq_project.specs.declared.document.Doc.{Doc}
 use Rattle.gq_edit.specs.declared.edit.DocumentEdit.{DocumentEdit}
 use Rattle.gq_tree.specs.Readings.{ParsedOf}
@@ -8,9 +8,7 @@ use Rattle.gq_rename.specs.declared.refusal.Refusal.TheVariants.{ProjectInvalid,
 use Rattle.gq_rename.specs.Asks.{trees_of}
 use Rattle.gq_rename.specs.Rename.{IsTooLarge}
 use Rattle.gq_reshape.specs.Placed.{replacements_in}
-use Rattle.gq_rewritten.specs.Rewrites.{Rewrite}
-use Rattle.gq_reshape.specs.Helping.Limits.{OnePasses, NonePasses}
-use Rattle.gq_reshape.specs.Helping.Rereading.{is_edited, AreRewrittenFrom}
+use Rattle.gq_reshape.specs.Helping.Rereading.{is_edited}
 use Rattle.gq_reshape.specs.Cuts.{Cut, edits_of, PassesCheck}
 
 -- whether an edited text passes a limit, whether all read as they should, and whether the edited project is valid
@@ -33,19 +31,3 @@ IsJudged documents readings cut (Err NoMemory) = Unit {0}
 -- nothing is replaced in documents in which nothing may change
 abbrev pub IsQuiet : Cut → Type 0
 IsQuiet cut = (file : ℕ) → is_edited cut.rewrite file ≡ false → replacements_in cut.replacements file ≡ []
-
--- what is wrong with the documents after an edit, which are read so
-abbrev pub IsVerdict : Rewrite → List Doc → (before after : List ParsedOf) → Option Refusal → Type 0
-IsVerdict r documents before after None = NonePasses documents × AreRewrittenFrom r 0 before after
-IsVerdict r documents before after (Some ProjectInvalid) = ⊥
-IsVerdict r documents before after (Some NothingHere) = ⊥
-IsVerdict r documents before after (Some BadName) = ⊥
-IsVerdict r documents before after (Some SameName) = ⊥
-IsVerdict r documents before after (Some NameTaken) = ⊥
-IsVerdict r documents before after (Some DirectiveInWay) = ⊥
-IsVerdict r documents before after (Some NoPossibleType) = ⊥
-IsVerdict r documents before after (Some NotSiblings) = ⊥
-IsVerdict r documents before after (Some NotRedundant) = ⊥
-IsVerdict r documents before after (Some TooLarge) = OnePasses documents
-IsVerdict r documents before after (Some SelfCheck) = NonePasses documents × (AreRewrittenFrom r 0 before after → ⊥)
-IsVerdict r documents before after (Some NoMemory) = ⊥

@@ -1,5 +1,5 @@
 -- What only helps to prove that limits are told.
-use Rattle.std.specs.Prelude.{ℕ, Bool, true, false, List, [], ◌∷◌, Contains}
+use Rattle.std.specs.Prelude.{ℕ, List, [], ◌∷◌, Contains}
 use Rattle.gq_project.specs.declared.document.Doc.{Doc}
 use Rattle.gq_parse.specs.Limits.{PassesLimitAt}
 
@@ -17,7 +17,3 @@ pub record OnePasses (documents : List Doc) : Type 0 where
 abbrev pub NonePasses : List Doc → Type 0
 NonePasses [] = Unit {0}
 NonePasses (document ∷ documents) = (PassesSomeLimit document.text → ⊥) × NonePasses documents
-
-abbrev pub IsPassing : List Doc → Bool → Type 0
-IsPassing documents true = OnePasses documents
-IsPassing documents false = NonePasses documents

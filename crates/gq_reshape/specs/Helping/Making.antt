@@ -5,18 +5,12 @@ use Rattle.gq_tree.specs.Plain.{Def}
 use Rattle.gq_project.specs.declared.document.Doc.{Doc}
 use Rattle.gq_tree.specs.Readings.{ParsedOf}
 use Rattle.gq_meaning.specs.Thin.{IsIn}
-use Rattle.gq_rewritten.specs.declared.rewrite.Rewrite.{Rewrite}
-use Rattle.gq_rewritten.specs.Views.{IsExecutable, rewrite_of}
+use Rattle.gq_rewritten.specs.Executables.{IsExecutable}
 use Rattle.gq_rename.specs.Asks.{trees_of}
 use Rattle.gq_reshape.specs.Cuts.{Cut}
 use Rattle.gq_reshape.specs.Helping.Fitting.{AllFit}
 use Rattle.gq_reshape.specs.Helping.Judged.{IsQuiet}
 use Rattle.gq_reshape.specs.Helping.Rereading.{is_edited}
-use Rattle.gq_reshape.specs.declared.placed.PlacedReplacement.{PlacedReplacement}
-
--- the cut of the code's replacements and rewrite
-abbrev pub cut_of : List PlacedReplacement → Rewrite → Cut
-cut_of replacements rewrite = record { replacements = replacements; rewrite = rewrite_of rewrite }
 
 -- an operation or a fragment stands among definitions
 pub record SomeExecutable (ds : List (Def Span)) : Type 0 where

@@ -57,6 +57,7 @@ fn file(alloc: Global, name: &str, text: &str) -> Result<File, Fail> {
     Ok(File {
         name: OwnedText::from_str(alloc, name)?,
         bytes: Some(Vec::from_slice(alloc, text.as_bytes())?),
+        why: OwnedText::from_str(alloc, "")?,
     })
 }
 
@@ -64,6 +65,7 @@ fn absent(alloc: Global, name: &str) -> Result<File, Fail> {
     Ok(File {
         name: OwnedText::from_str(alloc, name)?,
         bytes: None,
+        why: OwnedText::from_str(alloc, "no such file")?,
     })
 }
 
@@ -88,7 +90,7 @@ fn written(
 ) -> Result<String, Fail> {
     let mut out = sink_of(alloc, writes.0);
     let mut err = sink_of(alloc, writes.1);
-    let status = check_by_threads(rt, alloc, Format::Text, files, &mut out, &mut err);
+    let status = check_by_threads(rt, alloc, Format::Text, false, files, &mut out, &mut err);
     let mut all = String::from_utf8(out.bytes).map_err(|_| "no text")?;
     all.push_str(str::from_utf8(&err.bytes).map_err(|_| "no text")?)?;
     write!(all, "{status}")?;

@@ -76,6 +76,7 @@ fn file(alloc: Global, name: &str, text: &str) -> Result<File, NoMemory> {
     Ok(File {
         name: OwnedText::from_str(alloc, name)?,
         bytes: Some(Vec::from_slice(alloc, text.as_bytes())?),
+        why: OwnedText::from_str(alloc, "")?,
     })
 }
 

@@ -21,12 +21,13 @@ pub record LeadToUses (next : ℕ → List ℕ) (rows : List (List UseOf)) (mark
   pub used : (k : ℕ) (u : UseOf) → Contains (row_at rows k) u → slice_index_or marks k false ≡ true
   pub closed : (m k : ℕ) → Contains (next m) k → slice_index_or marks k false ≡ true → slice_index_or marks m false ≡ true
 
--- Spreads by which an operation reaches only what it reaches, and each fragment of that in which a use stands.
+-- Rows by which an operation leads only to fragments that it reaches, and to each of these in which a use stands.
 pub record AreLeading (x : ExecutableOf) (s : Spreads) : Type 0 where
   pub operations : length s.of_operations.items ≡ length x.operations
   pub range : InRange s.of_fragments.items
   pub starts : (n : ℕ) → All (λ k. k < length s.of_fragments.items) (row s.of_operations.items n)
-  pub sound : (n : ℕ) (o : OperationOf) (k : ℕ) → slice_get x.operations n ≡ Some o → Reach (row s.of_operations.items n) (row s.of_fragments.items) k → ReachesNumber x.fragments o.set k
+  pub sound : (n : ℕ) (o : OperationOf) (k : ℕ) → slice_get x.operations n ≡ Some o → k < length x.fragments →
+      Reach (row s.of_operations.items n) (row s.of_fragments.items) k → ReachesNumber x.fragments o.set k
   pub complete : (n : ℕ) (o : OperationOf) (k : ℕ) (f : FragmentOf) (u : UseOf) → slice_get x.operations n ≡ Some o → slice_get x.fragments k ≡ Some f → Contains (fragment_uses x.entries f) u →
       ReachesNumber x.fragments o.set k → Reach (row s.of_operations.items n) (row s.of_fragments.items) k
 
@@ -39,14 +40,16 @@ pub record AreInParts (old new : Spreads) (own : List (Vec ℕ Global)) : Type 0
   pub of_own : (n k : ℕ) → Contains (row own n) k → Contains (row old.of_operations.items n) k
   pub all : (n k : ℕ) → Contains (row old.of_operations.items n) k → Contains (row new.of_operations.items n) k ⊎ Contains (row own n) k
 
--- Spreads by either part of which an operation reaches only what it reaches, and by one of which each fragment of that in which a use stands.
+-- Rows by either part of which an operation leads only to fragments that it reaches, and by one of which to each of these in which a use stands.
 pub record AreLeadingInParts (x : ExecutableOf) (s : Spreads) (own : List (Vec ℕ Global)) : Type 0 where
   pub operations : length s.of_operations.items ≡ length x.operations
   pub own_operations : length own ≡ length x.operations
   pub range : InRange s.of_fragments.items
   pub starts : (n : ℕ) → All (λ k. k < length s.of_fragments.items) (row s.of_operations.items n)
   pub own_starts : (n : ℕ) → All (λ k. k < length s.of_fragments.items) (row own n)
-  pub sound : (n : ℕ) (o : OperationOf) (k : ℕ) → slice_get x.operations n ≡ Some o → Reach (row s.of_operations.items n) (row s.of_fragments.items) k → ReachesNumber x.fragments o.set k
-  pub own_sound : (n : ℕ) (o : OperationOf) (k : ℕ) → slice_get x.operations n ≡ Some o → Reach (row own n) (row s.of_fragments.items) k → ReachesNumber x.fragments o.set k
+  pub sound : (n : ℕ) (o : OperationOf) (k : ℕ) → slice_get x.operations n ≡ Some o → k < length x.fragments →
+      Reach (row s.of_operations.items n) (row s.of_fragments.items) k → ReachesNumber x.fragments o.set k
+  pub own_sound : (n : ℕ) (o : OperationOf) (k : ℕ) → slice_get x.operations n ≡ Some o → k < length x.fragments →
+      Reach (row own n) (row s.of_fragments.items) k → ReachesNumber x.fragments o.set k
   pub complete : (n : ℕ) (o : OperationOf) (k : ℕ) (f : FragmentOf) (u : UseOf) → slice_get x.operations n ≡ Some o → slice_get x.fragments k ≡ Some f → Contains (fragment_uses x.entries f) u →
       ReachesNumber x.fragments o.set k → Reach (row s.of_operations.items n) (row s.of_fragments.items) k ⊎ Reach (row own n) (row s.of_fragments.items) k

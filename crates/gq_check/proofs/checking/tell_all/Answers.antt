@@ -1,4 +1,4 @@
-use Rattle.std.proofs.Common.{IfOk, IfErr, refl, sym, ◌∙◌, subst}
+use Rattle.std.proofs.Common.{IfOk, IfErr, sym, ◌∙◌, subst}
 use Rattle.gq_check.specs.Faults.{IsFaultOr}
 use Rattle.gq_check.specs.Files.{files_fault}
 use Rattle.gq_check.specs.Checks.{refused}
@@ -7,17 +7,17 @@ use Rattle.gq_check.proofs.VerdictLemmas.{ends_as}
 use Rattle.gq_check.proofs.checking.tell_all.Goals as goal
 
 pub returns-in-Ok : goal.returns-in-Ok
-returns-in-Ok g c format files ok err =
+returns-in-Ok g c format ok err =
+    let files = c.args.files.now in
     let is : IsVerdict format files c.in-Ok.verdict = subst (λ r. IfOk r (IsVerdict format files)) c.in-Ok.is ok in
     record {
       outcome = is.outcome;
       is_outcome = is.is_outcome;
-      ends = ends_as _ _ _ _ _ _ _ _ _ _ _ (c.deref.ensures.value ∙ is.text) (sym is.no_error) is.status c.print.ensures;
+      ends = ends_as _ _ _ _ _ _ _ _ _ _ _ (c.deref.ensures.value ∙ is.text) (sym (is.no_error c.args.is_verbose)) is.status c.print.ensures;
     }
 
 pub returns-in-Err : goal.returns-in-Err
-returns-in-Err g c format files ok err = record {
-  outcome = refused c.in-Err.fault;
-  is_outcome = subst (λ r. IfErr r (IsFaultOr (files_fault files))) c.in-Err.is err;
-  ends = ends_as _ _ _ _ _ _ _ _ _ _ _ refl (c.as_bytes.ensures.value ∙ c.line.ensures) refl c.print-in-Err.ensures;
-}
+returns-in-Err g c format ok err =
+    let files = c.args.files.now in
+    let told = c.refuse.ensures (subst (λ r. IfErr r (IsFaultOr (files_fault files))) c.in-Err.is err) in
+    record { outcome = refused told.fault; is_outcome = told.is_fault; ends = told.ends }

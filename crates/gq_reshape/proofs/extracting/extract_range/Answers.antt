@@ -29,9 +29,12 @@ extract_run-requires-clause-run c =
     let a = c.args.asked in
     let run = c.in-Some-find_run.run' in
     let T : List ℕ → Type 0 = λ text. Touches text a.range c.in-Some.place in
-    let touches = subst T c.as_str.ensures (subst (IsTouchedPlace c.as_str.result.now a.range) c.in-Some.is c.in_ok-place.ensures) in
-    is_run a c.requires c.in-Some.place (text_of run.parent) (sels_view run.selections.now) c.in-Some-2.on.now touches (ap (run_at c.in-Some.place) (sym (ap sets_view c.deref.ensures.value ∙ c.in_ok-sets.ensures)) ∙ sym c.in-Some-find_run.ensures)
-    (subst (λ o. IsPossibleParent (types_view a.known.types.now) (text_of run.parent) (text_of o)) c.in-Some-2.is c.in_ok-on.ensures)
+    let touches = subst T c.as_str.ensures (subst (IsTouchedPlace c.as_str.result.now a.range) c.in-Some.is c.in_ok-place.ensures) in (
+      sels_view run.selections.now,
+      is_run a c.requires c.in-Some.place (text_of run.parent) (sels_view run.selections.now) c.in-Some-2.on.now touches
+          (ap (run_at c.in-Some.place) (sym (ap sets_view c.deref.ensures.value ∙ c.in_ok-sets.ensures)) ∙ sym c.in-Some-find_run.ensures)
+          (subst (λ o. IsPossibleParent (types_view a.known.types.now) (text_of run.parent) (text_of o)) c.in-Some-2.is c.in_ok-on.ensures),
+    )
 
 pub returns-clause-answer : goal.returns-clause-answer
 returns-clause-answer c known index =

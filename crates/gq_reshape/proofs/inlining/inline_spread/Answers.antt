@@ -1,22 +1,19 @@
-use Rattle.std.proofs.Common.{rules, ◌≡◌, ◌∙◌, ◌<◌, ℕ, Bool, List, [], Option, Some, slice_get, length, map, ap, sym, subst}
-use Rattle.std.specs.Option.{option_map}
+use Rattle.std.proofs.Common.{rules, ◌≡◌, ◌∙◌, ◌<◌, Bool, List, Some, slice_get, length, map, ap, sym, subst}
 use Rattle.std.proofs.Props.{props}
-use Rattle.std.proofs.Math.Logic.{∥∥₁_elim, ∥∥₁_map}
+use Rattle.std.proofs.Math.Logic.{∥∥₁_elim}
 use Rattle.gq_tree.specs.Readings.{readings_view}
-use Rattle.gq_tree.specs.declared.tree.Selection.{Selection}
-use Rattle.gq_tree.specs.Plain.{erase_all}
-use Rattle.gq_tree.specs.Views.{directive_view, name_of, sels_view}
+use Rattle.gq_tree.specs.Views.{directive_view, name_of}
 use Rattle.gq_project.specs.declared.document.Doc.{Doc}
-use Rattle.gq_rewritten.specs.Rewrites.{Rewrite, DefinitionPlace, with_inlined}
-use Rattle.gq_rewritten.specs.Views.{dropped_of}
 use Rattle.gq_reshape.specs.Inline.{inline_at, inline_replacements, is_only_spread}
+use Rattle.gq_reshape.specs.Placed.{edits_from}
+use Rattle.gq_reshape.specs.Helping.Fitting.{AllFit}
 use Rattle.gq_reshape.specs.Helping.Fragments.{fragment_found}
-use Rattle.gq_reshape.specs.Helping.Judged.{IsJudged}
-use Rattle.gq_reshape.specs.Helping.Making.{CanBeMade}
+use Rattle.gq_reshape.specs.Helping.Limited.{IsLimited}
 use Rattle.gq_reshape.specs.declared.placed.PlacedReplacement.{PlacedReplacement}
 use Rattle.gq_reshape.proofs.Indexing.{index_is}
-use Rattle.gq_reshape.proofs.InlineAnswers.{Home, home_inside, directives_fit, braces_part, spread_made, spread_inlined}
-use Rattle.gq_reshape.proofs.Merely.{directives_prop, part_prop}
+use Rattle.gq_reshape.proofs.InlineAnswers.{Home, home_inside, directives_fit, braces_part, spread_made, passes, spread_inlined}
+use Rattle.gq_reshape.proofs.Limiting.{limited_judges}
+use Rattle.gq_reshape.proofs.Merely.{directives_prop, part_prop, fit_prop}
 use Rattle.gq_reshape.proofs.Quiet.{slice_is}
 use Rattle.gq_reshape.proofs.inlining.inline_spread.Goals as goal
 
@@ -44,25 +41,24 @@ inline_replacements-requires-clause-braces c =
     let text : c.as_str-home.result.now ≡ home.0.text = c.as_str-home.ensures ∙ ap (λ (d : Doc). d.text) (slice_is c.documents.result.now f.file home.0 c.index-documents-found.result listed) in
     rw text (braces_part c.args.asked c.requires.about c.args.spread.now f c.requires.of known home.0 home.1))
 
-pub checked_edit-requires-clause-made : goal.checked_edit-requires-clause-made
-checked_edit-requires-clause-made c =
+pub limited_edit-requires-clause-project : goal.limited_edit-requires-clause-project
+limited_edit-requires-clause-project c = c.requires.about.is_project
+
+pub limited_edit-requires-clause-fit : goal.limited_edit-requires-clause-fit
+limited_edit-requires-clause-fit c =
     let a = c.args.asked in
     let f = fragment_found c.args.found.now in
     let ds = map directive_view c.args.spread.now.directives.items in
     let place = c.args.spread.now.span in
     let goes = c.is_only_spread-goes.result in
-    ∥∥₁_map c.requires.about.is_known (λ known.
+    ∥∥₁_elim c.requires.about.is_known (fit_prop c.deref.result.now 0 a.valid.now) (λ known.
     let home = Home a c.requires.about c.args.spread.now f c.requires.of known in
     let listed : slice_get c.documents.result.now f.file ≡ Some home.0 = ap (λ (ds : List Doc). slice_get ds f.file) (c.documents.ensures.all ∙ c.project-project.ensures.same) ∙ home.1 in
     let text : c.as_str-home.result.now ≡ home.0.text = c.as_str-home.ensures ∙ ap (λ (d : Doc). d.text) (slice_is c.documents.result.now f.file home.0 c.index-documents-found.result listed) in
-    let on = f.on.text in
-    let made : (name : List ℕ) (set : List Selection) (gone : Option DefinitionPlace) → Rewrite = λ name set gone. record { file = a.file; change = with_inlined place name (erase_all (sels_view set)); added = []; dropped = gone } in
-    let rewrite = ap (λ name. made name c.deref.result.now (option_map dropped_of c.dropped.result)) c.as_str-2.ensures ∙ ap (λ set. made on set (option_map dropped_of c.dropped.result)) c.deref.ensures.value ∙ ap (λ gone. made on c.args.found.now.definition.now.set.items.items gone) c.dropped.ensures in
-    let replacements : c.deref-2.result.now ≡ inline_replacements a.file a.document.now.text ds place f home.0.text goes =
-    c.deref-2.ensures.value ∙ c.in_ok-replacements.ensures ∙ ap (λ text. inline_replacements a.file text ds place f c.as_str-home.result.now goes) c.as_str-text.ensures ∙ ap (λ text. inline_replacements a.file a.document.now.text ds place f text goes) text in
-    let M : List PlacedReplacement → Rewrite → Type 0 = λ ps r. CanBeMade a.valid.now (readings_view a.known.readings.now) (record { replacements = ps; rewrite = r }) in
-    subst (λ (ps : List PlacedReplacement). M ps (made c.as_str-2.result.now c.deref.result.now (option_map dropped_of c.dropped.result))) (sym replacements)
-    (subst (M (inline_replacements a.file a.document.now.text ds place f home.0.text goes)) (sym rewrite) (spread_made a c.requires.about c.args.spread.now f c.requires.of known c.no_project_is_valid_and_invalid.ensures home.0 home.1 goes)))
+    let replacements : c.deref.result.now ≡ inline_replacements a.file a.document.now.text ds place f home.0.text goes =
+    c.deref.ensures.value ∙ c.in_ok-replacements.ensures ∙ ap (λ text. inline_replacements a.file text ds place f c.as_str-home.result.now goes) c.as_str-text.ensures ∙ ap (λ text. inline_replacements a.file a.document.now.text ds place f text goes) text in
+    let F : List PlacedReplacement → Type 0 = λ ps. AllFit ps 0 a.valid.now in
+    subst F (sym replacements) (spread_made a c.requires.about c.args.spread.now f c.requires.of known c.no_project_is_valid_and_invalid.ensures home.0 home.1 goes).fit)
 
 pub returns-clause-answer : goal.returns-clause-answer
 returns-clause-answer c known index =
@@ -74,14 +70,11 @@ returns-clause-answer c known index =
     let home = Home a c.requires.about c.args.spread.now f c.requires.of known in
     let listed : slice_get c.documents.result.now f.file ≡ Some home.0 = ap (λ (ds : List Doc). slice_get ds f.file) (c.documents.ensures.all ∙ c.project-project.ensures.same) ∙ home.1 in
     let text : c.as_str-home.result.now ≡ home.0.text = c.as_str-home.ensures ∙ ap (λ (d : Doc). d.text) (slice_is c.documents.result.now f.file home.0 c.index-documents-found.result listed) in
-    let on = f.on.text in
-    let made : (name : List ℕ) (set : List Selection) (gone : Option DefinitionPlace) → Rewrite = λ name set gone. record { file = a.file; change = with_inlined place name (erase_all (sels_view set)); added = []; dropped = gone } in
-    let rewrite = ap (λ name. made name c.deref.result.now (option_map dropped_of c.dropped.result)) c.as_str-2.ensures ∙ ap (λ set. made on set (option_map dropped_of c.dropped.result)) c.deref.ensures.value ∙ ap (λ gone. made on c.args.found.now.definition.now.set.items.items gone) c.dropped.ensures in
-    let replacements : c.deref-2.result.now ≡ inline_replacements a.file a.document.now.text ds place f home.0.text goes =
-    c.deref-2.ensures.value ∙ c.in_ok-replacements.ensures ∙ ap (λ text. inline_replacements a.file text ds place f c.as_str-home.result.now goes) c.as_str-text.ensures ∙ ap (λ text. inline_replacements a.file a.document.now.text ds place f text goes) text in
-    let J : List PlacedReplacement → Rewrite → Type 0 = λ ps r. IsJudged a.valid.now (readings_view a.known.readings.now) (record { replacements = ps; rewrite = r }) c.checked_edit.result in
+    let replacements : c.deref.result.now ≡ inline_replacements a.file a.document.now.text ds place f home.0.text goes =
+    c.deref.ensures.value ∙ c.in_ok-replacements.ensures ∙ ap (λ text. inline_replacements a.file text ds place f c.as_str-home.result.now goes) c.as_str-text.ensures ∙ ap (λ text. inline_replacements a.file a.document.now.text ds place f text goes) text in
+    let L : List PlacedReplacement → Type 0 = λ ps. IsLimited a.valid.now (edits_from ps 0 a.valid.now) c.limited_edit.result in
     let only : goes ≡ is_only_spread (readings_view a.known.readings.now) (name_of c.args.spread.now.name).text = c.is_only_spread-goes.ensures (readings_view a.known.readings.now) (index_is a c.requires.about known c.documents_have_one_list.ensures index) ∙ ap (is_only_spread (readings_view a.known.readings.now)) c.as_str.ensures in
-    let G : Bool → Type 0 = λ b. IsJudged a.valid.now (readings_view a.known.readings.now) (inline_at a.file a.document.now.text ds place f home.0.text b) c.checked_edit.result in
-    spread_inlined a c.requires.about c.args.spread.now f c.requires.of c.requires.free home.0 home.1 c.checked_edit.result
-    (subst G only (subst (J (inline_replacements a.file a.document.now.text ds place f home.0.text goes)) rewrite
-    (subst (λ (ps : List PlacedReplacement). J ps (made c.as_str-2.result.now c.deref.result.now (option_map dropped_of c.dropped.result))) replacements (c.checked_edit.ensures.judged known))))
+    let G : Bool → Type 0 = λ b. IsLimited a.valid.now (edits_from (inline_replacements a.file a.document.now.text ds place f home.0.text b) 0 a.valid.now) c.limited_edit.result in
+    spread_inlined a c.requires.about c.args.spread.now f c.requires.of c.requires.free home.0 home.1 c.limited_edit.result
+    (limited_judges a.valid.now (readings_view a.known.readings.now) (inline_at a.file a.document.now.text ds place f home.0.text (is_only_spread (readings_view a.known.readings.now) (name_of c.args.spread.now.name).text))
+    (passes a c.requires.about c.args.spread.now f c.requires.of known c.inlines_pass.ensures.pass c.requires.free home.0 home.1) c.limited_edit.result (subst G only (subst L replacements c.limited_edit.ensures.limited)))

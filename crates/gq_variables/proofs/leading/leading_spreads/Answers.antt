@@ -1,33 +1,40 @@
-use Rattle.std.proofs.Common.{◌≡◌, ◌<◌, length, map, List, ℕ, Bool, false, sym, ap, subst, ◌∙◌, Vec, Global}
+use Rattle.std.proofs.Common.{◌≡◌, ◌<◌, ◌≤◌, length, map, List, ℕ, Bool, false, sym, ap, subst, ◌∙◌, Vec, Global}
 use Rattle.std.specs.Prelude.{All, filter, slice_index_or}
+use Rattle.std.proofs.lemmas.List.{length-map}
 use Rattle.gq_graph.specs.Reach.{row, InRange}
 use Rattle.gq_document.specs.Executable.{executable_view}
-use Rattle.gq_spreads.proofs.RowLemmas.{operation_rows_below, fragments_in_range}
+use Rattle.gq_variables.specs.Uses.{UseOf}
 use Rattle.gq_variables.specs.Helping.Leading.{LeadToUses}
+use Rattle.gq_variables.specs.Helping.UsesPlaces.{fragment_uses}
 use Rattle.gq_variables.specs.Helping.Views.{rows_view}
 use Rattle.gq_variables.proofs.LeadingLemmas.{Kept, are_leading}
 use Rattle.gq_variables.proofs.leading.leading_spreads.Goals as goal
 
 pub marks_of-requires-clause-range : goal.marks_of-requires-clause-range
-marks_of-requires-clause-range c = subst InRange (sym c.deref.ensures.value) (fragments_in_range (executable_view c.args.executable.now) c.args.spreads.now c.requires.spreads)
+marks_of-requires-clause-range c = subst InRange (sym c.deref.ensures.value) c.requires.spreads.range
+
+pub marks_of-requires-clause-rows : goal.marks_of-requires-clause-rows
+marks_of-requires-clause-rows c =
+    let x = executable_view c.args.executable.now in
+    let rows : length (rows_view c.args.rows.now) ≡ length x.fragments = ap (λ (l : List (List UseOf)). length l) c.requires.rows ∙ length-map x.fragments (fragment_uses x.entries) in
+    subst (λ (l : List (Vec ℕ Global)). length (rows_view c.args.rows.now) ≤ length l) (sym c.deref.ensures.value)
+    (subst (λ n. n ≤ length c.args.spreads.now.of_fragments.items) (sym rows) c.requires.spreads.fragments)
 
 pub marked_rows-requires : goal.marked_rows-requires
 marked_rows-requires c =
-    let x = executable_view c.args.executable.now in
     let s = c.args.spreads.now in
-    let count : length x.fragments ≡ length c.deref-2.result.now =
-    sym c.requires.spreads.fragments ∙ ap (λ (l : List (Vec ℕ Global)). length l) (sym c.deref.ensures.value) ∙ sym c.in_ok-marks.ensures.count ∙ ap (λ (l : List Bool). length l) (sym c.deref-2.ensures.value) in
+    let count : length s.of_fragments.items ≡ length c.deref-2.result.now =
+    ap (λ (l : List (Vec ℕ Global)). length l) (sym c.deref.ensures.value) ∙ sym c.in_ok-marks.ensures.count ∙ ap (λ (l : List Bool). length l) (sym c.deref-2.ensures.value) in
     subst (λ (rows : List (Vec ℕ Global)). All (λ v. All (λ n. n < length c.deref-2.result.now) v.items) rows) (sym c.deref-3.ensures.value)
-    (subst (λ k. All (λ v. All (λ n. n < k) v.items) s.of_operations.items) count (operation_rows_below x s c.requires.spreads))
+    (subst (λ k. All (λ v. All (λ n. n < k) v.items) s.of_operations.items) count c.requires.spreads.starts)
 
 pub marked_rows-requires-2 : goal.marked_rows-requires-2
 marked_rows-requires-2 c =
-    let x = executable_view c.args.executable.now in
     let s = c.args.spreads.now in
     let count : length s.of_fragments.items ≡ length c.deref-4.result.now =
     ap (λ (l : List (Vec ℕ Global)). length l) (sym c.deref.ensures.value) ∙ sym c.in_ok-marks.ensures.count ∙ ap (λ (l : List Bool). length l) (sym c.deref-4.ensures.value) in
     subst (λ (rows : List (Vec ℕ Global)). All (λ v. All (λ n. n < length c.deref-4.result.now) v.items) rows) (sym c.deref-5.ensures.value)
-    (subst (λ k. All (λ v. All (λ n. n < k) v.items) s.of_fragments.items) count (fragments_in_range x s c.requires.spreads))
+    (subst (λ k. All (λ v. All (λ n. n < k) v.items) s.of_fragments.items) count c.requires.spreads.range)
 
 pub returns : goal.returns
 returns c =

@@ -1,4 +1,4 @@
-use Rattle.std.proofs.Common.{rules, ◌≡◌, ◌+◌, ◌<◌, length, List, ℕ, Bool, false, replicate, sym, ap, subst, ◌∙◌, arith, Vec, Global}
+use Rattle.std.proofs.Common.{rules, ◌≡◌, ◌+◌, ◌<◌, ◌≤◌, length, List, ℕ, Bool, false, replicate, sym, ap, subst, ◌∙◌, arith, Vec, Global}
 use Rattle.std.specs.Prelude.{All}
 use Rattle.std.proofs.lemmas.List.Elements.{All-weaker}
 use Rattle.gq_graph.specs.Reach.{InRange}
@@ -15,7 +15,8 @@ reach_rows-requires-clause-starts c =
     let rows = rows_view c.args.rows.now in
     let back = c.deref.result.now in
     let numbers : c.deref-2.result.now ≡ numbers_with_uses 0 rows = c.deref-2.ensures.value ∙ c.in_ok-numbers.ensures in
-    let size : length rows ≡ length back = c.requires.rows ∙ sym c.in_ok-back.ensures.count ∙ ap (λ (l : List (Vec ℕ Global)). length l) (sym c.deref.ensures.value) in
+    let count : length c.args.spreads.now ≡ length back = sym c.in_ok-back.ensures.count ∙ ap (λ (l : List (Vec ℕ Global)). length l) (sym c.deref.ensures.value) in
+    let size : length rows ≤ length back = omega (arith, c.requires.rows, count) in
     subst (λ ns. All (λ n. n < length back) ns) (sym numbers)
     (All-weaker (λ n. n < 0 + length rows) (λ n. n < length back) (λ n below. omega (arith, below, size)) (numbers_with_uses 0 rows) (numbers_below 0 rows))
 

@@ -1,0 +1,10 @@
+pub mod Told
+pub mod OneList
+pub mod Going
+pub mod Restated
+pub mod Refactored
+pub mod FragmentCalls
+pub mod VariableSets
+pub mod VariableCalls
+pub mod Renamed
+pub mod RenameAnswers

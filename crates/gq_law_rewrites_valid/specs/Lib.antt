@@ -1,0 +1,5 @@
+pub mod Faultless
+pub mod Removed
+pub mod Extracted
+pub mod InlinedSpread
+pub mod Inlined

@@ -1,3 +1,0 @@
-pub mod Sameness
-pub mod MarkLemmas
-pub mod DocumentLemmas

@@ -1,8 +1,0 @@
-use Rattle.std.proofs.Common.{sym}
-use Rattle.gq_tree.specs.Views.{directive_view}
-use Rattle.gq_tree.proofs.Sameness.{lists_apart}
-use Rattle.gq_rewritten.specs.Helping.Same.{same_directives}
-use Rattle.gq_rewritten.proofs.same.have_same_directives.Goals as goal
-
-pub returns-then-a-b : goal.returns-then-a-b
-returns-then-a-b c = sym (lists_apart directive_view directive_view same_directives c.args.a.now c.args.b.now c.if-a-b.true)

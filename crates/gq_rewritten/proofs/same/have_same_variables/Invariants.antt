@@ -1,8 +1,0 @@
-use Rattle.std.proofs.Common.{◌≡◌, drop, map}
-use Rattle.gq_tree.specs.Same.{all_same}
-use Rattle.gq_tree.specs.Views.{variable_view}
-use Rattle.gq_rewritten.specs.Helping.Same.{same_variables}
-use Rattle.gq_rewritten.proofs.same.have_same_variables.Given as goal
-
-abbrev pub invariant-loop-i : goal.invariant-loop-i
-invariant-loop-i l = all_same same_variables (map variable_view (drop l.i l.a)) (map variable_view (drop l.i l.b)) ≡ all_same same_variables (map variable_view l.a) (map variable_view l.b)
