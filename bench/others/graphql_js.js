@@ -6,5 +6,6 @@ const documents = process.argv.slice(2).map((file) => parse(new Source(fs.readFi
 const isExecutable = (definition) => ['OperationDefinition', 'FragmentDefinition'].includes(definition.kind);
 const { definitions } = concatAST(documents);
 const schema = buildASTSchema({ kind: 'Document', definitions: definitions.filter((one) => !isExecutable(one)) });
-const errors = validate(schema, { kind: 'Document', definitions: definitions.filter(isExecutable) });
+const operations = { kind: 'Document', definitions: definitions.filter(isExecutable) };
+const errors = validate(schema, operations, undefined, { maxErrors: Infinity });
 console.log(errors.length ? errors.map(String).join('\n') : 'ok');
