@@ -284,11 +284,19 @@ class Desk:
     def state(self):
         return self.taken, dict(self.pending), list(self.list)
 
+    def restore(self, state):
+        self.taken, self.pending, self.list = state
+
+    def is_cut_off(self, left, wanted):
+        """Whether the run may have ended where it would have written this, with these frames left. A run without a fault may not."""
+        return False
+
     def judge(self, told):
         """What is wrong with the frames that were written, if something is, by the first way of reading them."""
         ways, seen, first = [(0, None, self.state())], set(), None
         while ways:
-            at, barred, (self.taken, self.pending, self.list) = ways.pop()
+            at, barred, state = ways.pop()
+            self.restore(state)
             why = self.follow(told, at, barred, ways, seen)
             if not why:
                 return None
@@ -298,6 +306,8 @@ class Desk:
     def follow(self, told, at, barred, ways, seen):
         """The same, from that frame on, where what is written there is not the list of the message at the barred place. Other ways are noted."""
         while at < len(told) or self.taken < len(self.messages):
+            if self.is_cut_off(told[at:], self.list):
+                return None
             may_be_list = (at, self.taken) != barred
             if may_be_list and self.has_list(told[at:]):
                 key = at, self.taken, tuple(map(str, self.pending))
@@ -314,6 +324,8 @@ class Desk:
             if count:
                 continue
             wanted = self.take()
+            if self.is_cut_off(told[at:], wanted):
+                return None
             if told[at : at + len(wanted)] != wanted:
                 return f"frame {at}, at message {self.taken}: told\n    {shown(told[at : at + len(wanted) or at + 1])}\n  wanted\n    {shown(wanted)}"
             at += len(wanted)
@@ -392,18 +404,17 @@ def has_replies(output, count):
     return output.count(b'"jsonrpc":"2.0"') - output.count(b'"method":"') >= count
 
 
-def pause(server, chance, asked):
-    """A pause of the client: a short one, or until so many replies have come, but no longer than a second."""
+def pause(server, chance, asked, patience):
+    """A pause of the client: a short one, or until so many replies have come, but no longer than so many seconds."""
     if chance.random() < 0.3:
-        server.await_that(lambda output: has_replies(output, asked), 1)
+        server.await_that(lambda output: has_replies(output, asked), patience)
     else:
         time.sleep(chance.choice(PAUSES))
 
 
-def many_threads(command, workers, messages, chance, settle):
-    """What is written with so many workers, where the client sends the messages in bursts and with pauses, and in the end waits so many
-    seconds at most."""
-    server, burst, asked = Server([*command, "--workers", str(workers)]), b"", 0
+def many_threads(server, messages, chance, settle, patience=1):
+    """What a server writes, where the client sends the messages in bursts and with pauses, and in the end waits so many seconds at most."""
+    burst, asked = b"", 0
     for message in messages:
         if message.kind == "shutdown" and settle:
             server.write(burst)
@@ -413,7 +424,7 @@ def many_threads(command, workers, messages, chance, settle):
         asked += message.number is not None
         if chance.random() < 0.4:
             server.write(burst)
-            pause(server, chance, asked)
+            pause(server, chance, asked, patience)
             burst = b""
     server.write(burst)
     return server.end(), frames(bytes(server.output)), bytes(server.errors)
@@ -434,7 +445,7 @@ def judge_seed(program, seed, workers, outcomes):
         if status != 0:
             return f"the status with 0 workers is {status}"
         learn_all(messages, groups)
-        status, told, errors = many_threads(command, workers, messages, maker.chance, settle)
+        status, told, errors = many_threads(Server([*command, "--workers", str(workers)]), messages, maker.chance, settle)
     replies = replies_of(told)
     outcomes.update(outcome_of(replies.get(json.dumps(message.number), [{}])[0]) for message in messages if message.kind == "ask")
     wrong = [wrong_reply(message, replies.get(json.dumps(message.number), [])) for message in messages if message.number is not None]

@@ -1,5 +1,7 @@
 """What scripts/refused_memory.py and scripts/failing_devices.py share: what they run of crates/gqls, and a library that makes calls of the
-program fail. It is compiled for them, and loaded before the C library's; only calls that the program itself makes are counted.
+program fail. It is compiled for them, and loaded before the C library's; only calls that the program itself makes are counted. Counts are
+of all threads together, and of growths also of each thread alone: the first thread has the number 1, and each that is made the next one,
+up to 15; the others share the number 0.
 
 A session is a list of bodies, each in a frame of its own, and what stands behind these in the input. To know which messages of a server
 belong to which body, the session is served once more with a request behind each body that no server knows: what comes between the errors
@@ -17,9 +19,11 @@ from rows import read_rows
 
 SOURCE = r"""
 #define _GNU_SOURCE
+#include <dlfcn.h>
 #include <errno.h>
 #include <fcntl.h>
 #include <link.h>
+#include <pthread.h>
 #include <stdatomic.h>
 #include <stdlib.h>
 #include <sys/mman.h>
@@ -28,10 +32,11 @@ SOURCE = r"""
 #include <unistd.h>
 extern void *__libc_malloc(size_t);
 extern void *__libc_realloc(void *, size_t);
-enum { GROWTHS, READS, WRITES, KINDS };
+enum { GROWTHS, READS, WRITES, KINDS, THREADS = KINDS, REFUSALS, REFUSED_THREAD, GROWTHS_OF, THREADS_MOST = 16, NUMBERS = GROWTHS_OF + THREADS_MOST };
 static uintptr_t from, to;
-static atomic_long unshared[KINDS], *counts = unshared;
-static long first, all, files, at[KINDS], error[KINDS], most[KINDS];
+static atomic_long unshared[NUMBERS], *counts = unshared;
+static long first, all, of_thread, no_thread, files, at[KINDS], error[KINDS], most[KINDS];
+static _Thread_local long thread __attribute__((tls_model("initial-exec")));
 static int look(struct dl_phdr_info *info, size_t size, void *data) {
     for (int i = 0; i < info->dlpi_phnum; i++)
         if (info->dlpi_phdr[i].p_type == PT_LOAD && info->dlpi_phdr[i].p_flags & PF_X) {
@@ -42,6 +47,7 @@ static int look(struct dl_phdr_info *info, size_t size, void *data) {
 }
 static long setting(const char *name) { char *word = getenv(name); return word ? atol(word) : 0; }
 __attribute__((constructor)) static void start(void) {
+    thread = 1;
     char *path = getenv("TRIAL_COUNTS");
     if (path) {
         void *place = mmap(0, sizeof unshared, PROT_READ | PROT_WRITE, MAP_SHARED, open(path, O_RDWR), 0);
@@ -49,6 +55,8 @@ __attribute__((constructor)) static void start(void) {
     }
     first = setting("REFUSE_AT");
     all = setting("REFUSE_ALL");
+    of_thread = setting("REFUSE_OF");
+    no_thread = setting("THREAD_AT");
     files = setting("READ_FILES");
     at[READS] = setting("READ_AT"), error[READS] = setting("READ_ERROR"), most[READS] = setting("READ_MOST");
     at[WRITES] = setting("WRITE_AT"), error[WRITES] = setting("WRITE_ERROR"), most[WRITES] = setting("WRITE_MOST");
@@ -57,8 +65,12 @@ __attribute__((constructor)) static void start(void) {
 static int is_own(void *caller) { return from <= (uintptr_t)caller && (uintptr_t)caller < to; }
 static int refused(void *caller) {
     if (!is_own(caller)) return 0;
-    long number = atomic_fetch_add(&counts[GROWTHS], 1) + 1;
-    return first && (number == first || (all && number > first));
+    long number = atomic_fetch_add(&counts[GROWTHS], 1) + 1, own = atomic_fetch_add(&counts[GROWTHS_OF + thread], 1) + 1, nobody = 0;
+    if (of_thread) number = of_thread == thread ? own : 0;
+    if (!first || number < first || (number > first && !all)) return 0;
+    atomic_fetch_add(&counts[REFUSALS], 1);
+    atomic_compare_exchange_strong(&counts[REFUSED_THREAD], &nobody, thread);
+    return 1;
 }
 void *malloc(size_t size) {
     if (refused(__builtin_return_address(0))) { errno = ENOMEM; return 0; }
@@ -67,6 +79,20 @@ void *malloc(size_t size) {
 void *realloc(void *place, size_t size) {
     if (refused(__builtin_return_address(0))) { errno = ENOMEM; return 0; }
     return __libc_realloc(place, size);
+}
+static struct beginning { void *(*run)(void *); void *with; long number; } beginnings[THREADS_MOST];
+static void *begin(void *place) {
+    struct beginning *one = place;
+    thread = one->number;
+    return one->run(one->with);
+}
+int pthread_create(pthread_t *made, const pthread_attr_t *how, void *(*run)(void *), void *with) {
+    int (*create)(pthread_t *, const pthread_attr_t *, void *(*)(void *), void *) = dlsym(RTLD_NEXT, "pthread_create");
+    long number = atomic_fetch_add(&counts[THREADS], 1) + 2;
+    if (number - 1 == no_thread) return EAGAIN;
+    if (number >= THREADS_MOST) return create(made, how, run, with);
+    beginnings[number] = (struct beginning){run, with, number};
+    return create(made, how, begin, &beginnings[number]);
 }
 static ssize_t moved(int kind, void *caller, int file, void *place, size_t size) {
     long call = kind == READS ? SYS_read : SYS_write;
@@ -97,6 +123,7 @@ ssize_t writev(int file, const struct iovec *parts, int count) {
     return moved_parts(WRITES, __builtin_return_address(0), file, parts, count);
 }
 """
+NUMBERS = 22
 SECONDS = 120
 STORED, ALL = "stdin", 1_000_000
 PUBLISH = "textDocument/publishDiagnostics"
@@ -157,6 +184,25 @@ def without_start_of(name, output):
     return output[: len(output) - length]
 
 
+def new_counts(folder):
+    """A file for the library to count in."""
+    path = os.path.join(folder, "counts")
+    with open(path, "wb") as file:
+        file.write(bytes(8 * NUMBERS))
+    return path
+
+
+def numbers_in(path):
+    """What was counted: growths, reads and writes, threads that were made, growths that were refused, the thread that was first refused one
+    (0 for none), and the growths of each thread from 0 on."""
+    return struct.unpack(f"{NUMBERS}q", contents(path, b""))
+
+
+def environment(library, counts, settings):
+    """What tells the library where it counts, and what fails."""
+    return {name: str(number) for name, number in settings.items()} | {"TRIAL_COUNTS": counts, "LD_PRELOAD": library}
+
+
 class Ran:
     """What a run wrote, how it ended, and how many growths, reads and writes it asked for."""
 
@@ -166,7 +212,7 @@ class Ran:
         self.front = without_start_of(name, self.output)
         self.errors = errors.replace(name, b"/w")
         self.status = status
-        self.growths, self.reads, self.writes = counts
+        self.growths, self.reads, self.writes = counts[:3]
         self.messages = [read_message(one.partition(b"\r\n\r\n")[2].replace(name, b"/w")) for one in frames(output)]
 
     def is_as(self, other):
@@ -197,22 +243,19 @@ class Runner:
             folder = os.path.join(os.path.realpath(outer), "w")
             os.mkdir(folder)
             case.lay(folder)
-            counts, stream = os.path.join(outer, "counts"), os.path.join(outer, "input")
-            with open(counts, "wb") as file:
-                file.write(bytes(24))
+            counts, stream = new_counts(outer), os.path.join(outer, "input")
             with open(stream, "wb") as file:
                 file.write(stream_of(case, folder)[:count])
-            more = {name: str(number) for name, number in (settings or {}).items()}
             with open(stream, "rb") as file:
                 ran = subprocess.run(
                     [case.program or self.program, *(word.replace("DIR", folder) for word in case.words)],
                     cwd=folder,
-                    env=os.environ | more | {"TRIAL_COUNTS": counts, "LD_PRELOAD": self.library},
+                    env=os.environ | environment(self.library, counts, settings or {}),
                     stdin=file,
                     capture_output=True,
                     timeout=SECONDS,
                 )
-            numbers = struct.unpack("3q", contents(counts, bytes(24)))
+            numbers = numbers_in(counts)
         return Ran(ran.stdout, ran.stderr, ran.returncode, numbers, folder)
 
     def groups(self, case, lost=frozenset()):
