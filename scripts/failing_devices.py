@@ -175,7 +175,7 @@ def main():
     parser.add_argument("text", nargs="?", default="")
     parser.add_argument("--most", type=int, default=60)
     parser.add_argument("--jobs", type=int, default=os.cpu_count())
-    asked = parser.parse_args()
+    asked = parser.parse_intermixed_args()
     cases = [case for case in (*sessions(), *sessions_over_folders(), *commands()) if asked.text in case.name]
     passed, failed = collections.Counter(), collections.Counter()
     with tempfile.TemporaryDirectory() as folder, multiprocessing.Pool(asked.jobs) as pool:

@@ -1,13 +1,15 @@
 #!/usr/bin/env python3
 """Runs a built program over its cases once for each growth of memory, and refuses that growth.
 
-    python3 scripts/refused_memory.py PROGRAM [--most N] [--jobs N] [TEXT]      PROGRAM as crates/gqls/out/gqls
+    python3 scripts/refused_memory.py PROGRAM [--most N] [--each N] [--minutes N] [--jobs N] [TEXT]      PROGRAM as crates/gqls/out/gqls
 
 The stored run (crates/gqls/stdin), each case of crates/gqls/cases, each session of crates/gqls/folders in which the folder stays as it
 is, and each row of crates/gqls/commands that writes no file is run with ample memory first, which counts its growths; TEXT keeps those that
 have it in their names. So is each file of crates/gq_rows/data and of crates/gq_sessions/data by the program of its crate, where that is
 built; these call the libraries. Then it is run with the Nth growth refused, and with all from the Nth on, for each N, or for so many at even
-distances where there are more (`--most`, by default 60; of the stored run each). Only growths that the program itself asks for are counted.
+distances where there are more (`--most`, by default 60; of the stored run each, and of each case that has so many as `--each` says or fewer).
+Only growths that the program itself asks for are counted. With `--minutes` no run begins that much later. scripts/refused_workers.py refuses
+growths to a server with workers.
 
 What a server may write, beside what it writes with ample memory. Where one growth is refused, one of these comes once:
 
@@ -26,7 +28,7 @@ memory is handed back, and may end early. One of lists of events may end early t
 without what is wrong with the documents.
 
 Anything else is printed: the case, the growth and the first difference. Behind that a table counts what the runs came to, by the file of
-their case; the status is 1 where one differed."""
+their case, and it is said how many cases were tried at each growth, and which were not; the status is 1 where one differed."""
 import argparse
 import collections
 import itertools
@@ -36,13 +38,14 @@ import os
 import re
 import sys
 import tempfile
+import time
 
 from trials import PUBLISH, Runner, commands, compiled, is_change, most_for, parts_of, programs_of_rows, sessions, sessions_over_folders
 
 STATUS = 3
 ENDED = b"gqls: NoMemory\n"
 ASKS = {f"textDocument/{name}" for name in "hover definition references completion prepareRename rename codeAction".split()}
-MANY = 6
+MANY, SHARE = 6, 250
 NO_ANSWER = re.compile(rb'no answer"$|NoMemory|document lost|publishDiagnostics.*"diagnostics\\*":\[\]|told "\\n\d+ handed back"$')
 NOT_PUBLISHED = re.compile(rb': None, wanted "<- .*publishDiagnostics')
 OUTCOMES = "the same answer", "an ask refused", "not published", "a document lost", "ended with NoMemory", "else"
@@ -177,43 +180,90 @@ def judged_rows(case, ample, ran):
     return (REFUSED if other else END), None
 
 
-def judged(task):
-    """What came of the runs of a case, and what differs."""
-    runner, case, most = task
-    came, wrong = collections.Counter(), []
-    ample = runner.run(case)
-    made = []
+class Judge:
+    """Judges the runs of a case."""
 
-    def session():
-        if not made:
-            made.append(Session(runner, case, ample))
-        return made[0]
+    def __init__(self, runner, case):
+        self.runner, self.case, self.made = runner, case, None
+        self.ample = runner.run(case)
+        if case.serves and case.bodies:
+            self.session()
 
-    if case.serves and case.bodies:
-        session()
-    step = max(1, -(-ample.growths // most))
-    for at in range(1, ample.growths + 1, step):
-        for goes_on in (0, 1):
-            ran = runner.run(case, {"REFUSE_AT": at, "REFUSE_ALL": goes_on})
-            if ran.is_as(ample):
-                outcome, why = SAME, None
-            elif case.program:
-                outcome, why = judged_rows(case, ample, ran)
-            elif case.serves:
-                outcome, why = judged_session(session, ample, ran, goes_on)
-            else:
-                outcome, why = judged_command(case, ample, ran)
-            came[outcome] += 1
-            if why:
-                wrong.append(f"{case.name}, growth {at} of {ample.growths}{' and all behind it' if goes_on else ''}: {why}")
-    return case.name, ample.growths, came, wrong
+    def session(self):
+        self.made = self.made or Session(self.runner, self.case, self.ample)
+        return self.made
+
+    def judged(self, at, goes_on):
+        """What came of a run with that growth refused, and what is wrong with it, if something is."""
+        ran = self.runner.run(self.case, {"REFUSE_AT": at, "REFUSE_ALL": goes_on})
+        if ran.is_as(self.ample):
+            return SAME, None
+        if self.case.program:
+            return judged_rows(self.case, self.ample, ran)
+        if self.case.serves:
+            return judged_session(self.session, self.ample, ran, goes_on)
+        return judged_command(self.case, self.ample, ran)
+
+
+def counted(task):
+    """How many growths a case has, or why it cannot be tried."""
+    runner, case = task
+    try:
+        return Judge(runner, case).ample.growths, None
+    except Exception as error:
+        return 0, f"{case.name}: {type(error).__name__}: {error}"
 
 
 def tried(task):
-    try:
-        return judged(task)
-    except Exception as error:
-        return task[1].name, 0, collections.Counter({WRONG: 1}), [f"{task[1].name}: {type(error).__name__}: {error}"]
+    """What came of the runs of a case at these growths, what differs, and how many runs were left out."""
+    runner, case, places, deadline = task
+    came, wrong, left_out, judge = collections.Counter(), [], 0, None
+    for at, goes_on in itertools.product(places, (0, 1)):
+        if time.time() >= deadline:
+            left_out += 1
+            continue
+        try:
+            judge = judge or Judge(runner, case)
+            outcome, why = judge.judged(at, goes_on)
+        except Exception as error:
+            outcome, why = WRONG, f"{type(error).__name__}: {error}"
+        came[outcome] += 1
+        if why:
+            wrong.append(f"{case.name}, growth {at}{' and all behind it' if goes_on else ''}: {why}")
+    return case.name, came, wrong, left_out
+
+
+def places_of(case, growths, asked):
+    """The growths that are refused in turn."""
+    most = growths if growths <= asked.each else most_for(case, asked.most)
+    return range(1, growths + 1, max(1, -(-growths // max(1, most))))
+
+
+class Table:
+    """What the runs came to, by the file of their case."""
+
+    def __init__(self):
+        self.rows = collections.defaultdict(lambda: [0, 0, collections.Counter()])
+        self.each, self.others = [], []
+
+    def row(self, name):
+        return self.rows[re.split("[-:]", name)[0]]
+
+    def put_case(self, name, growths, places):
+        row = self.row(name)
+        row[0], row[1] = row[0] + 1, row[1] + growths
+        (self.each if len(places) == growths else self.others).append((name, growths))
+
+    def show(self):
+        print(f"| Cases of | Cases | Growths | Runs | {' | '.join(OUTCOMES)} |")
+        print(f"|{'---|' * (len(OUTCOMES) + 4)}")
+        every = sum(row[0] for row in self.rows.values()), sum(row[1] for row in self.rows.values())
+        came = sum((row[2] for row in self.rows.values()), collections.Counter())
+        for name, (number, growths, counts) in [*sorted(self.rows.items()), ("all", (*every, came))]:
+            print(f"| {name} | {number:,} | {growths:,} | {counts.total():,} | {' | '.join(f'{counts[one]:,}' for one in OUTCOMES)} |")
+        print(f"at each growth: {len(self.each)} cases with {sum(growths for _, growths in self.each):,} growths")
+        print(f"at some growths: {', '.join(f'{name} ({growths:,})' for name, growths in sorted(self.others)) or 'none'}")
+        return came
 
 
 def main():
@@ -221,25 +271,29 @@ def main():
     parser.add_argument("program")
     parser.add_argument("text", nargs="?", default="")
     parser.add_argument("--most", type=int, default=60)
+    parser.add_argument("--each", type=int, default=0)
+    parser.add_argument("--minutes", type=float, default=600)
     parser.add_argument("--jobs", type=int, default=os.cpu_count())
-    asked = parser.parse_args()
+    asked = parser.parse_intermixed_args()
     cases = [case for case in (*sessions(), *sessions_over_folders(), *commands(), *programs_of_rows()) if asked.text in case.name]
-    rows, failed = {}, 0
+    deadline, table, tasks, left_out = time.time() + 60 * asked.minutes, Table(), [], 0
     with tempfile.TemporaryDirectory() as folder, multiprocessing.Pool(asked.jobs) as pool:
         runner = Runner(os.path.abspath(asked.program), compiled(folder))
-        for name, growths, came, wrong in pool.imap_unordered(tried, [(runner, case, most_for(case, asked.most)) for case in cases]):
-            row = rows.setdefault(re.split("[-:]", name)[0], [0, 0, collections.Counter()])
-            row[0], row[1] = row[0] + 1, row[1] + growths
-            row[2].update(came)
-            failed += came[WRONG]
+        for case, (growths, why) in zip(cases, pool.imap(counted, [(runner, case) for case in cases])):
+            places = places_of(case, growths, asked)
+            table.put_case(case.name, growths, places)
+            tasks += [(runner, case, places[at : at + SHARE], deadline) for at in range(0, len(places), SHARE)]
+            if why:
+                print(why, flush=True)
+                table.row(case.name)[2][WRONG] += 1
+        for name, came, wrong, missed in pool.imap_unordered(tried, tasks):
+            table.row(name)[2].update(came)
+            left_out += missed
             for line in wrong[:3]:
                 print(line, flush=True)
-    print(f"| Cases of | Cases | Growths | Runs | {' | '.join(OUTCOMES)} |")
-    print(f"|{'---|' * (len(OUTCOMES) + 4)}")
-    for name, (number, growths, came) in sorted(rows.items()):
-        print(f"| {name} | {number} | {growths} | {came.total()} | {' | '.join(str(came[one]) for one in OUTCOMES)} |")
-    runs = sum(came.total() for _, _, came in rows.values())
-    print(f"{runs - failed} passed, {failed} failed, {len(cases)} cases")
+    came = table.show()
+    failed = came[WRONG]
+    print(f"{came.total() - failed} passed, {failed} failed, {len(cases)} cases, {left_out} runs left out")
     return 1 if failed or not cases else 0
 
 
