@@ -3,8 +3,8 @@
 
     python3 scripts/refused_workers.py PROGRAM [--workers N] [--most N] [--sessions N] [--minutes N] [--jobs N] [--threads] [TEXT]
 
-PROGRAM is as crates/gqls/out/gqls. Served are the stored run (crates/gqls/stdin), the cases of crates/gqls/cases and the sessions of
-crates/gqls/folders that are sessions of an editor, each up to its shutdown, and so many sessions made by chance (scripts/schedules.py; by
+PROGRAM is as crates/gqls/out/gqls. Served are the stored run (crates/gqls/stdin), the cases of crates/gqls/cases (but for those of rows) and
+the sessions of crates/gqls/folders that are sessions of an editor, each up to its shutdown, and so many sessions made by chance (scripts/schedules.py; by
 default 24); TEXT keeps those that have it in their names. The client sends bursts of messages with pauses between them, waits for all replies
 and lists, a second and three times as long as one thread takes, and shuts the server down. There are two workers, unless told otherwise. A run
 with ample memory counts the growths of all threads and of each. Then these are refused, each at so many places at even distances (`--most`,
@@ -46,7 +46,7 @@ import time
 from cases import SERVE
 from folders import FOLDER, Server
 from schedules import METHODS, TIMES_SLOWER, Desk, Maker, Message, learn_all, many_threads, one_thread, replies_of, wrong_reply
-from trials import CHANGE, compiled, environment, framed, new_counts, numbers_in, parts_of, sessions, sessions_over_folders
+from trials import CHANGE, STORED, compiled, environment, framed, new_counts, numbers_in, parts_of, sessions, sessions_over_folders
 
 STATUS, LIMIT, SETTLE, PATIENCE, MANY = 3, 20, 1, 0.1, 1000
 GROWTHS, REFUSALS, REFUSED_THREAD, GROWTHS_OF = 0, 4, 5, 6
@@ -157,6 +157,10 @@ class Session:
         start = time.monotonic()
         self.learn(self.messages)
         self.settle = SETTLE + TIMES_SLOWER * (time.monotonic() - start)
+        lists = [message.wrong for message in self.messages if message.wrong]
+        earlier = {one for other in lists[:-1] for one in other}
+        # (a last list that is told before, too, cannot be waited for)
+        self.waits = self.waits and not (lists and earlier.issuperset(lists[-1]))
 
     def learn(self, messages):
         status, groups = one_thread(self.command, messages)
@@ -331,10 +335,15 @@ def tried(task):
         return 0, [*came, Came("nothing", WRONG, None, f"{case.name}: {type(error).__name__}: {error}")], left_out
 
 
+def is_session(case):
+    """Whether it is a session of an editor, and not one of many rows."""
+    return bool((case.name == STORED or ".sessions" in case.name) and written_messages(case, "/w"))
+
+
 def all_cases(asked):
     """The sessions that are asked for, those made by chance first."""
     found = [Case(f"by chance {seed}", seed=seed) for seed in range(asked.sessions)]
-    found += [Case(case.name, case=case) for case in (*sessions(), *sessions_over_folders()) if written_messages(case, "/w")]
+    found += [Case(case.name, case=case) for case in (*sessions(), *sessions_over_folders()) if is_session(case)]
     return [case for case in found if asked.text in case.name]
 
 
