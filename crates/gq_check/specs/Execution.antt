@@ -9,7 +9,7 @@ use Rattle.gq_table.specs.Json.{rows_of_json, variables_of_json}
 use Rattle.gq_meaning.specs.Values.{Text, Values}
 use Rattle.gq_response.specs.Responses.{ResponseOf}
 use Rattle.gq_response.specs.Texts.{response_text}
-use Rattle.gq_law_rewrites.specs.Executed.{IsExecuted}
+use Rattle.gq_laws.specs.Rewriting.Executed.{IsExecuted}
 use Rattle.gq_check.specs.declared.fault.CheckFault.TheVariants.{TooMany, TooLarge, Device, NoMemory}
 use Rattle.gq_check.specs.declared.exec_fault.ExecFault.{ExecFault}
 use Rattle.gq_check.specs.declared.exec_fault.ExecFault.TheVariants.{BadTable, BadVariables, Check}

@@ -7,7 +7,7 @@ use Rattle.gq_meaning.specs.Values.{Text}
 use Rattle.gq_meaning.specs.Acyclic.{Rankable}
 use Rattle.gq_meaning.specs.Selected.{set_of}
 use Rattle.gq_collect.specs.Fragments.{definition_of}
-use Rattle.gq_law_rewrites.proofs.Meant.{meant_among}
+use Rattle.gq_laws.proofs.Rewriting.Meant.{meant_among}
 use Rattle.gq_exec.specs.Coerced.{ranked_in}
 
 pub ranked : (os own : List OperationOf) (fs listed : List FragmentOf) (name : Option Text) → ((o : OperationOf) → Contains os o → Rankable (map definition_of fs) (set_of o.set)) → own ≡ os → listed ≡ fs → ranked_in own listed name

@@ -10,14 +10,14 @@ ghost use Rattle.gq_rules.specs.Project.{defined_in};
 ghost use Rattle.gq_coerce.specs.Variables.{coerced_variables};
 ghost use Rattle.gq_response.specs.Views.{response_view};
 ghost use Rattle.gq_executor.specs.Operations.{IsResponse};
-ghost use Rattle.gq_law_rewrites.specs.Executed.{IsExecuted};
+ghost use Rattle.gq_laws.specs.Rewriting.Executed.{IsExecuted};
 ghost use Rattle.gq_exec.specs.Coerced.{AreCoerced, AreCoercedTo, IsRefused, coerced_in, ranked_in};
 
 use crate::refusal::CoercionRefusal;
 use gq_coerce::Coercion;
 use gq_document::{Definitions, Executable, OperationEntry, take_entries};
 use gq_executor::{operation, respond};
-use gq_law_rewrites::validity::fragments_can_be_ranked;
+use gq_laws::validity::fragments_can_be_ranked;
 use gq_parse::read;
 use gq_response::Response;
 use gq_rules::Valid;

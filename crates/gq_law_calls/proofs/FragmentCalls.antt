@@ -30,13 +30,13 @@ use Rattle.gq_coerce.specs.Variables.{coerced_variables}
 use Rattle.gq_collect.specs.Fragments.{definition_of}
 use Rattle.gq_collect.specs.Given.{given_in}
 use Rattle.gq_executor.specs.Operations.{root_name}
-use Rattle.gq_law_places.proofs.OtherNamesRead.{list_itself, forest_itself}
-use Rattle.gq_law_renames.specs.Helping.Paired.{ArePaired, SpreadsAreDefined}
-use Rattle.gq_law_renames.proofs.Answering.{found_weaker, found_operations, called_alike}
-use Rattle.gq_law_renames.proofs.NewNames.{operation_unspread, fragments_new}
-use Rattle.gq_law_renames.proofs.OneByOne.{FragmentsMatch, OperationsAt, operations_zip, fragments_zip}
-use Rattle.gq_law_renames.proofs.PairedLemmas.{operations_among, executing}
-use Rattle.gq_law_rewrites.proofs.VariableValues.{values_same}
+use Rattle.gq_laws.proofs.Placing.OtherNamesRead.{list_itself, forest_itself}
+use Rattle.gq_laws.specs.Renaming.Helping.Paired.{ArePaired, SpreadsAreDefined}
+use Rattle.gq_laws.proofs.Renaming.Answering.{found_weaker, found_operations, called_alike}
+use Rattle.gq_laws.proofs.Renaming.NewNames.{operation_unspread, fragments_new}
+use Rattle.gq_laws.proofs.Renaming.OneByOne.{FragmentsMatch, OperationsAt, operations_zip, fragments_zip}
+use Rattle.gq_laws.proofs.Renaming.PairedLemmas.{operations_among, executing}
+use Rattle.gq_laws.proofs.Rewriting.VariableValues.{values_same}
 use Rattle.gq_law_calls.specs.Calls.{AreCalls}
 use Rattle.gq_law_calls.proofs.Going.{found_equal, CallsGo, OperationsGo, calls_go}
 

@@ -10,7 +10,7 @@ use Rattle.gq_meaning.specs.Response.{Calls}
 use Rattle.gq_coerce.specs.Variables.{coerced_variables}
 use Rattle.gq_collect.specs.Given.{given_in}
 use Rattle.gq_executor.specs.Operations.{operation_of, fragments_in, root_name}
-use Rattle.gq_law_renames.proofs.Answering.{BothFound, neither, both, none_found, some_found}
+use Rattle.gq_laws.proofs.Renaming.Answering.{BothFound, neither, both, none_found, some_found}
 use Rattle.gq_law_calls.specs.Calls.{AreCalls, no_operation, bad_variables, executed}
 
 found_itself : {A : Type 0} (R : A → A → Type 0) (a : Option A) → ((x : A) → R x x) → BothFound R a a

@@ -15,8 +15,8 @@ use Rattle.gq_collect.specs.Given.{given_in}
 use Rattle.gq_response.specs.Responses.{ResponseOf}
 use Rattle.gq_executor.specs.Operations.{operation_of, fragments_in, root_name, IsResponse}
 use Rattle.gq_executor.specs.Operations as response
-use Rattle.gq_law_rewrites.specs.Answerable.{RequestsHaveAResponse}
-use Rattle.gq_law_rewrites.proofs.OneResponse.{some_same, none_some, same_executable}
+use Rattle.gq_laws.specs.Rewriting.Answerable.{RequestsHaveAResponse}
+use Rattle.gq_laws.proofs.Rewriting.OneResponse.{some_same, none_some, same_executable}
 use Rattle.gq_law_calls.specs.Calls.{AreCalls, no_operation, bad_variables, executed}
 use Rattle.gq_law_calls.specs.Laws.{OneListOfCalls}
 use Rattle.gq_law_calls.proofs.Told.{told_too}

@@ -16,9 +16,9 @@ use Rattle.gq_schema.specs.SchemaOf.{IsTypeSystemOf}
 use Rattle.gq_rules.specs.Project.{type_system_of}
 use Rattle.gq_rules.specs.Validity.{IsValid}
 use Rattle.gq_rewritten.specs.Rewrites.{rewritten_from}
-use Rattle.gq_law_rewrites.specs.Documents.{Restates}
-use Rattle.gq_law_rewrites.specs.Statics.{static_of, roots_in}
-use Rattle.gq_law_rewrites.proofs.ValidityLemmas.{NoneIsBoth}
+use Rattle.gq_laws.specs.Rewriting.Documents.{Restates}
+use Rattle.gq_laws.specs.Rewriting.Statics.{static_of, roots_in}
+use Rattle.gq_laws.proofs.Rewriting.ValidityLemmas.{NoneIsBoth}
 use Rattle.gq_rename.specs.declared.refusal.Refusal.TheVariants.{NotRedundant}
 use Rattle.gq_reshape.specs.Cuts.{Cut, edits_of, PassesCheck}
 use Rattle.gq_reshape.specs.Extract.{extract_cut}

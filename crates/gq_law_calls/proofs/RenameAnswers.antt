@@ -18,7 +18,7 @@ use Rattle.gq_rules.specs.Validity.{IsValid}
 use Rattle.gq_table.specs.Rows.{RowOf}
 use Rattle.gq_meaning.specs.Values.{Values}
 use Rattle.gq_meaning.specs.Results.{Call}
-use Rattle.gq_law_renames.specs.Kept.{AreRenamed}
+use Rattle.gq_laws.specs.Renaming.Kept.{AreRenamed}
 use Rattle.gq_mentions.specs.declared.target.Target.{Target}
 use Rattle.gq_mentions.specs.declared.target.TargetKind.{TargetKind}
 use Rattle.gq_mentions.specs.declared.target.TargetKind.TheVariants as kind

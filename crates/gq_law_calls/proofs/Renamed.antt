@@ -11,11 +11,11 @@ use Rattle.gq_table.specs.Rows.{RowOf}
 use Rattle.gq_meaning.specs.Values.{Text, Values}
 use Rattle.gq_meaning.specs.Results.{Call}
 use Rattle.gq_executor.specs.Operations.{operation_of}
-use Rattle.gq_law_rewrites.specs.Answerable.{RequestsHaveAResponse}
-use Rattle.gq_law_renames.specs.Helping.Alike.{TakesAlike, ArgumentsAlike, VariablesAlike}
-use Rattle.gq_law_renames.proofs.Keeping.{executing_is, same_types}
-use Rattle.gq_law_renames.proofs.PairedLemmas.{are_paired, operations_among, operations_are, executing}
-use Rattle.gq_law_renames.proofs.Promises.{NoneIsMixedIn, SpreadsAreDefinedIn, VariablesAreDefinedIn}
+use Rattle.gq_laws.specs.Rewriting.Answerable.{RequestsHaveAResponse}
+use Rattle.gq_laws.specs.Renaming.Helping.Alike.{TakesAlike, ArgumentsAlike, VariablesAlike}
+use Rattle.gq_laws.proofs.Renaming.Keeping.{executing_is, same_types}
+use Rattle.gq_laws.proofs.Renaming.PairedLemmas.{are_paired, operations_among, operations_are, executing}
+use Rattle.gq_laws.proofs.Renaming.Promises.{NoneIsMixedIn, SpreadsAreDefinedIn, VariablesAreDefinedIn}
 use Rattle.gq_law_calls.specs.Calls.{AreCalls}
 use Rattle.gq_law_calls.specs.Steps.{FragmentRenamesKeepCalls, VariableRenamesKeepCalls}
 use Rattle.gq_law_calls.proofs.FragmentCalls.{fragment_calls_go}

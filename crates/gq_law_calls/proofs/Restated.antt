@@ -19,19 +19,19 @@ use Rattle.gq_meaning.specs.Rewritten.{NamesAgree}
 use Rattle.gq_collect.specs.Given.{given_in}
 use Rattle.gq_collect.specs.Fragments.{definition_of}
 use Rattle.gq_coerce.specs.Variables.{coerced_variables}
-use Rattle.gq_law_rewrites.specs.Agree.{NamesAgreeInValid}
-use Rattle.gq_law_rewrites.specs.Answerable.{RequestsHaveAResponse}
-use Rattle.gq_law_rewrites.specs.Documents.{Restates, definitions_of}
-use Rattle.gq_law_rewrites.specs.Statics.{static_of, roots_in, seen_operation}
-use Rattle.gq_law_rewrites.specs.Subtypes.{ObjectsHaveSubtypes}
-use Rattle.gq_law_rewrites.specs.Validity.{FragmentsAreRanked}
-use Rattle.gq_law_rewrites.proofs.After.{meaning_kept}
-use Rattle.gq_law_rewrites.proofs.Executables.{trees_read, fragments_seen}
-use Rattle.gq_law_rewrites.proofs.Meant.{meant_among}
-use Rattle.gq_law_rewrites.proofs.Requests.{project_over, AreRanked, HaveSubtypes, HaveOneName, Becomes, meant}
-use Rattle.gq_law_rewrites.proofs.Restated.{Ranked, Agree, project_is}
-use Rattle.gq_law_rewrites.proofs.VariableValues.{values_same}
-use Rattle.gq_law_renames.proofs.Answering.{found_weaker}
+use Rattle.gq_laws.specs.Rewriting.Agree.{NamesAgreeInValid}
+use Rattle.gq_laws.specs.Rewriting.Answerable.{RequestsHaveAResponse}
+use Rattle.gq_laws.specs.Rewriting.Documents.{Restates, definitions_of}
+use Rattle.gq_laws.specs.Rewriting.Statics.{static_of, roots_in, seen_operation}
+use Rattle.gq_laws.specs.Rewriting.Subtypes.{ObjectsHaveSubtypes}
+use Rattle.gq_laws.specs.Rewriting.Validity.{FragmentsAreRanked}
+use Rattle.gq_laws.proofs.Rewriting.After.{meaning_kept}
+use Rattle.gq_laws.proofs.Rewriting.Executables.{trees_read, fragments_seen}
+use Rattle.gq_laws.proofs.Rewriting.Meant.{meant_among}
+use Rattle.gq_laws.proofs.Rewriting.Requests.{project_over, AreRanked, HaveSubtypes, HaveOneName, Becomes, meant}
+use Rattle.gq_laws.proofs.Rewriting.Restated.{Ranked, Agree, project_is}
+use Rattle.gq_laws.proofs.Rewriting.VariableValues.{values_same}
+use Rattle.gq_laws.proofs.Renaming.Answering.{found_weaker}
 use Rattle.gq_law_calls.specs.Calls.{AreCalls}
 use Rattle.gq_law_calls.specs.Steps.{RestatedProjectsKeepCalls}
 use Rattle.gq_law_calls.proofs.OneList.{both_ways}

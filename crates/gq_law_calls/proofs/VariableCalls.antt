@@ -19,14 +19,14 @@ use Rattle.gq_coerce.specs.Variables.{coerced_variables}
 use Rattle.gq_collect.specs.Fragments.{definition_of}
 use Rattle.gq_collect.specs.Given.{given_in}
 use Rattle.gq_executor.specs.Operations.{operation_of, root_name}
-use Rattle.gq_law_renames.specs.GivenValues.{AreRenamedValues}
-use Rattle.gq_law_renames.specs.Helping.Alike.{TakesAlike, ArgumentsAlike, VariablesAlike}
-use Rattle.gq_law_renames.specs.Helping.Paired.{ArePaired, DefinesVariable, VariablesAreDefined}
-use Rattle.gq_law_renames.proofs.Answering.{found_weaker, found_operations, values_found, called_alike}
-use Rattle.gq_law_renames.proofs.OneByOne.{OperationsMatch, OperationsAt, operations_zip}
-use Rattle.gq_law_renames.proofs.OneName.{one_variable}
-use Rattle.gq_law_renames.proofs.PairedLemmas.{operations_among, executing}
-use Rattle.gq_law_renames.proofs.VariableKept.{given_values, given_fresh}
+use Rattle.gq_laws.specs.Renaming.GivenValues.{AreRenamedValues}
+use Rattle.gq_laws.specs.Renaming.Helping.Alike.{TakesAlike, ArgumentsAlike, VariablesAlike}
+use Rattle.gq_laws.specs.Renaming.Helping.Paired.{ArePaired, DefinesVariable, VariablesAreDefined}
+use Rattle.gq_laws.proofs.Renaming.Answering.{found_weaker, found_operations, values_found, called_alike}
+use Rattle.gq_laws.proofs.Renaming.OneByOne.{OperationsMatch, OperationsAt, operations_zip}
+use Rattle.gq_laws.proofs.Renaming.OneName.{one_variable}
+use Rattle.gq_laws.proofs.Renaming.PairedLemmas.{operations_among, executing}
+use Rattle.gq_laws.proofs.Renaming.VariableKept.{given_values, given_fresh}
 use Rattle.gq_law_calls.specs.Calls.{AreCalls}
 use Rattle.gq_law_calls.proofs.Going.{CallsGo, OperationsGo, calls_go}
 use Rattle.gq_law_calls.proofs.VariableSets.{alike_calls}

@@ -18,10 +18,10 @@ use Rattle.gq_meaning.specs.Selected.{set_of}
 use Rattle.gq_meaning.specs.Response.{Calls}
 use Rattle.gq_collect.specs.Fragments.{definition_of}
 use Rattle.gq_collect.specs.Given.{given_in}
-use Rattle.gq_law_renames.specs.Helping.Alike.{ValuesAlike, TakesAlike, ArgumentsAlike}
-use Rattle.gq_law_renames.specs.Helping.Paired.{ArePaired, DefinesVariable, VariablesAreDefined}
+use Rattle.gq_laws.specs.Renaming.Helping.Alike.{ValuesAlike, TakesAlike, ArgumentsAlike}
+use Rattle.gq_laws.specs.Renaming.Helping.Paired.{ArePaired, DefinesVariable, VariablesAreDefined}
 use Rattle.gq_meaning.proofs.AlikeLemmas.{alike_responses}
-use Rattle.gq_law_renames.proofs.AnswersAlike.{IsLed, DirectivesFresh, ArgumentsFresh, Led, operation_fresh, are_alike}
+use Rattle.gq_laws.proofs.Renaming.AnswersAlike.{IsLed, DirectivesFresh, ArgumentsFresh, Led, operation_fresh, are_alike}
 
 -- a rename of a variable, and an operation
 module _ (ds ds_after : List DefinitionOf) (old new : Text) (definition : ℕ) (group : List ℕ) (paired : ArePaired (variable_in group old) new 0 ds ds_after)

@@ -15,9 +15,9 @@ use Rattle.gq_rules.specs.Validity.{IsValid}
 use Rattle.gq_table.specs.Rows.{RowOf}
 use Rattle.gq_meaning.specs.Values.{Text, Values}
 use Rattle.gq_meaning.specs.Results.{Call}
-use Rattle.gq_law_rewrites.specs.Documents.{Restates}
-use Rattle.gq_law_rewrites.specs.Statics.{static_of, roots_in}
-use Rattle.gq_law_renames.specs.Kept.{AreRenamed, AreGivenAlike}
+use Rattle.gq_laws.specs.Rewriting.Documents.{Restates}
+use Rattle.gq_laws.specs.Rewriting.Statics.{static_of, roots_in}
+use Rattle.gq_laws.specs.Renaming.Kept.{AreRenamed, AreGivenAlike}
 use Rattle.gq_law_calls.specs.Calls.{AreCalls, CallsStay}
 
 -- Calls stay in what is read of two valid projects, where the definitions of the type system are the same, and the operations and fragments of

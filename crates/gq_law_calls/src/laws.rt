@@ -3,11 +3,11 @@ ghost use Rattle.gq_law_calls.specs.Laws.{EditsKeepCalls, OneListOfCalls, Rename
 ghost use Rattle.gq_law_calls.specs.Steps.{FragmentRenamesKeepCalls, RestatedProjectsKeepCalls, VariableRenamesKeepCalls};
 ghost use Rattle.gq_reshape.specs.Reshape.{IsExtractAnswer, IsInlineAnswer, IsRemoveAnswer};
 
-use gq_law_renames::uses::uses_are_those_of_the_rules;
-use gq_law_rewrites::agreement::names_agree_in_valid_projects;
-use gq_law_rewrites::responses::requests_have_a_response;
-use gq_law_rewrites::types::objects_have_subtypes;
-use gq_law_rewrites::validity::fragments_can_be_ranked;
+use gq_laws::agreement::names_agree_in_valid_projects;
+use gq_laws::responses::requests_have_a_response;
+use gq_laws::types::objects_have_subtypes;
+use gq_laws::uses::uses_are_those_of_the_rules;
+use gq_laws::validity::fragments_can_be_ranked;
 use gq_parse::laws::one_tree;
 use gq_rename::laws::{offsets_mean_one_target, renames_are_determined, valid_documents_are_trees};
 use gq_rules::laws::no_project_is_valid_and_invalid;

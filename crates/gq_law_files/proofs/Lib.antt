@@ -17,3 +17,4 @@ pub mod Entries
 pub mod Stay
 pub mod First
 pub mod Gate
+pub mod Closed

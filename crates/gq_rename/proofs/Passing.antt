@@ -13,7 +13,7 @@ use Rattle.gq_renamed.specs.Projects.{RenamedProjectsRead}
 use Rattle.gq_cut.specs.Cut.{variable_in}
 use Rattle.gq_cut.proofs.VariableCut.{may_name}
 use Rattle.gq_rules.specs.Validity.{IsValid}
-use Rattle.gq_law_renames_valid.specs.Valid.{FragmentRenamesStayValid, VariableRenamesStayValid}
+use Rattle.gq_laws.specs.RenamedValid.Valid.{FragmentRenamesStayValid, VariableRenamesStayValid}
 use Rattle.gq_mentions.specs.declared.target.TargetKind.{TargetKind}
 use Rattle.gq_mentions.specs.declared.target.TargetKind.TheVariants as kind
 use Rattle.gq_rename.specs.declared.refusal.Refusal.{Refusal}

@@ -21,7 +21,7 @@ use Rattle.gq_table.specs.Rows.{RowOf}
 use Rattle.gq_meaning.specs.Values.{Values}
 use Rattle.gq_response.specs.Responses.{ResponseOf}
 use Rattle.gq_executor.specs.Operations.{IsResponse}
-use Rattle.gq_law_renames.specs.Kept.{AreRenamed, FragmentRenamesKeep, VariableRenamesKeep}
+use Rattle.gq_laws.specs.Renaming.Kept.{AreRenamed, FragmentRenamesKeep, VariableRenamesKeep}
 use Rattle.gq_mentions.specs.declared.target.Target.{Target}
 use Rattle.gq_mentions.specs.declared.target.TargetKind.{TargetKind}
 use Rattle.gq_mentions.specs.declared.target.TargetKind.TheVariants as kind

@@ -10,7 +10,7 @@ use Rattle.gq_parse.specs.Limits.{PassesLimitAt}
 use Rattle.gq_renamed.specs.Rewritten.{RenamedTextsRead}
 use Rattle.gq_renamed.specs.Projects.{RenamedProjectsRead}
 use Rattle.gq_rules.specs.Validity.{IsValid}
-use Rattle.gq_law_renames_valid.proofs.Reading.{HaveTrees, trees_read}
+use Rattle.gq_laws.proofs.RenamedValid.Reading.{HaveTrees, trees_read}
 use Rattle.gq_rename.specs.Asks.{trees_of}
 use Rattle.gq_rename.specs.Sound.{RenamesAreSound, ValidDocumentsAreTrees, edits_by}
 use Rattle.gq_rename.proofs.Edited.{rename_edits_of, none_moved, not_too_large}

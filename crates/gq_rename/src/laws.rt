@@ -9,8 +9,8 @@ ghost use Rattle.gq_rename.specs.Responses.{RenamesKeepResponses};
 ghost use Rattle.gq_rename.specs.Standing.{PreparedNamesStandInTexts};
 ghost use Rattle.gq_rename.specs.Sound.{RenamesAreSound, RenamesPass, ValidDocumentsAreTrees, OffsetsMeanOneTarget};
 
-use gq_law_renames::laws::{fragment_renames_keep_responses, variable_renames_keep_responses};
-use gq_law_renames_valid::laws::{fragment_renames_stay_valid, variable_renames_stay_valid};
+use gq_laws::renames::{fragment_renames_keep_responses, variable_renames_keep_responses};
+use gq_laws::renames_valid::{fragment_renames_stay_valid, variable_renames_stay_valid};
 use gq_parse::laws::{no_tree_past_limits, one_tree};
 use gq_renamed::laws::{renamed_projects_read, renamed_texts_read};
 use gq_rules::laws::{no_project_is_valid_and_invalid, valid_documents_have_trees};

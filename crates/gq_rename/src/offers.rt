@@ -19,7 +19,7 @@ use gq_cut::{fragment_edit, variable_edit};
 use gq_edit::Edit;
 use gq_index::Index;
 use gq_index::laws::documents_have_one_list;
-use gq_law_renames_valid::laws::{fragment_renames_stay_valid, variable_renames_stay_valid};
+use gq_laws::renames_valid::{fragment_renames_stay_valid, variable_renames_stay_valid};
 use gq_mentions::Target;
 use gq_rules::Valid;
 use std::alloc::Global;

@@ -22,12 +22,12 @@ use Rattle.gq_renamed.specs.Projects.{AreTrees, none, more}
 use Rattle.gq_rules.specs.Project.{type_system_of}
 use Rattle.gq_rules.specs.Validity.{IsValid}
 use Rattle.gq_rewritten.specs.Rewrites.{rewritten_from}
-use Rattle.gq_law_rewrites.specs.Documents.{Restates}
-use Rattle.gq_law_rewrites.specs.Statics.{static_of, roots_in}
-use Rattle.gq_law_rewrites.proofs.Executables.{fragment_stands, operation_stands, Selected}
-use Rattle.gq_law_rewrites.proofs.ValidityLemmas.{NoneIsBoth}
-use Rattle.gq_law_rewrites.specs.Unchanged.{RestatedProjectsKeepResponses}
-use Rattle.gq_law_renames.proofs.SameTypes.{IsExecutable}
+use Rattle.gq_laws.specs.Rewriting.Documents.{Restates}
+use Rattle.gq_laws.specs.Rewriting.Statics.{static_of, roots_in}
+use Rattle.gq_laws.proofs.Rewriting.Executables.{fragment_stands, operation_stands, Selected}
+use Rattle.gq_laws.proofs.Rewriting.ValidityLemmas.{NoneIsBoth}
+use Rattle.gq_laws.specs.Rewriting.Unchanged.{RestatedProjectsKeepResponses}
+use Rattle.gq_laws.proofs.Renaming.SameTypes.{IsExecutable}
 use Rattle.gq_reshape.specs.Cuts.{Cut, edits_of, PassesCheck}
 use Rattle.gq_reshape.specs.Helping.Judged.{IsQuiet}
 use Rattle.gq_reshape.specs.Helping.Making.{SomeExecutable}

@@ -10,7 +10,7 @@ use Rattle.gq_types.specs.Look.{types_view}
 use Rattle.gq_known.specs.Known.{IsKnown}
 use Rattle.gq_index.specs.Occurrences.{executables}
 use Rattle.gq_document.specs.Sets.{SetOf}
-use Rattle.gq_law_rewrites.specs.Parts.{IsPartOf}
+use Rattle.gq_laws.specs.Rewriting.Parts.{IsPartOf}
 use Rattle.gq_select.specs.Runs.{RunOf}
 use Rattle.gq_select.specs.Touched.{Touches}
 use Rattle.gq_select.specs.TouchedPlace.{IsTouchedPlace}

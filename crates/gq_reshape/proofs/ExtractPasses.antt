@@ -34,24 +34,24 @@ use Rattle.gq_rules.specs.Project.{type_system_of, executable_of}
 use Rattle.gq_rules.specs.RuleFaults.{IsRuleFault}
 use Rattle.gq_rules.specs.Validity.{IsValid}
 use Rattle.gq_rewritten.specs.Rewrites.{Rewrite, bare_name, is_kept, rewritten_document, rewritten_from, with_extracted, with_set}
-use Rattle.gq_law_cuts_read.specs.Extracted.{extracted, ReadsWithFragment, ExtractedTextsRead}
-use Rattle.gq_law_cuts_read.specs.Standing.{EndsWithin, all_of_it, in_braces, behind_it, HasRun}
-use Rattle.gq_law_cuts_read.specs.Texts.{spread_text, fragment_text}
-use Rattle.gq_law_places.specs.Types.{IsFaultless}
-use Rattle.gq_law_renames.proofs.Promises.{nothing_demanded}
-use Rattle.gq_law_renames.proofs.ValidityLemmas.{no_rule}
-use Rattle.gq_law_renames_valid.proofs.Reading.{HaveTrees, trees_read as trees_are}
-use Rattle.gq_law_rewrites.specs.KnownBefore.{EndsSet, ends_here, ends_within, ends_after}
-use Rattle.gq_law_rewrites.specs.Documents.{EndsSetIn}
-use Rattle.gq_law_rewrites.specs.Edits.{HasDocument, RunAt, extraction, CanExtract}
-use Rattle.gq_law_rewrites.specs.Statics.{static_of, roots_in}
-use Rattle.gq_law_rewrites.specs.Unchanged.{RestatedProjectsKeepResponses}
-use Rattle.gq_law_rewrites_valid.specs.Extracted.{ExtractsKeepAllRules}
-use Rattle.gq_law_rewrites.proofs.Executables.{contains}
-use Rattle.gq_law_rewrites.proofs.Named.{name_free}
-use Rattle.gq_law_rewrites.proofs.Projects.{project_in_place, sound}
-use Rattle.gq_law_rewrites.proofs.Selected.{row_in}
-use Rattle.gq_law_rewrites.proofs.ValidityLemmas.{NoneIsBoth}
+use Rattle.gq_laws.specs.Cutting.Extracted.{extracted, ReadsWithFragment, ExtractedTextsRead}
+use Rattle.gq_laws.specs.Cutting.Standing.{EndsWithin, all_of_it, in_braces, behind_it, HasRun}
+use Rattle.gq_laws.specs.Cutting.Texts.{spread_text, fragment_text}
+use Rattle.gq_laws.specs.Placing.Types.{IsFaultless}
+use Rattle.gq_laws.proofs.Renaming.Promises.{nothing_demanded}
+use Rattle.gq_laws.proofs.Renaming.ValidityLemmas.{no_rule}
+use Rattle.gq_laws.proofs.RenamedValid.Reading.{HaveTrees, trees_read as trees_are}
+use Rattle.gq_laws.specs.Rewriting.KnownBefore.{EndsSet, ends_here, ends_within, ends_after}
+use Rattle.gq_laws.specs.Rewriting.Documents.{EndsSetIn}
+use Rattle.gq_laws.specs.Rewriting.Edits.{HasDocument, RunAt, extraction, CanExtract}
+use Rattle.gq_laws.specs.Rewriting.Statics.{static_of, roots_in}
+use Rattle.gq_laws.specs.Rewriting.Unchanged.{RestatedProjectsKeepResponses}
+use Rattle.gq_laws.specs.RewrittenValid.Extracted.{ExtractsKeepAllRules}
+use Rattle.gq_laws.proofs.Rewriting.Executables.{contains}
+use Rattle.gq_laws.proofs.Rewriting.Named.{name_free}
+use Rattle.gq_laws.proofs.Rewriting.Projects.{project_in_place, sound}
+use Rattle.gq_laws.proofs.Rewriting.Selected.{row_in}
+use Rattle.gq_laws.proofs.Rewriting.ValidityLemmas.{NoneIsBoth}
 use Rattle.gq_rename.specs.declared.refusal.Refusal.{Refusal}
 use Rattle.gq_rename.specs.declared.refusal.Refusal.TheVariants.{NoPossibleType, TooLarge, SelfCheck, NoMemory}
 use Rattle.gq_select.specs.Meant.{document_sets}

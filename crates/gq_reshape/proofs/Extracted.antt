@@ -9,18 +9,18 @@ use Rattle.gq_parse.specs.Parsed.{AreParsed}
 use Rattle.gq_types.specs.Entries.{Text, EntryOf}
 use Rattle.gq_tree.specs.Readings.{ParsedOf, definitions_read}
 use Rattle.gq_rewritten.specs.Rewrites.{bare_name, with_extracted, rewritten_from}
-use Rattle.gq_law_rewrites.specs.Documents.{IsSetOf, of_operation, of_fragment, EndsSetIn, Restates}
-use Rattle.gq_law_rewrites.specs.Edits.{HasDocument, RunAt}
-use Rattle.gq_law_rewrites.specs.Statics.{static_of, roots_in}
-use Rattle.gq_law_rewrites.proofs.Named.{name_free}
-use Rattle.gq_law_rewrites.proofs.Projects.{project_in_place, sound, extracted_project}
+use Rattle.gq_laws.specs.Rewriting.Documents.{IsSetOf, of_operation, of_fragment, EndsSetIn, Restates}
+use Rattle.gq_laws.specs.Rewriting.Edits.{HasDocument, RunAt}
+use Rattle.gq_laws.specs.Rewriting.Statics.{static_of, roots_in}
+use Rattle.gq_laws.proofs.Rewriting.Named.{name_free}
+use Rattle.gq_laws.proofs.Rewriting.Projects.{project_in_place, sound, extracted_project}
 use Rattle.gq_rewritten.specs.Executables.{IsExecutable}
 use Rattle.gq_select.specs.Meant.{document_sets}
 use Rattle.gq_select.specs.Runs.{RunOf}
 use Rattle.gq_reshape.specs.Asks.{RangeAsk, tree_at}
 use Rattle.gq_reshape.specs.Extract.{Extraction, extract_replacements, extract_cut}
 use Rattle.gq_reshape.specs.Naming.{extracted_name}
-use Rattle.gq_law_cuts_read.specs.Texts.{spread_text, fragment_text}
+use Rattle.gq_laws.specs.Cutting.Texts.{spread_text, fragment_text}
 use Rattle.gq_reshape.specs.declared.placed.PlacedReplacement.{PlacedReplacement}
 use Rattle.gq_reshape.specs.Placed.{replacements_in}
 use Rattle.gq_reshape.proofs.Changed.{IsKeeping, it_holds}
@@ -51,7 +51,7 @@ elsewhere file text place name on k e =
 module _ (documents : List Doc) (ask : RangeAsk) (rs : List ParsedOf) (are : AreParsed documents rs) (es : List EntryOf) (promise : Promised es rs) where
   -- the run, cut out of one set
   restated_by : (file : ℕ) (document : HasDocument (trees_read rs) file) (set : Sels Span) (parent name : Text) (start end : ℕ) (run : Sels Span) → EndsSetIn (static_of es) (roots_in es) document.tree parent set → Rattle.gq_select.specs.Runs.run_in start end set ≡ Some run →
-      Rattle.gq_meaning.specs.Expand.find_definition (Rattle.gq_law_rewrites.specs.Documents.definitions_of (trees_read rs)) name ≡ None →
+      Rattle.gq_meaning.specs.Expand.find_definition (Rattle.gq_laws.specs.Rewriting.Documents.definitions_of (trees_read rs)) name ≡ None →
       Restates (static_of es) (roots_in es) (trees_read rs) (rewritten_from (record { file = file; change = with_extracted start end name; added = fragment (bare_name name) (bare_name parent) [] (erase_all run) tt tt ∷ []; dropped = None }) 0 (trees_read rs))
   restated_by file document set parent name start end run ends is free =
       let i = run_there start end set run is in

@@ -18,9 +18,9 @@ use Rattle.gq_document.specs.Definitions.{FragmentOf, fragments_of}
 use Rattle.gq_document.specs.Selections.{SelectedOf}
 use Rattle.gq_meaning.proofs.TextLemmas.{same_text}
 use Rattle.gq_schema.specs.SchemaOf.{IsTypeSystemOf}
-use Rattle.gq_law_rewrites.specs.Parts.{IsPartOf, DirectivesFit, HeadFits}
-use Rattle.gq_law_rewrites.proofs.Executables.{Selected, fragment_def, fragment_stands}
-use Rattle.gq_law_rewrites.proofs.ValidityLemmas.{NoneIsBoth}
+use Rattle.gq_laws.specs.Rewriting.Parts.{IsPartOf, DirectivesFit, HeadFits}
+use Rattle.gq_laws.proofs.Rewriting.Executables.{Selected, fragment_def, fragment_stands}
+use Rattle.gq_laws.proofs.Rewriting.ValidityLemmas.{NoneIsBoth}
 use Rattle.gq_select.specs.Meant.{StandingOf, is_spread, meant}
 use Rattle.gq_rename.specs.Asks.{trees_of}
 use Rattle.gq_rename.specs.Rename.{IsTooLarge}

@@ -35,25 +35,25 @@ use Rattle.gq_rules.specs.Project.{type_system_of, executable_of}
 use Rattle.gq_rules.specs.Validity.{IsValid}
 use Rattle.gq_rewritten.specs.Rewrites.{DefinitionPlace, Rewrite, executable_place, is_kept, rewritten_document, same_place, with_inlined, with_set}
 use Rattle.gq_rewritten.specs.Executables as rewritten
-use Rattle.gq_law_cuts_read.specs.Inlined.{inlined, gone as gone_from, put_in_order, ReadsWithin, InlinedTextsRead, TextsReadWithoutFragment, InlinedTextsReadWithoutFragment}
-use Rattle.gq_law_cuts_read.specs.Standing.{set_in, HasSelection}
-use Rattle.gq_law_cuts_read.specs.Texts.{inlined_text}
-use Rattle.gq_law_renames.proofs.Promises.{nothing_demanded}
-use Rattle.gq_law_renames.proofs.SameTypes.{IsExecutable, AreOfOneKind}
-use Rattle.gq_law_renames.proofs.ValidityLemmas.{no_rule}
-use Rattle.gq_law_renames_valid.proofs.Reading.{HaveTrees, trees_read as trees_are}
-use Rattle.gq_law_rewrites.specs.Edits.{SpreadAt, CanInline, IsSpreadOther}
-use Rattle.gq_law_rewrites.specs.KnownBefore.{Each}
-use Rattle.gq_law_rewrites.specs.Places.{AreInPlace}
-use Rattle.gq_law_rewrites.specs.Statics.{static_of, roots_in}
-use Rattle.gq_law_rewrites.specs.Unchanged.{RestatedProjectsKeepResponses}
-use Rattle.gq_law_rewrites.proofs.Executables.{StandsIn, contains, is_in, fragment_def, fragment_stands}
-use Rattle.gq_law_rewrites.proofs.Goes.{same_definition}
-use Rattle.gq_law_rewrites.proofs.Located.{same_start}
-use Rattle.gq_law_rewrites.proofs.Projects.{can_inline, project_in_place, sound}
-use Rattle.gq_law_rewrites.proofs.ValidityLemmas.{NoneIsBoth}
-use Rattle.gq_law_rewrites_valid.specs.Inlined.{InlinesKeepAllRules}
-use Rattle.gq_law_rewrites_valid.specs.InlinedSpread.{IsCondition, IsItsFragment, IsSpreadElsewhere}
+use Rattle.gq_laws.specs.Cutting.Inlined.{inlined, gone as gone_from, put_in_order, ReadsWithin, InlinedTextsRead, TextsReadWithoutFragment, InlinedTextsReadWithoutFragment}
+use Rattle.gq_laws.specs.Cutting.Standing.{set_in, HasSelection}
+use Rattle.gq_laws.specs.Cutting.Texts.{inlined_text}
+use Rattle.gq_laws.proofs.Renaming.Promises.{nothing_demanded}
+use Rattle.gq_laws.proofs.Renaming.SameTypes.{IsExecutable, AreOfOneKind}
+use Rattle.gq_laws.proofs.Renaming.ValidityLemmas.{no_rule}
+use Rattle.gq_laws.proofs.RenamedValid.Reading.{HaveTrees, trees_read as trees_are}
+use Rattle.gq_laws.specs.Rewriting.Edits.{SpreadAt, CanInline, IsSpreadOther}
+use Rattle.gq_laws.specs.Rewriting.KnownBefore.{Each}
+use Rattle.gq_laws.specs.Rewriting.Places.{AreInPlace}
+use Rattle.gq_laws.specs.Rewriting.Statics.{static_of, roots_in}
+use Rattle.gq_laws.specs.Rewriting.Unchanged.{RestatedProjectsKeepResponses}
+use Rattle.gq_laws.proofs.Rewriting.Executables.{StandsIn, contains, is_in, fragment_def, fragment_stands}
+use Rattle.gq_laws.proofs.Rewriting.Goes.{same_definition}
+use Rattle.gq_laws.proofs.Rewriting.Located.{same_start}
+use Rattle.gq_laws.proofs.Rewriting.Projects.{can_inline, project_in_place, sound}
+use Rattle.gq_laws.proofs.Rewriting.ValidityLemmas.{NoneIsBoth}
+use Rattle.gq_laws.specs.RewrittenValid.Inlined.{InlinesKeepAllRules}
+use Rattle.gq_laws.specs.RewrittenValid.InlinedSpread.{IsCondition, IsItsFragment, IsSpreadElsewhere}
 use Rattle.gq_rename.specs.Rename.{IsTooLarge}
 use Rattle.gq_rename.specs.declared.refusal.Refusal.TheVariants.{DirectiveInWay, TooLarge}
 use Rattle.gq_reshape.specs.Asks.{RangeAsk}

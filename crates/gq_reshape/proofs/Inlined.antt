@@ -17,9 +17,9 @@ use Rattle.gq_document.specs.Selections.{SelectedOf}
 use Rattle.gq_index.specs.Occurrences.{executables, fragment_spreads}
 use Rattle.gq_meaning.proofs.TextLemmas.{same_text}
 use Rattle.gq_rewritten.specs.Rewrites.{same_place, DefinitionPlace}
-use Rattle.gq_law_rewrites.specs.Edits.{IsLastSpread}
-use Rattle.gq_law_rewrites.proofs.Executables.{Selected}
-use Rattle.gq_law_rewrites.proofs.Projects.{inlined_project}
+use Rattle.gq_laws.specs.Rewriting.Edits.{IsLastSpread}
+use Rattle.gq_laws.proofs.Rewriting.Executables.{Selected}
+use Rattle.gq_laws.proofs.Rewriting.Projects.{inlined_project}
 use Rattle.gq_select.specs.Meant.{is_spread, document_sets}
 use Rattle.gq_reshape.specs.declared.placed.PlacedReplacement.{PlacedReplacement}
 use Rattle.gq_reshape.specs.Placed.{replacements_in}

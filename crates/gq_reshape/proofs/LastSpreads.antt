@@ -18,7 +18,7 @@ use Rattle.gq_index.specs.declared.occurrence.Occurrence.{Occurrence}
 use Rattle.gq_index.specs.Occurrences.{DefinitionOf, executables, spreads_in, called, occurrences_of, fragment_spreads}
 use Rattle.gq_meaning.proofs.TextLemmas.{text_itself}
 use Rattle.gq_rewritten.specs.Rewrites.{DefinitionPlace}
-use Rattle.gq_law_renames.proofs.ExecutableLemmas.{fragments_same, operations_same}
+use Rattle.gq_laws.proofs.Renaming.ExecutableLemmas.{fragments_same, operations_same}
 use Rattle.gq_select.specs.Meant.{is_spread, document_sets}
 use Rattle.gq_reshape.specs.Asks.{RangeAsk, tree_at}
 use Rattle.gq_reshape.specs.Inline.{Inlining}

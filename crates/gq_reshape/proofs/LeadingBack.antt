@@ -24,10 +24,10 @@ use Rattle.gq_document.specs.Definitions.{FragmentOf, fragments_of}
 use Rattle.gq_document.specs.Last.{find_last}
 use Rattle.gq_document.specs.Selections.{SelectedOf, IsSelectionWithin, here, within, after, of_operation, of_fragment}
 use Rattle.gq_meaning.specs.Thin.{IsIn}
-use Rattle.gq_law_rewrites.specs.KnownBefore.{Each}
-use Rattle.gq_law_rewrites.specs.Parts.{PlaceEnds, HeadEnds, DefinitionEnds}
-use Rattle.gq_law_rewrites.proofs.Cuts.{parts_end}
-use Rattle.gq_law_rewrites.proofs.Executables.{trees_read, Selected, operation_def, fragment_def, operation_stands, fragment_stands}
+use Rattle.gq_laws.specs.Rewriting.KnownBefore.{Each}
+use Rattle.gq_laws.specs.Rewriting.Parts.{PlaceEnds, HeadEnds, DefinitionEnds}
+use Rattle.gq_laws.proofs.Rewriting.Cuts.{parts_end}
+use Rattle.gq_laws.proofs.Rewriting.Executables.{trees_read, Selected, operation_def, fragment_def, operation_stands, fragment_stands}
 use Rattle.gq_select.specs.Meant.{is_spread, is_inline, document_sets}
 use Rattle.gq_select.specs.Touched.{Touches, is_touched}
 use Rattle.gq_rename.specs.LeadBack.{LeadsBack, EditsLeadBack}
@@ -41,7 +41,7 @@ use Rattle.gq_reshape.specs.Determined.{EditsNameVersions, AnsweredEditsLeadBack
 use Rattle.gq_reshape.specs.Extract.{Extraction, extract_cut}
 use Rattle.gq_reshape.specs.Inline.{Inlining, inline_cut, inline_replacements, comes_first, is_only_spread}
 use Rattle.gq_reshape.specs.Remove.{Removal, remove_cut}
-use Rattle.gq_law_cuts_read.specs.Texts.{inlined_text}
+use Rattle.gq_laws.specs.Cutting.Texts.{inlined_text}
 use Rattle.gq_reshape.specs.Reshape.{IsExtractAnswer, IsInlineAnswer, IsRemoveAnswer}
 use Rattle.gq_reshape.proofs.PlacedEnds.{EndsLeadBack, edits_lead}
 use Rattle.gq_reshape.proofs.PlacedLemmas.{edits_there}

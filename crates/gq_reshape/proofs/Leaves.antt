@@ -24,11 +24,11 @@ use Rattle.gq_rules.specs.Project.{type_system_of, executable_of}
 use Rattle.gq_rules.specs.RuleFaults.{IsRuleFault}
 use Rattle.gq_rules.specs.Validity.{IsValid}
 use Rattle.gq_rewritten.specs.Rewrites.{Rewrite, rewritten_document, rewritten_from}
-use Rattle.gq_law_places.specs.Types.{IsFaultless}
-use Rattle.gq_law_renames.proofs.Promises.{NothingIsDemanded, of_one_kind}
-use Rattle.gq_law_renames.proofs.SameTypes.{IsExecutable, IsOfTypes, AreOfOneKind}
-use Rattle.gq_law_renames.proofs.ValidityLemmas.{none_demanded, no_document_is_mixed}
-use Rattle.gq_law_renames_valid.proofs.Reading.{read_trees, trees_are_read, definitions_of_trees, none_unread, AreAllOfOneKind, none_mixed}
+use Rattle.gq_laws.specs.Placing.Types.{IsFaultless}
+use Rattle.gq_laws.proofs.Renaming.Promises.{NothingIsDemanded, of_one_kind}
+use Rattle.gq_laws.proofs.Renaming.SameTypes.{IsExecutable, IsOfTypes, AreOfOneKind}
+use Rattle.gq_laws.proofs.Renaming.ValidityLemmas.{none_demanded, no_document_is_mixed}
+use Rattle.gq_laws.proofs.RenamedValid.Reading.{read_trees, trees_are_read, definitions_of_trees, none_unread, AreAllOfOneKind, none_mixed}
 use Rattle.gq_reshape.specs.Cuts.{Cut, edits_of, ReadsAsRewritten}
 use Rattle.gq_reshape.specs.Placed.{replacements_in}
 use Rattle.gq_reshape.specs.Helping.Rereading.{is_edited}

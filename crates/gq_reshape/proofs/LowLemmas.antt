@@ -16,11 +16,11 @@ use Rattle.gq_parse.specs.Limits.{IsNestedWithin}
 use Rattle.gq_parse.proofs.Nesting.{nested_front}
 use Rattle.gq_tree.specs.Readings.{SharedParsed, in_document, shared_view, readings_view}
 use Rattle.gq_document.specs.Definitions.{FragmentOf, fragment_in}
-use Rattle.gq_law_rewrites.specs.Parts.{DirectivesFit}
+use Rattle.gq_laws.specs.Rewriting.Parts.{DirectivesFit}
 use Rattle.gq_reshape.specs.declared.fragments.FragmentIn.{FragmentIn}
 use Rattle.gq_reshape.specs.Helping.Fragments.{fragment_found}
 use Rattle.gq_reshape.specs.Helping.Limits.{PassesSomeLimit}
-use Rattle.gq_law_cuts_read.specs.Texts.{last_directive_end, directives_text}
+use Rattle.gq_laws.specs.Cutting.Texts.{last_directive_end, directives_text}
 
 pub drop_read : {X : Type 0} (xs : List X) (i : ℕ) (x : X) → i < length xs → x ≡ get_or xs i x → drop i xs ≡ x ∷ drop (suc i) xs
 drop_read [] i x h is = absurd (omega (arith, h))

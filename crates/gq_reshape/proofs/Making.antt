@@ -12,7 +12,7 @@ use Rattle.gq_project.specs.declared.document.Doc.{Doc}
 use Rattle.gq_edit.specs.Replacements.{AreDisjoint, FitText}
 use Rattle.gq_types.proofs.Gathered.{or_cases}
 use Rattle.gq_document.specs.Definitions.{FragmentOf}
-use Rattle.gq_law_rewrites.specs.Parts.{IsPartOf}
+use Rattle.gq_laws.specs.Rewriting.Parts.{IsPartOf}
 use Rattle.gq_rename.specs.Asks.{trees_of}
 use Rattle.gq_reshape.specs.declared.placed.PlacedReplacement.{PlacedReplacement}
 use Rattle.gq_reshape.specs.Asks.{tree_at}
@@ -20,7 +20,7 @@ use Rattle.gq_reshape.specs.Extract.{extract_at}
 use Rattle.gq_reshape.specs.Inline.{inline_at, comes_first, in_order}
 use Rattle.gq_reshape.specs.Placed.{replacements_in}
 use Rattle.gq_reshape.specs.Remove.{remove_at}
-use Rattle.gq_law_cuts_read.specs.Texts.{inlined_text, opened_text, spread_text, fragment_text}
+use Rattle.gq_laws.specs.Cutting.Texts.{inlined_text, opened_text, spread_text, fragment_text}
 use Rattle.gq_reshape.specs.Helping.Fitting.{AllFit}
 use Rattle.gq_reshape.specs.Helping.Making.{CanBeMade, SomeExecutable}
 use Rattle.gq_reshape.proofs.Quiet.{skipped, extract_quiet, inline_quiet, remove_quiet}

@@ -6,7 +6,7 @@ use Rattle.gq_text.specs.declared.replacement.Replacement.{Replacement}
 use Rattle.gq_tree.specs.Plain.{DirectiveOf}
 use Rattle.gq_project.specs.declared.document.Doc.{Doc}
 use Rattle.gq_edit.specs.Replacements.{AreDisjointFrom, FitText}
-use Rattle.gq_law_rewrites.specs.Parts.{DirectivesFit, IsPartOf}
+use Rattle.gq_laws.specs.Rewriting.Parts.{DirectivesFit, IsPartOf}
 use Rattle.gq_reshape.specs.declared.placed.PlacedReplacement.{PlacedReplacement}
 use Rattle.gq_reshape.specs.Placed.{replacements_in}
 use Rattle.gq_reshape.specs.Helping.Fitting.{AllFit}

@@ -10,7 +10,7 @@ use Rattle.gq_document.specs.Definitions.{FragmentOf, fragment_in, fragments_of}
 use Rattle.gq_index.specs.declared.occurrence.Occurrence.{Occurrence}
 use Rattle.gq_index.specs.Occurrences.{DefinitionOf, executables, fragment_name, called, occurrences_of, fragment_definitions}
 use Rattle.gq_meaning.proofs.TextLemmas.{text_same}
-use Rattle.gq_law_renames.proofs.ExecutableLemmas.{fragments_same}
+use Rattle.gq_laws.proofs.Renaming.ExecutableLemmas.{fragments_same}
 
 fragment_there : (file : ℕ) (text : Text) (x : Def Span) (f : FragmentOf) → Contains (fragment_in file x) f → f.name.text ≡ text → (o : Occurrence) × Contains (occurrences_of file text (fragment_name x)) o
 fragment_there file text (operation kind name variables directives set braces place) f h named = nothing_in f h

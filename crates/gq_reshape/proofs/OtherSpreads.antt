@@ -26,11 +26,11 @@ use Rattle.gq_index.specs.Occurrences.{DefinitionOf, executable_in, executables,
 use Rattle.gq_meaning.proofs.TextLemmas.{same_text}
 use Rattle.gq_rewritten.specs.Rewrites.{head_place, same_place}
 use Rattle.gq_rules.specs.Project.{executable_of}
-use Rattle.gq_law_rewrites.specs.Edits.{SpreadAt}
-use Rattle.gq_law_rewrites.specs.Places.{AreNested, AreInPlace}
-use Rattle.gq_law_rewrites.proofs.Located.{same_start}
-use Rattle.gq_law_rewrites.proofs.Projects.{project_in_place}
-use Rattle.gq_law_rewrites_valid.specs.InlinedSpread.{IsSpreadElsewhere}
+use Rattle.gq_laws.specs.Rewriting.Edits.{SpreadAt}
+use Rattle.gq_laws.specs.Rewriting.Places.{AreNested, AreInPlace}
+use Rattle.gq_laws.proofs.Rewriting.Located.{same_start}
+use Rattle.gq_laws.proofs.Rewriting.Projects.{project_in_place}
+use Rattle.gq_laws.specs.RewrittenValid.InlinedSpread.{IsSpreadElsewhere}
 use Rattle.gq_reshape.proofs.RunStands.{same_number}
 
 -- what is found in one of three parts, or what is so of all of them

@@ -34,16 +34,16 @@ use Rattle.gq_rules.specs.Validity.{IsValid}
 use Rattle.gq_meaning.specs.Expand.{Definition, find_definition}
 use Rattle.gq_meaning.specs.Acyclic.{IsRanked}
 use Rattle.gq_collect.specs.Fragments.{definition_of}
-use Rattle.gq_law_rewrites.proofs.Fragments.{are_ranked}
-use Rattle.gq_law_rewrites.specs.Documents.{definitions_of, IsSpreadDefined}
-use Rattle.gq_law_rewrites.specs.Statics.{seen_fragment}
-use Rattle.gq_law_rewrites.proofs.Executables.{trees_read, fragments_seen, Rooted, Selected}
-use Rattle.gq_law_rewrites.proofs.ValidityLemmas.{NoneIsBoth, operations_have, parents_known}
-use Rattle.gq_law_renames.proofs.Promises.{nothing_demanded, of_one_kind}
-use Rattle.gq_law_renames.proofs.RuleLemmas.{search_text}
-use Rattle.gq_law_renames.proofs.SameTypes.{AreOfOneKind}
-use Rattle.gq_law_renames.proofs.ValidityLemmas.{no_rule, no_document_is_mixed}
-use Rattle.gq_law_rewrites_valid.proofs.OneName.{one_named}
+use Rattle.gq_laws.proofs.Rewriting.Fragments.{are_ranked}
+use Rattle.gq_laws.specs.Rewriting.Documents.{definitions_of, IsSpreadDefined}
+use Rattle.gq_laws.specs.Rewriting.Statics.{seen_fragment}
+use Rattle.gq_laws.proofs.Rewriting.Executables.{trees_read, fragments_seen, Rooted, Selected}
+use Rattle.gq_laws.proofs.Rewriting.ValidityLemmas.{NoneIsBoth, operations_have, parents_known}
+use Rattle.gq_laws.proofs.Renaming.Promises.{nothing_demanded, of_one_kind}
+use Rattle.gq_laws.proofs.Renaming.RuleLemmas.{search_text}
+use Rattle.gq_laws.proofs.Renaming.SameTypes.{AreOfOneKind}
+use Rattle.gq_laws.proofs.Renaming.ValidityLemmas.{no_rule, no_document_is_mixed}
+use Rattle.gq_laws.proofs.RewrittenValid.OneName.{one_named}
 
 -- ---- spreads
 

@@ -11,7 +11,7 @@ use Rattle.gq_reshape.specs.Extract.{extract_at}
 use Rattle.gq_reshape.specs.Inline.{inline_at, comes_first, in_order}
 use Rattle.gq_reshape.specs.Helping.Judged.{IsQuiet}
 use Rattle.gq_reshape.specs.Remove.{remove_at}
-use Rattle.gq_law_cuts_read.specs.Texts.{inlined_text, opened_text, spread_text, fragment_text}
+use Rattle.gq_laws.specs.Cutting.Texts.{inlined_text, opened_text, spread_text, fragment_text}
 
 neither : (a b : Bool) → (a || b) ≡ false → (a ≡ false) × (b ≡ false)
 neither false b e = (refl, e)

@@ -1,7 +1,7 @@
 -- The edits that extract, inline and remove answer with keep every response.
 use Rattle.gq_rename.specs.declared.refusal.Refusal.TheVariants.{NotRedundant}
-use Rattle.gq_law_rewrites.proofs.ValidityLemmas.{NoneIsBoth}
-use Rattle.gq_law_rewrites.specs.Unchanged.{RestatedProjectsKeepResponses}
+use Rattle.gq_laws.proofs.Rewriting.ValidityLemmas.{NoneIsBoth}
+use Rattle.gq_laws.specs.Rewriting.Unchanged.{RestatedProjectsKeepResponses}
 use Rattle.gq_reshape.specs.Responses.{EditsKeepResponses}
 use Rattle.gq_reshape.specs.Extract.{extract_cut}
 use Rattle.gq_reshape.specs.Inline.{inline_cut}

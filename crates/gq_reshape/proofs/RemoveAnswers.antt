@@ -12,8 +12,8 @@ use Rattle.gq_types.specs.Entries.{EntryOf}
 use Rattle.gq_types.specs.Look.{types_view}
 use Rattle.gq_known.specs.Known.{IsKnown}
 use Rattle.gq_document.specs.Selections.{SelectedOf}
-use Rattle.gq_law_rewrites.specs.Parts.{IsPartOf, HeadFits, between}
-use Rattle.gq_law_rewrites.proofs.Executables.{Selected}
+use Rattle.gq_laws.specs.Rewriting.Parts.{IsPartOf, HeadFits, between}
+use Rattle.gq_laws.proofs.Rewriting.Executables.{Selected}
 use Rattle.gq_select.specs.Meant.{StandingOf, is_inline, meant}
 use Rattle.gq_rename.specs.declared.refusal.Refusal.{Refusal}
 use Rattle.gq_rename.specs.declared.refusal.Refusal.TheVariants.{NothingHere, NotRedundant}

@@ -27,21 +27,21 @@ use Rattle.gq_renamed.specs.Projects.{AreTrees}
 use Rattle.gq_rules.specs.Project.{type_system_of}
 use Rattle.gq_rules.specs.Validity.{IsValid}
 use Rattle.gq_rewritten.specs.Rewrites.{head_place, is_kept, rewritten_document, with_set, without_braces}
-use Rattle.gq_law_cuts_read.specs.Removed.{opened, RemovedTextsRead}
-use Rattle.gq_law_cuts_read.specs.Standing.{set_in, HasSelection}
-use Rattle.gq_law_renames.proofs.Promises.{nothing_demanded}
-use Rattle.gq_law_renames.proofs.ValidityLemmas.{no_rule}
-use Rattle.gq_law_renames_valid.proofs.Reading.{HaveTrees, trees_read as trees_are}
-use Rattle.gq_law_rewrites.specs.KnownBefore.{EndsSet, ends_here, ends_within, ends_after, SaysNothing}
-use Rattle.gq_law_rewrites.specs.Documents.{IsSetOf, of_operation, of_fragment, EndsSetIn}
-use Rattle.gq_law_rewrites.specs.Edits.{removal, CanRemove}
-use Rattle.gq_law_rewrites.specs.Statics.{static_of, roots_in}
-use Rattle.gq_law_rewrites.specs.Unchanged.{RestatedProjectsKeepResponses}
-use Rattle.gq_law_rewrites_valid.specs.Removed.{RemovalsKeepAllRules}
-use Rattle.gq_law_rewrites.proofs.Executables.{contains}
-use Rattle.gq_law_rewrites.proofs.Projects.{sound, selected_document}
-use Rattle.gq_law_rewrites.proofs.Selected.{selection_ends}
-use Rattle.gq_law_rewrites.proofs.ValidityLemmas.{NoneIsBoth}
+use Rattle.gq_laws.specs.Cutting.Removed.{opened, RemovedTextsRead}
+use Rattle.gq_laws.specs.Cutting.Standing.{set_in, HasSelection}
+use Rattle.gq_laws.proofs.Renaming.Promises.{nothing_demanded}
+use Rattle.gq_laws.proofs.Renaming.ValidityLemmas.{no_rule}
+use Rattle.gq_laws.proofs.RenamedValid.Reading.{HaveTrees, trees_read as trees_are}
+use Rattle.gq_laws.specs.Rewriting.KnownBefore.{EndsSet, ends_here, ends_within, ends_after, SaysNothing}
+use Rattle.gq_laws.specs.Rewriting.Documents.{IsSetOf, of_operation, of_fragment, EndsSetIn}
+use Rattle.gq_laws.specs.Rewriting.Edits.{removal, CanRemove}
+use Rattle.gq_laws.specs.Rewriting.Statics.{static_of, roots_in}
+use Rattle.gq_laws.specs.Rewriting.Unchanged.{RestatedProjectsKeepResponses}
+use Rattle.gq_laws.specs.RewrittenValid.Removed.{RemovalsKeepAllRules}
+use Rattle.gq_laws.proofs.Rewriting.Executables.{contains}
+use Rattle.gq_laws.proofs.Rewriting.Projects.{sound, selected_document}
+use Rattle.gq_laws.proofs.Rewriting.Selected.{selection_ends}
+use Rattle.gq_laws.proofs.Rewriting.ValidityLemmas.{NoneIsBoth}
 use Rattle.gq_rename.specs.declared.refusal.Refusal.{Refusal}
 use Rattle.gq_rename.specs.declared.refusal.Refusal.TheVariants.{NotRedundant, SelfCheck, NoMemory}
 use Rattle.gq_reshape.specs.Asks.{RangeAsk}

@@ -13,12 +13,12 @@ use Rattle.gq_types.proofs.Gathered.{and_parts, or_cases}
 use Rattle.gq_document.specs.Selections.{SelectedOf}
 use Rattle.gq_meaning.proofs.TextLemmas.{same_text}
 use Rattle.gq_rewritten.specs.Rewrites.{head_place, Rewrite, DefinitionPlace, rewritten_from}
-use Rattle.gq_law_rewrites.specs.KnownBefore.{SaysNothing}
-use Rattle.gq_law_rewrites.specs.Documents.{Restates}
-use Rattle.gq_law_rewrites.specs.Edits.{removal}
-use Rattle.gq_law_rewrites.specs.Statics.{static_of, roots_in}
-use Rattle.gq_law_rewrites.proofs.Executables.{Selected}
-use Rattle.gq_law_rewrites.proofs.Projects.{removed_project}
+use Rattle.gq_laws.specs.Rewriting.KnownBefore.{SaysNothing}
+use Rattle.gq_laws.specs.Rewriting.Documents.{Restates}
+use Rattle.gq_laws.specs.Rewriting.Edits.{removal}
+use Rattle.gq_laws.specs.Rewriting.Statics.{static_of, roots_in}
+use Rattle.gq_laws.proofs.Rewriting.Executables.{Selected}
+use Rattle.gq_laws.proofs.Rewriting.Projects.{removed_project}
 use Rattle.gq_select.specs.Meant.{is_inline, document_sets}
 use Rattle.gq_reshape.specs.declared.placed.PlacedReplacement.{PlacedReplacement}
 use Rattle.gq_reshape.specs.Placed.{replacements_in}

@@ -8,7 +8,7 @@ use Rattle.gq_tree.specs.Forest.{none, more, row}
 use Rattle.gq_tree.specs.Plain.{Sel, Sels}
 use Rattle.gq_meaning.specs.Thin.{IsIn}
 use Rattle.gq_rewritten.specs.Rewrites.{head_place}
-use Rattle.gq_law_rewrites.specs.Places.{run_start, run_end}
+use Rattle.gq_laws.specs.Rewriting.Places.{run_start, run_end}
 use Rattle.gq_document.specs.Sets.{SetOf}
 use Rattle.gq_select.specs.Runs.{run_to, run_in, RunOf, find_run}
 

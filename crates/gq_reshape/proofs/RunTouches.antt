@@ -4,8 +4,8 @@ use Rattle.gq_text.specs.declared.place.Span.{Span}
 use Rattle.gq_tree.specs.Forest.{row}
 use Rattle.gq_tree.specs.Plain.{Sel}
 use Rattle.gq_types.proofs.Gathered.{nothing_in, cases_cons}
-use Rattle.gq_law_rewrites.specs.Places.{AreNested}
-use Rattle.gq_law_rewrites.proofs.Nests.{end_after, rises}
+use Rattle.gq_laws.specs.Rewriting.Places.{AreNested}
+use Rattle.gq_laws.proofs.Rewriting.Nests.{end_after, rises}
 use Rattle.gq_select.specs.Choice.{begin_of, end_of, BeginAt}
 use Rattle.gq_reshape.specs.RunPlaces.{RunsTouchTheirPlace}
 

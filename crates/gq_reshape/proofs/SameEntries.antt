@@ -22,7 +22,7 @@ use Rattle.gq_rewritten.specs.Rewrites.{Bare, Rewrite, with_set, is_kept, rewrit
 use Rattle.gq_reshape.specs.declared.placed.PlacedReplacement.{PlacedReplacement}
 use Rattle.gq_reshape.specs.Placed.{edits_from, replacements_in}
 use Rattle.gq_reshape.proofs.PlacedLemmas.{parts_from, made_after}
-use Rattle.gq_law_renames.proofs.SameTypes.{IsExecutable, IsOfTypes, AreOfOneKind}
+use Rattle.gq_laws.proofs.Renaming.SameTypes.{IsExecutable, IsOfTypes, AreOfOneKind}
 use Rattle.gq_reshape.specs.Helping.Making.{SomeExecutable}
 use Rattle.gq_reshape.specs.Helping.Rereading.{is_edited}
 

@@ -17,8 +17,8 @@ use Rattle.gq_document.specs.Selections.{SelectedOf, of_operation, of_fragment}
 use Rattle.gq_index.specs.declared.occurrence.Occurrence.{Occurrence}
 use Rattle.gq_index.specs.Occurrences.{DefinitionOf, executables, spreads_in, called, occurrences_of, fragment_spreads}
 use Rattle.gq_meaning.proofs.TextLemmas.{text_same}
-use Rattle.gq_law_rewrites.proofs.Executables.{Selected}
-use Rattle.gq_law_renames.proofs.ExecutableLemmas.{fragments_same, operations_same}
+use Rattle.gq_laws.proofs.Rewriting.Executables.{Selected}
+use Rattle.gq_laws.proofs.Renaming.ExecutableLemmas.{fragments_same, operations_same}
 use Rattle.gq_reshape.proofs.Promised.{label_in}
 
 -- a selection, and the number of its document

@@ -14,12 +14,12 @@ use Rattle.gq_document.specs.Definitions.{OperationOf, FragmentOf, operation_in,
 use Rattle.gq_document.specs.Selections.{SelectedOf, IsSelectionWithin, here, within, after, parent_below, IsSelected, of_operation, of_fragment}
 use Rattle.gq_meaning.specs.Thin.{IsIn}
 use Rattle.gq_rewritten.specs.Rewrites.{head_place}
-use Rattle.gq_law_rewrites.specs.Documents.{EndsSetIn, AreTyped}
-use Rattle.gq_law_rewrites.specs.Edits.{HasDocument}
-use Rattle.gq_law_rewrites.specs.Statics.{static_of, roots_in}
-use Rattle.gq_law_rewrites.proofs.Executables.{trees_read, contains, in_numbers, Rooted, root_is}
-use Rattle.gq_law_rewrites.proofs.Named.{selection_below}
-use Rattle.gq_law_rewrites.proofs.Selected.{operation_ends, fragment_ends}
+use Rattle.gq_laws.specs.Rewriting.Documents.{EndsSetIn, AreTyped}
+use Rattle.gq_laws.specs.Rewriting.Edits.{HasDocument}
+use Rattle.gq_laws.specs.Rewriting.Statics.{static_of, roots_in}
+use Rattle.gq_laws.proofs.Rewriting.Executables.{trees_read, contains, in_numbers, Rooted, root_is}
+use Rattle.gq_laws.proofs.Rewriting.Named.{selection_below}
+use Rattle.gq_laws.proofs.Rewriting.Selected.{operation_ends, fragment_ends}
 use Rattle.gq_document.specs.Sets.{SetOf, set_in, braces_in, sets_among, sets_of}
 use Rattle.gq_select.specs.Meant.{document_sets, StandingOf, standing_in, standing, later, begins_last, holds, is_meant, meant}
 use Rattle.gq_reshape.specs.Asks.{tree_at}

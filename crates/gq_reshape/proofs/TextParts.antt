@@ -17,16 +17,16 @@ use Rattle.gq_meaning.specs.Acyclic.{IsRanked}
 use Rattle.gq_meaning.specs.Thin.{IsIn}
 use Rattle.gq_rewritten.specs.Rewrites.{head_place, executable_place}
 use Rattle.gq_rename.specs.Sound.{AreUtf8}
-use Rattle.gq_law_rewrites.specs.Documents.{definitions_of}
-use Rattle.gq_law_rewrites.specs.Edits.{IsSpreadOther}
-use Rattle.gq_law_rewrites.specs.KnownBefore.{Each}
-use Rattle.gq_law_rewrites.specs.Parts.{IsPartOf, HeadFits, DefinitionFits}
-use Rattle.gq_law_rewrites.specs.Places.{AreNested, AreInPlace}
-use Rattle.gq_law_rewrites.specs.Statics.{seen_fragment}
-use Rattle.gq_law_rewrites.proofs.Cuts.{trees_cut_no_character}
-use Rattle.gq_law_rewrites.proofs.Executables.{trees_read, is_in, fragments_seen, Selected, StandsIn, operation_def, fragment_def, operation_stands, fragment_stands}
-use Rattle.gq_law_rewrites.proofs.Goes.{ranked_other}
-use Rattle.gq_law_rewrites.proofs.Projects.{project_in_place}
+use Rattle.gq_laws.specs.Rewriting.Documents.{definitions_of}
+use Rattle.gq_laws.specs.Rewriting.Edits.{IsSpreadOther}
+use Rattle.gq_laws.specs.Rewriting.KnownBefore.{Each}
+use Rattle.gq_laws.specs.Rewriting.Parts.{IsPartOf, HeadFits, DefinitionFits}
+use Rattle.gq_laws.specs.Rewriting.Places.{AreNested, AreInPlace}
+use Rattle.gq_laws.specs.Rewriting.Statics.{seen_fragment}
+use Rattle.gq_laws.proofs.Rewriting.Cuts.{trees_cut_no_character}
+use Rattle.gq_laws.proofs.Rewriting.Executables.{trees_read, is_in, fragments_seen, Selected, StandsIn, operation_def, fragment_def, operation_stands, fragment_stands}
+use Rattle.gq_laws.proofs.Rewriting.Goes.{ranked_other}
+use Rattle.gq_laws.proofs.Rewriting.Projects.{project_in_place}
 
 -- ---- selections within selections
 

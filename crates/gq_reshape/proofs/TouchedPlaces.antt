@@ -10,7 +10,7 @@ use Rattle.gq_lex.specs.Places.{StandIn, IsCutOf}
 use Rattle.gq_lex.specs.Tokens.{Lexeme}
 use Rattle.gq_lex.proofs.Standing.{tokens_stand, tokens_cut_no_character}
 use Rattle.gq_document.specs.Last.{find_last}
-use Rattle.gq_law_rewrites.specs.Parts.{IsPartOf}
+use Rattle.gq_laws.specs.Rewriting.Parts.{IsPartOf}
 use Rattle.gq_select.specs.Touched.{Touches, is_touched}
 
 abbrev start_of : Option Lexeme → Option ℕ

@@ -27,7 +27,7 @@ use Rattle.gq_renamed.specs.Helping.Spelling.{is_name_spelled}
 use Rattle.gq_renamed.proofs.Retelling.{spelled}
 use Rattle.gq_renamed.proofs.Spellings.{spelled_as_name}
 use Rattle.gq_rules.specs.Project.{type_system_of}
-use Rattle.gq_law_rewrites.proofs.Past.{Past, at_once, one_on, as_past, over, past_spelled, past_set, before_operation_set, before_fragment_set, past_type_system}
+use Rattle.gq_laws.proofs.Rewriting.Past.{Past, at_once, one_on, as_past, over, past_spelled, past_set, before_operation_set, before_fragment_set, past_type_system}
 
 -- each token of the kind of names has a text that is a Name
 abbrev NamesIn : Tokens → Type 0

@@ -16,7 +16,7 @@ use Rattle.gq_select.specs.Touched.{Touches}
 use Rattle.gq_reshape.specs.Asks.{RangeAsk, IsAskedOf, tree_at}
 use Rattle.gq_reshape.specs.Cuts.{Cut}
 use Rattle.gq_reshape.specs.Naming.{extracted_name, IsLeastFree}
-use Rattle.gq_law_cuts_read.specs.Texts.{spread_text, fragment_text}
+use Rattle.gq_laws.specs.Cutting.Texts.{spread_text, fragment_text}
 use Rattle.gq_reshape.specs.declared.placed.PlacedReplacement.{PlacedReplacement}
 
 -- the document that is asked of, and the place of what the range touches there

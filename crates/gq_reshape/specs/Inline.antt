@@ -13,7 +13,7 @@ use Rattle.gq_rewritten.specs.Rewrites.{with_inlined}
 use Rattle.gq_select.specs.Meant.{StandingOf, is_spread, meant, document_sets}
 use Rattle.gq_reshape.specs.Asks.{RangeAsk, IsAskedOf, tree_at}
 use Rattle.gq_reshape.specs.Cuts.{Cut}
-use Rattle.gq_law_cuts_read.specs.Texts.{inlined_text}
+use Rattle.gq_laws.specs.Cutting.Texts.{inlined_text}
 use Rattle.gq_reshape.specs.declared.placed.PlacedReplacement.{PlacedReplacement}
 
 -- The spread that a range means, and the fragment that it spreads with the document that this stands in.

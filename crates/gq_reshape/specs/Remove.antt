@@ -13,7 +13,7 @@ use Rattle.gq_reshape.specs.Asks.{RangeAsk, IsAskedOf, tree_at}
 use Rattle.gq_reshape.specs.Cuts.{Cut}
 use Rattle.gq_reshape.specs.declared.placed.PlacedReplacement.{PlacedReplacement}
 use Rattle.gq_reshape.specs.Inline.{has_directive}
-use Rattle.gq_law_cuts_read.specs.Texts.{opened_text}
+use Rattle.gq_laws.specs.Cutting.Texts.{opened_text}
 
 -- the inline fragment that a range means
 pub record Removal (documents : List Doc) (es : List EntryOf) (readings : List ParsedOf) (ask : RangeAsk) : Type 0 where

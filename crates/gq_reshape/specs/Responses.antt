@@ -7,7 +7,7 @@ use Rattle.gq_edit.specs.Edits.{after_edit}
 use Rattle.gq_tree.specs.Readings.{ParsedOf}
 use Rattle.gq_parse.specs.Parsed.{AreParsed}
 use Rattle.gq_rules.specs.Validity.{IsValid}
-use Rattle.gq_law_rewrites.specs.Unchanged.{ResponsesStay}
+use Rattle.gq_laws.specs.Rewriting.Unchanged.{ResponsesStay}
 use Rattle.gq_rename.specs.declared.refusal.Refusal.{Refusal}
 use Rattle.gq_reshape.specs.Asks.{RangeAsk}
 

@@ -2,7 +2,7 @@
 use Rattle.std.specs.Prelude.{ℕ, ◌≤◌, [], ◌∷◌, ◌++◌, Contains}
 use Rattle.gq_text.specs.declared.place.Span.{Span}
 use Rattle.gq_tree.specs.Plain.{Sel, Sels}
-use Rattle.gq_law_rewrites.specs.Places.{AreNested}
+use Rattle.gq_laws.specs.Rewriting.Places.{AreNested}
 use Rattle.gq_select.specs.Choice.{begin_of, end_of, IsRun}
 
 -- those of the run stand in its place, and those before and behind it stand beside that

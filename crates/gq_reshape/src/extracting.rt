@@ -7,7 +7,7 @@ ghost use Rattle.gq_known.specs.Known.{IsKnown};
 ghost use Rattle.gq_types.specs.Look.{types_view, text_of};
 ghost use Rattle.gq_rules.specs.Validity.{IsValid};
 ghost use Rattle.gq_document.specs.SetViews.{set_view};
-ghost use Rattle.gq_law_rewrites.specs.Parts.{IsPartOf};
+ghost use Rattle.gq_laws.specs.Rewriting.Parts.{IsPartOf};
 ghost use Rattle.gq_rename.specs.declared.refusal.Refusal.TheVariants as refusal;
 ghost use Rattle.gq_reshape.specs.Extract.{extract_replacements};
 ghost use Rattle.gq_reshape.specs.Helping.About.{IsAbout, IsSomeRunOn};

@@ -7,7 +7,7 @@ ghost use Rattle.gq_index.specs.Indexed.{IsIndexOfProject};
 ghost use Rattle.gq_known.specs.Known.{IsKnown};
 ghost use Rattle.gq_rules.specs.Validity.{IsValid};
 ghost use Rattle.gq_select.specs.Meant.{is_spread};
-ghost use Rattle.gq_law_rewrites.specs.Parts.{DirectivesFit, IsPartOf};
+ghost use Rattle.gq_laws.specs.Rewriting.Parts.{DirectivesFit, IsPartOf};
 ghost use Rattle.gq_rename.specs.declared.refusal.Refusal.TheVariants as refusal;
 ghost use Rattle.gq_reshape.specs.Inline.{comes_first, has_directive, in_order, inline_replacements, is_in_way};
 ghost use Rattle.gq_reshape.specs.Helping.About.{IsAbout, IsDirectiveFree, IsSpreadOf, spread_head};

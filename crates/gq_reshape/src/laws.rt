@@ -11,10 +11,10 @@ ghost use Rattle.gq_reshape.specs.Reshape.{IsExtractAnswer, IsInlineAnswer, IsRe
 ghost use Rattle.gq_reshape.specs.Responses.{EditsKeepResponses};
 ghost use Rattle.gq_reshape.specs.RunPlaces.{RunsTouchTheirPlace};
 
-use gq_law_cuts_read::laws::{extracted_texts_read, inlined_texts_read, removed_texts_read};
-use gq_law_rewrites::responses::restated_projects_keep_responses;
-use gq_law_rewrites_valid::inlines::inlines_keep_all_rules;
-use gq_law_rewrites_valid::laws::{extracts_keep_all_rules, removals_keep_all_rules};
+use gq_laws::cuts_read::{extracted_texts_read, inlined_texts_read, removed_texts_read};
+use gq_laws::inlines::inlines_keep_all_rules;
+use gq_laws::responses::restated_projects_keep_responses;
+use gq_laws::rewrites_valid::{extracts_keep_all_rules, removals_keep_all_rules};
 use gq_lex::laws::one_reading;
 use gq_parse::laws::one_tree;
 use gq_rename::laws::{renames_are_determined, renames_are_there};

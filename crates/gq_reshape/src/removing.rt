@@ -9,7 +9,7 @@ ghost use Rattle.gq_known.specs.Known.{IsKnown};
 ghost use Rattle.gq_types.specs.Look.{text_of};
 ghost use Rattle.gq_rules.specs.Validity.{IsValid};
 ghost use Rattle.gq_select.specs.Meant.{is_inline};
-ghost use Rattle.gq_law_rewrites.specs.Parts.{IsPartOf, between};
+ghost use Rattle.gq_laws.specs.Rewriting.Parts.{IsPartOf, between};
 ghost use Rattle.gq_rename.specs.declared.refusal.Refusal.TheVariants as refusal;
 ghost use Rattle.gq_reshape.specs.Helping.About.{IsAbout, IsInlineAsked, inline_head};
 ghost use Rattle.gq_reshape.specs.Remove.{is_parents_type, remove_replacements, says_nothing};

@@ -1,8 +1,8 @@
 //! The texts that refactorings put.
 ghost use Rattle.std.specs.Prelude.{◌≡◌, ◌∷◌, IfOk, map};
 ghost use Rattle.gq_tree.specs.Views.{directive_view};
-ghost use Rattle.gq_law_rewrites.specs.Parts.{DirectivesFit, IsPartOf, between};
-ghost use Rattle.gq_law_cuts_read.specs.Texts.{begins_with_name, directives_text, fragment_text, inlined_text, opened_text, spread_text};
+ghost use Rattle.gq_laws.specs.Rewriting.Parts.{DirectivesFit, IsPartOf, between};
+ghost use Rattle.gq_laws.specs.Cutting.Texts.{begins_with_name, directives_text, fragment_text, inlined_text, opened_text, spread_text};
 
 use gq_text::{NoMemory, OwnedText, Span};
 use gq_tree::Directive;

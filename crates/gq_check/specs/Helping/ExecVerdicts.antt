@@ -11,7 +11,7 @@ use Rattle.gq_project.specs.declared.document.Doc.{Doc}
 use Rattle.gq_rules.specs.Validity.{IsValid}
 use Rattle.gq_response.specs.Responses.{ResponseOf}
 use Rattle.gq_response.specs.Texts.{response_text}
-use Rattle.gq_law_rewrites.specs.Executed.{IsExecuted}
+use Rattle.gq_laws.specs.Rewriting.Executed.{IsExecuted}
 use Rattle.gq_check.specs.declared.formats.Format.TheVariants as format
 use Rattle.gq_check.specs.Helping.Verdicts.{IsTold}
 use Rattle.gq_check.specs.Execution.{ExecOutcome, IsExecOutcome, IsReasonOf, exec_output, exec_error, exec_fault_line, exec_status}

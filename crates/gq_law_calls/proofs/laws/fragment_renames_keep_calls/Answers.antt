@@ -1,5 +1,5 @@
-use Rattle.gq_law_renames.proofs.Promises.{nothing_demanded}
-use Rattle.gq_law_renames.proofs.ValidityLemmas.{spreads_are_defined, no_document_is_mixed}
+use Rattle.gq_laws.proofs.Renaming.Promises.{nothing_demanded}
+use Rattle.gq_laws.proofs.Renaming.ValidityLemmas.{spreads_are_defined, no_document_is_mixed}
 use Rattle.gq_law_calls.proofs.Renamed.{fragment_renames_keep_calls}
 use Rattle.gq_law_calls.proofs.laws.fragment_renames_keep_calls.Goals as goal
 

@@ -1,8 +1,8 @@
-use Rattle.gq_law_renames.proofs.TakesSame.{takes_alike}
-use Rattle.gq_law_renames.proofs.ArgumentsSame.{arguments_alike}
-use Rattle.gq_law_renames.proofs.VariablesSame.{variables_alike}
-use Rattle.gq_law_renames.proofs.Promises.{nothing_demanded}
-use Rattle.gq_law_renames.proofs.ValidityLemmas.{variables_are_defined, no_document_is_mixed}
+use Rattle.gq_laws.proofs.Renaming.TakesSame.{takes_alike}
+use Rattle.gq_laws.proofs.Renaming.ArgumentsSame.{arguments_alike}
+use Rattle.gq_laws.proofs.Renaming.VariablesSame.{variables_alike}
+use Rattle.gq_laws.proofs.Renaming.Promises.{nothing_demanded}
+use Rattle.gq_laws.proofs.Renaming.ValidityLemmas.{variables_are_defined, no_document_is_mixed}
 use Rattle.gq_law_calls.proofs.Renamed.{variable_renames_keep_calls}
 use Rattle.gq_law_calls.proofs.laws.variable_renames_keep_calls.Goals as goal
 

@@ -5,7 +5,7 @@ use Rattle.gq_project.specs.declared.document.Doc.{Doc}
 use Rattle.gq_edit.specs.Edits.{after_edit}
 use Rattle.gq_rules.specs.Validity.{IsValid}
 use Rattle.gq_rename.specs.Checked.{IsMeasured}
-use Rattle.gq_law_rewrites.specs.Parts.{between}
+use Rattle.gq_laws.specs.Rewriting.Parts.{between}
 use Rattle.gq_reshape.specs.Placed.{edits_from}
 use Rattle.gq_reshape.specs.Remove.{remove_at, remove_replacements}
 use Rattle.gq_reshape.specs.Helping.Fitting.{AllFit}

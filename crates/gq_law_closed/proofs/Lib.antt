@@ -1,7 +1,0 @@
-pub mod Within
-pub mod Merging
-pub mod Spreading
-pub mod Variables
-pub mod ByNames
-pub mod Replaced
-pub mod Rules

@@ -1,3 +1,0 @@
-pub mod RestsOnNames
-pub mod Closed
-pub mod Laws

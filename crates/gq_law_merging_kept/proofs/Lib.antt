@@ -1,4 +1,0 @@
-pub mod Seen
-pub mod Rewritten
-pub mod Restated
-pub mod Edits

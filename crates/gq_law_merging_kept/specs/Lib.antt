@@ -1,3 +1,0 @@
-pub mod Rewritten
-pub mod Restated
-pub mod Edits

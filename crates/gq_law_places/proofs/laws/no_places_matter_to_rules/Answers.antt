@@ -1,7 +1,0 @@
-use Rattle.gq_law_places.proofs.Rules.{by_group}
-use Rattle.gq_law_places.proofs.laws.no_places_matter_to_rules.Goals as goal
-
-pub returns : goal.returns
-returns c =
-    let law = c.no_places_matter.ensures in
-    by_group law.operations law.fields law.fragments law.spreads law.variables law.merging

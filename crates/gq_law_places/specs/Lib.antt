@@ -1,4 +1,0 @@
-pub mod Places
-pub mod Types
-pub mod Names
-pub mod Merging

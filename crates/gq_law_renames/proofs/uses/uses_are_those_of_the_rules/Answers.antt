@@ -1,5 +1,0 @@
-use Rattle.gq_law_renames.proofs.UseLaws.{uses_are}
-use Rattle.gq_law_renames.proofs.uses.uses_are_those_of_the_rules.Goals as goal
-
-pub returns : goal.returns
-returns c = uses_are

@@ -1,4 +1,0 @@
-pub mod Uses
-pub mod GivenValues
-pub mod Kept
-pub mod Helping

@@ -1,5 +1,0 @@
-use Rattle.gq_law_rewrites.proofs.Answerable.{requests_have}
-use Rattle.gq_law_rewrites.proofs.responses.requests_have_a_response.Goals as goal
-
-pub returns : goal.returns
-returns c = requests_have c.fragments_can_be_ranked.ensures

@@ -1,5 +1,0 @@
-use Rattle.gq_law_rewrites.proofs.Located.{extract_restates}
-use Rattle.gq_law_rewrites.proofs.rewrites.extracting_keeps_what_is_asked.Goals as goal
-
-pub returns : goal.returns
-returns c = extract_restates

@@ -1,5 +1,0 @@
-use Rattle.gq_law_rewrites.proofs.Cuts.{trees_cut_no_character}
-use Rattle.gq_law_rewrites.proofs.rewrites.trees_of_texts_cut_no_character.Goals as goal
-
-pub returns : goal.returns
-returns c = trees_cut_no_character

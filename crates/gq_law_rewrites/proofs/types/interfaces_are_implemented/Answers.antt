@@ -1,5 +1,0 @@
-use Rattle.gq_law_rewrites.proofs.ValidityLemmas.{interfaces_implemented}
-use Rattle.gq_law_rewrites.proofs.types.interfaces_are_implemented.Goals as goal
-
-pub returns : goal.returns
-returns c = interfaces_implemented c.no_project_is_valid_and_invalid.ensures

@@ -1,5 +1,0 @@
-use Rattle.gq_law_rewrites.proofs.ValidityLemmas.{objects_have}
-use Rattle.gq_law_rewrites.proofs.types.objects_have_fields.Goals as goal
-
-pub returns : goal.returns
-returns c = objects_have c.no_project_is_valid_and_invalid.ensures

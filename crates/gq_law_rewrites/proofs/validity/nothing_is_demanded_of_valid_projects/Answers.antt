@@ -1,5 +1,0 @@
-use Rattle.gq_law_rewrites.proofs.Valid.{nothing_demanded}
-use Rattle.gq_law_rewrites.proofs.validity.nothing_is_demanded_of_valid_projects.Goals as goal
-
-pub returns : goal.returns
-returns c = nothing_demanded c.no_project_is_valid_and_invalid.ensures

@@ -1,0 +1,5 @@
+-- Fields that merge after an edit moved them as they did before.
+pub mod Seen
+pub mod Rewritten
+pub mod Restated
+pub mod Edits

@@ -1,0 +1,26 @@
+-- A valid project in which selections were moved is valid.
+pub mod Placed
+pub mod Opened
+pub mod Only
+pub mod Kept
+pub mod KeptFragments
+pub mod KeptVariables
+pub mod Removed
+pub mod Removals
+pub mod Moved
+pub mod Inserted
+pub mod Extracted
+pub mod ExtractedMerging
+pub mod Extracts
+pub mod InlinedSets
+pub mod InlinedProject
+pub mod InlinedOnce
+pub mod InlinedFacts
+pub mod InlinedOperations
+pub mod InlinedFragments
+pub mod InlinedSpreads
+pub mod InlinedFields
+pub mod InlinedVariables
+pub mod Inlined
+pub mod OneName
+pub mod AllRules

@@ -1,0 +1,5 @@
+-- What is wrong with definitions that are equal but for their places, or for names that a rename changes.
+pub mod Places
+pub mod Types
+pub mod Names
+pub mod Merging

@@ -1,0 +1,2 @@
+-- Renames keep projects valid.
+pub mod Valid

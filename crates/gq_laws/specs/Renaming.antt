@@ -1,0 +1,5 @@
+-- Renames keep what every operation is answered.
+pub mod Uses
+pub mod GivenValues
+pub mod Kept
+pub mod Helping

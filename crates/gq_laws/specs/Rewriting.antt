@@ -1,0 +1,21 @@
+-- What validity promises to execution, and rewrites that keep what every operation is answered.
+pub mod KnownBefore
+pub mod Places
+pub mod Documents
+pub mod Edits
+pub mod Statics
+pub mod Trees
+pub mod Parts
+pub mod Promised
+pub mod Subtypes
+pub mod ParentsAndFields
+pub mod Braces
+pub mod Agree
+pub mod Answerable
+pub mod Unchanged
+pub mod Validity
+pub mod Executed
+pub mod Implementations
+pub mod Reached
+pub mod StaticTypes
+pub mod OneCall
