@@ -17,7 +17,7 @@ use crate::links::links;
 use crate::names::{FileNames, names_of_all};
 use gq_document::{Definitions, Executable};
 use gq_fault::Fault;
-use gq_law_files::closed::{
+use gq_law_files::closed_sets::{
     closed_sets_stay, faults_across_are_by_names_or_spreads, faults_are_of_closed_sets,
     faults_of_closed_sets_are_faults, other_files_are_unseen,
 };

@@ -13,7 +13,7 @@ use crate::part::resting;
 use gq_document::{Executable, FragmentEntry};
 use gq_fault::{Code, Fault, add_fault, fault_at};
 use gq_fragments::add_operation_faults;
-use gq_law_files::closed::faults_by_names_are_by_rules;
+use gq_law_files::closed_sets::faults_by_names_are_by_rules;
 use gq_names::NameList;
 use gq_text::{NoMemory, SmallText};
 use std::alloc::Global;

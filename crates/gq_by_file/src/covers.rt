@@ -14,7 +14,7 @@ use crate::part::found_within;
 use gq_document::Executable;
 use gq_fault::Fault;
 use gq_graph::reach_rows;
-use gq_law_files::closed::{faults_of_closed_sets_are_faults, faults_stay_in_larger_sets};
+use gq_law_files::closed_sets::{faults_of_closed_sets_are_faults, faults_stay_in_larger_sets};
 use gq_text::NoMemory;
 use std::alloc::Global;
 

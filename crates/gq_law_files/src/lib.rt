@@ -2,5 +2,5 @@
 //! of files that no spread leads out of is told of the project.
 #![tactic(auto)]
 
-pub mod closed;
+pub mod closed_sets;
 pub mod laws;
