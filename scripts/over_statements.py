@@ -292,8 +292,19 @@ def flags_for(name, known, at, work):
     return words + logic(at)
 
 
+def stop_on_unnamed(name, known):
+    """Stops where a file of the crate names a library that its line of crates.txt does not, since each is passed here."""
+    named = {name, "std", *known[name]}
+    for part in ("src", "specs", "proofs"):
+        folder = f"{ROOT}/crates/{name}/{part}"
+        for file in sorted(files_below(folder)):
+            for library in sorted(set(re.findall(r"\bRattle\.(\w+)", read(f"{folder}/{file}"))) - named):
+                stop(f"{name}/{part}/{file} names Rattle.{library}, and the line of {name} in crates.txt does not name {library}")
+
+
 def check(name, known, asked, more):
     """Checks the crate over the copies, and returns the checker's status."""
+    stop_on_unnamed(name, known)
     at, crate, work = kit(), f"{ROOT}/crates/{name}", os.path.abspath(asked.work)
     for one in all_below(name, known):
         copy_statements(f"{ROOT}/crates/{one}", f"{work}/crates/{one}")
