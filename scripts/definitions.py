@@ -298,9 +298,9 @@ def misplaced():
     for crate in crates:
         top = f"{TOP}/crates/{crate}/specs"
         for inside in sorted(os.path.relpath(path, top)[:-5] for path in glob.glob(f"{top}/**/*.antt", recursive=True)):
-            if inside in ("Lib", "Helping"):
+            if inside == "Lib" or os.path.isdir(f"{top}/{inside}"):
                 continue
-            if inside.startswith("Helping/"):
+            if "Helping/" in inside:
                 if (crate, inside) in cited:
                     yield f"stands in Helping, and a public contract cites it: {crate} {inside}"
                 continue
