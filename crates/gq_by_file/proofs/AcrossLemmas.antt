@@ -12,10 +12,10 @@ use Rattle.gq_types.proofs.Gathered.{nothing_in, first, from_filter, from_flat, 
 use Rattle.gq_document.specs.Definitions.{OperationOf, FragmentOf}
 use Rattle.gq_document.specs.Executable.{ExecutableOf}
 use Rattle.gq_rules.specs.Files.{together, IsFaultAcross}
-use Rattle.gq_law_files.specs.Laws.{AreOneTypeSystem, NumbersOfEntriesAreUnseen}
-use Rattle.gq_law_files.specs.Closed.Closed.{within}
-use Rattle.gq_law_files.specs.Closed.RestsOnNames.{IsFaultByNames, IsFaultBySpreads}
-use Rattle.gq_law_files.specs.Closed.Laws.{AreNotSpread, ClosedSetsStay, FaultsAcrossAreByNamesOrSpreads, FaultsAreOfClosedSets, FaultsOfClosedSetsAreFaults, OtherFilesAreUnseen}
+use Rattle.gq_by_file.specs.OneFile.Laws.{AreOneTypeSystem, NumbersOfEntriesAreUnseen}
+use Rattle.gq_by_file.specs.Closed.Closed.{within}
+use Rattle.gq_by_file.specs.Closed.RestsOnNames.{IsFaultByNames, IsFaultBySpreads}
+use Rattle.gq_by_file.specs.Closed.Laws.{AreNotSpread, ClosedSetsStay, FaultsAcrossAreByNamesOrSpreads, FaultsAreOfClosedSets, FaultsOfClosedSetsAreFaults, OtherFilesAreUnseen}
 use Rattle.gq_by_file.specs.declared.across.Across.{Across}
 use Rattle.gq_by_file.specs.declared.covers.Cover.{Cover}
 use Rattle.gq_by_file.specs.declared.names.FileNames.{FileNames}

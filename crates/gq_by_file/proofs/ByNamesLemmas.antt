@@ -21,8 +21,8 @@ use Rattle.gq_fragments.specs.OperationFaults.{IsOperationFault}
 use Rattle.gq_fragments.specs.OperationFaults as operation
 use Rattle.gq_fragments.specs.Helping.FragmentPlaces.{repeated_names}
 use Rattle.gq_spreads.specs.FragmentsMustBeUsed.{IsUnusedFragment}
-use Rattle.gq_law_files.specs.Closed.Laws.{IsDemandedByNames, FaultsByNamesAreByRules, repeated_operation_name, not_alone, repeated_fragment_name, not_used}
-use Rattle.gq_law_files.specs.Closed.RestsOnNames.{rests_on_names, IsFaultByNames}
+use Rattle.gq_by_file.specs.Closed.Laws.{IsDemandedByNames, FaultsByNamesAreByRules, repeated_operation_name, not_alone, repeated_fragment_name, not_used}
+use Rattle.gq_by_file.specs.Closed.RestsOnNames.{rests_on_names, IsFaultByNames}
 use Rattle.gq_by_file.specs.Helping.ByNames.{AreSpreadsOf, IsNamedOperationFault, IsSpreadText, of_operation, of_fragment, unused_if}
 use Rattle.gq_by_file.proofs.PartLemmas.{rest}
 

@@ -10,10 +10,10 @@ use Rattle.gq_fault.specs.declared.fault.Fault.{Fault}
 use Rattle.gq_graph.specs.Reach.{Reach, row}
 use Rattle.gq_types.proofs.Gathered.{nothing_in, first, later, only, cases_cons, or_cases, or_left, or_right}
 use Rattle.gq_document.specs.Executable.{ExecutableOf}
-use Rattle.gq_law_files.specs.Closed.Closed.{is_among, within, IsClosed}
-use Rattle.gq_law_files.specs.Closed.RestsOnNames.{IsFaultBySpreads}
-use Rattle.gq_law_files.specs.Closed.Laws.{FaultsOfClosedSetsAreFaults, FaultsStayInLargerSets}
-use Rattle.gq_law_files.proofs.Closed.Within.{from_among}
+use Rattle.gq_by_file.specs.Closed.Closed.{is_among, within, IsClosed}
+use Rattle.gq_by_file.specs.Closed.RestsOnNames.{IsFaultBySpreads}
+use Rattle.gq_by_file.specs.Closed.Laws.{FaultsOfClosedSetsAreFaults, FaultsStayInLargerSets}
+use Rattle.gq_by_file.proofs.Closed.Within.{from_among}
 use Rattle.gq_by_file.specs.declared.covers.Cover.{Cover}
 use Rattle.gq_by_file.specs.Across.{IsCover, AreCovers}
 use Rattle.gq_by_file.specs.Helping.Covers.{AreFaulty, IsCovered, LeadsInto, unmarked_from}

@@ -1,3 +1,5 @@
+pub mod OneFile
+pub mod Closed
 pub mod NameLemmas
 pub mod LinkLemmas
 pub mod CoverLemmas

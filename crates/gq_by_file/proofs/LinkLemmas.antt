@@ -18,9 +18,9 @@ use Rattle.gq_document.specs.Executable.{ExecutableOf}
 use Rattle.gq_spreads.specs.Helping.Rows.{row_items}
 use Rattle.gq_spreads.proofs.RowLemmas.{number_of, stands}
 use Rattle.gq_rules.specs.Files.{together}
-use Rattle.gq_law_files.proofs.Numbers.{from_documents, to_documents, operation_moves, fragment_moves}
-use Rattle.gq_law_files.specs.Closed.Closed.{IsClosed, StandsInFile, of_operation, of_fragment}
-use Rattle.gq_law_files.specs.Closed.Laws.{spreads_in, spreads_read}
+use Rattle.gq_by_file.proofs.OneFile.Numbers.{from_documents, to_documents, operation_moves, fragment_moves}
+use Rattle.gq_by_file.specs.Closed.Closed.{IsClosed, StandsInFile, of_operation, of_fragment}
+use Rattle.gq_by_file.specs.Closed.Laws.{spreads_in, spreads_read}
 use Rattle.gq_by_file.specs.Names.{AreNames, fragment_names_in, fragments_read, texts_of}
 use Rattle.gq_by_file.specs.declared.names.FileNames.{FileNames}
 use Rattle.gq_by_file.specs.Helping.ByNames.{AreSpreadsOf, IsSpreadText, all_spreads}

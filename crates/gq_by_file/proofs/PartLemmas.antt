@@ -7,8 +7,8 @@ use Rattle.gq_types.proofs.Gathered.{first, later, from_filter, to_filter}
 use Rattle.gq_document.specs.Definitions.{OperationOf, FragmentOf}
 use Rattle.gq_document.specs.Executable.{ExecutableOf}
 use Rattle.gq_rules.specs.Files.{IsFaultAcross}
-use Rattle.gq_law_files.specs.Closed.Closed.{is_among, within, StandsInFile, of_operation, of_fragment}
-use Rattle.gq_law_files.specs.Closed.RestsOnNames.{rests_on_names, IsFaultBySpreads}
+use Rattle.gq_by_file.specs.Closed.Closed.{is_among, within, StandsInFile, of_operation, of_fragment}
+use Rattle.gq_by_file.specs.Closed.RestsOnNames.{rests_on_names, IsFaultBySpreads}
 
 from_beq : (a b : Bool) → beq a b ≡ true → a ≡ b
 from_beq true true e = refl

@@ -5,7 +5,7 @@ use Rattle.std.specs.Str.{bytes_eq}
 use Rattle.gq_tree.specs.Readings.{ParsedOf}
 use Rattle.gq_types.specs.Entries.{Text}
 use Rattle.gq_types.proofs.Gathered.{only}
-use Rattle.gq_law_files.specs.Closed.Laws.{AreNotSpread, spreads_read}
+use Rattle.gq_by_file.specs.Closed.Laws.{AreNotSpread, spreads_read}
 use Rattle.gq_by_file.specs.declared.names.FileNames.{FileNames}
 use Rattle.gq_by_file.specs.Names.{AreNames, AreNamesIn}
 use Rattle.gq_by_file.specs.Helping.Covers.{has_one_of}

@@ -5,8 +5,8 @@ use Rattle.gq_tree.specs.Readings.{ParsedOf}
 use Rattle.gq_types.specs.Entries.{EntryOf}
 use Rattle.gq_document.specs.Executable.{ExecutableOf}
 use Rattle.gq_rules.specs.Files.{together}
-use Rattle.gq_law_files.specs.Closed.Closed.{within, IsClosed}
-use Rattle.gq_law_files.specs.Closed.RestsOnNames.{IsFaultBySpreads}
+use Rattle.gq_by_file.specs.Closed.Closed.{within, IsClosed}
+use Rattle.gq_by_file.specs.Closed.RestsOnNames.{IsFaultBySpreads}
 use Rattle.gq_by_file.specs.Names.{AreNames}
 use Rattle.gq_by_file.specs.declared.across.Across.{Across}
 use Rattle.gq_by_file.specs.declared.covers.Cover.{Cover}

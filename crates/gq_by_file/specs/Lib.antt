@@ -1,3 +1,5 @@
+pub mod OneFile
+pub mod Closed
 pub mod Names
 pub mod Across
 pub mod Helping

@@ -4,7 +4,7 @@ use Rattle.gq_text.specs.declared.place.Span.{Span}
 use Rattle.gq_tree.specs.Plain.{NameOf, Def, operation, fragment, type_system}
 use Rattle.gq_tree.specs.Readings.{ParsedOf, definitions_read}
 use Rattle.gq_types.specs.Entries.{Text}
-use Rattle.gq_law_files.specs.Closed.Laws.{spreads_read}
+use Rattle.gq_by_file.specs.Closed.Laws.{spreads_read}
 use Rattle.gq_by_file.specs.declared.names.FileNames.{FileNames}
 
 abbrev pub texts_of : List (NameOf Span) → List Text

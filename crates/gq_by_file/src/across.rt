@@ -6,22 +6,22 @@ ghost use Rattle.gq_types.specs.Entries.{EntryOf};
 ghost use Rattle.gq_types.specs.Look.{types_view};
 ghost use Rattle.gq_document.specs.Executable.{executable_view};
 ghost use Rattle.gq_rules.specs.Files.{together, IsFaultAcross};
-ghost use Rattle.gq_law_files.specs.Laws.{AreOneTypeSystem};
+ghost use Rattle.gq_by_file.specs.OneFile.Laws.{AreOneTypeSystem};
 ghost use Rattle.gq_by_file.specs.Across.{AreAcross, AreCovers};
 ghost use Rattle.gq_by_file.specs.Names.{AreNames, AreNamesIn};
 ghost use Rattle.gq_by_file.specs.Helping.Covers.{has_one_of};
 
 use crate::by_names::{found_by_names, put_names};
+use crate::closed_sets::{
+    closed_sets_stay, faults_across_are_by_names_or_spreads, faults_are_of_closed_sets,
+    faults_of_closed_sets_are_faults, other_files_are_unseen,
+};
 use crate::covers::{Cover, cover_rest, keep_unmarked, put_faults};
+use crate::laws::numbers_of_entries_are_unseen;
 use crate::links::links;
 use crate::names::{FileNames, names_of_all};
 use gq_document::{Definitions, Executable};
 use gq_fault::Fault;
-use gq_law_files::closed_sets::{
-    closed_sets_stay, faults_across_are_by_names_or_spreads, faults_are_of_closed_sets,
-    faults_of_closed_sets_are_faults, other_files_are_unseen,
-};
-use gq_law_files::laws::numbers_of_entries_are_unseen;
 use gq_names::NameList;
 use gq_text::{NoMemory, SmallText};
 use gq_tree::Parsed;

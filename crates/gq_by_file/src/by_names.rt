@@ -5,15 +5,15 @@ ghost use Rattle.gq_fault.specs.declared.fault.Fault.{Fault};
 ghost use Rattle.gq_document.specs.Definitions.{fragments_view};
 ghost use Rattle.gq_document.specs.Executable.{executable_view};
 ghost use Rattle.gq_fragments.specs.Helping.FragmentPlaces.{repeated_names};
-ghost use Rattle.gq_law_files.specs.Closed.RestsOnNames.{IsFaultByNames};
+ghost use Rattle.gq_by_file.specs.Closed.RestsOnNames.{IsFaultByNames};
 ghost use Rattle.gq_by_file.specs.Helping.ByNames.{AreSpreadsOf, IsNamedOperationFault, all_spreads, unused_if};
 
+use crate::closed_sets::faults_by_names_are_by_rules;
 use crate::names::FileNames;
 use crate::part::resting;
 use gq_document::{Executable, FragmentEntry};
 use gq_fault::{Code, Fault, add_fault, fault_at};
 use gq_fragments::add_operation_faults;
-use gq_law_files::closed_sets::faults_by_names_are_by_rules;
 use gq_names::NameList;
 use gq_text::{NoMemory, SmallText};
 use std::alloc::Global;

@@ -4,17 +4,17 @@ ghost use Rattle.std.specs.List.{list_any};
 ghost use Rattle.gq_fault.specs.declared.fault.Fault.{Fault};
 ghost use Rattle.gq_graph.specs.Reach.{InRange};
 ghost use Rattle.gq_document.specs.Executable.{ExecutableOf, executable_view};
-ghost use Rattle.gq_law_files.specs.Closed.Closed.{is_among};
+ghost use Rattle.gq_by_file.specs.Closed.Closed.{is_among};
 ghost use Rattle.gq_by_file.specs.Across.{AreCovers};
 ghost use Rattle.gq_by_file.specs.Helping.Covers.{AreFaulty, IsCovered, LeadsInto, unmarked_from};
 ghost use Rattle.gq_by_file.specs.Helping.Links.{AreLinks};
 
+use crate::closed_sets::{faults_of_closed_sets_are_faults, faults_stay_in_larger_sets};
 use crate::marks::{has_marked, is_marked, mark, marked};
 use crate::part::found_within;
 use gq_document::Executable;
 use gq_fault::Fault;
 use gq_graph::reach_rows;
-use gq_law_files::closed_sets::{faults_of_closed_sets_are_faults, faults_stay_in_larger_sets};
 use gq_text::NoMemory;
 use std::alloc::Global;
 

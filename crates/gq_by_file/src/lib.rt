@@ -1,10 +1,13 @@
-//! What is told of a project by its files and by closed sets of them, kept until one of these changes.
+//! What is told of a project by its files and by closed sets of them, kept until one of these changes,
+//! and the laws of that.
 #![tactic(auto)]
 
 pub mod across;
 mod alone;
 mod by_names;
+pub mod closed_sets;
 pub mod covers;
+pub mod laws;
 mod links;
 mod marks;
 pub mod names;

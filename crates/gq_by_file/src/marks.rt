@@ -1,7 +1,7 @@
 //! Sets of files as marks.
 ghost use Rattle.std.specs.Prelude.{◌≡◌, ◌<◌, ℕ, false, IfOk, length, slice_index_or};
 ghost use Rattle.std.specs.List.{list_any};
-ghost use Rattle.gq_law_files.specs.Closed.Closed.{is_among};
+ghost use Rattle.gq_by_file.specs.Closed.Closed.{is_among};
 ghost use Rattle.gq_by_file.specs.Helping.Marks.{AreMarked};
 
 use gq_text::NoMemory;

@@ -3,7 +3,7 @@ ghost use Rattle.std.specs.Prelude.{◌≡◌, ◌++◌, IfOk, OnOk, flat_map, m
 ghost use Rattle.gq_tree.specs.Names.{names_at, spread_names};
 ghost use Rattle.gq_tree.specs.Readings.{parsed_view, readings_view};
 ghost use Rattle.gq_tree.specs.Views.{def_view, sels_view};
-ghost use Rattle.gq_law_files.specs.Closed.Laws.{spreads_in};
+ghost use Rattle.gq_by_file.specs.Closed.Laws.{spreads_in};
 ghost use Rattle.gq_by_file.specs.Names.{AreNames, AreNamesIn, fragment_names_in, texts_of};
 
 use gq_text::{NoMemory, SmallText};

@@ -4,8 +4,8 @@ ghost use Rattle.std.specs.Bool.{beq};
 ghost use Rattle.gq_fault.specs.declared.fault.Fault.{Fault};
 ghost use Rattle.gq_document.specs.Definitions.{fragments_view, operations_view};
 ghost use Rattle.gq_document.specs.Executable.{executable_view};
-ghost use Rattle.gq_law_files.specs.Closed.Closed.{StandsInFile, within};
-ghost use Rattle.gq_law_files.specs.Closed.RestsOnNames.{IsFaultBySpreads, rests_on_names};
+ghost use Rattle.gq_by_file.specs.Closed.Closed.{StandsInFile, within};
+ghost use Rattle.gq_by_file.specs.Closed.RestsOnNames.{IsFaultBySpreads, rests_on_names};
 
 use crate::marks::{is_marked, marked};
 use gq_document::{Executable, FragmentEntry, OperationEntry};

@@ -14,8 +14,8 @@ use Rattle.gq_rules.specs.Faults as faults
 use Rattle.gq_rules.specs.Files.{IsFaultAcross, IsOfItsFile}
 use Rattle.gq_rules.specs.Project.{type_system_of, executable_of}
 use Rattle.gq_rules.specs.Validity.{IsReportOf, IsValid, IsInvalid}
-use Rattle.gq_law_files.specs.Laws.{FaultsAreToldByFiles, IsToldByFiles}
-use Rattle.gq_law_files.specs.Laws as files
+use Rattle.gq_by_file.specs.OneFile.Laws.{FaultsAreToldByFiles, IsToldByFiles}
+use Rattle.gq_by_file.specs.OneFile.Laws as files
 
 module _ (by_files : FaultsAreToldByFiles) (rs : List ParsedOf) (none : (fault : Fault) → IsToldFirst rs fault → ⊥) (all : List Fault)
     (all_are : (f : Fault) → Contains all f ↔ (IsOfItsFile (type_system_of rs) rs f ⊎ IsFaultAcross (executable_of rs) f)) where

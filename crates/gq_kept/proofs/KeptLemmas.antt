@@ -14,7 +14,7 @@ use Rattle.gq_types.specs.BuiltIn.{built_in}
 use Rattle.gq_types.specs.Entries.{EntryOf}
 use Rattle.gq_types.specs.Look.{types_view}
 use Rattle.gq_document.specs.Definitions.{entries_of}
-use Rattle.gq_law_files.specs.Laws.{AreOneTypeSystem}
+use Rattle.gq_by_file.specs.OneFile.Laws.{AreOneTypeSystem}
 use Rattle.gq_index.specs.declared.index.Index.{Index}
 use Rattle.gq_index.specs.Indexed.{IsIndexOfProject}
 use Rattle.gq_known.specs.Known.{AreKnown}

@@ -6,7 +6,7 @@ use Rattle.gq_types.specs.Entries.{EntryOf}
 use Rattle.gq_types.proofs.Gathered.{nothing_in, first, later, cases_cons, from_map, to_map}
 use Rattle.gq_fault.specs.declared.fault.Fault.{Fault}
 use Rattle.gq_rules.specs.Files.{alone, in_file, IsLocalFault, IsOfItsFile}
-use Rattle.gq_law_files.specs.Laws.{AreOneTypeSystem, NumbersOfEntriesAreUnseen, NumbersOfFilesAreUnseen}
+use Rattle.gq_by_file.specs.OneFile.Laws.{AreOneTypeSystem, NumbersOfEntriesAreUnseen, NumbersOfFilesAreUnseen}
 use Rattle.gq_kept.specs.Helping.Own.{AreOwn, AreOwnOf, IsOwn, IsFoundAt, IsFoundOwn, own_in, none, more}
 
 abbrev pub Own : Type 0

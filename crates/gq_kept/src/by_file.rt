@@ -6,7 +6,7 @@ ghost use Rattle.gq_types.specs.Entries.{EntryOf};
 ghost use Rattle.gq_types.specs.Look.{types_view};
 ghost use Rattle.gq_fault.specs.declared.fault.Fault.{Fault};
 ghost use Rattle.gq_rules.specs.Files.{together, IsFaultAcross, IsOfItsFile};
-ghost use Rattle.gq_law_files.specs.Laws.{AreOneTypeSystem};
+ghost use Rattle.gq_by_file.specs.OneFile.Laws.{AreOneTypeSystem};
 ghost use Rattle.gq_kept.specs.Helping.ByFile.{AreByFile, AreByFileOver};
 
 use crate::own::{close_room, forget_at, make_room, own_faults};

@@ -8,9 +8,9 @@ ghost use Rattle.gq_rules.specs.Validity.{IsInvalid, IsReportOf, IsValid};
 ghost use Rattle.gq_kept.specs.Helping.ByFile.{AreByFileOver};
 
 use crate::by_file::ByFile;
+use gq_by_file::laws::faults_are_told_by_files;
 use gq_fault::{Fault, found_at, put_in_order};
 use gq_known::Known;
-use gq_law_files::laws::faults_are_told_by_files;
 use gq_rules::{Report, first_faults};
 use gq_text::NoMemory;
 use std::alloc::Global;

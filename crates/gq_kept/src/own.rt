@@ -6,12 +6,12 @@ ghost use Rattle.gq_types.specs.Entries.{EntryOf};
 ghost use Rattle.gq_types.specs.Look.{types_view};
 ghost use Rattle.gq_fault.specs.declared.fault.Fault.{Fault};
 ghost use Rattle.gq_rules.specs.Files.{in_file, IsOfItsFile};
-ghost use Rattle.gq_law_files.specs.Laws.{AreOneTypeSystem};
+ghost use Rattle.gq_by_file.specs.OneFile.Laws.{AreOneTypeSystem};
 ghost use Rattle.gq_kept.specs.Helping.Own.{AreOwn, AreOwnOver, IsFoundAt, IsFoundOwn, IsOwn, own_in};
 
 use gq_by_file::found_alone;
+use gq_by_file::laws::{numbers_of_entries_are_unseen, numbers_of_files_are_unseen};
 use gq_fault::Fault;
-use gq_law_files::laws::{numbers_of_entries_are_unseen, numbers_of_files_are_unseen};
 use gq_text::{Items, NoMemory};
 use gq_tree::Parsed;
 use gq_types::Types;

@@ -8,8 +8,8 @@ use Rattle.gq_graph.specs.Reach.{Reach, row}
 use Rattle.gq_fault.specs.declared.fault.Fault.{Fault}
 use Rattle.gq_types.specs.Entries.{Text}
 use Rattle.gq_document.specs.Executable.{ExecutableOf}
-use Rattle.gq_law_files.specs.Closed.Closed.{within}
-use Rattle.gq_law_files.specs.Closed.RestsOnNames.{IsFaultBySpreads}
+use Rattle.gq_by_file.specs.Closed.Closed.{within}
+use Rattle.gq_by_file.specs.Closed.RestsOnNames.{IsFaultBySpreads}
 use Rattle.gq_by_file.specs.declared.covers.Cover.{Cover}
 
 -- the file stands in one of the covers

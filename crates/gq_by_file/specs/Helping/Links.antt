@@ -9,7 +9,7 @@ use Rattle.gq_graph.specs.Reach.{row}
 use Rattle.gq_document.specs.Definitions.{OperationOf, FragmentOf}
 use Rattle.gq_document.specs.Executable.{ExecutableOf}
 use Rattle.gq_document.specs.Reaches.{IsSpreadIn}
-use Rattle.gq_law_files.specs.Closed.Closed.{StandsInFile}
+use Rattle.gq_by_file.specs.Closed.Closed.{StandsInFile}
 use Rattle.gq_by_file.specs.declared.names.FileNames.{FileNames}
 
 -- the number of a file, once for each of its fragments of that name

@@ -6,7 +6,7 @@ use Rattle.gq_types.specs.Entries.{EntryOf}
 use Rattle.gq_types.specs.Look.{types_view}
 use Rattle.gq_document.specs.Definitions.{entry_in, entries_of}
 use Rattle.gq_schema.specs.SchemaOf.{HasNoFault}
-use Rattle.gq_law_files.specs.Laws.{AreOneTypeSystem}
+use Rattle.gq_by_file.specs.OneFile.Laws.{AreOneTypeSystem}
 use Rattle.gq_kept.specs.declared.typed.Typed.{Typed}
 
 -- what one document defines, as if it were the first one

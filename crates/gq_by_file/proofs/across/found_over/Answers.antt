@@ -5,7 +5,7 @@ use Rattle.std.specs.declared.alloc.Global.{Global}
 use Rattle.gq_fault.specs.declared.fault.Fault.{Fault}
 use Rattle.gq_document.specs.Executable.{ExecutableOf, executable_view}
 use Rattle.gq_rules.specs.Files.{together, IsFaultAcross}
-use Rattle.gq_law_files.specs.Closed.RestsOnNames.{IsFaultByNames}
+use Rattle.gq_by_file.specs.Closed.RestsOnNames.{IsFaultByNames}
 use Rattle.gq_by_file.specs.declared.covers.Cover.{Cover}
 use Rattle.gq_by_file.specs.Helping.ByNames.{AreSpreadsOf, all_spreads}
 use Rattle.gq_by_file.specs.Helping.Covers.{IsCovered}

@@ -4,7 +4,7 @@ use Rattle.gq_fault.specs.declared.fault.Fault.{Fault}
 use Rattle.gq_fault.specs.Adds.{AddsExactly}
 use Rattle.gq_document.specs.Executable.{executable_view}
 use Rattle.gq_fragments.specs.OperationFaults.{IsOperationFault}
-use Rattle.gq_law_files.specs.Closed.RestsOnNames.{rests_on_names}
+use Rattle.gq_by_file.specs.Closed.RestsOnNames.{rests_on_names}
 use Rattle.gq_by_file.proofs.ByNamesLemmas.{of_operations}
 use Rattle.gq_by_file.proofs.by_names.found_of_operations.Goals as goal
 

@@ -6,7 +6,7 @@ use Rattle.std.proofs.lemmas.Bool.Decides.{nat_tests}
 use Rattle.std.proofs.lemmas.List.{length-replicate, nil_from_length}
 use Rattle.std.proofs.lemmas.Result.{on_ok_weaker}
 use Rattle.gq_types.proofs.Gathered.{nothing_in}
-use Rattle.gq_law_files.specs.Closed.Closed.{is_among}
+use Rattle.gq_by_file.specs.Closed.Closed.{is_among}
 use Rattle.gq_by_file.specs.declared.covers.Cover.{Cover}
 use Rattle.gq_by_file.specs.Helping.Covers.{unmarked_from}
 use Rattle.gq_by_file.proofs.CoverLemmas.{covered_or_open, marked_alone, unmarked_range}

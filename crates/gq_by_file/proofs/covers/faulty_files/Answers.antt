@@ -3,7 +3,7 @@ use Rattle.std.proofs.Common.{List, ℕ, Contains, subst, sym, ◌∙◌}
 use Rattle.std.proofs.lemmas.Result.{IfOk-weaker}
 use Rattle.gq_fault.specs.declared.fault.Fault.{Fault}
 use Rattle.gq_types.proofs.Gathered.{to_map}
-use Rattle.gq_law_files.proofs.Closed.Within.{to_among}
+use Rattle.gq_by_file.proofs.Closed.Within.{to_among}
 use Rattle.gq_by_file.proofs.CoverLemmas.{walked}
 use Rattle.gq_by_file.proofs.covers.faulty_files.Goals as goal
 

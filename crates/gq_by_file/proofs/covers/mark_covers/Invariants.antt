@@ -2,7 +2,7 @@
 use Rattle.std.proofs.Common.{◌≡◌, ◌<◌, ℕ, false, slice_index_or, length, take}
 use Rattle.std.specs.Prelude.{◌||◌}
 use Rattle.std.specs.List.{list_any}
-use Rattle.gq_law_files.specs.Closed.Closed.{is_among}
+use Rattle.gq_by_file.specs.Closed.Closed.{is_among}
 use Rattle.gq_by_file.proofs.covers.mark_covers.Given as goal
 
 abbrev pub invariant-loop-cover : goal.invariant-loop-cover

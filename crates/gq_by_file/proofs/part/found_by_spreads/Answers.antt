@@ -2,7 +2,7 @@ use Rattle.std.proofs.Common.{◌∙◌, List, ap, false, filter}
 use Rattle.std.specs.Bool.{beq}
 use Rattle.gq_fault.specs.declared.fault.Fault.{Fault}
 use Rattle.gq_document.specs.Executable.{executable_view}
-use Rattle.gq_law_files.specs.Closed.RestsOnNames.{rests_on_names}
+use Rattle.gq_by_file.specs.Closed.RestsOnNames.{rests_on_names}
 use Rattle.gq_by_file.proofs.PartLemmas.{by_spreads}
 use Rattle.gq_by_file.proofs.part.found_by_spreads.Goals as goal
 

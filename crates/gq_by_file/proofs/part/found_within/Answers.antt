@@ -2,7 +2,7 @@ use Rattle.std.proofs.Common.{◌∙◌, ◌<◌, ℕ, Bool, List, ap, false, fi
 use Rattle.std.specs.Prelude.{slice_index_or}
 use Rattle.gq_document.specs.Definitions.{OperationOf, FragmentOf, operations_view, fragments_view}
 use Rattle.gq_document.specs.Executable.{executable_view}
-use Rattle.gq_law_files.specs.Closed.Closed.{StandsInFile}
+use Rattle.gq_by_file.specs.Closed.Closed.{StandsInFile}
 use Rattle.gq_by_file.proofs.PartLemmas.{found_in_marked}
 use Rattle.gq_by_file.proofs.part.found_within.Goals as goal
 

@@ -1,7 +1,7 @@
 -- the names in the definitions so far are put behind
 use Rattle.std.proofs.Common.{◌≡◌, ◌++◌, drop, flat_map, map}
 use Rattle.gq_tree.specs.Views.{def_view}
-use Rattle.gq_law_files.specs.Closed.Laws.{spreads_in}
+use Rattle.gq_by_file.specs.Closed.Laws.{spreads_in}
 use Rattle.gq_by_file.specs.Names.{fragment_names_in, texts_of}
 use Rattle.gq_by_file.proofs.names.FileNames.put_all.Given as goal
 

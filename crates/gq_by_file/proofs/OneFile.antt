@@ -1,0 +1,20 @@
+-- What is told of a file alone, whatever other files stand beside it.
+pub mod Numbers
+pub mod Comes
+pub mod Values
+pub mod Fields
+pub mod Fragments
+pub mod Variables
+pub mod Local
+pub mod LocalLaws
+pub mod Options
+pub mod Lookups
+pub mod LookupFields
+pub mod LookupFragments
+pub mod LookupVariables
+pub mod LookupMerging
+pub mod LookupRules
+pub mod Entries
+pub mod Stay
+pub mod First
+pub mod Gate

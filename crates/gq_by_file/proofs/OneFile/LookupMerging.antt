@@ -1,0 +1,113 @@
+-- The faults of fields that do not merge over type systems in which each look-up finds the same.
+use Rattle.std.proofs.Common.{◌≡◌, Bool, false, List, Option, Some, None, refl, sym, ap, ◌∙◌, subst}
+use Rattle.std.specs.Prelude.{◌&&◌, ◌||◌, not, is_some, if◌then◌else◌}
+use Rattle.std.specs.Str.{bytes_eq}
+use Rattle.std.specs.Option.{option_map, option_map_or}
+use Rattle.gq_text.specs.declared.place.Span.{Span}
+use Rattle.gq_tree.specs.NamedTypes.{base_name}
+use Rattle.gq_tree.specs.Plain.{TypeOf, named, list_of, non_null}
+use Rattle.gq_fault.specs.declared.fault.Fault.{Fault}
+use Rattle.gq_types.specs.declared.entry.TypeKind.{TypeKind}
+use Rattle.gq_types.specs.declared.entry.TypeKind.TheVariants as kinds
+use Rattle.gq_types.specs.Entries.{Text, EntryOf}
+use Rattle.gq_types.specs.Kinds.{same_kind}
+use Rattle.gq_types.specs.Joined.{kind_named}
+use Rattle.gq_document.specs.Definitions.{OperationOf, FragmentOf}
+use Rattle.gq_document.specs.Selections.{FieldOf}
+use Rattle.gq_document.specs.Executable.{ExecutableOf}
+use Rattle.gq_document.specs.FieldSets.{SetOf, FieldAt, operation_set, field_set, InSet, Stands}
+use Rattle.gq_document.specs.FieldSets as sets
+use Rattle.gq_merging.specs.declared.purpose.Purpose.{Purpose}
+use Rattle.gq_merging.specs.declared.purpose.Purpose.TheVariants.{Shapes, Names}
+use Rattle.gq_merging.specs.Shapes.{composite, leaf, many, never_null, shape_of}
+use Rattle.gq_merging.specs.FieldsMerge.{HaveOneKey, can_coincide, leads_on, Meet, together, deeper, HasType, Differ, in_shape, in_call, IsFaultFor, IsMergingFault, of_shapes, of_names}
+use Rattle.gq_by_file.proofs.OneFile.Comes.{executable}
+use Rattle.gq_by_file.proofs.OneFile.Lookups.{SameLookups, composites, selected_on}
+
+abbrev coincide_by : Text → Text → Option TypeKind → Option TypeKind → Bool
+coincide_by left right k l = is_some k && is_some l && (bytes_eq left right || not (option_map_or (same_kind kinds.Object) k false && option_map_or (same_kind kinds.Object) l false))
+
+abbrev set_with : FieldAt → Option FieldOf → SetOf
+set_with f definition = record { file = f.file; parent = option_map (λ d. base_name d.type_ref) definition; selections = f.below }
+
+abbrev set_from : OperationOf → Option Text → SetOf
+set_from o parent = record { file = o.file; parent = parent; selections = o.set }
+
+module _ (es us : List EntryOf) (same : SameLookups es us) (os : List OperationOf) (gs : List FragmentOf) where
+  abbrev x : ExecutableOf
+  x = executable es os gs
+
+  abbrev y : ExecutableOf
+  y = executable us os gs
+
+  -- sets
+  in_set : {s : SetOf} {a : FieldAt} → InSet x s a → InSet y s a
+  in_set sets.here = sets.here
+  in_set (sets.within h) = sets.within (in_set h)
+  in_set (sets.through c e h) = sets.through c e (in_set h)
+  in_set (sets.after h) = sets.after (in_set h)
+
+  sets_of_operations : (o : OperationOf) → operation_set es o ≡ operation_set us o
+  sets_of_operations o = ap (set_from o) (same.root o.kind)
+
+  sets_of_fields : (a : FieldAt) → field_set es a ≡ field_set us a
+  sets_of_fields a = ap (set_with a) (selected_on es us same a.parent a.name.text)
+
+  stands : {s : SetOf} → Stands x s → Stands y s
+  stands (sets.of_operation {o = o} c) = subst (λ z. Stands y z) (sym (sets_of_operations o)) (sets.of_operation c)
+  stands (sets.of_fragment c) = sets.of_fragment c
+  stands (sets.of_field {f = a} h i) = subst (λ z. Stands y z) (sym (sets_of_fields a)) (sets.of_field (stands h) (in_set i))
+
+  one_key : {s t : SetOf} {a b : FieldAt} → HaveOneKey x s t a b → HaveOneKey y s t a b
+  one_key h = record { first = in_set h.first; second = in_set h.second; one_key = h.one_key }
+
+  below : (a b : FieldAt) {c d : FieldAt} → HaveOneKey x (field_set es a) (field_set es b) c d → HaveOneKey y (field_set us a) (field_set us b) c d
+  below a b {c} {d} h =
+      subst (λ z. HaveOneKey y z (field_set us b) c d) (sets_of_fields a) (subst (λ z. HaveOneKey y (field_set es a) z c d) (sets_of_fields b) (one_key h))
+
+  -- fields that meet
+  coincide : (left right : Option Text) → can_coincide es left right ≡ can_coincide us left right
+  coincide None right = refl
+  coincide (Some left) None = refl
+  coincide (Some left) (Some right) =
+      ap (λ k. coincide_by left right k (kind_named es right)) (same.kind left) ∙ ap (λ k. coincide_by left right (kind_named us left) k) (same.kind right)
+
+  leads : (purpose : Purpose) (a b : FieldAt) → leads_on es purpose a b ≡ leads_on us purpose a b
+  leads Shapes a b = refl
+  leads Names a b = coincide a.parent b.parent
+
+  meet : {purpose : Purpose} {a b : FieldAt} → Meet x purpose a b → Meet y purpose a b
+  meet (together s h) = together (stands s) (one_key h)
+  meet {purpose} (deeper {a = a} {b = b} m l h) = deeper (meet m) (sym (leads purpose a b) ∙ l) (below a b h)
+
+  -- fields that differ
+  shapes : (t : TypeOf Span) → shape_of es t ≡ shape_of us t
+  shapes (named name) = ap (λ b. if b then composite else leaf name.text) (composites es us same name.text)
+  shapes (list_of item) = ap many (shapes item)
+  shapes (non_null inner) = ap never_null (shapes inner)
+
+  has_type : {a : FieldAt} {t : TypeOf Span} → HasType es a t → HasType us a t
+  has_type {a} {t} h = record {
+    definition = h.definition;
+    is_known = sym (selected_on es us same a.parent a.name.text) ∙ h.is_known;
+    is = h.is;
+    end_is_known = sym (ap (λ k. is_some k) (same.kind (base_name t))) ∙ h.end_is_known;
+  }
+
+  differ : {purpose : Purpose} {a b : FieldAt} → Differ es purpose a b → Differ us purpose a b
+  differ (in_shape left right l r d) = in_shape left right (has_type l) (has_type r) (λ e. d (shapes left ∙ e ∙ sym (shapes right)))
+  differ (in_call {a = a} {b = b} c d) = in_call (sym (coincide a.parent b.parent) ∙ c) d
+
+  fault_for : {purpose : Purpose} {f : Fault} → IsFaultFor x purpose f → IsFaultFor y purpose f
+  fault_for h = record {
+    first = h.first;
+    later = h.later;
+    meet = meet h.meet;
+    differ = differ h.differ;
+    is_no_later = h.is_no_later;
+    is = h.is;
+  }
+
+  pub merging_fault : (f : Fault) → IsMergingFault x f → IsMergingFault y f
+  merging_fault f (of_shapes h) = of_shapes (fault_for h)
+  merging_fault f (of_names h) = of_names (fault_for h)

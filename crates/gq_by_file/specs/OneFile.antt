@@ -1,0 +1,2 @@
+-- What is told of a file alone, whatever other files stand beside it.
+pub mod Laws

@@ -1,5 +1,0 @@
-use Rattle.gq_law_files.proofs.Closed.Replaced.{closed_stays}
-use Rattle.gq_law_files.proofs.closed_sets.closed_sets_stay.Goals as goal
-
-pub returns : goal.returns
-returns c = closed_stays

@@ -1,5 +1,0 @@
-use Rattle.gq_law_files.proofs.Closed.Rules.{caused}
-use Rattle.gq_law_files.proofs.closed_sets.faults_are_of_closed_sets.Goals as goal
-
-pub returns : goal.returns
-returns c = caused

@@ -1,5 +1,0 @@
-use Rattle.gq_law_files.proofs.Closed.ByNames.{by_rules}
-use Rattle.gq_law_files.proofs.closed_sets.faults_by_names_are_by_rules.Goals as goal
-
-pub returns : goal.returns
-returns c = by_rules

@@ -1,5 +1,0 @@
-use Rattle.gq_law_files.proofs.Closed.Replaced.{others_unseen}
-use Rattle.gq_law_files.proofs.closed_sets.other_files_are_unseen.Goals as goal
-
-pub returns : goal.returns
-returns c = others_unseen

@@ -1,7 +1,0 @@
-use Rattle.gq_rules.specs.Files.{IsLocalFault}
-use Rattle.gq_law_files.proofs.Local.{local_faults_are}
-use Rattle.gq_law_files.proofs.LocalLaws.{of_their_file}
-use Rattle.gq_law_files.proofs.laws.local_faults_are_of_their_file.Goals as goal
-
-pub returns : goal.returns
-returns c = of_their_file IsLocalFault local_faults_are

@@ -1,7 +1,0 @@
-use Rattle.gq_rules.specs.Files.{IsLocalFault}
-use Rattle.gq_law_files.proofs.Local.{local_faults_are}
-use Rattle.gq_law_files.proofs.LocalLaws.{unseen}
-use Rattle.gq_law_files.proofs.laws.numbers_of_files_are_unseen.Goals as goal
-
-pub returns : goal.returns
-returns c = unseen IsLocalFault local_faults_are
