@@ -4,8 +4,8 @@
     python3 scripts/refused_workers.py PROGRAM [--workers N] [--most N] [--sessions N] [--minutes N] [--jobs N] [--threads] [TEXT]
 
 PROGRAM is as crates/gqls/out/gqls. Served are the stored run (crates/gqls/stdin), the cases of crates/gqls/cases (but for those of rows) and
-the sessions of crates/gqls/folders that are sessions of an editor, each up to its shutdown, and so many sessions made by chance (scripts/schedules.py; by
-default 24); TEXT keeps those that have it in their names. The client sends bursts of messages with pauses between them, waits for all replies
+the sessions of crates/gqls/folders that are sessions of an editor, each up to its shutdown, and so many sessions made by chance
+(scripts/schedules.py; by default 24); TEXT keeps those that have it in their names. The client sends bursts of messages with pauses between them, waits for all replies
 and lists, a second and three times as long as one thread takes, and shuts the server down. There are two workers, unless told otherwise. A run
 with ample memory counts the growths of all threads and of each. Then these are refused, each at so many places at even distances (`--most`,
 by default 24), or at each where there are no more:
@@ -24,11 +24,12 @@ must hold, beside what holds with ample memory. Where one growth is refused, one
 - the run ends with the status 3 and `gqls: NoMemory`, or `gqls: NoThread` where nothing was written; a front of the frames is written.
 
 No question stays without a reply: a worker tries an order once more. A worker that finds no memory for what it keeps, before its first order,
-ends at once: where it is the only one, the run ends with `gqls: Closed` at the next order, or what was put before has no reply. Where all growths of one worker are refused, each of the first two may
-come several times, and one order is lost, so that its question is pending until a change or the shutdown decides it, or its list does not
-come; the run ends as with ample memory as long as there is another worker, and else with `gqls: Closed`. Where all growths are refused, all of
-these may come. With `--threads` a thread cannot be made, each in turn: the run ends with `gqls: NoThread`, and nothing is written. So must it
-where the reader's, the last one, cannot be made; docs/STATUS.md says what comes of that.
+ends at once: where it is the only one, the run ends with `gqls: Closed` at the next order, or what was put before has no reply. Where all
+growths of one worker are refused, each of the first two may come several times, and one order is lost, so that its question is pending until
+a change or the shutdown decides it, or its list does not come; the run ends as with ample memory as long as there is another worker, and
+else with `gqls: Closed`. Where all growths are refused, all of these may come. With `--threads` a thread cannot be made, each in turn: the
+run ends with `gqls: NoThread`, and nothing is written. So must it where the reader's, the last one, cannot be made; docs/STATUS.md says what
+comes of that.
 
 A run that lasts 20 seconds longer than its client needs is ended, and told as one that hangs. Each run that is not so is printed: the session,
 what was refused, and what is wrong. With `--minutes` no run begins that much later, and how many did not is told. The tables count what the
