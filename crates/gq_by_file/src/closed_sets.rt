@@ -1,5 +1,6 @@
 //! Laws of the faults that rest on names and on spreads.
-ghost use Rattle.gq_by_file.specs.Closed.Laws.{ClosedSetsStay, FaultsAcrossAreByNamesOrSpreads, FaultsAreOfClosedSets, FaultsByNamesAreByRules, FaultsOfClosedSetsAreFaults, FaultsStayInLargerSets, OtherFilesAreUnseen};
+ghost use Rattle.gq_by_file.specs.Closed.Laws.{ClosedSetsStay, FaultsAreOfClosedSets, FaultsOfClosedSetsAreFaults, FaultsStayInLargerSets, OtherFilesAreUnseen};
+ghost use Rattle.gq_by_file.specs.Closed.Laws.{FaultsAcrossAreByNamesOrSpreads, FaultsByNamesAreByRules};
 
 /// What rests on several files rests on names alone, or on what spreads lead to.
 pub fn faults_across_are_by_names_or_spreads()

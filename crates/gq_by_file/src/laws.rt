@@ -1,5 +1,6 @@
 //! Laws of the faults that rest on one file.
-ghost use Rattle.gq_by_file.specs.OneFile.Laws.{FaultsAreToldByFiles, LocalFaultsAreOfTheirFile, LocalFaultsOfProjectsStay, LocalFaultsStay, NumbersOfEntriesAreUnseen, NumbersOfFilesAreUnseen, UnreadAndMixedAreOfTheirFile};
+ghost use Rattle.gq_by_file.specs.OneFile.Laws.{FaultsAreToldByFiles, LocalFaultsAreOfTheirFile, LocalFaultsOfProjectsStay, LocalFaultsStay};
+ghost use Rattle.gq_by_file.specs.OneFile.Laws.{NumbersOfEntriesAreUnseen, NumbersOfFilesAreUnseen, UnreadAndMixedAreOfTheirFile};
 
 /// The faults of a project that rest on one file are those of each file alone, over the same type system.
 pub fn local_faults_are_of_their_file()
