@@ -23,13 +23,11 @@ must hold, beside what holds with ample memory. Where one growth is refused, one
 - a change loses its document: all behind it is as on one thread that cannot read that change;
 - the run ends with the status 3 and `gqls: NoMemory`, or `gqls: NoThread` where nothing was written; a front of the frames is written.
 
-No question stays without a reply: a worker tries an order once more. A worker that finds no memory for what it keeps, before its first order,
-ends at once: where it is the only one, the run ends with `gqls: Closed` at the next order, or what was put before has no reply. Where all
-growths of one worker are refused, each of the first two may come several times, and one order is lost, so that its question is pending until
+No question stays without a reply: a worker tries an order once more, and so it does what it keeps before its first one. Where all growths
+of one worker are refused, each of the first two may come several times, and one order is lost, so that its question is pending until
 a change or the shutdown decides it, or its list does not come; the run ends as with ample memory as long as there is another worker, and
-else with `gqls: Closed`. Where all growths are refused, all of these may come. With `--threads` a thread cannot be made, each in turn: the
-run ends with `gqls: NoThread`, and nothing is written. So must it where the reader's, the last one, cannot be made; docs/STATUS.md says what
-comes of that.
+else with `gqls: Closed`, or what was put before has no reply. Where all growths are refused, all of these may come. With `--threads` a
+thread cannot be made, each in turn, the reader's last: the run ends with `gqls: NoThread`, and nothing is written.
 
 A run that lasts 20 seconds longer than its client needs is ended, and told as one that hangs. Each run that is not so is printed: the session,
 what was refused, and what is wrong. With `--minutes` no run begins that much later, and how many did not is told. The tables count what the
@@ -285,8 +283,8 @@ def places(count, most):
 
 def trials_of(counts, workers, most, has_threads):
     """What is refused in turn, by what a run with ample memory counted, and what may come of it."""
-    closed, none_left, one_less = ({"Closed"}, MANY, MANY) if workers == 1 else (set(), 0, 1)
-    one, every = Allowed(1, none_left, {"NoMemory", "NoThread"} | closed), Allowed(MANY, MANY, {"NoMemory", "NoThread", "Closed"})
+    closed, one_less = ({"Closed"}, MANY) if workers == 1 else (set(), 1)
+    one, every = Allowed(1, 0, {"NoMemory", "NoThread"}), Allowed(MANY, MANY, {"NoMemory", "NoThread", "Closed"})
     for number in places(counts[GROWTHS], most):
         yield Trial(ONE, {"REFUSE_AT": number}, one)
         yield Trial(ALL, {"REFUSE_AT": number, "REFUSE_ALL": 1}, every)
@@ -295,7 +293,7 @@ def trials_of(counts, workers, most, has_threads):
     for thread in threads:
         for number in places(max(counts[GROWTHS_OF + one] for one in threads), each):
             own = {"REFUSE_AT": number, "REFUSE_OF": thread}
-            yield Trial(ONE_OF_WORKER, own, Allowed(1, none_left, closed))
+            yield Trial(ONE_OF_WORKER, own, Allowed(1, 0, set()))
             yield Trial(ALL_OF_WORKER, own | {"REFUSE_ALL": 1}, Allowed(MANY, one_less, closed))
     for number in range(1, workers + 2) if has_threads else ():
         yield Trial(NO_THREAD, {"THREAD_AT": number}, Allowed(1, 0, {"NoThread"}))

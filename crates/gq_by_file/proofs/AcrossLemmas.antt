@@ -1,6 +1,7 @@
 -- What rests on several files: what covers come to, and what stays of them where a file is replaced.
-use Rattle.std.proofs.Common.{◌≡◌, ◌↔◌, ◌⊎◌, ⊎_elim, inl, inr, ℕ, ◌<◌, Bool, true, false, List, [], ◌∷◌, ◌++◌, Contains, filter, flat_map, set, slice_index_or, length, refl, sym, ap, ◌∙◌, subst}
-use Rattle.std.specs.Prelude.{not}
+use Rattle.std.proofs.Common.{◌≡◌, ◌↔◌, ◌⊎◌, ⊎_elim, inl, inr, ℕ, ◌<◌, Bool, true, false, List, [], ◌∷◌, ◌++◌, Contains, filter, flat_map, set, slice_index_or, length, refl, sym, ap, ◌∙◌, subst, arith}
+use Rattle.std.specs.Prelude.{not, ◌==◌}
+use Rattle.std.specs.Cmp.{unsigned_Decides}
 use Rattle.std.specs.List.{list_any}
 use Rattle.std.specs.declared.vec.Vec.{Vec}
 use Rattle.std.specs.declared.alloc.Global.{Global}
@@ -19,10 +20,10 @@ use Rattle.gq_by_file.specs.Closed.Laws.{AreNotSpread, ClosedSetsStay, FaultsAcr
 use Rattle.gq_by_file.specs.declared.across.Across.{Across}
 use Rattle.gq_by_file.specs.declared.covers.Cover.{Cover}
 use Rattle.gq_by_file.specs.declared.names.FileNames.{FileNames}
-use Rattle.gq_by_file.specs.Across.{IsCover, AreCovers, AreAcross}
+use Rattle.gq_by_file.specs.Across.{IsCover, AreClean, AreLinksOf, AreCovers, AreAcross}
 use Rattle.gq_by_file.specs.Names.{AreNames}
 use Rattle.gq_by_file.specs.Helping.Covers.{IsCovered}
-use Rattle.gq_by_file.specs.Helping.Links.{AreLinks}
+use Rattle.gq_by_file.specs.Links.{AreLinks}
 use Rattle.gq_by_file.proofs.CoverLemmas.{none_of}
 
 -- names and covers come to all that rests on several files
@@ -91,6 +92,15 @@ module _ (stays : ClosedSetsStay) (others : OtherFilesAreUnseen) (es : List Entr
           by true e = absurd (h e)
           by false e = e
 
+  -- where no fragment of the new file is spread in a set without it
+  pub covers_without : (covers : List Cover) → ((c : Cover) → Contains covers c → (Contains c.files.items at → ⊥) → AreNotSpread rs c.files.items r) →
+      AreCovers (together es rs) covers → AreCovers (together es (set rs at r)) (filter (λ (c : Cover). not (list_any (λ n. n == at) c.files.items)) covers)
+  covers_without covers none are c stands =
+      let t = from_filter (λ (d : Cover). not (list_any (λ n. n == at) d.files.items)) covers c stands in
+      let clean : list_any (λ n. n == at) c.files.items ≡ false = not_true (list_any (λ n. n == at) c.files.items) t.1 in
+      let outside : Contains c.files.items at → ⊥ = λ h. none_of (λ n. n == at) c.files.items at clean h ((unsigned_Decides at at).1 refl) in
+      cover_stays c outside (none c t.0 outside) (are c t.0)
+
 -- what is known of an executable that is the same
 pub kept_over : (x y : ExecutableOf) → x ≡ y → (rows given : List (Vec ℕ Global)) → given ≡ rows → (old new : List Cover) → AreLinks y rows →
     (AreLinks x given → AreCovers x old → AreCovers x new) → AreCovers y old → AreCovers y new
@@ -105,14 +115,20 @@ pub same_parts : (es : List EntryOf) (os ps : List OperationOf) (gs hs : List Fr
 same_parts es os ps gs hs a b = ap (λ (z : List OperationOf). parts es z gs) a ∙ ap (λ (z : List FragmentOf). parts es ps z) b
 
 -- where no covers are left, the type system may be another one
-pub across_cleared : (es us : List EntryOf) (rs : List ParsedOf) (a b : Across) → b.names ≡ a.names → b.covers.items ≡ [] → AreAcross es rs a → AreAcross us rs b
-across_cleared es us rs a b same none are = record {
+pub across_cleared : (es us : List EntryOf) (rs : List ParsedOf) (a b : Across) → b.names ≡ a.names → b.is_clean ≡ a.is_clean → b.links.rows.items ≡ a.links.rows.items → b.covers.items ≡ [] → AreAcross es rs a → AreAcross us rs b
+across_cleared es us rs a b same clean links none are = record {
   names = subst (λ (v : Vec FileNames Global). (v.items ≡ []) ⊎ AreNames rs v.items) (sym same) are.names;
+  clean = λ e. subst (λ (v : Vec FileNames Global). AreClean v.items) (sym same) (are.clean (sym clean ∙ e));
+  links = subst (λ (v : Vec FileNames Global). (b.links.rows.items ≡ []) ⊎ AreLinksOf v.items b.links.rows.items) (sym same) (subst (λ (vs : List (Vec ℕ Global)). (vs ≡ []) ⊎ AreLinksOf a.names.items vs) (sym links) are.links);
   covers = subst (λ (cs : List Cover). AreCovers (together us rs) cs) (sym none) (λ c s. nothing_in c s);
 }
 
 pub across_over : (unseen : NumbersOfEntriesAreUnseen) (es us : List EntryOf) → AreOneTypeSystem es us → (rs : List ParsedOf) (a : Across) → AreAcross es rs a → AreAcross us rs a
-across_over unseen es us one rs a are = record { names = are.names; covers = covers_over unseen es us one rs a.covers.items are.covers }
+across_over unseen es us one rs a are = record { names = are.names; clean = are.clean; links = are.links; covers = covers_over unseen es us one rs a.covers.items are.covers }
+
+pub none_told : (faults : List Fault) → length faults ≡ 0 → faults ≡ []
+none_told [] none = refl
+none_told (f ∷ faults) none = absurd (omega (arith, none))
 
 -- where there are names, they are those of the files
 pub names_known : (rs : List ParsedOf) (names : List FileNames) → (length names ≡ 0 → ⊥) → (names ≡ []) ⊎ AreNames rs names → AreNames rs names

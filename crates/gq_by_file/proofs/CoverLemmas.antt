@@ -17,7 +17,7 @@ use Rattle.gq_by_file.proofs.Closed.Within.{from_among}
 use Rattle.gq_by_file.specs.declared.covers.Cover.{Cover}
 use Rattle.gq_by_file.specs.Across.{IsCover, AreCovers}
 use Rattle.gq_by_file.specs.Helping.Covers.{AreFaulty, IsCovered, LeadsInto, unmarked_from}
-use Rattle.gq_by_file.specs.Helping.Links.{AreLinks}
+use Rattle.gq_by_file.specs.Links.{AreLinks}
 use Rattle.gq_by_file.proofs.LinkLemmas.{closed_by_links, reach_more}
 
 -- tests of lists

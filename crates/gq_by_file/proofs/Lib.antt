@@ -7,4 +7,5 @@ pub mod AcrossLemmas
 pub mod SpreadingLemmas
 pub mod PartLemmas
 pub mod ByNamesLemmas
+pub mod CleanLemmas
 pub mod AloneLemmas

@@ -25,7 +25,8 @@ use Rattle.gq_by_file.specs.Names.{AreNames, fragment_names_in, fragments_read, 
 use Rattle.gq_by_file.specs.declared.names.FileNames.{FileNames}
 use Rattle.gq_by_file.specs.Helping.ByNames.{AreSpreadsOf, IsSpreadText, all_spreads}
 use Rattle.gq_by_file.specs.Helping.ByNames as by_names
-use Rattle.gq_by_file.specs.Helping.Links.{AreLinks, files_from, linked_by, linked_in, links_among, named_in}
+use Rattle.gq_by_file.specs.Links.{AreLinks}
+use Rattle.gq_by_file.specs.Helping.Links.{files_from, linked_by, linked_in, links_among, named_in}
 use Rattle.gq_by_file.proofs.NameLemmas.{names_count, names_there, reading_there}
 
 all_of : {X : Type 0} (P : X → Type 0) (xs : List X) → ((x : X) → Contains xs x → P x) → All P xs

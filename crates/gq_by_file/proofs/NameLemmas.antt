@@ -1,10 +1,16 @@
 -- The names of fragments in each file: one file by its number, one file more, and one replaced.
-use Rattle.std.proofs.Common.{◌≡◌, ℕ, zero, suc, ◌+◌, ◌<◌, List, [], ◌∷◌, ◌++◌, Some, get_or, slice_get, slice_set, length, take, refl, sym, ap, ◌∙◌, subst}
+use Rattle.std.proofs.Common.{◌≡◌, ℕ, zero, suc, ◌+◌, ◌<◌, List, [], ◌∷◌, ◌++◌, Option, Some, None, Bool, true, get_or, slice_get, slice_set, length, take, refl, sym, ap, ◌∙◌, subst}
 use Rattle.std.proofs.lemmas.List.{map-append, take_more}
 use Rattle.std.proofs.lemmas.Option.{none-some, same_Some}
+use Rattle.std.specs.Bool.{Decides}
+use Rattle.std.specs.Cmp.Lexicographic.{bytes_decides, pointwise, pointwise_decides}
+use Rattle.std.specs.Option.{option_eq}
+use Rattle.std.specs.Str.{bytes_eq}
+use Rattle.gq_types.specs.Entries.{Text}
 use Rattle.gq_tree.specs.Readings.{ParsedOf, SharedParsed, shared_view, readings_view}
 use Rattle.gq_by_file.specs.Names.{AreNames, AreNamesIn, none, more}
 use Rattle.gq_by_file.specs.declared.names.FileNames.{FileNames}
+use Rattle.gq_by_file.specs.Helping.SameNames.{AreSameNames}
 
 pub names_count : {rs : List ParsedOf} {names : List FileNames} → AreNames rs names → length names ≡ length rs
 names_count none = refl
@@ -27,6 +33,39 @@ names_next readings i reading old new one below at is are more_is =
     let longer : take (i + 1) readings ≡ take i readings ++ reading ∷ [] = take_more readings i reading below ∙ ap (λ z. take i readings ++ z ∷ []) (sym at) in
     let same : readings_view (take (i + 1) readings) ≡ readings_view (take i readings) ++ shared_view reading ∷ [] = ap readings_view longer ∙ map-append shared_view (take i readings) (reading ∷ []) in
     subst (λ (rs : List ParsedOf). AreNames rs new) (sym same) (subst (λ (names : List FileNames). AreNames (readings_view (take i readings) ++ shared_view reading ∷ []) names) (sym more_is) (names_push (shared_view reading) one is are))
+
+-- the same where the names stay
+pub names_stay : (at : ℕ) (r : ParsedOf) (one : FileNames) {rs : List ParsedOf} {names : List FileNames} → AreNamesIn r one → slice_get names at ≡ Some one → AreNames rs names → AreNames (slice_set rs at r) names
+names_stay at r one is there none = none
+names_stay zero r one is there (more {one = other} h hs) = more (subst (λ (z : FileNames). AreNamesIn r z) (sym (same_Some other one there)) is) hs
+names_stay (suc at) r one is there (more h hs) = more h (names_stay at r one is there hs)
+
+pub names_as : (r : ParsedOf) (one other : FileNames) → AreSameNames one other → AreNamesIn r other → AreNamesIn r one
+names_as r one other same is = record { operations = same.operations ∙ is.operations; spreads = same.spreads ∙ is.spreads; fragments = same.fragments ∙ is.fragments }
+
+-- the comparison of names
+pub texts_decide : (xs ys : List Text) → Decides (pointwise bytes_eq xs ys) (xs ≡ ys)
+texts_decide xs ys = pointwise_decides bytes_decides xs ys
+
+optional_decide : (a b : Option Text) → Decides (option_eq bytes_eq a b) (a ≡ b)
+optional_decide None None = (λ e. refl, λ e. refl)
+optional_decide None (Some b) = (λ e. absurd (cc), λ e. absurd (cc))
+optional_decide (Some a) None = (λ e. absurd (cc), λ e. absurd (cc))
+optional_decide (Some a) (Some b) = (λ e. ap Some ((bytes_decides a b).0 e), λ e. (bytes_decides a b).1 (same_Some a b e))
+
+pub operations_decide : (xs ys : List (Option Text)) → Decides (pointwise (option_eq bytes_eq) xs ys) (xs ≡ ys)
+operations_decide xs ys = pointwise_decides optional_decide xs ys
+
+pub all_compared : (a b : FileNames) (p q r : Bool) → p ≡ pointwise (option_eq bytes_eq) a.operations.items b.operations.items → q ≡ pointwise bytes_eq a.spreads.items b.spreads.items →
+    r ≡ pointwise bytes_eq a.fragments.items b.fragments.items → p ≡ true → q ≡ true → Decides r (AreSameNames a b)
+all_compared a b p q r of_operations of_spreads of_fragments first second = (
+  (λ e. record {
+    operations = (operations_decide a.operations.items b.operations.items).0 (sym of_operations ∙ first);
+    spreads = (texts_decide a.spreads.items b.spreads.items).0 (sym of_spreads ∙ second);
+    fragments = (texts_decide a.fragments.items b.fragments.items).0 (sym of_fragments ∙ e);
+  }),
+  (λ h. of_fragments ∙ (texts_decide a.fragments.items b.fragments.items).1 h.fragments),
+)
 
 -- the file of a number, and its names
 pub names_at : {rs : List ParsedOf} {names : List FileNames} (n : ℕ) (r : ParsedOf) (one : FileNames) → slice_get rs n ≡ Some r → slice_get names n ≡ Some one → AreNames rs names → AreNamesIn r one

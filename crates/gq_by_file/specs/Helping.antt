@@ -2,5 +2,7 @@
 pub mod Alone
 pub mod ByNames
 pub mod Covers
+pub mod Learned
 pub mod Links
 pub mod Marks
+pub mod SameNames

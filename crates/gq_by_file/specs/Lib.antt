@@ -1,5 +1,6 @@
 pub mod OneFile
 pub mod Closed
 pub mod Names
+pub mod Links
 pub mod Across
 pub mod Helping

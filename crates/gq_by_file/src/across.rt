@@ -1,5 +1,5 @@
 //! What rests on several files, kept by closed sets of them.
-ghost use Rattle.std.specs.Prelude.{◌≡◌, ◌↔◌, ◌<◌, false, true, List, Contains, IfOk, length, map, slice_set};
+ghost use Rattle.std.specs.Prelude.{◌≡◌, ◌↔◌, ◌<◌, false, true, List, Contains, IfOk, OnOk, Some, length, map, slice_get, slice_set};
 ghost use Rattle.gq_fault.specs.declared.fault.Fault.{Fault};
 ghost use Rattle.gq_tree.specs.Readings.{ParsedOf, parsed_view, readings_view};
 ghost use Rattle.gq_types.specs.Entries.{EntryOf};
@@ -7,18 +7,21 @@ ghost use Rattle.gq_types.specs.Look.{types_view};
 ghost use Rattle.gq_document.specs.Executable.{executable_view};
 ghost use Rattle.gq_rules.specs.Files.{together, IsFaultAcross};
 ghost use Rattle.gq_by_file.specs.OneFile.Laws.{AreOneTypeSystem};
-ghost use Rattle.gq_by_file.specs.Across.{AreAcross, AreCovers};
+ghost use Rattle.gq_by_file.specs.Closed.RestsOnNames.{IsFaultByNames};
+ghost use Rattle.gq_by_file.specs.Across.{AreAcross, AreClean, AreLinksOf};
 ghost use Rattle.gq_by_file.specs.Names.{AreNames, AreNamesIn};
+ghost use Rattle.gq_by_file.specs.declared.names.FileNames.{FileNames};
 ghost use Rattle.gq_by_file.specs.Helping.Covers.{has_one_of};
+ghost use Rattle.gq_by_file.specs.Helping.Learned.{AreLearned};
 
 use crate::by_names::{found_by_names, put_names};
 use crate::closed_sets::{
     closed_sets_stay, faults_across_are_by_names_or_spreads, faults_are_of_closed_sets,
     faults_of_closed_sets_are_faults, other_files_are_unseen,
 };
-use crate::covers::{Cover, cover_rest, keep_unmarked, put_faults};
+use crate::covers::{Cover, cover_rest, keep_unmarked, keep_without, put_faults};
 use crate::laws::numbers_of_entries_are_unseen;
-use crate::links::links;
+use crate::links::{Links, links_of};
 use crate::names::{FileNames, names_of_all};
 use gq_document::{Definitions, Executable};
 use gq_fault::Fault;
@@ -29,58 +32,36 @@ use gq_types::Types;
 use std::alloc::Global;
 use std::sync::Arc;
 
-/// What is known of files together: the names in each, and closed sets of them with what is told of each set by itself. It
+/// What is known of files together: the names in each and what these come to, and closed sets of them with what is told of each set by itself. It
 /// grows where it is asked, and what a change of a file may touch is forgotten.
 #[derive(Drop)]
 pub struct Across {
     /// The names in each file, or none at all.
     pub names: Vec<FileNames>,
+    /// Whether it is known that nothing rests on these names.
+    pub is_clean: bool,
+    /// Where the spreads in each file lead, if that is known.
+    pub links: Links,
     pub covers: Vec<Cover>,
 }
 
-/// What rests on several files, where the names in each are given.
-fn found_over(
+/// What rests on names, and whether nothing does, where that is known of these names if the flag stands.
+fn found_named(
     alloc: Global,
     executable: &Executable<'_>,
     names: &[FileNames],
-    covers: &mut Vec<Cover>,
+    is_clean: &mut bool,
 ) -> Result<Vec<Fault>, NoMemory>
-    ensures kept { (es : List EntryOf) (rs : List ParsedOf) → executable_view executable.now ≡ together es rs → AreNames rs names.now → AreCovers (together es rs) covers.old.items
-        → AreCovers (together es rs) covers.new.items }
-    ensures faults { IfOk result (λ faults. (es : List EntryOf) (rs : List ParsedOf) → executable_view executable.now ≡ together es rs
-        → AreNames rs names.now → AreCovers (together es rs) covers.old.items
-        → (fault : Fault) → Contains faults.items fault ↔ IsFaultAcross (together es rs) fault) }
+    ensures kept { (es : List EntryOf) (rs : List ParsedOf) → executable_view executable.now ≡ together es rs → AreNames rs names.now
+        → (is_clean.old ≡ true → AreClean names.now) → is_clean.new ≡ true → AreClean names.now }
+    ensures faults { IfOk result (λ faults. (es : List EntryOf) (rs : List ParsedOf) → executable_view executable.now ≡ together es rs → AreNames rs names.now
+        → (is_clean.old ≡ true → AreClean names.now) → (fault : Fault) → Contains faults.items fault ↔ IsFaultByNames (together es rs) fault) }
 {
-    faults_across_are_by_names_or_spreads();
-    faults_are_of_closed_sets();
-    faults_of_closed_sets_are_faults();
-    let rows = links(alloc, names)?;
-    cover_rest(alloc, executable, &rows, covers)?;
-    let mut faults = found_by_names(alloc, executable, names)?;
-    put_faults(covers, &mut faults)?;
-    Ok(faults)
-}
-
-/// The same of operations and fragments as they are read.
-fn found_in_readings(
-    alloc: Global,
-    types: &Types,
-    readings: &[Arc<Parsed>],
-    names: &[FileNames],
-    covers: &mut Vec<Cover>,
-) -> Result<Vec<Fault>, NoMemory>
-    ensures kept { AreNames (readings_view readings.now) names.now → AreCovers (together (types_view types.now) (readings_view readings.now)) covers.old.items
-        → AreCovers (together (types_view types.now) (readings_view readings.now)) covers.new.items }
-    ensures faults { IfOk result (λ faults. AreNames (readings_view readings.now) names.now → AreCovers (together (types_view types.now) (readings_view readings.now)) covers.old.items
-        → (fault : Fault) → Contains faults.items fault ↔ IsFaultAcross (together (types_view types.now) (readings_view readings.now)) fault) }
-{
-    let definitions = Definitions::of(alloc, readings)?;
-    let executable = Executable {
-        types,
-        operations: &definitions.operations,
-        fragments: &definitions.fragments,
-    };
-    let faults = found_over(alloc, &executable, names, covers)?;
+    if *is_clean {
+        return Ok(Vec::new(alloc));
+    }
+    let faults = found_by_names(alloc, executable, names)?;
+    *is_clean = faults.is_empty();
     Ok(faults)
 }
 
@@ -126,6 +107,8 @@ impl Across {
     {
         Across {
             names: Vec::new(alloc),
+            is_clean: false,
+            links: Links::none(alloc),
             covers: Vec::new(alloc),
         }
     }
@@ -142,10 +125,77 @@ impl Across {
         ensures faults { IfOk result (λ faults. AreAcross (types_view types.now) (readings_view readings.now) self.old
             → (fault : Fault) → Contains faults.items fault ↔ IsFaultAcross (together (types_view types.now) (readings_view readings.now)) fault) }
     {
-        if self.names.is_empty() {
-            self.names = names_of_all(alloc, readings)?;
+        self.learn_names(alloc, readings)?;
+        self.learn_links(alloc)?;
+        self.found_in_readings(alloc, types, readings)
+    }
+
+    /// The names in all files are known.
+    fn learn_names(&mut self, alloc: Global, readings: &[Arc<Parsed>]) -> Result<(), NoMemory>
+        ensures kept { (es : List EntryOf) → AreAcross es (readings_view readings.now) self.old → AreAcross es (readings_view readings.now) self.new }
+        ensures names { OnOk result ((es : List EntryOf) → AreAcross es (readings_view readings.now) self.old → AreNames (readings_view readings.now) self.new.names.items) }
+    {
+        if !self.names.is_empty() {
+            return Ok(());
         }
-        found_in_readings(alloc, types, readings, &self.names, &mut self.covers)
+        self.names = names_of_all(alloc, readings)?;
+        self.is_clean = false;
+        self.links.forget();
+        Ok(())
+    }
+
+    /// It is known where the spreads in all files lead.
+    fn learn_links(&mut self, alloc: Global) -> Result<(), NoMemory>
+        ensures kept { (es : List EntryOf) (rs : List ParsedOf) → AreAcross es rs self.old → AreAcross es rs self.new }
+        ensures names { self.new.names ≡ self.old.names }
+        ensures links { OnOk result ((es : List EntryOf) (rs : List ParsedOf) → AreAcross es rs self.old → AreLinksOf self.new.names.items self.new.links.rows.items) }
+    {
+        if !self.links.rows.is_empty() {
+            return Ok(());
+        }
+        self.links = links_of(alloc, &self.names)?;
+        Ok(())
+    }
+
+    /// What rests on several files, of operations and fragments as they are read, where names and links are known.
+    fn found_in_readings(
+        &mut self,
+        alloc: Global,
+        types: &Types,
+        readings: &[Arc<Parsed>],
+    ) -> Result<Vec<Fault>, NoMemory>
+        ensures kept { AreLearned (types_view types.now) (readings_view readings.now) self.old → AreAcross (types_view types.now) (readings_view readings.now) self.new }
+        ensures faults { IfOk result (λ faults. AreLearned (types_view types.now) (readings_view readings.now) self.old
+            → (fault : Fault) → Contains faults.items fault ↔ IsFaultAcross (together (types_view types.now) (readings_view readings.now)) fault) }
+    {
+        let definitions = Definitions::of(alloc, readings)?;
+        let executable = Executable {
+            types,
+            operations: &definitions.operations,
+            fragments: &definitions.fragments,
+        };
+        let faults = self.found_over(alloc, &executable)?;
+        Ok(faults)
+    }
+
+    /// The same of operations and fragments as they are given.
+    fn found_over(
+        &mut self,
+        alloc: Global,
+        executable: &Executable<'_>,
+    ) -> Result<Vec<Fault>, NoMemory>
+        ensures kept { (es : List EntryOf) (rs : List ParsedOf) → executable_view executable.now ≡ together es rs → AreLearned es rs self.old → AreAcross es rs self.new }
+        ensures faults { IfOk result (λ faults. (es : List EntryOf) (rs : List ParsedOf) → executable_view executable.now ≡ together es rs → AreLearned es rs self.old
+            → (fault : Fault) → Contains faults.items fault ↔ IsFaultAcross (together es rs) fault) }
+    {
+        faults_across_are_by_names_or_spreads();
+        faults_are_of_closed_sets();
+        faults_of_closed_sets_are_faults();
+        let links = &self.links;
+        cover_rest(alloc, executable, &links.rows, &mut self.covers)?;
+        let mut faults = found_named(alloc, executable, &self.names, &mut self.is_clean)?;
+        put_faults(&self.covers, &mut faults)?;
+        Ok(faults)
     }
 
     /// Nothing is known any more.
@@ -153,6 +203,8 @@ impl Across {
         ensures { (es : List EntryOf) (rs : List ParsedOf) → AreAcross es rs self.new }
     {
         self.names.clear();
+        self.is_clean = false;
+        self.links.forget();
         self.covers.clear();
     }
 
@@ -176,17 +228,41 @@ impl Across {
     fn replace_names(&mut self, alloc: Global, at: usize, names: FileNames)
         ensures { (es : List EntryOf) (rs : List ParsedOf) (r : ParsedOf) → AreNamesIn r names → AreAcross es rs self.old → AreAcross es (slice_set rs at r) self.new }
     {
-        closed_sets_stay();
-        other_files_are_unseen();
         if at >= self.names.len() {
             self.forget();
             return;
         }
+        if self.names[at].are_same(&names) {
+            self.keep_names(at);
+        } else {
+            self.change_names(alloc, at, names);
+        }
+    }
+
+    /// The same where the file at that place has those names before and after.
+    fn keep_names(&mut self, at: usize)
+        ensures { (es : List EntryOf) (rs : List ParsedOf) (r : ParsedOf) (names : FileNames) → slice_get self.old.names.items at ≡ Some names → AreNamesIn r names
+            → AreAcross es rs self.old → AreAcross es (slice_set rs at r) self.new }
+    {
+        closed_sets_stay();
+        other_files_are_unseen();
+        keep_without(&mut self.covers, at);
+    }
+
+    /// The same where other names stand in the new file.
+    fn change_names(&mut self, alloc: Global, at: usize, names: FileNames)
+        requires { at < length self.old.names.items }
+        ensures { (es : List EntryOf) (rs : List ParsedOf) (r : ParsedOf) → AreNamesIn r names → AreAcross es rs self.old → AreAcross es (slice_set rs at r) self.new }
+    {
+        closed_sets_stay();
+        other_files_are_unseen();
         match spreading(alloc, &self.names, &names.fragments) {
             Ok(mut marks) => {
                 marks[at] = true;
                 keep_unmarked(&mut self.covers, &marks);
                 self.names[at] = names;
+                self.is_clean = false;
+                self.links.forget();
             }
             Err(NoMemory) => self.forget(),
         }

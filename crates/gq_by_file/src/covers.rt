@@ -1,5 +1,5 @@
 //! Closed sets of files, each with what is told of it by itself.
-ghost use Rattle.std.specs.Prelude.{◌≡◌, ◌<◌, ◌++◌, ◌∷◌, [], ◌||◌, ℕ, true, false, List, All, Contains, IfOk, OnOk, filter, flat_map, length, not, slice_index_or};
+ghost use Rattle.std.specs.Prelude.{◌≡◌, ◌==◌, ◌<◌, ◌++◌, ◌∷◌, [], ◌||◌, ℕ, true, false, List, All, Contains, IfOk, OnOk, filter, flat_map, length, not, slice_index_or};
 ghost use Rattle.std.specs.List.{list_any};
 ghost use Rattle.gq_fault.specs.declared.fault.Fault.{Fault};
 ghost use Rattle.gq_graph.specs.Reach.{InRange};
@@ -7,10 +7,10 @@ ghost use Rattle.gq_document.specs.Executable.{ExecutableOf, executable_view};
 ghost use Rattle.gq_by_file.specs.Closed.Closed.{is_among};
 ghost use Rattle.gq_by_file.specs.Across.{AreCovers};
 ghost use Rattle.gq_by_file.specs.Helping.Covers.{AreFaulty, IsCovered, LeadsInto, unmarked_from};
-ghost use Rattle.gq_by_file.specs.Helping.Links.{AreLinks};
+ghost use Rattle.gq_by_file.specs.Links.{AreLinks};
 
 use crate::closed_sets::{faults_of_closed_sets_are_faults, faults_stay_in_larger_sets};
-use crate::marks::{has_marked, is_marked, mark, marked};
+use crate::marks::{has_file, has_marked, is_marked, mark, marked};
 use crate::part::found_within;
 use gq_document::Executable;
 use gq_fault::Fault;
@@ -166,6 +166,13 @@ pub(crate) fn put_faults(covers: &[Cover], all: &mut Vec<Fault>) -> Result<(), N
         all.extend_from_slice(&cover.faults)?;
     }
     Ok(())
+}
+
+/// Keeps the covers in which that file is not.
+pub(crate) fn keep_without(covers: &mut Vec<Cover>, file: usize)
+    ensures { covers.new.items ≡ filter (λ c. not (list_any (λ n. n == file) c.files.items)) covers.old.items }
+{
+    covers.retain(|cover| !has_file(&cover.files, file));
 }
 
 /// Keeps the covers of which no file is marked.

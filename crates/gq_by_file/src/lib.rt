@@ -8,7 +8,7 @@ mod by_names;
 pub mod closed_sets;
 pub mod covers;
 pub mod laws;
-mod links;
+pub mod links;
 mod marks;
 pub mod names;
 mod part;

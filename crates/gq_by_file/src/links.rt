@@ -1,5 +1,6 @@
 //! Which files the spreads of a file lead to.
-ghost use Rattle.std.specs.Prelude.{◌≡◌, ◌++◌, IfOk, OnOk, flat_map, map};
+ghost use Rattle.std.specs.Prelude.{◌≡◌, ◌++◌, [], IfOk, OnOk, flat_map, map};
+ghost use Rattle.gq_graph.specs.Reach.{InRange};
 ghost use Rattle.gq_names.specs.UnderNames.{items_under};
 ghost use Rattle.gq_types.specs.Entries.{Text};
 ghost use Rattle.gq_spreads.specs.Helping.Rows.{row_items};
@@ -9,6 +10,31 @@ use crate::names::FileNames;
 use gq_names::ByName;
 use gq_text::{NoMemory, SmallText};
 use std::alloc::Global;
+
+/// For each file, the numbers of the files with fragments that are spread in it; or nothing, where that is not known.
+#[derive(Drop)]
+pub struct Links {
+    pub rows: Vec<Vec<usize>>,
+    ghost in_range: { InRange rows.items },
+}
+
+impl Links {
+    /// Nothing is known.
+    pub fn none(alloc: Global) -> Links
+        ensures { result.rows.items ≡ [] }
+    {
+        Links {
+            rows: Vec::new(alloc),
+        }
+    }
+
+    /// Nothing is known any more.
+    pub fn forget(&mut self)
+        ensures { self.new.rows.items ≡ [] }
+    {
+        self.rows.clear();
+    }
+}
 
 /// The numbers of the files, under the names of the fragments that they define.
 fn fragment_files(alloc: Global, names: &[FileNames]) -> Result<ByName<usize>, NoMemory>
@@ -36,11 +62,12 @@ fn put_fragments(
 }
 
 /// For each file, the numbers of the files with fragments that are spread in it.
-pub(crate) fn links(alloc: Global, names: &[FileNames]) -> Result<Vec<Vec<usize>>, NoMemory>
-    ensures { IfOk result (λ rows. row_items rows.items ≡ links_among names.now) }
+pub(crate) fn links_of(alloc: Global, names: &[FileNames]) -> Result<Links, NoMemory>
+    ensures { IfOk result (λ links. row_items links.rows.items ≡ links_among names.now) }
 {
     let table = fragment_files(alloc, names)?;
-    link_rows(alloc, names, &table)
+    let rows = link_rows(alloc, names, &table)?;
+    Ok(Links { rows })
 }
 
 /// The same by the table of fragments.

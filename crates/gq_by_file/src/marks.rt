@@ -1,5 +1,5 @@
 //! Sets of files as marks.
-ghost use Rattle.std.specs.Prelude.{◌≡◌, ◌<◌, ℕ, false, IfOk, length, slice_index_or};
+ghost use Rattle.std.specs.Prelude.{◌≡◌, ◌==◌, ◌<◌, ℕ, false, IfOk, length, slice_index_or};
 ghost use Rattle.std.specs.List.{list_any};
 ghost use Rattle.gq_by_file.specs.Closed.Closed.{is_among};
 ghost use Rattle.gq_by_file.specs.Helping.Marks.{AreMarked};
@@ -37,6 +37,13 @@ pub(crate) fn marked(alloc: Global, count: usize, files: &[usize]) -> Result<Vec
     let mut marks = vec![in alloc; false; count]?;
     mark(&mut marks, files);
     Ok(marks)
+}
+
+/// Whether that file is one of these.
+pub(crate) fn has_file(files: &[usize], file: usize) -> bool
+    ensures { result ≡ list_any (λ n. n == file) files.now }
+{
+    files.contains(&file)
 }
 
 /// Whether one of these files is marked.

@@ -1,19 +1,24 @@
-//! The names of fragments in each file: of those that it defines, and of those that are spread in it.
-ghost use Rattle.std.specs.Prelude.{◌≡◌, ◌++◌, IfOk, OnOk, flat_map, map};
+//! The names in each file: of the operations and fragments that it defines, and of the fragments that are spread in it.
+ghost use Rattle.std.specs.Prelude.{◌≡◌, ◌++◌, ◌↔◌, true, IfOk, OnOk, flat_map, map};
+ghost use Rattle.std.specs.Option.{option_map};
 ghost use Rattle.gq_tree.specs.Names.{names_at, spread_names};
 ghost use Rattle.gq_tree.specs.Readings.{parsed_view, readings_view};
-ghost use Rattle.gq_tree.specs.Views.{def_view, sels_view};
+ghost use Rattle.gq_tree.specs.Views.{def_view, name_of, sels_view};
 ghost use Rattle.gq_by_file.specs.Closed.Laws.{spreads_in};
-ghost use Rattle.gq_by_file.specs.Names.{AreNames, AreNamesIn, fragment_names_in, texts_of};
+ghost use Rattle.gq_by_file.specs.Names.{AreNames, AreNamesIn, fragment_names_in, operation_names_in, text_of_name, texts_of};
+ghost use Rattle.gq_by_file.specs.Helping.SameNames.{AreSameNames};
 
 use gq_text::{NoMemory, SmallText};
 use gq_tree::{Definition, Name, Parsed, Selection, spread_names};
 use std::alloc::Global;
 use std::sync::Arc;
 
-/// The names of the fragments that are spread in a file, and of those that it defines, each as often as it stands there.
+/// The names of the operations that a file defines, of the fragments that are spread in it, and of those that it defines, each
+/// as often as it stands there.
 #[derive(Drop)]
 pub struct FileNames {
+    /// Those of operations; one without a name has none.
+    pub operations: Vec<Option<SmallText>>,
     pub spreads: Vec<SmallText>,
     pub fragments: Vec<SmallText>,
 }
@@ -24,6 +29,7 @@ impl FileNames {
         ensures { IfOk result (AreNamesIn (parsed_view reading.now)) }
     {
         let mut names = FileNames {
+            operations: Vec::new(alloc),
             spreads: Vec::new(alloc),
             fragments: Vec::new(alloc),
         };
@@ -35,7 +41,17 @@ impl FileNames {
         Ok(names)
     }
 
+    /// Whether both are the same names, in the same order.
+    pub(crate) fn are_same(&self, other: &FileNames) -> bool
+        ensures { result ≡ true ↔ AreSameNames self.now other.now }
+    {
+        self.operations == other.operations
+            && self.spreads == other.spreads
+            && self.fragments == other.fragments
+    }
+
     fn put_all(&mut self, alloc: Global, definitions: &[Definition]) -> Result<(), NoMemory>
+        ensures operations { OnOk result (self.new.operations.items ≡ self.old.operations.items ++ map text_of_name (flat_map operation_names_in (map def_view definitions.now))) }
         ensures spreads { OnOk result (self.new.spreads.items ≡ self.old.spreads.items ++ texts_of (flat_map spreads_in (map def_view definitions.now))) }
         ensures fragments { OnOk result (self.new.fragments.items ≡ self.old.fragments.items ++ texts_of (flat_map fragment_names_in (map def_view definitions.now))) }
     {
@@ -46,11 +62,14 @@ impl FileNames {
     }
 
     fn put(&mut self, alloc: Global, definition: &Definition) -> Result<(), NoMemory>
+        ensures operations { OnOk result (self.new.operations.items ≡ self.old.operations.items ++ map text_of_name (operation_names_in (def_view definition.now))) }
         ensures spreads { OnOk result (self.new.spreads.items ≡ self.old.spreads.items ++ texts_of (spreads_in (def_view definition.now))) }
         ensures fragments { OnOk result (self.new.fragments.items ≡ self.old.fragments.items ++ texts_of (fragment_names_in (def_view definition.now))) }
     {
         match definition {
             Definition::Operation(operation) => {
+                let name = text_or_none(alloc, &operation.name)?;
+                self.operations.push(name)?;
                 put_spreads(alloc, &operation.set.items, &mut self.spreads)
             }
             Definition::Fragment(fragment) => {
@@ -60,6 +79,16 @@ impl FileNames {
             }
             Definition::TypeSystem(_) => Ok(()),
         }
+    }
+}
+
+/// The text of a name, where there is one.
+fn text_or_none(alloc: Global, name: &Option<Name>) -> Result<Option<SmallText>, NoMemory>
+    ensures { IfOk result (λ text. text ≡ text_of_name (option_map name_of name.now)) }
+{
+    match name {
+        Some(name) => Ok(Some(SmallText::from_str(alloc, name.text.as_str())?)),
+        None => Ok(None),
     }
 }
 

@@ -1,5 +1,5 @@
 //! What an answer depends on beside the selections.
-ghost use Rattle.std.specs.Prelude.{◌≡◌, ◌≤◌, IfSome, IfOk, is_some, map};
+ghost use Rattle.std.specs.Prelude.{◌≡◌, ◌≤◌, ℕ, IfSome, IfOk, is_some, map, option_and_then};
 ghost use Rattle.std.specs.Option.{option_map};
 ghost use Rattle.gq_tree.specs.Views.{type_view, argument_view};
 ghost use Rattle.gq_tree.specs.Plain.{erase_values};
@@ -10,7 +10,7 @@ ghost use Rattle.gq_meaning.specs.Expand.{find_definition};
 ghost use Rattle.gq_meaning.specs.Depth.{depth};
 ghost use Rattle.gq_types.specs.Look.{types_view};
 ghost use Rattle.gq_collect.specs.Fragments.{definition_of};
-ghost use Rattle.gq_collect.specs.World.{types_in, given_by, definitions_in, type_in, call_in, look_in, deepest_in};
+ghost use Rattle.gq_collect.specs.World.{types_in, rows_in, given_by, definitions_in, type_in, call_in, look_in, deepest_in};
 
 use crate::fragments::Fragments;
 use gq_coerce::{Coercion, Variables};
@@ -87,20 +87,18 @@ pub fn is_leaf_of(world: World, name: &str, leaf: &Leaf) -> bool
     gq_coerce::is_leaf_of(types(world), name, leaf)
 }
 
-/// The arguments of a field, but for `__typename`; none where they are at fault (section 6.4.1).
-fn arguments_of(
+/// The arguments of a field, but for `__typename`, of each object of that type; none where they are at fault (section 6.4.1).
+pub fn arguments_of(
     alloc: Global,
     world: World,
     object: &str,
-    number: u64,
     field: &str,
     arguments: &[Argument],
 ) -> Result<Option<Vec<Entry>>, NoMemory>
-    ensures { IfOk result
-        (λ o. option_map (λ es. record { type_name = object.now; number = number; field = field.now; arguments = entries_view es.items }) o ≡
+    ensures { IfOk result (λ o. (number : ℕ) →
+        option_map (λ es. record { type_name = object.now; number = number; field = field.now; arguments = entries_view es.items }) o ≡
         call_in world.entry object.now number field.now (erase_values (map argument_view arguments.now))) }
 {
-    let _ = number;
     match types(world).field(object, field) {
         Some(definition) => {
             let definitions = &definition.arguments;
@@ -124,9 +122,27 @@ pub fn look<'a>(
     ensures is { IfOk result (λ o. option_map (λ r. answer_view r.now) o ≡ look_in world.entry object.now number field.now (erase_values (map argument_view arguments.now))) }
     ensures within { IfOk result (λ o. IfSome o (λ r. depth (answer_view r.now).below ≤ deepest_in world.entry)) }
 {
-    match arguments_of(alloc, world, object, number, field, arguments)? {
+    let arguments = arguments_of(alloc, world, object, field, arguments)?;
+    let found = look_with(alloc, world, object, number, field, &arguments)?;
+    Ok(found)
+}
+
+/// The same for arguments that are coerced already, if they are not at fault.
+pub fn look_with<'a>(
+    alloc: Global,
+    world: World<'a>,
+    object: &str,
+    number: u64,
+    field: &str,
+    arguments: &Option<Vec<Entry>>,
+) -> Result<Option<&'a Outcome>, NoMemory>
+    ensures is { IfOk result (λ o. option_map (λ r. answer_view r.now) o ≡ option_and_then (row_of (rows_in world.entry))
+        (option_map (λ es. record { type_name = object.now; number = number; field = field.now; arguments = entries_view es.items }) arguments.now)) }
+    ensures within { IfOk result (λ o. IfSome o (λ r. depth (answer_view r.now).below ≤ deepest_in world.entry)) }
+{
+    match arguments {
         None => Ok(None),
-        Some(arguments) => found(alloc, world.table, object, number, field, &arguments),
+        Some(arguments) => found(alloc, world.table, object, number, field, arguments),
     }
 }
 

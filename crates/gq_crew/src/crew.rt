@@ -4,13 +4,14 @@ ghost use Rattle.std.specs.Thread.{IsSend, IsSync};
 ghost use Rattle.gq_crew.specs.Runs.{Ran as RanAlone, source_after, files_after, sink_after};
 ghost use Rattle.gq_crew.specs.Crew.{RanByThreads};
 ghost use Rattle.gq_crew.specs.Helping.Settled.{settled};
-ghost use Rattle.gq_crew.specs.Helping.Sides.{Given, GivenSides, devices_of, GivenReader, GivenDesk, ReaderComes, DeskComes, Comes};
+ghost use Rattle.gq_crew.specs.Helping.Sides.{Given, GivenSides, devices_of, Comes};
 ghost use Rattle.gq_workers.specs.Ends.{posted, collected, collected_in, reader_on, desk_on, collected_on};
 ghost use mathlib.Core.List.{IsPrefix};
 
 use crate::desk_side::{DeskCame, DeskSide, drive_side};
 use crate::one_thread::{Ended, failed, run_one, stopped};
-use crate::reader_side::{ReaderCame, ReaderSide, read_side};
+use crate::reader_side::{ReaderCame, ReaderSide};
+use crate::reader_thread::{join_reader, start_reader};
 use crate::staff::start_all;
 use gq_board::{BoardFault, Front, Looker, Opened, Room, open};
 use gq_project::Project;
@@ -22,8 +23,9 @@ use gq_workers::{DeskEnd, Gate, Jobs, ReaderEnd, compare, inbox};
 use std::alloc::Global;
 use std::marker::Brand;
 use std::sync::Wait;
+use std::sync::atomic::AtomicU64;
 use std::thread;
-use std::thread::{Scope, Threads, join};
+use std::thread::{Scope, Threads};
 
 /// A run that has ended, with the devices that it was given.
 #[derive(Drop)]
@@ -53,15 +55,14 @@ fn settle_ended(told: Option<RunFault>, desk: Ended) -> Ended
 }
 
 /// A run of which the reader's and the desk's thread have ended.
-fn settle<J: Room, S, K, F>(came: (ReaderCame<J, S, F>, DeskCame<J, K>)) -> Ran<S, K, F>
-    requires same { collected_on came.1.collected ≡ reader_on came.0.end }
-    ensures begins { IsPrefix (collected_in came.1.collected) (posted came.0.end) }
-    ensures ended { result.ended ≡ settled came.0.told came.1.ended }
-    ensures input { result.input ≡ came.0.input }
-    ensures output { result.output ≡ came.1.output }
-    ensures files { result.files ≡ came.0.files }
+fn settle<J: Room, S, K, F>(read: ReaderCame<J, S, F>, drove: DeskCame<J, K>) -> Ran<S, K, F>
+    requires same { collected_on drove.collected ≡ reader_on read.end }
+    ensures begins { IsPrefix (collected_in drove.collected) (posted read.end) }
+    ensures ended { result.ended ≡ settled read.told drove.ended }
+    ensures input { result.input ≡ read.input }
+    ensures output { result.output ≡ drove.output }
+    ensures files { result.files ≡ read.files }
 {
-    let (read, drove) = came;
     let ReaderCame {
         input,
         files,
@@ -105,7 +106,7 @@ fn unserved<S: Source, K: Sink, F: Files>(
     }
 }
 
-/// The same, where not all workers could be started. The ends go, so that the threads that were made end too.
+/// The same, where not all threads could be started. The ends go, so that the threads that were made end too.
 fn let_go<J: Room, S: Source, K: Sink, F: Files>(
     fault: RunFault,
     reader: ReaderSide<J, S, F>,
@@ -138,33 +139,34 @@ fn let_go<J: Room, S: Source, K: Sink, F: Files>(
 
 /// Reads in one thread, and drives the desk in this one.
 fn serve_both<
-    J: Room + Send + Sync,
-    S: Source + Send + Drop,
+    's,
+    E,
+    J: Room + Send + Sync + 's,
+    S: Source + Send + Drop + 's,
     K: Sink + Drop,
-    F: Files + Send + Drop,
-    R: Threads + Wait + Sync,
+    F: Files + Send + Drop + 's,
+    R: Threads + Wait + Sync + 's,
 >(
-    rt: &R,
+    scope: &Scope<'s, E>,
+    rt: &'s R,
     alloc: Global,
     workers: u8,
     reader: ReaderSide<J, S, F>,
     desk: DeskSide<'_, J, K>,
+    rests: &'s AtomicU64,
 ) -> Ran<S, K, F>
     requires base { J.base ≡ [] }
     requires given { GivenSides S.failed K.failed F.failed reader desk }
     ensures { Comes F.reads F.has F.failed F.too_deep S.left S.ended S.failed K.held K.failed workers reader.keys.items (devices_of reader desk.entry) result }
 {
-    settle(join(
-        rt,
-        move || -> ReaderCame<J, S, F>
-            requires { GivenReader S.failed F.failed reader }
-            ensures { ReaderComes F.reads F.has F.failed F.too_deep S.left S.ended S.failed reader result }
-        { read_side(rt, alloc, reader) },
-        move || -> DeskCame<J, K>
-            requires { (J.base ≡ []) × GivenDesk K.failed desk }
-            ensures { DeskComes K.held K.failed workers desk.entry result }
-        { drive_side(rt, alloc, workers, desk) },
-    ))
+    match start_reader(scope, rt, alloc, reader, rests) {
+        Ok(thread) => {
+            let drove = drive_side(rt, alloc, workers, desk);
+            settle(join_reader(rt, alloc, thread), drove)
+        }
+        Err(Ok(read)) => settle(read, drive_side(rt, alloc, workers, desk)),
+        Err(Err(reader)) => let_go(RunFault::NoThread, reader, desk),
+    }
 }
 
 /// Starts the workers' threads, and then serves beside them.
@@ -172,9 +174,9 @@ fn serve_beside<
     's,
     E,
     J: Room + Send + Sync + 's,
-    S: Source + Send + Drop,
+    S: Source + Send + Drop + 's,
     K: Sink + Drop,
-    F: Files + Send + Drop,
+    F: Files + Send + Drop + 's,
     G: Gate + Sync + 's,
     R: Threads + Wait + Sync + 's,
 >(
@@ -186,6 +188,7 @@ fn serve_beside<
     mut reader: ReaderSide<J, S, F>,
     mut desk: DeskSide<'_, J, K>,
     gate: &'s G,
+    rests: &'s AtomicU64,
 ) -> Ran<S, K, F>
     requires base { J.base ≡ [] }
     requires given { GivenSides S.failed K.failed F.failed reader desk }
@@ -201,7 +204,7 @@ fn serve_beside<
         &mut reader.end,
         gate,
     ) {
-        Ok(()) => serve_both(rt, alloc, workers, reader, desk),
+        Ok(()) => serve_both(scope, rt, alloc, workers, reader, desk, rests),
         Err(fault) => let_go(fault, reader, desk),
     }
 }
@@ -227,6 +230,8 @@ fn serve_crew<
     requires given { GivenSides S.failed K.failed F.failed reader desk }
     ensures { Comes F.reads F.has F.failed F.too_deep S.left S.ended S.failed K.held K.failed workers reader.keys.items (devices_of reader desk.entry) result }
 {
+    let is_resting = AtomicU64::new(0);
+    let rests = &is_resting;
     thread::scope(
         thread::scope_env(),
         rt,
@@ -234,7 +239,11 @@ fn serve_crew<
             requires { IsSync R.row × IsSync G.row × IsSend J.row × IsSync J.row × IsSend S.row × IsSend F.row
                 × (J.base ≡ []) × GivenSides S.failed K.failed F.failed reader desk }
             ensures { Comes F.reads F.has F.failed F.too_deep S.left S.ended S.failed K.held K.failed workers reader.keys.items (devices_of reader desk.entry) result }
-        { serve_beside(scope, rt, alloc, workers, lookers, reader, desk, gate) },
+        {
+            serve_beside(
+                scope, rt, alloc, workers, lookers, reader, desk, gate, rests,
+            )
+        },
     )
 }
 

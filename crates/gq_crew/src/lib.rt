@@ -7,6 +7,7 @@ mod hands;
 pub mod laws;
 pub mod one_thread;
 mod reader_side;
+mod reader_thread;
 mod staff;
 
 pub use crew::{Ran, run};

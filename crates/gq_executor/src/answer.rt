@@ -1,5 +1,5 @@
 //! The data of operations (section 6.4).
-ghost use Rattle.std.specs.Prelude.{◌≡◌, if◌then◌else◌, ◌<◌, ◌++◌, ◌∷◌, [], IfOk, OnOk, Some, None, true, false, is_some, length, map};
+ghost use Rattle.std.specs.Prelude.{◌≡◌, if◌then◌else◌, ◌<◌, ◌++◌, ◌∷◌, [], IfOk, IfSome, OnOk, Some, None, true, false, is_some, length, map};
 ghost use Rattle.std.specs.Option.{option_map};
 ghost use Rattle.gq_tree.specs.Views.{type_view};
 ghost use Rattle.gq_table.specs.Views.{leaf_view, answer_view, answers_view};
@@ -13,10 +13,11 @@ ghost use Rattle.gq_collect.specs.World.{given_by, definitions_in};
 ghost use Rattle.gq_response.specs.Views.{step_view, path_view, errors_view, data_view};
 ghost use Rattle.gq_collect.specs.Views.{asked_all, type_seen, found_seen};
 ghost use Rattle.gq_executor.specs.Answers.{IsAnswer, IsFieldAnswer, IsItemAnswer};
+ghost use Rattle.gq_executor.specs.Helping.Plans.{IsPrepared, IsPlan};
 
-use gq_collect::collect::{Taken, collect};
-use gq_collect::groups::grouped;
-use gq_collect::world::{World, applies, is_composite, is_leaf_of, leaf_at, look, type_of};
+use crate::plans::{Plan, Prepared, plan_for};
+use gq_collect::collect::Taken;
+use gq_collect::world::{World, applies, is_composite, is_leaf_of, leaf_at, look_with};
 use gq_names::NameList;
 use gq_response::{Data, Member, Step};
 use gq_table::{Leaf, Outcome};
@@ -214,11 +215,13 @@ fn answer<'a>(
     type_ref: Option<&'a TypeRef>,
     found: Option<&'a Outcome>,
     group: &[Taken<'a>],
+    plan: Option<&Plan<'a>>,
     path: &mut Vec<Step>,
     errors: &mut Vec<Vec<Step>>,
     visited: &mut NameList,
 ) -> Result<Data, NoMemory>
-    requires { Rankable (definitions_in world) (sets_of (asked_all group.now)) }
+    requires ranked { Rankable (definitions_in world) (sets_of (asked_all group.now)) }
+    requires plan { IfSome plan (λ p. IsPlan world p.now.object.now (asked_all group.now) p.now) }
     ensures path { OnOk result (path.new.items ≡ path.old.items) }
     ensures answer { IfOk result (λ d. IsAnswer world.entry (type_seen type_ref.entry) (found_seen found.entry) (asked_all group.now)
         (path_view path.old.items) (errors_view errors.old.items) (errors_view errors.new.items) (data_view d)) }
@@ -230,7 +233,7 @@ fn answer<'a>(
     match found {
         None => Ok(Data::Null),
         Some(outcome) => answer_outcome(
-            alloc, world, type_ref, outcome, group, path, errors, visited,
+            alloc, world, type_ref, outcome, group, plan, path, errors, visited,
         ),
     }
 }
@@ -243,12 +246,14 @@ fn answer_outcome<'a>(
     type_ref: Option<&'a TypeRef>,
     outcome: &'a Outcome,
     group: &[Taken<'a>],
+    plan: Option<&Plan<'a>>,
     path: &mut Vec<Step>,
     errors: &mut Vec<Vec<Step>>,
     visited: &mut NameList,
 ) -> Result<Data, NoMemory>
     requires ranked { Rankable (definitions_in world) (sets_of (asked_all group.now)) }
     requires fits { is_unfit (given_by world) (type_seen type_ref) (Some (answer_view outcome.now)) ≡ false }
+    requires plan { IfSome plan (λ p. IsPlan world p.now.object.now (asked_all group.now) p.now) }
     ensures path { OnOk result (path.new.items ≡ path.old.items) }
     ensures answer { IfOk result (λ d. IsAnswer world.entry (type_seen type_ref.entry) (Some (answer_view outcome.now)) (asked_all group.now)
         (path_view path.old.items) (errors_view errors.old.items) (errors_view errors.new.items) (data_view d)) }
@@ -262,9 +267,14 @@ fn answer_outcome<'a>(
         },
         Outcome::Object { type_name, number } => {
             let object = type_name.as_str();
-            answer_object(
-                alloc, world, type_ref, object, *number, group, path, errors, visited,
-            )
+            match plan_for(plan, object) {
+                Some(plan) => answer_members(
+                    alloc, world, type_ref, object, *number, group, plan, path, errors, visited,
+                ),
+                None => answer_object(
+                    alloc, world, type_ref, object, *number, group, path, errors, visited,
+                ),
+            }
         }
         Outcome::List(items) => answer_list(
             alloc, world, type_ref, items, group, path, errors, visited,
@@ -293,14 +303,43 @@ pub fn answer_object<'a>(
         (λ d. IsAnswer world.entry (type_seen type_ref.entry) (Some (record { label = result_of.object object.now number; below = none }))
         (asked_all group.now) (path_view path.old.items) (errors_view errors.old.items) (errors_view errors.new.items) (data_view d)) }
 {
-    let fields = collect(alloc, world, object, group, visited)?;
-    let groups = grouped(alloc, &fields)?;
+    let plan = Plan::of(alloc, world, object, group, visited)?;
+    let data = answer_members(
+        alloc, world, type_ref, object, number, group, &plan, path, errors, visited,
+    )?;
+    Ok(data)
+}
+
+// The same by the plan of what the group asks of such objects.
+#[cycle(answer)]
+fn answer_members<'a>(
+    alloc: Global,
+    world: World<'a>,
+    type_ref: Option<&'a TypeRef>,
+    object: &'a str,
+    number: u64,
+    group: &[Taken<'a>],
+    plan: &Plan<'a>,
+    path: &mut Vec<Step>,
+    errors: &mut Vec<Vec<Step>>,
+    visited: &mut NameList,
+) -> Result<Data, NoMemory>
+    requires ranked { Rankable (definitions_in world) (sets_of (asked_all group.now)) }
+    requires fits { is_unfit (given_by world) (type_seen type_ref) (Some (record { label = result_of.object object.now number; below = none })) ≡ false }
+    requires plan { IsPlan world object.now (asked_all group.now) plan.now }
+    ensures path { OnOk result (path.new.items ≡ path.old.items) }
+    ensures answer { IfOk result
+        (λ d. IsAnswer world.entry (type_seen type_ref.entry) (Some (record { label = result_of.object object.now number; below = none }))
+        (asked_all group.now) (path_view path.old.items) (errors_view errors.old.items) (errors_view errors.new.items) (data_view d)) }
+{
+    let _ = group;
     let mut members = Vec::new(alloc);
     let mut blocked = false;
-    for (place, one) in groups.groups.iter().enumerate() {
-        let key = groups.keys.get(place);
+    for (place, one) in plan.groups.groups.iter().enumerate() {
+        let key = plan.groups.keys.get(place);
+        let call = &plan.calls[place];
         let (stops, value) = answer_key(
-            alloc, world, object, number, key, one, path, errors, visited,
+            alloc, world, object, number, key, one, call, path, errors, visited,
         )?;
         let key = SmallText::from_str(alloc, key)?;
         members.push(Member { key, value })?;
@@ -321,19 +360,23 @@ fn answer_key<'a>(
     number: u64,
     key: &str,
     group: &[Taken<'a>],
+    call: &Prepared<'a>,
     path: &mut Vec<Step>,
     errors: &mut Vec<Vec<Step>>,
     visited: &mut NameList,
 ) -> Result<(bool, Data), NoMemory>
     requires ranked { Rankable (definitions_in world) (sets_of (asked_all group.now)) }
     requires there { 0 < length group.now }
+    requires call { IsPrepared world object.now group.now call.now }
     ensures path { OnOk result (path.new.items ≡ path.old.items) }
     ensures answer { IfOk result (λ r. IsFieldAnswer world.entry object.now number (asked_all group.now)
         (path_view path.old.items ++ result_of.key key.now ∷ []) (errors_view errors.old.items) (errors_view errors.new.items) r.0 (data_view r.1)) }
 {
     let step = Step::Key(SmallText::from_str(alloc, key)?);
     path.push(step)?;
-    let answered = answer_field(alloc, world, object, number, group, path, errors, visited)?;
+    let answered = answer_field(
+        alloc, world, object, number, group, call, path, errors, visited,
+    )?;
     let _ = path.pop();
     Ok(answered)
 }
@@ -346,12 +389,14 @@ fn answer_field<'a>(
     object: &'a str,
     number: u64,
     group: &[Taken<'a>],
+    call: &Prepared<'a>,
     path: &mut Vec<Step>,
     errors: &mut Vec<Vec<Step>>,
     visited: &mut NameList,
 ) -> Result<(bool, Data), NoMemory>
     requires ranked { Rankable (definitions_in world) (sets_of (asked_all group.now)) }
     requires there { 0 < length group.now }
+    requires call { IsPrepared world object.now group.now call.now }
     ensures path { OnOk result (path.new.items ≡ path.old.items) }
     ensures answer { IfOk result (λ r. IsFieldAnswer world.entry object.now number (asked_all group.now) (path_view path.old.items)
         (errors_view errors.old.items) (errors_view errors.new.items) r.0 (data_view r.1)) }
@@ -361,9 +406,11 @@ fn answer_field<'a>(
         let text = SmallText::from_str(alloc, object)?;
         return Ok((false, Data::Leaf(Leaf::Text(text))));
     }
-    let type_ref = type_of(world, object, first.name);
-    let found = look(alloc, world, object, number, first.name, first.arguments)?;
-    let value = answer(alloc, world, type_ref, found, group, path, errors, visited)?;
+    let type_ref = call.type_ref;
+    let found = look_with(alloc, world, object, number, first.name, &call.arguments)?;
+    let value = answer(
+        alloc, world, type_ref, found, group, None, path, errors, visited,
+    )?;
     let stops = is_non_null(type_ref) & is_null(&value);
     Ok((stops, value))
 }
@@ -387,11 +434,13 @@ fn answer_list<'a>(
         (λ d. IsAnswer world.entry (type_seen type_ref.entry) (Some (record { label = result_of.list; below = answers_view items.now }))
         (asked_all group.now) (path_view path.old.items) (errors_view errors.old.items) (errors_view errors.new.items) (data_view d)) }
 {
+    let own = Plan::of_items(alloc, world, items, group, visited)?;
+    let plan = own.as_ref();
     let mut values = Vec::new(alloc);
     let mut blocked = false;
     for (index, item) in items.iter().enumerate() {
         let (stops, value) = answer_item(
-            alloc, world, type_ref, index, item, group, path, errors, visited,
+            alloc, world, type_ref, index, item, group, plan, path, errors, visited,
         )?;
         values.push(value)?;
         blocked = blocked | stops;
@@ -411,11 +460,13 @@ fn answer_item<'a>(
     index: usize,
     item: &'a Outcome,
     group: &[Taken<'a>],
+    plan: Option<&Plan<'a>>,
     path: &mut Vec<Step>,
     errors: &mut Vec<Vec<Step>>,
     visited: &mut NameList,
 ) -> Result<(bool, Data), NoMemory>
-    requires { Rankable (definitions_in world) (sets_of (asked_all group.now)) }
+    requires ranked { Rankable (definitions_in world) (sets_of (asked_all group.now)) }
+    requires plan { IfSome plan (λ p. IsPlan world p.now.object.now (asked_all group.now) p.now) }
     ensures path { OnOk result (path.new.items ≡ path.old.items) }
     ensures answer { IfOk result (λ r. IsItemAnswer world.entry (type_seen type_ref.entry) (answer_view item.now) (asked_all group.now)
         (path_view path.old.items ++ result_of.index index ∷ []) (errors_view errors.old.items) (errors_view errors.new.items) r.0 (data_view r.1)) }
@@ -428,6 +479,7 @@ fn answer_item<'a>(
         item_type,
         Some(item),
         group,
+        plan,
         path,
         errors,
         visited,

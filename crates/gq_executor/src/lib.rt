@@ -3,5 +3,6 @@
 
 pub mod answer;
 pub mod execute;
+mod plans;
 
 pub use execute::{operation, respond};

@@ -1,8 +1,8 @@
 //! The executable definitions of documents (GraphQL, October 2021, section 2.2).
-ghost use Rattle.std.specs.Prelude.{◌≡◌, ◌++◌, IfOk, OnOk, flat_map, map};
+ghost use Rattle.std.specs.Prelude.{◌≡◌, ◌++◌, IfOk, OnOk, flat_map, length, map};
 ghost use Rattle.gq_tree.specs.Names.{names_at, spread_names};
 ghost use Rattle.gq_tree.specs.Views.{def_view, type_system_view};
-ghost use Rattle.gq_tree.specs.Readings.{in_document, parsed_view, readings_view};
+ghost use Rattle.gq_tree.specs.Readings.{definitions_read, in_document, parsed_view, readings_view};
 ghost use Rattle.gq_index.specs.Occurrences.{executable_in, executables, is_operation, fragment_name, spreads_in, place_of, type_system_place};
 ghost use Rattle.gq_index.specs.Views.{definitions_view};
 
@@ -26,11 +26,31 @@ pub fn executables<'a>(
 ) -> Result<Vec<Executable<'a>>, NoMemory>
     ensures { IfOk result (λ all. definitions_view all.items ≡ executables (readings_view readings.now)) }
 {
-    let mut all = Vec::new(alloc);
+    let mut all = Vec::with_capacity(alloc, definition_count(readings))?;
     for (file, reading) in readings.iter().enumerate() {
         put_reading(file, reading, &mut all)?;
     }
     Ok(all)
+}
+
+/// How many definitions the documents have together, those of the type system included, as far as a number goes.
+fn definition_count(readings: &[Arc<Parsed>]) -> usize {
+    let mut count = 0usize;
+    for reading in readings {
+        count = count.saturating_add(count_in(reading));
+    }
+    count
+}
+
+/// How many definitions a document has.
+fn count_in(reading: &Parsed) -> usize
+    ensures { result ≡ length (definitions_read (parsed_view reading.now)) }
+{
+    match reading {
+        Parsed::Tree(document) => document.definitions.len(),
+        Parsed::Syntax { .. } => 0,
+        Parsed::Limit { .. } => 0,
+    }
 }
 
 fn put_reading<'a>(

@@ -1,200 +1,258 @@
 -- First places of names, by their buckets and by their texts.
-use Rattle.std.proofs.Common.{◌≡◌, ◌==◌, ℕ, ◌<◌, Bool, true, false, cond, List, [], ◌∷◌, ◌++◌, length, get_or, Option, Some, None, is_some, not, refl, set, sym, ◌∙◌, ap, subst, arith}
-use Rattle.std.specs.Bool.{nat_lt}
+use Rattle.std.proofs.Common.{◌≡◌, ◌==◌, ℕ, ◌+◌, ◌<◌, Bool, true, false, cond, List, [], ◌∷◌, ◌++◌, length, get_or, Option, Some, None, Result, Ok, Err, OnErr, is_some, not, refl, set, sym, ◌∙◌, ap, subst, arith}
 use Rattle.std.specs.Cmp.Lexicographic.{bytes_decides, nat_list_eq_equiv}
-use Rattle.std.specs.List.{list_any, position, position_or_len}
+use Rattle.std.specs.List.{list_any, position}
 use Rattle.std.specs.Str.{bytes_eq}
 use Rattle.std.proofs.lemmas.Grind.{common_steps}
-use Rattle.std.proofs.lemmas.List.Quantifiers.{position-Some}
 use Rattle.std.specs.Map.{update}
 use Rattle.std.proofs.lemmas.Bool.{eqb-true, eq-eqb, false≢true}
-use Rattle.std.proofs.lemmas.List.{get_or-set_other, get_or-set_same, get_or_append_left, get_or_default, get_or_push, length-set}
-use Rattle.gq_names.specs.Helping.Places.{Finds, bucket_of, first_in, in_bucket, stands_at}
-use Rattle.gq_names.proofs.PlaceLemmas.{is_some_position, position_none, position_push_found, position_push_other, position_push_here, position_push_apart, first_places_stay}
+use Rattle.std.proofs.lemmas.List.{get_or-set_other, get_or-set_same, get_or_append_left, get_or_push}
+use Rattle.gq_names.specs.Helping.Places.{Finds, digest, first_of, found_by, found_in, in_bucket, place_of, second_of}
+use Rattle.gq_names.proofs.PlaceLemmas.{is_some_position, position_none, position_push_found, position_push_here, position_push_apart, first_places_stay}
 
--- a test that holds only where another one does
-module _ {X : Type 0} (p q : X → Bool) (weaker : (x : X) → p x ≡ true → q x ≡ true) where
-  fails : (x : X) → q x ≡ false → p x ≡ false
-  fails x h = elim (p x) as (λ b. p x ≡ b → p x ≡ false) [ true ↦ λ t. absurd (grind (arith, h, weaker x t)) | false ↦ λ t. t ] refl
+no_place : {X : Type 0} (place : ℕ) → None ≡ Some place → X
+no_place place h = absurd (false≢true (ap is_some h))
 
-  none_passes : (xs : List X) → list_any q xs ≡ false → list_any p xs ≡ false
-  none_passes [] h = refl
-  none_passes (x ∷ xs) h = grind (arith, common_steps, fails x, none_passes xs, h)
+-- what stands in a bucket of one list stands in that of another, with the same name
+abbrev AreSame : List (List ℕ) → List (List ℕ) → Option ℕ → Option ℕ → Type 0
+AreSame names names_new at at_new = (place : ℕ) → at ≡ Some place → (at_new ≡ Some place) × (get_or names_new place [] ≡ get_or names place [])
 
-  pub any_passes : (xs : List X) → list_any p xs ≡ true → list_any q xs ≡ true
-  any_passes xs h = elim (list_any q xs) as (λ b. list_any q xs ≡ b → list_any q xs ≡ true) [ true ↦ λ t. t | false ↦ λ t. absurd (false≢true (sym (none_passes xs t) ∙ h)) ] refl
+-- what is found in a bucket and behind it is found where more is kept
+more_is_found : (names names_new : List (List ℕ)) (name : List ℕ) (at at_new rest rest_new : Option ℕ) → AreSame names names_new at at_new
+    → ((place : ℕ) → rest ≡ Some place → rest_new ≡ Some place)
+    → (place : ℕ) → found_in names name at rest ≡ Some place → found_in names_new name at_new rest_new ≡ Some place
+more_is_found names names_new name None at_new rest rest_new same more place found = no_place place found
+more_is_found names names_new name (Some here) at_new rest rest_new same more place found =
+    let there = same here refl in
+    ap (λ o. found_in names_new name o rest_new) (there.0) ∙ ap (λ n. cond (bytes_eq name n) (Some here) rest_new) (there.1)
+    ∙ elim (bytes_eq name (get_or names here [])) as (λ b. cond b (Some here) rest ≡ Some place → cond b (Some here) rest_new ≡ Some place) [ true ↦ λ f. f | false ↦ λ f. more place f ] found
 
-  pub weaker_none : (xs : List X) → position q xs ≡ None → position p xs ≡ None
-  weaker_none xs h = position_none p xs (none_passes xs (sym (is_some_position q xs) ∙ ap is_some h))
+-- what is found in a bucket and behind it is a first place, where what stands there is
+found_is_first : (names : List (List ℕ)) (name : List ℕ) (at rest : Option ℕ) → ((place : ℕ) → at ≡ Some place → position (bytes_eq (get_or names place [])) names ≡ Some place)
+    → ((place : ℕ) → rest ≡ Some place → position (bytes_eq name) names ≡ Some place)
+    → (place : ℕ) → found_in names name at rest ≡ Some place → position (bytes_eq name) names ≡ Some place
+found_is_first names name None rest of_bucket of_rest place found = no_place place found
+found_is_first names name (Some here) rest of_bucket of_rest place found =
+    elim (bytes_eq name (get_or names here [])) as (λ b. bytes_eq name (get_or names here []) ≡ b → cond b (Some here) rest ≡ Some place → position (bytes_eq name) names ≡ Some place) [
+      | true ↦ λ t f. ap (λ n. position (bytes_eq n) names) ((bytes_decides name (get_or names here [])).0 t) ∙ of_bucket here refl ∙ f
+      | false ↦ λ t f. of_rest place f
+    ] refl found
 
-  same_length : (xs : List X) (d : X) → position_or_len q xs < length xs → p (get_or xs (position_or_len q xs) d) ≡ true → position_or_len p xs ≡ position_or_len q xs
-  same_length [] d h holds = absurd (omega (arith, h))
-  same_length (x ∷ xs) d h holds = elim (q x) as (λ b. q x ≡ b → position_or_len p (x ∷ xs) ≡ position_or_len q (x ∷ xs)) [
-    | true ↦ λ t. grind (arith, common_steps, t, holds)
-    | false ↦ λ t. grind (arith, common_steps, t, h, holds, fails x t, same_length xs d)
-  ] refl
+-- a name that a bucket does not hold is looked for behind it
+not_here : (names : List (List ℕ)) (name : List ℕ) (at rest : Option ℕ) (here : ℕ) → at ≡ Some here → bytes_eq name (get_or names here []) ≡ false → found_in names name at rest ≡ rest
+not_here names name at rest here is other = ap (λ o. found_in names name o rest) is ∙ ap (λ b. cond b (Some here) rest) other
 
-  pub weaker_at : (xs : List X) (i : ℕ) (d : X) → position q xs ≡ Some i → p (get_or xs i d) ≡ true → position p xs ≡ Some i
-  weaker_at xs i d at holds = ap (λ k. cond (nat_lt k (length xs)) (Some k) None) (same_length xs d inside here) ∙ at
+is_here : (names : List (List ℕ)) (name : List ℕ) (at rest : Option ℕ) (here : ℕ) → at ≡ Some here → bytes_eq name (get_or names here []) ≡ true → found_in names name at rest ≡ Some here
+is_here names name at rest here is same = ap (λ o. found_in names name o rest) is ∙ ap (λ b. cond b (Some here) rest) same
+
+module _ (count : ℕ) (at : ℕ → Option ℕ) (under : List ℕ → Option ℕ) (names : List (List ℕ)) (finds : Finds count at under names) where
+  of_first : (name : List ℕ) (place : ℕ) → found_by count at under names name ≡ Some place → position (bytes_eq name) names ≡ Some place
+  of_first name place =
+      found_is_first names name (at (first_of count (digest name))) (found_in names name (at (second_of count (digest name))) (under name)) (finds.of_buckets (first_of count (digest name)))
+      (found_is_first names name (at (second_of count (digest name))) (under name) (finds.of_buckets (second_of count (digest name))) (finds.of_others name)) place
+
+  -- what is found of a name is its first place
+  pub found_is : (name : List ℕ) → found_by count at under names name ≡ position (bytes_eq name) names
+  found_is name = by_place (position (bytes_eq name) names) (found_by count at under names name) refl refl
     where
-      is : position_or_len q xs ≡ i
-      is = grind (arith, common_steps, at)
+      by_place : (place found : Option ℕ) → position (bytes_eq name) names ≡ place → found_by count at under names name ≡ found → found ≡ place
+      by_place (Some place) found p f = sym f ∙ finds.all name place p
+      by_place None None p f = refl
+      by_place None (Some place) p f = no_place place (sym p ∙ of_first name place f)
 
-      inside : position_or_len q xs < length xs
-      inside = subst (λ k. k < length xs) (sym is) (position-Some q xs i d at).0
+  -- the first bucket is empty: the name does not stand in the list
+  pub none_first : (name : List ℕ) → at (first_of count (digest name)) ≡ None → position (bytes_eq name) names ≡ None
+  none_first name is = sym (found_is name) ∙ ap (λ o. found_in names name o (found_in names name (at (second_of count (digest name))) (under name))) is
 
-      here : p (get_or xs (position_or_len q xs) d) ≡ true
-      here = subst (λ k. p (get_or xs k d) ≡ true) (sym is) holds
+  pub at_first : (name : List ℕ) (here : ℕ) → at (first_of count (digest name)) ≡ Some here → bytes_eq name (get_or names here []) ≡ true → position (bytes_eq name) names ≡ Some here
+  at_first name here is same = sym (found_is name) ∙ is_here names name (at (first_of count (digest name))) (found_in names name (at (second_of count (digest name))) (under name)) here is same
 
-module _ (count : ℕ) (names : List (List ℕ)) (name : List ℕ) where
-  same_bucket : (text : List ℕ) → bytes_eq name text ≡ true → (bucket_of count text == bucket_of count name) ≡ true
-  same_bucket text same = eq-eqb (bucket_of count text) (bucket_of count name) (ap (bucket_of count) (sym ((bytes_decides name text).0 same)))
+  behind_first : (name : List ℕ) (here : ℕ) → at (first_of count (digest name)) ≡ Some here → bytes_eq name (get_or names here []) ≡ false
+      → position (bytes_eq name) names ≡ found_in names name (at (second_of count (digest name))) (under name)
+  behind_first name here is other = sym (found_is name) ∙ not_here names name (at (first_of count (digest name))) (found_in names name (at (second_of count (digest name))) (under name)) here is other
 
-  -- a name in whose bucket none stands does not stand in the list
-  pub is_absent : first_in count names (bucket_of count name) ≡ None → position (bytes_eq name) names ≡ None
-  is_absent = weaker_none (bytes_eq name) (λ text. bucket_of count text == bucket_of count name) same_bucket names
+  pub none_second : (name : List ℕ) (here : ℕ) → at (first_of count (digest name)) ≡ Some here → bytes_eq name (get_or names here []) ≡ false
+      → at (second_of count (digest name)) ≡ None → position (bytes_eq name) names ≡ None
+  none_second name here is other none = behind_first name here is other ∙ ap (λ o. found_in names name o (under name)) none
 
-  -- a name that is the first of its bucket
-  pub is_first : (place : ℕ) (none : List ℕ) → first_in count names (bucket_of count name) ≡ Some place → bytes_eq name (get_or names place none) ≡ true → position (bytes_eq name) names ≡ Some place
-  is_first place none at same = weaker_at (bytes_eq name) (λ text. bucket_of count text == bucket_of count name) same_bucket names place none at same
+  pub at_second : (name : List ℕ) (here there : ℕ) → at (first_of count (digest name)) ≡ Some here → bytes_eq name (get_or names here []) ≡ false
+      → at (second_of count (digest name)) ≡ Some there → bytes_eq name (get_or names there []) ≡ true → position (bytes_eq name) names ≡ Some there
+  at_second name here there is other then same = behind_first name here is other ∙ is_here names name (at (second_of count (digest name))) (under name) there then same
 
-  pub is_inside : (number place : ℕ) → first_in count names number ≡ Some place → place < length names
-  is_inside number place at = (position-Some (λ text. bucket_of count text == number) names place [] at).0
+  pub behind_second : (name : List ℕ) (here there : ℕ) → at (first_of count (digest name)) ≡ Some here → bytes_eq name (get_or names here []) ≡ false
+      → at (second_of count (digest name)) ≡ Some there → bytes_eq name (get_or names there []) ≡ false → position (bytes_eq name) names ≡ under name
+  behind_second name here there is other then another = behind_first name here is other ∙ not_here names name (at (second_of count (digest name))) (under name) there then another
 
-  -- the first place of a bucket in which a name of the list is
-  bucket_stays : (number place : ℕ) → first_in count names number ≡ Some place → first_in count (names ++ name ∷ []) number ≡ Some place
-  bucket_stays number place at = position_push_found (λ text. bucket_of count text == number) names name (sym (is_some_position (λ text. bucket_of count text == number) names) ∙ ap is_some at) ∙ at
+  -- a name behind the others moves no name that a bucket holds
+  module _ (name : List ℕ) where
+    stays : (place : ℕ) → place < length names → get_or (names ++ name ∷ []) place [] ≡ get_or names place []
+    stays place inside = get_or_append_left names (name ∷ []) [] place inside
 
-  none_has : (number : ℕ) → first_in count names number ≡ None → list_any (λ text. bucket_of count text == number) names ≡ false
-  none_has number at = sym (is_some_position (λ text. bucket_of count text == number) names) ∙ ap is_some at
+    still_first : (text : List ℕ) (place : ℕ) → position (bytes_eq text) names ≡ Some place → position (bytes_eq text) (names ++ name ∷ []) ≡ Some place
+    still_first text place is = position_push_found (bytes_eq text) names name (sym (is_some_position (bytes_eq text) names) ∙ ap is_some is) ∙ is
 
-  -- another name stands at the first place of a bucket as before
-  stands_as_before : (text : List ℕ) → bytes_eq text name ≡ false → (number : ℕ) (o : Option ℕ) → first_in count names number ≡ o → stands_at (names ++ name ∷ []) text (first_in count (names ++ name ∷ []) number) ≡ stands_at names text o
-  stands_as_before text other number (Some place) at =
-      rw (bucket_stays number place at) (ap (bytes_eq text) (get_or_append_left names (name ∷ []) [] place (is_inside number place at)))
-  stands_as_before text other number None at = elim (bucket_of count name == number) as (λ b. (bucket_of count name == number) ≡ b → stands_at (names ++ name ∷ []) text (first_in count (names ++ name ∷ []) number) ≡ false) [
-    | true ↦ λ t. rw (position_push_here (λ x. bucket_of count x == number) names name (none_has number at) t) (ap (bytes_eq text) (get_or_push names name [] (length names) refl) ∙ other)
-    | false ↦ λ t. rw (position_push_other (λ x. bucket_of count x == number) names name (none_has number at) t) refl
-  ] refl
+    still_of_bucket : (place : ℕ) → place < length names → position (bytes_eq (get_or names place [])) names ≡ Some place
+        → position (bytes_eq (get_or (names ++ name ∷ []) place [])) (names ++ name ∷ []) ≡ Some place
+    still_of_bucket place inside is = ap (λ n. position (bytes_eq n) (names ++ name ∷ [])) (stays place inside) ∙ still_first (get_or names place []) place is
 
-  -- a name that stands in the list already changes nothing
-  module _ (at : ℕ → Option ℕ) (under : List ℕ → Option ℕ) (finds : Finds count at under names) (stands : list_any (bytes_eq name) names ≡ true) where
-    buckets_stay : (number : ℕ) → first_in count (names ++ name ∷ []) number ≡ first_in count names number
-    buckets_stay number = elim (bucket_of count name == number) as (λ b. (bucket_of count name == number) ≡ b → first_in count (names ++ name ∷ []) number ≡ first_in count names number) [
-      | true ↦ λ t.
-          let has = any_passes (bytes_eq name) (λ text. bucket_of count text == bucket_of count name) same_bucket names stands in
-          position_push_found (λ text. bucket_of count text == number) names name (subst (λ n. list_any (λ text. bucket_of count text == n) names ≡ true) (eqb-true (bucket_of count name) number t) has)
-      | false ↦ λ t. position_push_apart (λ text. bucket_of count text == number) names name t
-    ] refl
+    -- what was found is found where more is kept
+    still_found : (at_new : ℕ → Option ℕ) (under_new : List ℕ → Option ℕ) → ((bucket place : ℕ) → at bucket ≡ Some place → at_new bucket ≡ Some place) → ((text : List ℕ) (place : ℕ) → under text ≡ Some place → under_new text ≡ Some place)
+        → (text : List ℕ) (place : ℕ) → found_by count at under names text ≡ Some place → found_by count at_new under_new (names ++ name ∷ []) text ≡ Some place
+    still_found at_new under_new kept told text =
+        let same : (bucket : ℕ) → AreSame names (names ++ name ∷ []) (at bucket) (at_new bucket) = λ bucket place is. (kept bucket place is, stays place (finds.inside bucket place is)) in
+        more_is_found names (names ++ name ∷ []) text (at (first_of count (digest text))) (at_new (first_of count (digest text))) (found_in names text (at (second_of count (digest text))) (under text))
+        (found_in (names ++ name ∷ []) text (at_new (second_of count (digest text))) (under_new text)) (same (first_of count (digest text)))
+        (more_is_found names (names ++ name ∷ []) text (at (second_of count (digest text))) (at_new (second_of count (digest text))) (under text) (under_new text) (same (second_of count (digest text))) (told text))
 
-    stands_still : (text : List ℕ) (number : ℕ) (o : Option ℕ) → first_in count names number ≡ o → stands_at (names ++ name ∷ []) text o ≡ stands_at names text o
-    stands_still text number None at = refl
-    stands_still text number (Some place) at = ap (bytes_eq text) (get_or_append_left names (name ∷ []) [] place (is_inside number place at))
+    longer : (place : ℕ) → place < length names → place < length (names ++ name ∷ [])
+    longer place inside = grind (arith, common_steps, inside)
 
-    pub finds_again : Finds count at under (names ++ name ∷ [])
-    finds_again = record {
+    -- a name that stands in the list already changes nothing
+    pub finds_again : list_any (bytes_eq name) names ≡ true → Finds count at under (names ++ name ∷ [])
+    finds_again stands = record {
       some = finds.some;
-      of_buckets = λ number within. finds.of_buckets number within ∙ sym (buckets_stay number);
-      of_others = λ text apart. finds.of_others text (sym (ap (stands_at (names ++ name ∷ []) text) (buckets_stay (bucket_of count text)) ∙ stands_still text (bucket_of count text) (first_in count names (bucket_of count text)) refl) ∙ apart) ∙ sym (first_places_stay names name stands text);
+      inside = λ bucket place is. longer place (finds.inside bucket place is);
+      of_buckets = λ bucket place is. still_of_bucket place (finds.inside bucket place is) (finds.of_buckets bucket place is);
+      of_others = λ text place is. still_first text place (finds.of_others text place is);
+      all = λ text place is. still_found at under (λ bucket here h. h) (λ t here h. h) text place (finds.all text place (sym (first_places_stay names name stands text) ∙ is));
     }
 
-  module _ (at at_new : ℕ → Option ℕ) (under under_new : List ℕ → Option ℕ) (finds : Finds count at under names) (is_new : list_any (bytes_eq name) names ≡ false) where
-    -- another name is found as before
-    other_found : (text : List ℕ) → bytes_eq text name ≡ false → under_new text ≡ under text
-        → stands_at (names ++ name ∷ []) text (first_in count (names ++ name ∷ []) (bucket_of count text)) ≡ false → under_new text ≡ position (bytes_eq text) (names ++ name ∷ [])
-    other_found text other kept apart =
-        kept ∙ finds.of_others text (sym (stands_as_before text other (bucket_of count text) (first_in count names (bucket_of count text)) refl) ∙ apart) ∙ sym (position_push_apart (bytes_eq text) names name other)
+    module _ (is_new : list_any (bytes_eq name) names ≡ false) where
+      here_after : (text : List ℕ) → bytes_eq text name ≡ true → position (bytes_eq text) (names ++ name ∷ []) ≡ Some (length names)
+      here_after text same = position_push_here (bytes_eq text) names name (subst (λ t. list_any (bytes_eq t) names ≡ false) (sym ((bytes_decides text name).0 same)) is_new) same
 
-    here_after : (text : List ℕ) → bytes_eq text name ≡ true → position (bytes_eq text) (names ++ name ∷ []) ≡ Some (length names)
-    here_after text same = position_push_here (bytes_eq text) names name (subst (λ t. list_any (bytes_eq t) names ≡ false) (sym ((bytes_decides text name).0 same)) is_new) same
+      itself : bytes_eq name name ≡ true
+      itself = (bytes_decides name name).1 refl
 
-    -- the name is put in its bucket, in which no other is
-    pub finds_by_bucket : first_in count names (bucket_of count name) ≡ None → ((number : ℕ) → number < count → at_new number ≡ cond (bucket_of count name == number) (Some (length names)) (at number))
-        → ((text : List ℕ) → under_new text ≡ under text) → Finds count at_new under_new (names ++ name ∷ [])
-    finds_by_bucket free sets kept = record { some = finds.some; of_buckets = buckets; of_others = others }
-      where
-        buckets : (number : ℕ) → number < count → at_new number ≡ first_in count (names ++ name ∷ []) number
-        buckets number within = elim (bucket_of count name == number) as (λ b. (bucket_of count name == number) ≡ b → at_new number ≡ first_in count (names ++ name ∷ []) number) [
-          | true ↦ λ t. sets number within ∙ ap (λ b. cond b (Some (length names)) (at number)) t
-              ∙ sym (position_push_here (λ x. bucket_of count x == number) names name (none_has number (subst (λ n. first_in count names n ≡ None) (eqb-true (bucket_of count name) number t) free)) t)
-          | false ↦ λ t. sets number within ∙ ap (λ b. cond b (Some (length names)) (at number)) t ∙ finds.of_buckets number within ∙ sym (position_push_apart (λ x. bucket_of count x == number) names name t)
+      -- no bucket held it
+      pub not_held : (bucket place : ℕ) → at bucket ≡ Some place → bytes_eq name (get_or (names ++ name ∷ []) place []) ≡ false
+      not_held bucket place is = elim (bytes_eq name (get_or names place [])) as (λ b. bytes_eq name (get_or names place []) ≡ b → bytes_eq name (get_or (names ++ name ∷ []) place []) ≡ false) [
+        | true ↦ λ t. no_place place (sym (position_none (bytes_eq name) names is_new) ∙ ap (λ n. position (bytes_eq n) names) ((bytes_decides name (get_or names place [])).0 t) ∙ finds.of_buckets bucket place is)
+        | false ↦ λ t. ap (bytes_eq name) (stays place (finds.inside bucket place is)) ∙ t
+      ] refl
+
+      last_is : bytes_eq name (get_or (names ++ name ∷ []) (length names) []) ≡ true
+      last_is = ap (bytes_eq name) (get_or_push names name [] (length names) refl) ∙ itself
+
+      -- the name is put in a bucket or under its text, where it is found
+      module _ (at_new : ℕ → Option ℕ) (under_new : List ℕ → Option ℕ) (there : found_by count at_new under_new (names ++ name ∷ []) name ≡ Some (length names))
+          (kept : (bucket place : ℕ) → at bucket ≡ Some place → at_new bucket ≡ Some place) (told : (text : List ℕ) (place : ℕ) → under text ≡ Some place → under_new text ≡ Some place) where
+        all_found : (text : List ℕ) (place : ℕ) → position (bytes_eq text) (names ++ name ∷ []) ≡ Some place → found_by count at_new under_new (names ++ name ∷ []) text ≡ Some place
+        all_found text place is = elim (bytes_eq text name) as (λ b. bytes_eq text name ≡ b → found_by count at_new under_new (names ++ name ∷ []) text ≡ Some place) [
+          | true ↦ λ same. subst (λ t. found_by count at_new under_new (names ++ name ∷ []) t ≡ Some place) (sym ((bytes_decides text name).0 same)) (there ∙ sym (here_after text same) ∙ is)
+          | false ↦ λ other. still_found at_new under_new kept told text place (finds.all text place (sym (position_push_apart (bytes_eq text) names name other) ∙ is))
         ] refl
 
-        stands : (text : List ℕ) → bytes_eq text name ≡ true → stands_at (names ++ name ∷ []) text (first_in count (names ++ name ∷ []) (bucket_of count text)) ≡ true
-        stands text same =
-            let is = (bytes_decides text name).0 same in
-            let here : first_in count (names ++ name ∷ []) (bucket_of count text) ≡ Some (length names) =
-            position_push_here (λ x. bucket_of count x == bucket_of count text) names name (none_has (bucket_of count text) (subst (λ t. first_in count names (bucket_of count t) ≡ None) (sym is) free)) (eq-eqb (bucket_of count name) (bucket_of count text) (ap (bucket_of count) (sym is))) in
-            rw here (ap (bytes_eq text) (get_or_push names name [] (length names) refl) ∙ same)
+        pub finds_more : ((bucket place : ℕ) → at_new bucket ≡ Some place → place < length (names ++ name ∷ []))
+            → ((bucket place : ℕ) → at_new bucket ≡ Some place → position (bytes_eq (get_or (names ++ name ∷ []) place [])) (names ++ name ∷ []) ≡ Some place)
+            → ((text : List ℕ) (place : ℕ) → under_new text ≡ Some place → position (bytes_eq text) (names ++ name ∷ []) ≡ Some place) → Finds count at_new under_new (names ++ name ∷ [])
+        finds_more inside of_buckets of_others = record { some = finds.some; inside = inside; of_buckets = of_buckets; of_others = of_others; all = all_found }
 
-        others : (text : List ℕ) → stands_at (names ++ name ∷ []) text (first_in count (names ++ name ∷ []) (bucket_of count text)) ≡ false → under_new text ≡ position (bytes_eq text) (names ++ name ∷ [])
-        others text apart = elim (bytes_eq text name) as (λ b. bytes_eq text name ≡ b → under_new text ≡ position (bytes_eq text) (names ++ name ∷ [])) [
-          | true ↦ λ same. absurd (false≢true (sym apart ∙ stands text same))
-          | false ↦ λ other. other_found text other (kept text) apart
+      -- the name is put in an empty bucket
+      module _ (bucket : ℕ) (at_new : ℕ → Option ℕ) (free : at bucket ≡ None) (sets : (number : ℕ) → at_new number ≡ cond (bucket == number) (Some (length names)) (at number)) where
+        sets_here : at_new bucket ≡ Some (length names)
+        sets_here = sets bucket ∙ ap (λ b. cond b (Some (length names)) (at bucket)) (eq-eqb bucket bucket refl)
+
+        kept_in_buckets : (number place : ℕ) → at number ≡ Some place → at_new number ≡ Some place
+        kept_in_buckets number place is = elim (bucket == number) as (λ b. (bucket == number) ≡ b → at_new number ≡ Some place) [
+          | true ↦ λ t. no_place place (sym free ∙ ap at (eqb-true bucket number t) ∙ is)
+          | false ↦ λ t. sets number ∙ ap (λ b. cond b (Some (length names)) (at number)) t ∙ is
         ] refl
 
-    -- the name is put under its text, since another one is in its bucket
-    pub finds_by_text : (place : ℕ) → first_in count names (bucket_of count name) ≡ Some place → ((number : ℕ) → number < count → at_new number ≡ at number)
-        → ((text : List ℕ) → under_new text ≡ update bytes_eq under name (Some (length names)) text) → Finds count at_new under_new (names ++ name ∷ [])
-    finds_by_text place taken kept sets = record { some = finds.some; of_buckets = buckets; of_others = others }
-      where
-        buckets : (number : ℕ) → number < count → at_new number ≡ first_in count (names ++ name ∷ []) number
-        buckets number within = elim (bucket_of count name == number) as (λ b. (bucket_of count name == number) ≡ b → at_new number ≡ first_in count (names ++ name ∷ []) number) [
-          | true ↦ λ t.
-              let stood = subst (λ n. first_in count names n ≡ Some place) (eqb-true (bucket_of count name) number t) taken in
-              kept number within ∙ finds.of_buckets number within ∙ stood ∙ sym (bucket_stays number place stood)
-          | false ↦ λ t. kept number within ∙ finds.of_buckets number within ∙ sym (position_push_apart (λ x. bucket_of count x == number) names name t)
+        some_is : {a b : ℕ} → Some a ≡ Some b → a ≡ b
+        some_is {a} {b} h = ap (λ o. elim o as (λ o. ℕ) [ None ↦ 0 | Some n ↦ n ]) h
+
+        -- what a bucket holds then is the last name, or what it held
+        by_bucket : (P : ℕ → Type 0) → P (length names) → ((number place : ℕ) → at number ≡ Some place → P place) → (number place : ℕ) → at_new number ≡ Some place → P place
+        by_bucket P last before number place is = elim (bucket == number) as (λ b. (bucket == number) ≡ b → P place) [
+          | true ↦ λ t. subst P (some_is (sym (sets number ∙ ap (λ b. cond b (Some (length names)) (at number)) t) ∙ is)) last
+          | false ↦ λ t. before number place (sym (sets number ∙ ap (λ b. cond b (Some (length names)) (at number)) t) ∙ is)
         ] refl
 
-        turned : (text : List ℕ) → bytes_eq text name ≡ true → bytes_eq name text ≡ true
-        turned text same = nat_list_eq_equiv.symm name text ∙ same
+        pub finds_in_bucket : found_by count at_new under (names ++ name ∷ []) name ≡ Some (length names) → Finds count at_new under (names ++ name ∷ [])
+        finds_in_bucket there = finds_more at_new under there kept_in_buckets (λ text place h. h)
+            (by_bucket (λ place. place < length (names ++ name ∷ [])) (grind (arith, common_steps)) (λ number place is. longer place (finds.inside number place is)))
+            (by_bucket (λ place. position (bytes_eq (get_or (names ++ name ∷ []) place [])) (names ++ name ∷ []) ≡ Some place)
+            (ap (λ n. position (bytes_eq n) (names ++ name ∷ [])) (get_or_push names name [] (length names) refl) ∙ here_after name itself)
+            (λ number place is. still_of_bucket place (finds.inside number place is) (finds.of_buckets number place is)))
+            (λ text place is. still_first text place (finds.of_others text place is))
 
-        turned_off : (text : List ℕ) → bytes_eq text name ≡ false → bytes_eq name text ≡ false
-        turned_off text other = nat_list_eq_equiv.symm name text ∙ other
+        pub in_first : bucket ≡ first_of count (digest name) → Finds count at_new under (names ++ name ∷ [])
+        in_first is = finds_in_bucket (is_here (names ++ name ∷ []) name (at_new (first_of count (digest name))) (found_in (names ++ name ∷ []) name (at_new (second_of count (digest name))) (under name))
+            (length names) (sym (ap at_new is) ∙ sets_here) last_is)
 
-        others : (text : List ℕ) → stands_at (names ++ name ∷ []) text (first_in count (names ++ name ∷ []) (bucket_of count text)) ≡ false → under_new text ≡ position (bytes_eq text) (names ++ name ∷ [])
-        others text apart = elim (bytes_eq text name) as (λ b. bytes_eq text name ≡ b → under_new text ≡ position (bytes_eq text) (names ++ name ∷ [])) [
-          | true ↦ λ same. sets text ∙ ap (λ b. cond b (Some (length names)) (under text)) (turned text same) ∙ sym (here_after text same)
-          | false ↦ λ other. other_found text other (sets text ∙ ap (λ b. cond b (Some (length names)) (under text)) (turned_off text other)) apart
-        ] refl
+        pub in_second : (here : ℕ) → at (first_of count (digest name)) ≡ Some here → bucket ≡ second_of count (digest name) → Finds count at_new under (names ++ name ∷ [])
+        in_second here taken is = finds_in_bucket
+            (not_here (names ++ name ∷ []) name (at_new (first_of count (digest name))) (found_in (names ++ name ∷ []) name (at_new (second_of count (digest name))) (under name)) here
+            (kept_in_buckets (first_of count (digest name)) here taken) (not_held (first_of count (digest name)) here taken)
+            ∙ is_here (names ++ name ∷ []) name (at_new (second_of count (digest name))) (under name) (length names) (sym (ap at_new is) ∙ sets_here) last_is)
 
-module _ (count : ℕ) (names : List (List ℕ)) (number : ℕ) where
-  -- a bucket has a first place or none
-  pub is_taken : is_some (first_in count names number) ≡ true → (place : ℕ) × (first_in count names number ≡ Some place)
-  is_taken h = elim (first_in count names number) as (λ o. first_in count names number ≡ o → (place : ℕ) × (first_in count names number ≡ Some place)) [
-    | None ↦ λ t. absurd (false≢true (sym (ap is_some t) ∙ h))
-    | Some place ↦ λ t. (place, t)
-  ] refl
+      -- the name is put under its text, since both buckets are taken
+      pub by_text : (under_new : List ℕ → Option ℕ) (here there : ℕ) → at (first_of count (digest name)) ≡ Some here → at (second_of count (digest name)) ≡ Some there
+          → ((text : List ℕ) → under_new text ≡ update bytes_eq under name (Some (length names)) text) → Finds count at under_new (names ++ name ∷ [])
+      by_text under_new here there taken also sets = finds_more at under_new found (λ bucket place h. h) told
+          (λ bucket place is. longer place (finds.inside bucket place is)) (λ bucket place is. still_of_bucket place (finds.inside bucket place is) (finds.of_buckets bucket place is)) of_texts
+        where
+          found : found_by count at under_new (names ++ name ∷ []) name ≡ Some (length names)
+          found =
+              not_here (names ++ name ∷ []) name (at (first_of count (digest name))) (found_in (names ++ name ∷ []) name (at (second_of count (digest name))) (under_new name)) here taken (not_held (first_of count (digest name)) here taken)
+              ∙ not_here (names ++ name ∷ []) name (at (second_of count (digest name))) (under_new name) there also (not_held (second_of count (digest name)) there also)
+              ∙ sets name ∙ ap (λ b. cond b (Some (length names)) (under name)) itself
 
-  pub is_free : is_some (first_in count names number) ≡ false → first_in count names number ≡ None
-  is_free h = elim (first_in count names number) as (λ o. first_in count names number ≡ o → first_in count names number ≡ None) [
-    | None ↦ λ t. t
-    | Some place ↦ λ t. absurd (false≢true (sym h ∙ ap is_some t))
-  ] refl
+          other_text : (text : List ℕ) → bytes_eq name text ≡ false → under_new text ≡ under text
+          other_text text other = sets text ∙ ap (λ b. cond b (Some (length names)) (under text)) other
 
--- a name and its bucket
-module _ (buckets : List (Option ℕ)) (under : List ℕ → Option ℕ) (names : List (List ℕ)) (name : List ℕ) (bucket : ℕ) (is : bucket ≡ bucket_of (length buckets) name) (within : bucket < length buckets)
-    (finds : Finds (length buckets) (in_bucket buckets) under names) where
-  abbrev count : ℕ
-  count = length buckets
+          same_text : (text : List ℕ) → bytes_eq name text ≡ true → under_new text ≡ Some (length names)
+          same_text text same = sets text ∙ ap (λ b. cond b (Some (length names)) (under text)) same
 
-  pub stands_there : (found : Option ℕ) → found ≡ get_or buckets bucket found → first_in (length buckets) names (bucket_of (length buckets) name) ≡ found
-  stands_there found read = ap (first_in count names) (sym is) ∙ sym (finds.of_buckets bucket within) ∙ get_or_default buckets bucket None found within ∙ sym read
+          absent : (text : List ℕ) (place : ℕ) → bytes_eq name text ≡ true → position (bytes_eq text) names ≡ Some place → None ≡ Some place
+          absent text place same is = sym (position_none (bytes_eq name) names is_new) ∙ ap (λ n. position (bytes_eq n) names) ((bytes_decides name text).0 same) ∙ is
 
-  abbrev filled : List (Option ℕ)
-  filled = set buckets bucket (Some (length names))
+          told : (text : List ℕ) (place : ℕ) → under text ≡ Some place → under_new text ≡ Some place
+          told text place is = elim (bytes_eq name text) as (λ b. bytes_eq name text ≡ b → under_new text ≡ Some place) [
+            | true ↦ λ same. no_place place (absent text place same (finds.of_others text place is))
+            | false ↦ λ other. other_text text other ∙ is
+          ] refl
 
-  fills : (number : ℕ) → number < count → in_bucket filled number ≡ cond (bucket_of count name == number) (Some (length names)) (in_bucket buckets number)
-  fills number inside = elim (bucket_of count name == number) as (λ b. (bucket_of count name == number) ≡ b → in_bucket filled number ≡ cond b (Some (length names)) (in_bucket buckets number)) [
-    | true ↦ λ t. subst (λ k. in_bucket filled k ≡ Some (length names)) (is ∙ eqb-true (bucket_of count name) number t) (get_or-set_same buckets bucket (Some (length names)) None within)
-    | false ↦ λ t. get_or-set_other buckets bucket number (Some (length names)) None (λ same. false≢true (sym t ∙ eq-eqb (bucket_of count name) number (sym (same ∙ is))))
-  ] refl
+          of_texts : (text : List ℕ) (place : ℕ) → under_new text ≡ Some place → position (bytes_eq text) (names ++ name ∷ []) ≡ Some place
+          of_texts text place is = elim (bytes_eq name text) as (λ b. bytes_eq name text ≡ b → position (bytes_eq text) (names ++ name ∷ []) ≡ Some place) [
+            | true ↦ λ same. here_after text (nat_list_eq_equiv.symm text name ∙ same) ∙ sym (same_text text same) ∙ is
+            | false ↦ λ other. still_first text place (finds.of_others text place (sym (other_text text other) ∙ is))
+          ] refl
 
-  pub is_put : list_any (bytes_eq name) names ≡ false → first_in (length buckets) names (bucket_of (length buckets) name) ≡ None
-      → Finds (length (set buckets bucket (Some (length names)))) (in_bucket (set buckets bucket (Some (length names)))) under (names ++ name ∷ [])
-  is_put is_new free =
-      subst (λ n. Finds n (in_bucket filled) under (names ++ name ∷ [])) (sym (length-set buckets bucket (Some (length names))))
-      (finds_by_bucket count names name (in_bucket buckets) (in_bucket filled) under under finds is_new free fills (λ text. refl))
+-- what is kept of a place is that place
+kept_place : (place : ℕ) → place_of (place + 1) ≡ Some place
+kept_place place = grind (arith, common_steps)
+
+-- a bucket of a list into which the place of a name is put
+pub fills : (buckets : List ℕ) (bucket place : ℕ) → bucket < length buckets → (number : ℕ) → in_bucket (set buckets bucket (place + 1)) number ≡ cond (bucket == number) (Some place) (in_bucket buckets number)
+fills buckets bucket place within number = elim (bucket == number) as (λ b. (bucket == number) ≡ b → in_bucket (set buckets bucket (place + 1)) number ≡ cond b (Some place) (in_bucket buckets number)) [
+  | true ↦ λ t. subst (λ k. in_bucket (set buckets bucket (place + 1)) k ≡ Some place) (eqb-true bucket number t) (ap place_of (get_or-set_same buckets bucket (place + 1) 0 within) ∙ kept_place place)
+  | false ↦ λ t. ap place_of (get_or-set_other buckets bucket number (place + 1) 0 (λ same. false≢true (sym t ∙ eq-eqb bucket number (sym same))))
+] refl
+
+-- a bucket holds no place, or one
+pub is_free : (held : Option ℕ) → is_some held ≡ false → held ≡ None
+is_free None h = refl
+is_free (Some place) h = absurd (false≢true (sym h))
+
+pub is_taken : (held : Option ℕ) → is_some held ≡ true → (place : ℕ) × (held ≡ Some place)
+is_taken None h = absurd (false≢true h)
+is_taken (Some place) h = (place, refl)
+
+-- the same is found where the same is kept
+pub finds_same : (count : ℕ) (at : ℕ → Option ℕ) (under under_new : List ℕ → Option ℕ) (names : List (List ℕ)) → Finds count at under names → ((text : List ℕ) → under_new text ≡ under text) → Finds count at under_new names
+finds_same count at under under_new names finds same = record {
+  some = finds.some;
+  inside = finds.inside;
+  of_buckets = finds.of_buckets;
+  of_others = λ name place is. finds.of_others name place (sym (same name) ∙ is);
+  all = λ name place is. ap (λ o. found_in names name (at (first_of count (digest name))) (found_in names name (at (second_of count (digest name))) o)) (same name) ∙ finds.all name place is;
+}
+
+pub on_err : {T E P : Type 0} (r : Result T E) → P → OnErr r P
+on_err (Ok x) p = tt
+on_err (Err e) p = p
 
 pub stands_if : (b : Bool) → not b ≡ false → b ≡ true
 stands_if b = elim b as (λ b. not b ≡ false → b ≡ true) [ true ↦ λ h. refl | false ↦ λ h. absurd (false≢true (sym h)) ]

@@ -1,3 +1,4 @@
+pub mod DigestLemmas
 pub mod Enumerated
 pub mod FirstLemmas
 pub mod PlaceLemmas

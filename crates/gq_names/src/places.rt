@@ -1,9 +1,9 @@
-//! First places of names, found in a table of buckets. Names that share one are found by comparing texts, so that no choice of
-//! names makes that slow.
+//! First places of names, found in a table of buckets, of which two may hold a name. Names that find both taken are found by comparing
+//! texts, so that no choice of names makes that slow.
 ghost use Rattle.std.specs.Prelude.{◌≡◌, ◌≢◌, ◌<◌, ◌≤◌, ◌++◌, ◌∷◌, [], false, not, length, position, IfOk, OnOk, OnErr};
 ghost use Rattle.std.specs.List.{list_any};
 ghost use Rattle.std.specs.Str.{bytes_eq};
-ghost use Rattle.gq_names.specs.Helping.Places.{FindFirstPlaces, bucket_of, digest};
+ghost use Rattle.gq_names.specs.Helping.Places.{FindFirstPlaces, digest, digest_from, first_of, in_bucket, joined, mixed, second_of};
 
 use gq_text::{NoMemory, SmallText};
 use std::alloc::Global;
@@ -12,22 +12,71 @@ use std::collections::BTreeMap;
 /// The most names that get no table. To go over so few takes less time than to make one.
 pub const FEW: usize = 16;
 
-/// The first places of names: of each bucket the place of the first name in it, and of each other name its own.
+/// An odd number without a pattern in its bits.
+const MIXER: usize = 0x9E37_79B9_7F4A_7C15;
+
+/// The first places of names: of each bucket one more than the place of a name, or 0 where none is, and of each other name its own
+/// place.
 #[derive(Drop)]
 pub struct FirstPlaces {
-    of_buckets: Vec<Option<usize>>,
+    of_buckets: Vec<usize>,
     of_others: BTreeMap<String, usize>,
 }
 
-/// A number made of the text. Most texts have one of their own.
+/// What a number becomes where a part of a text is added to it. A higher bit depends on all bits that are lower.
+fn mixed(number: usize, part: usize) -> usize
+    ensures { result ≡ mixed number part }
+{
+    number.wrapping_add(part).wrapping_mul(MIXER)
+}
+
+/// The number of four bytes, the lowest first.
+fn joined(a: u8, b: u8, c: u8, d: u8) -> usize
+    ensures { result ≡ joined a b c d }
+{
+    usize::from(a)
+        + usize::from(b) * 0x100
+        + usize::from(c) * 0x1_0000
+        + usize::from(d) * 0x100_0000
+}
+
+/// What a number becomes where bytes are added to it, one by one.
+fn digest_of_few(number: usize, bytes: &[u8]) -> usize
+    requires { length bytes.now < 4 }
+    ensures { result ≡ digest_from number bytes.now }
+{
+    match bytes {
+        [a] => mixed(number, usize::from(*a)),
+        [a, b] => mixed(mixed(number, usize::from(*a)), usize::from(*b)),
+        [a, b, c] => mixed(
+            mixed(mixed(number, usize::from(*a)), usize::from(*b)),
+            usize::from(*c),
+        ),
+        _ => number,
+    }
+}
+
+/// A number made of the text, four bytes at a time. Most texts have one of their own.
 fn digest(text: &str) -> usize
     ensures { result ≡ digest text.now }
 {
     let mut number: usize = 0;
-    for byte in text.as_bytes() {
-        number = number.wrapping_mul(257).wrapping_add(usize::from(*byte));
+    let mut bytes = text.as_bytes();
+    while let [a, b, c, d, rest @ ..] = bytes {
+        number = mixed(number, joined(*a, *b, *c, *d));
+        bytes = rest;
     }
-    number
+    digest_of_few(number, bytes)
+}
+
+/// How many buckets are made for so many names: a power of two, eight for each name at least.
+fn bucket_count(names: usize) -> usize
+    ensures { 0 < result }
+{
+    match names.saturating_mul(8).checked_next_power_of_two() {
+        Some(count) => count,
+        None => names.saturating_add(1),
+    }
 }
 
 /// A table of that many buckets, with nothing in them.
@@ -36,7 +85,7 @@ fn empty_buckets(alloc: Global, count: usize) -> Result<FirstPlaces, NoMemory>
     ensures { IfOk result (λ places. FindFirstPlaces places []) }
 {
     Ok(FirstPlaces {
-        of_buckets: vec![in alloc; None; count]?,
+        of_buckets: vec![in alloc; 0; count]?,
         of_others: BTreeMap::new(alloc),
     })
 }
@@ -50,13 +99,31 @@ impl FirstPlaces {
         }
     }
 
-    /// The bucket of the name.
-    fn bucket(&self, name: &str) -> usize
+    /// The bucket in which a text of that number is looked for first.
+    fn first_bucket(&self, number: usize) -> usize
         requires { 0 < length self.now.of_buckets.items }
-        ensures is { result ≡ bucket_of (length self.now.of_buckets.items) name.now }
+        ensures is { result ≡ first_of (length self.now.of_buckets.items) number }
         ensures within { result < length self.now.of_buckets.items }
     {
-        digest(name) % self.of_buckets.len()
+        (number >> 32) & (self.of_buckets.len() - 1)
+    }
+
+    /// The bucket in which it is looked for then.
+    fn second_bucket(&self, number: usize) -> usize
+        requires { 0 < length self.now.of_buckets.items }
+        ensures is { result ≡ second_of (length self.now.of_buckets.items) number }
+        ensures within { result < length self.now.of_buckets.items }
+    {
+        (number >> 44) & (self.of_buckets.len() - 1)
+    }
+
+    /// The place that a bucket holds.
+    fn place_in(&self, bucket: usize) -> Option<usize>
+        requires { bucket < length self.now.of_buckets.items }
+        ensures { result ≡ in_bucket self.now.of_buckets.items bucket }
+    {
+        let kept = self.of_buckets[bucket];
+        if kept == 0 { None } else { Some(kept - 1) }
     }
 
     /// The first place of the name among the names, whose places these are. It takes no memory.
@@ -64,9 +131,14 @@ impl FirstPlaces {
         requires { FindFirstPlaces self.now names.now }
         ensures { result ≡ position (bytes_eq name.now) names.now }
     {
-        let place = self.of_buckets[self.bucket(name)]?;
-        if name == names[place].as_str() {
-            return Some(place);
+        let number = digest(name);
+        let first = self.place_in(self.first_bucket(number))?;
+        if name == names[first].as_str() {
+            return Some(first);
+        }
+        let second = self.place_in(self.second_bucket(number))?;
+        if name == names[second].as_str() {
+            return Some(second);
         }
         self.of_others.get(name).copied()
     }
@@ -78,12 +150,16 @@ impl FirstPlaces {
         ensures ok { OnOk result (FindFirstPlaces self.new (names.now ++ name.now ∷ [])) }
         ensures err { OnErr result (FindFirstPlaces self.new names.now) }
     {
-        let bucket = self.bucket(name);
-        if self.of_buckets[bucket].is_some() {
+        let number = digest(name);
+        let first = self.first_bucket(number);
+        let second = self.second_bucket(number);
+        if self.place_in(first).is_none() {
+            self.of_buckets[first] = names.len() + 1;
+        } else if self.place_in(second).is_none() {
+            self.of_buckets[second] = names.len() + 1;
+        } else {
             let key = String::from_str(alloc, name)?;
             self.of_others.insert(key, names.len())?;
-        } else {
-            self.of_buckets[bucket] = Some(names.len());
         }
         Ok(())
     }
@@ -99,12 +175,12 @@ impl FirstPlaces {
         Ok(())
     }
 
-    /// The first places of these names, in a table with room for as many again.
+    /// The first places of these names, in a table with room for twice as many again, of which at least three in four buckets stay
+    /// empty.
     fn of(alloc: Global, names: &[SmallText]) -> Result<FirstPlaces, NoMemory>
         ensures { IfOk result (λ places. FindFirstPlaces places names.now) }
     {
-        let count = names.len().saturating_mul(4).saturating_add(3);
-        let mut places = empty_buckets(alloc, count)?;
+        let mut places = empty_buckets(alloc, bucket_count(names.len()))?;
         for (place, name) in names.iter().enumerate() {
             places.put_new(alloc, &names[..place], name.as_str())?;
         }
@@ -115,7 +191,7 @@ impl FirstPlaces {
     fn is_full(&self, count: usize) -> bool
         ensures { result ≡ false → count ≢ 16 }
     {
-        count == FEW || count > FEW && count >= self.of_buckets.len() / 2
+        count == FEW || count > FEW && count >= self.of_buckets.len() / 4
     }
 
     /// Has the places of these names, where they are more than a few less one.

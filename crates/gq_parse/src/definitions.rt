@@ -33,6 +33,7 @@ pub(crate) fn document(alloc: Global, tokens: &[Token<'_>]) -> Result<Document, 
         put_definition(&mut definitions, one)?;
         at = end;
     }
+    definitions.shrink_to_fit();
     Ok(Document { definitions })
 }
 

@@ -102,7 +102,10 @@ fn separated_locations(
         put_location(&mut locations, one)?;
         match punctuator(Kind::Pipe, tokens, end) {
             Some(behind) => at = behind,
-            None => return Ok((locations, end)),
+            None => {
+                locations.shrink_to_fit();
+                return Ok((locations, end));
+            }
         }
     }
 }

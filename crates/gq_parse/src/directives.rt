@@ -30,6 +30,7 @@ pub(crate) fn directives(
         put_directive(&mut directives, one)?;
         at = behind;
     }
+    directives.shrink_to_fit();
     Ok((directives, at))
 }
 

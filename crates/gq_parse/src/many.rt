@@ -81,6 +81,7 @@ fn many_until<P: Phrase>(
     let mut at = start;
     loop {
         if let Some(end) = punctuator(closing, tokens, at) {
+            items.shrink_to_fit();
             return Ok((items, end));
         }
         let (one, behind) = phrase.parse(alloc, tokens, at)?;

@@ -82,7 +82,10 @@ fn separated_names(
         put_name(&mut names, one)?;
         match punctuator(between, tokens, end) {
             Some(behind) => at = behind,
-            None => return Ok((names, end)),
+            None => {
+                names.shrink_to_fit();
+                return Ok((names, end));
+            }
         }
     }
 }

@@ -193,6 +193,7 @@ fn values(
     let mut at = start;
     loop {
         if let Some(end) = punctuator(Kind::BracketClose, tokens, at) {
+            items.shrink_to_fit();
             return Ok((items, end));
         }
         let (one, behind) = value(alloc, constant, tokens, at)?;
@@ -252,6 +253,7 @@ fn object_fields(
     let mut at = start;
     loop {
         if let Some(end) = punctuator(Kind::BraceClose, tokens, at) {
+            fields.shrink_to_fit();
             return Ok((fields, end));
         }
         let (name, value, behind) = named_value(alloc, constant, tokens, at)?;

@@ -1,6 +1,8 @@
 //! The text of a response as JSON (GraphQL, October 2021, section 7.2.1).
-ghost use Rattle.std.specs.Prelude.{◌≡◌, ◌++◌, List, ℕ, map, string_bytes, IfOk, OnOk};
+ghost use Rattle.std.specs.Prelude.{◌≡◌, ◌++◌, List, ℕ, length, map, string_bytes, IfOk, OnOk};
+ghost use Rattle.std.specs.Bool.{OnTrue};
 ghost use Rattle.json.specs.Print.{quoted};
+ghost use Rattle.json.specs.Written.{PlainBetween};
 ghost use Rattle.gq_table.specs.Views.{leaf_view};
 ghost use Rattle.gq_response.specs.Responses.{answered};
 ghost use Rattle.gq_response.specs.Texts.{leaf_text, step_text, with_commas, data_text, error_text, errors_text, response_text};
@@ -51,11 +53,36 @@ fn quoted_text(alloc: Global, content: &str) -> Result<String, NoMemory>
     Ok(string.to_string(alloc)?)
 }
 
-fn put_quoted(alloc: Global, content: &str, text: &mut String) -> Result<(), NoMemory>
+/// Puts a string of JSON whose text may need escapes.
+fn put_escaped(alloc: Global, content: &str, text: &mut String) -> Result<(), NoMemory>
     ensures { OnOk result (string_bytes text.new ≡ string_bytes text.old ++ quoted content.now) }
 {
     let string = quoted_text(alloc, content)?;
     text.push_str(string.as_str())?;
+    Ok(())
+}
+
+/// Whether a text stands between quotes as it is.
+fn is_plain(content: &[u8]) -> bool
+    ensures { OnTrue result (PlainBetween content.now 0 (length content.now)) }
+{
+    for &byte in content {
+        if byte == b'"' || byte == b'\\' || byte < 0x20 {
+            return false;
+        }
+    }
+    true
+}
+
+fn put_quoted(alloc: Global, content: &str, text: &mut String) -> Result<(), NoMemory>
+    ensures { OnOk result (string_bytes text.new ≡ string_bytes text.old ++ quoted content.now) }
+{
+    if !is_plain(content.as_bytes()) {
+        return put_escaped(alloc, content, text);
+    }
+    text.push_str("\"")?;
+    text.push_str(content)?;
+    text.push_str("\"")?;
     Ok(())
 }
 

@@ -12,6 +12,7 @@ ghost use Rattle.gq_table_text.specs.Helping.ReadAs.{read_as, IsNatural};
 use fast_float::Numeral;
 use gq_table::Leaf;
 use gq_text::{NoMemory, SmallText};
+use itoa::Buffer;
 use json::Value;
 use std::alloc::Global;
 
@@ -50,16 +51,18 @@ fn negative(value: &Value<'_>) -> Option<i64>
 fn natural_leaf(alloc: Global, number: u64) -> Result<Leaf, NoMemory>
     ensures { IfOk result (λ leaf. leaf_view leaf ≡ number_leaf (decimal number)) }
 {
-    let text = number.to_string(alloc)?;
-    Ok(Leaf::Number(SmallText::from_str(alloc, text.as_str())?))
+    let mut digits = Buffer::new();
+    let text = digits.format(number);
+    Ok(Leaf::Number(SmallText::from_str(alloc, text)?))
 }
 
 /// A negative number as a leaf.
 fn negative_leaf(alloc: Global, number: i64) -> Result<Leaf, NoMemory>
     ensures { IfOk result (λ leaf. leaf_view leaf ≡ number_leaf (signed_decimal number)) }
 {
-    let text = number.to_string(alloc)?;
-    Ok(Leaf::Number(SmallText::from_str(alloc, text.as_str())?))
+    let mut digits = Buffer::new();
+    let text = digits.format(number);
+    Ok(Leaf::Number(SmallText::from_str(alloc, text)?))
 }
 
 /// A boolean, a text or an integer.

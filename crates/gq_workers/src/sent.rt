@@ -11,10 +11,12 @@ use crate::order::Order;
 use gq_board::{Looker, Room, Told};
 use gq_events::{Done, Task, copy_task};
 use gq_kept::Kept;
+use gq_parse::Piece;
 use gq_project::Project;
 use gq_text::PositionEncoding;
 use gq_text::text::TEXT_MAX;
 use std::alloc::Global;
+use std::sync::Arc;
 
 /// What was made of an order, with what had been published as its worker saw it. `attend` alone makes one.
 #[derive(Drop)]
@@ -105,12 +107,14 @@ fn superseded<J: Room>(order: &Order<J>, seen: &Told<J>) -> Option<PositionEncod
     }
 }
 
-/// Makes what an order asks for, of the texts that were seen. It comes back where there is no memory for a copy of its task.
+/// Makes what an order asks for, of the texts that were seen. The pieces that were parsed for it before are with what is made. The order
+/// comes back where there is no memory for a copy of its task.
 fn make<J: Room>(
     alloc: Global,
     order: Order<J>,
     seen: Told<J>,
     texts: Project,
+    mut parsed: Vec<Arc<Piece>>,
     kept: &mut Kept,
 ) -> Result<Sent<J>, Order<J>>
     requires later { IsPrefix order.told seen }
@@ -124,7 +128,7 @@ fn make<J: Room>(
     let Ok(task) = copy_task(alloc, &order.job.task) else {
         return Err(order);
     };
-    let done = Done::of(
+    let mut done = Done::of(
         alloc,
         order.job.number,
         task,
@@ -132,6 +136,7 @@ fn make<J: Room>(
         &order.job.pieces,
         kept,
     );
+    let _ = done.pieces.append(&mut parsed);
     Ok(Sent { order, seen, done })
 }
 
@@ -141,6 +146,7 @@ fn answer_about<J: Room>(
     order: Order<J>,
     seen: Told<J>,
     texts: Project,
+    parsed: Vec<Arc<Piece>>,
     kept: &mut Kept,
 ) -> Result<Sent<J>, Order<J>>
     requires later { IsPrefix order.told seen }
@@ -148,15 +154,92 @@ fn answer_about<J: Room>(
     ensures { MatchResult result (λ s. (s.order ≡ order) × (s.seen ≡ seen)) (λ o. o ≡ order) }
 {
     let Some(encoding) = superseded(&order, &seen) else {
-        return make(alloc, order, seen, texts, kept);
+        return make(alloc, order, seen, texts, parsed, kept);
     };
     let done = Done::superseded(alloc, order.job.number, encoding, texts);
     Ok(Sent { order, seen, done })
 }
 
+/// Answers an order about what stands now: no earlier than was told.
+fn answer_now<J: Room>(
+    alloc: Global,
+    looker: Looker<J>,
+    order: Order<J>,
+    parsed: Vec<Arc<Piece>>,
+    kept: &mut Kept,
+) -> (Looker<J>, Result<Sent<J>, Order<J>>)
+    ensures later { IsPrefix looker result.0 }
+    ensures answer { MatchResult result.1 (λ s. (s.order ≡ order) × (s.seen ≡ result.0) × IsPrefix order.told result.0 × (s.done.texts ≡ docs_after J.base result.0)) (λ o. o ≡ order) }
+{
+    let (looker, texts) = see(alloc, looker, &order.told);
+    let Some(texts) = texts else {
+        return (looker, Err(order));
+    };
+    let answered = answer_about(alloc, order, looker.tell(), texts, parsed, kept);
+    (looker, answered)
+}
+
+/// Whether an order is a check behind which nothing was seen.
+fn is_due_check<J: Room>(order: &Order<J>, seen: &Told<J>) -> bool {
+    match &order.job.task {
+        Task::Ask(..) => false,
+        Task::Check(_) => seen.is(&order.told),
+    }
+}
+
+/// Brings what is kept to these texts, and answers pieces of those that it read. Where memory is refused, some of that is done.
+fn mend<J: Room>(
+    alloc: Global,
+    order: &Order<J>,
+    texts: &Project,
+    kept: &mut Kept,
+) -> Vec<Arc<Piece>> {
+    let mut parsed = Vec::new(alloc);
+    let _ = kept.bring_to(alloc, texts, &order.job.pieces, &mut parsed);
+    parsed
+}
+
+/// Looks once more, and copies nothing.
+fn glance<J: Room>(looker: Looker<J>) -> Looker<J>
+    ensures { IsPrefix looker result }
+{
+    match looker.look() {
+        Ok(seen) => seen.leave(),
+        Err(looker) => looker,
+    }
+}
+
+/// Answers an order about the texts that were seen. A check is answered only once what is kept was brought to them and nothing more
+/// was published by then, since it would be superseded; else about what stands then.
+fn answer_seen<J: Room>(
+    alloc: Global,
+    looker: Looker<J>,
+    order: Order<J>,
+    texts: Project,
+    kept: &mut Kept,
+) -> (Looker<J>, Result<Sent<J>, Order<J>>)
+    requires later { IsPrefix order.told looker }
+    requires texts { texts ≡ docs_after J.base looker }
+    ensures later { IsPrefix looker result.0 }
+    ensures answer { MatchResult result.1 (λ s. (s.order ≡ order) × (s.seen ≡ result.0) × IsPrefix order.told result.0 × (s.done.texts ≡ docs_after J.base result.0)) (λ o. o ≡ order) }
+{
+    let seen = looker.tell();
+    if !is_due_check(&order, &seen) {
+        let answered = answer_about(alloc, order, seen, texts, Vec::new(alloc), kept);
+        return (looker, answered);
+    }
+    let parsed = mend(alloc, &order, &texts, kept);
+    let looker = glance(looker);
+    if !looker.tell().is(&seen) {
+        return answer_now(alloc, looker, order, parsed, kept);
+    }
+    let answered = answer_about(alloc, order, seen, texts, parsed, kept);
+    (looker, answered)
+}
+
 /// Answers an order about documents as they are no earlier than when it was put. A check behind which documents changed is superseded: the
-/// answer says so, and what is kept stays as it is. The order comes back where the look is refused, or there is no memory for a copy of the
-/// texts or of the task. It waits for nobody.
+/// answer says so, and what is kept stays as it is or is brought to what was seen before. The order comes back where the look is refused, or
+/// there is no memory for a copy of the texts or of the task. It waits for nobody.
 pub fn attend<J: Room>(
     alloc: Global,
     looker: Looker<J>,
@@ -167,9 +250,8 @@ pub fn attend<J: Room>(
     ensures answer { MatchResult result.1 (λ s. (s.order ≡ order) × (s.seen ≡ result.0) × IsPrefix order.told result.0 × (s.done.texts ≡ docs_after J.base result.0)) (λ o. o ≡ order) }
 {
     let (looker, texts) = see(alloc, looker, &order.told);
-    let Some(texts) = texts else {
-        return (looker, Err(order));
-    };
-    let answered = answer_about(alloc, order, looker.tell(), texts, kept);
-    (looker, answered)
+    match texts {
+        Some(texts) => answer_seen(alloc, looker, order, texts, kept),
+        None => (looker, Err(order)),
+    }
 }

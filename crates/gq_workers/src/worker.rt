@@ -1,5 +1,5 @@
 //! What a worker's thread does.
-ghost use Rattle.std.specs.Prelude.{◌≡◌, [], ◌∷◌, ◌++◌, ◌⊎◌, true, false, IfSome, MatchBool};
+ghost use Rattle.std.specs.Prelude.{◌≡◌, [], ◌∷◌, ◌++◌, ◌⊎◌, true, false, IfOk, IfSome, MatchBool};
 ghost use Rattle.gq_workers.specs.declared.order.OrderOf.{OrderOf};
 ghost use Rattle.gq_workers.specs.Orders.{order_of};
 ghost use Rattle.gq_workers.specs.Work.{AllHanded, ButOne};
@@ -11,6 +11,7 @@ use crate::sent::{Sent, attend};
 use gq_board::{Looker, Room};
 use gq_kept::Kept;
 use gq_project::Project;
+use gq_text::NoMemory;
 use std::alloc::Global;
 use std::sync::Wait;
 
@@ -99,8 +100,18 @@ fn serve<J: Room, G: Gate, R: Wait>(
     unreachable!()
 }
 
-/// Takes jobs, and hands on what comes of each, until no job comes any more. It ends too where it finds no memory for what it keeps, and
-/// where an order or a handing on is refused twice.
+/// What a worker keeps at first, of no documents. It is made once more where that is refused.
+fn keep_nothing(alloc: Global) -> Result<Kept, NoMemory>
+    ensures { IfOk result (λ kept. kept ≡ record { documents = []; is_indexed = false; is_judged = false }) }
+{
+    match Kept::of(alloc, &Project::new(alloc)) {
+        Ok(kept) => Ok(kept),
+        Err(NoMemory) => Kept::of(alloc, &Project::new(alloc)),
+    }
+}
+
+/// Takes jobs, and hands on what comes of each, until no job comes any more. It ends too where what it keeps at first, an order or a
+/// handing on is refused twice.
 pub fn work<J: Room, G: Gate, R: Wait>(
     rt: &R,
     alloc: Global,
@@ -111,7 +122,7 @@ pub fn work<J: Room, G: Gate, R: Wait>(
 )
     ensures { AllHanded jobs.old jobs.new inbox.old inbox.new ⊎ ButOne jobs.old jobs.new inbox.old inbox.new }
 {
-    let Ok(mut kept) = Kept::of(alloc, &Project::new(alloc)) else {
+    let Ok(mut kept) = keep_nothing(alloc) else {
         return;
     };
     serve(rt, alloc, looker, jobs, inbox, &mut kept, gate);

@@ -1,15 +1,8 @@
 -- Which files the spreads of a file lead to, computed from names.
-use Rattle.std.specs.Prelude.{ℕ, ◌+◌, ◌<◌, List, [], ◌∷◌, ◌++◌, Contains, flat_map, length, map}
+use Rattle.std.specs.Prelude.{ℕ, ◌+◌, List, [], ◌∷◌, ◌++◌, flat_map, map}
 use Rattle.std.specs.Str.{bytes_eq}
-use Rattle.std.specs.declared.vec.Vec.{Vec}
-use Rattle.std.specs.declared.alloc.Global.{Global}
 use Rattle.gq_names.specs.UnderNames.{UnderNames, items_under, one_if}
 use Rattle.gq_types.specs.Entries.{Text}
-use Rattle.gq_graph.specs.Reach.{row}
-use Rattle.gq_document.specs.Definitions.{OperationOf, FragmentOf}
-use Rattle.gq_document.specs.Executable.{ExecutableOf}
-use Rattle.gq_document.specs.Reaches.{IsSpreadIn}
-use Rattle.gq_by_file.specs.Closed.Closed.{StandsInFile}
 use Rattle.gq_by_file.specs.declared.names.FileNames.{FileNames}
 
 -- the number of a file, once for each of its fragments of that name
@@ -32,9 +25,3 @@ linked_in names one = flat_map (λ text. files_from 0 text names) one.spreads.it
 
 abbrev pub links_among : List FileNames → List (List ℕ)
 links_among names = map (linked_in names) names
-
--- The rows lead from each file to the files with fragments that are spread in it.
-pub record AreLinks (x : ExecutableOf) (rows : List (Vec ℕ Global)) : Type 0 where
-  pub in_range : (n : ℕ) → StandsInFile x n → n < length rows
-  pub of_operations : (o : OperationOf) → Contains x.operations o → (f : FragmentOf) → Contains x.fragments f → IsSpreadIn o.set f → Contains (row rows o.file) f.file
-  pub of_fragments : (g : FragmentOf) → Contains x.fragments g → (f : FragmentOf) → Contains x.fragments f → IsSpreadIn g.set f → Contains (row rows g.file) f.file

@@ -1,5 +1,5 @@
 -- What a run with workers and its two sides are given, and what they come to. Only contracts of private functions speak of it.
-use Rattle.std.specs.Prelude.{◌≡◌, ◌⊎◌, ℕ, Bool, false, List, [], Option}
+use Rattle.std.specs.Prelude.{◌≡◌, ◌⊎◌, ℕ, Bool, false, List, [], Option, Result, MatchResult}
 use Rattle.gq_events.specs.declared.event.Event.{Event}
 use Rattle.gq_events.specs.declared.event.LoadedContent.{LoadedContent}
 use Rattle.gq_board.specs.declared.history.Room.{Ghosts}
@@ -51,6 +51,12 @@ module _ {J : Type 0} {g : Ghosts J} where
       → ReaderSide J S F g → ReaderCame J S F g → Type 0
   ReaderComes reads has files_failed too_deep left ended source_failed side came = (reader_on came.end ≡ reader_on side.end)
       × Posts reads (has side.files) side.files side.keys.items (files_after files_failed too_deep came.files) (left side.input) (source_after left ended source_failed came.input) came.told (posted came.end)
+
+  -- what came of a reader: what it left once it had read, or itself, as it was
+  abbrev pub ReaderTurns : {S F : Type 0} → (F → List ℕ → LoadedContent → F → Type 0) → (F → List ℕ → Bool) → (F → Bool) → (F → Bool) → (S → Option (List ℕ)) → (S → Bool) → (S → Bool)
+      → ReaderSide J S F g → Result (ReaderCame J S F g) (ReaderSide J S F g) → Type 0
+  ReaderTurns reads has files_failed too_deep left ended source_failed side turn =
+      MatchResult turn (λ came. ReaderComes reads has files_failed too_deep left ended source_failed side came) (λ rested. rested ≡ side)
 
   -- what the desk came to over what it collected, by its end
   abbrev pub DeskComes : {K : Type 0} → (K → Option (List ℕ)) → (K → Bool) → ℕ → DeskSide J K g → DeskCame J K g → Type 0

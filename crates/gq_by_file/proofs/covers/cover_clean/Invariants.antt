@@ -3,7 +3,7 @@ use Rattle.std.proofs.Common.{ℕ, List}
 use Rattle.gq_document.specs.Executable.{ExecutableOf}
 use Rattle.gq_by_file.specs.Across.{AreCovers}
 use Rattle.gq_by_file.specs.Helping.Covers.{AreFaulty, IsCovered, LeadsInto}
-use Rattle.gq_by_file.specs.Helping.Links.{AreLinks}
+use Rattle.gq_by_file.specs.Links.{AreLinks}
 use Rattle.gq_by_file.proofs.covers.cover_clean.Given as goal
 
 abbrev pub invariant-loop-file : goal.invariant-loop-file

@@ -2,7 +2,7 @@ use Rattle.std.proofs.Common.{◌≡◌, ◌+◌, ◌*◌, Some, map, take, []}
 use Rattle.gq_tree.specs.Forest.{none}
 use Rattle.gq_meaning.specs.Results as result
 use Rattle.gq_meaning.specs.Results.{key}
-use Rattle.gq_meaning.specs.Response.{keys_after, indexes}
+use Rattle.gq_meaning.specs.Response.{indexes}
 use Rattle.gq_executor.proofs.Loops.{IsSoFar}
 use Rattle.gq_meaning.specs.Expand.{sets_of}
 use Rattle.gq_meaning.proofs.Height.{height}
@@ -29,17 +29,20 @@ decreases-answer_item l = 8 * weight (deepest_in l.world) (height (definitions_i
 abbrev pub decreases-answer_object : goal.decreases-answer_object
 decreases-answer_object l = 8 * weight (deepest_in l.world) (height (definitions_in l.world) (sets_of (asked_all l.group.now))) 0 + 5
 
+abbrev pub decreases-answer_members : goal.decreases-answer_members
+decreases-answer_members l = 8 * weight (deepest_in l.world) (height (definitions_in l.world) (sets_of (asked_all l.group.now))) 0 + 4
+
 abbrev pub decreases-answer_key : goal.decreases-answer_key
 decreases-answer_key l = 8 * weight (deepest_in l.world) (height (definitions_in l.world) (sets_of (asked_all l.group.now))) (deepest_in l.world) + 9
 
 abbrev pub decreases-answer_field : goal.decreases-answer_field
 decreases-answer_field l = 8 * weight (deepest_in l.world) (height (definitions_in l.world) (sets_of (asked_all l.group.now))) (deepest_in l.world) + 8
 
-abbrev pub invariant-answer_object-loop-place : goal.invariant-answer_object-loop-place
-invariant-answer_object-loop-place l =
+abbrev pub invariant-answer_members-loop-place : goal.invariant-answer_members-loop-place
+invariant-answer_members-loop-place l =
     IsSoFar l.world (type_seen l.type_ref) (Some (record { label = result.object l.object l.number; below = none })) (asked_all l.group) (path_view l.fn.path.items) l.blocked
-    (map key (take l.place (keys_after [] (asked_all l.fields.items)))) (map (λ m. data_view m.value) l.members.items) (errors_view l.fn.errors.items) (errors_view l.errors.items)
-    × (map (λ m. m.key) l.members.items ≡ take l.place (keys_after [] (asked_all l.fields.items))) × (l.path.items ≡ l.fn.path.items)
+    (map key (take l.place l.plan.groups.keys)) (map (λ m. data_view m.value) l.members.items) (errors_view l.fn.errors.items) (errors_view l.errors.items)
+    × (map (λ m. m.key) l.members.items ≡ take l.place l.plan.groups.keys) × (l.path.items ≡ l.fn.path.items)
 
 abbrev pub invariant-answer_list-loop-index : goal.invariant-answer_list-loop-index
 invariant-answer_list-loop-index l =

@@ -1,13 +1,10 @@
-use Rattle.std.proofs.Common.{sym, ◌∙◌, ap, arith}
-use Rattle.std.proofs.lemmas.List.{drop_more, drop_all}
-use Rattle.gq_names.specs.Helping.Places.{digest_from}
+use Rattle.std.proofs.Common.{◌-◌, drop, length, sym, take, ◌∙◌, ap}
+use Rattle.gq_names.specs.Helping.Places.{digest_from, mixed}
+use Rattle.gq_names.proofs.DigestLemmas.{four_at_once}
 use Rattle.gq_names.proofs.places.digest.Goals as goal
 
-pub loop-byte-preserved : goal.loop-byte-preserved
-loop-byte-preserved c =
-    let step = ap (digest_from c.loop-byte.number) (drop_more c.as_bytes-byte-items.result.now c.loop-byte.byte-index 0 (omega (arith, c.loop-byte-test.true))) in
-    rw c.from.ensures (sym step ∙ c.loop-byte.invariant)
-
-pub returns : goal.returns
-returns c =
-    ap (digest_from c.loop-byte.number) (sym (drop_all c.loop-byte.byte-index c.as_bytes-byte-items.result.now (omega (arith, c.loop-byte-test.false, c.loop-byte.auto.byte-index-end)))) ∙ c.loop-byte.invariant
+pub loop-bytes-preserved : goal.loop-bytes-preserved
+loop-bytes-preserved c =
+    let bytes = c.loop-bytes.bytes.now in
+    ap (λ n. digest_from n (take (length bytes - 4) (drop 4 bytes))) (c.mixed-number.ensures ∙ ap (mixed c.loop-bytes.number) c.joined.ensures)
+    ∙ sym (four_at_once c.loop-bytes.number bytes c.in-len4-up.len_at_least) ∙ c.loop-bytes.invariant

@@ -17,4 +17,6 @@ pub loop-at-preserved : goal.loop-at-preserved
 loop-at-preserved c = record { within = c.in_ok-one.ensures.within.1; read = front_put _ _ _ c.in_ok-put_definition.ensures.ok c.loop-at.invariant.read c.in_ok-one.ensures.found }
 
 pub returns-clause-found : goal.returns-clause-found
-returns-clause-found c = definitions_end c.loop-at.invariant.read (from_end _ _ c.loop-at-test.false)
+returns-clause-found c =
+    let read = definitions_end c.loop-at.invariant.read (from_end _ _ c.loop-at-test.false) in
+    rw c.shrink_to_fit.ensures.items read

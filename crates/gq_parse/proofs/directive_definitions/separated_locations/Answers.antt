@@ -15,7 +15,9 @@ loop-one-preserved c = record {
 }
 
 pub returns-in-None-clause-found : goal.returns-in-None-clause-found
-returns-in-None-clause-found c = separated_put _ _ _ c.in_ok-put_location.ensures.ok c.loop-one.invariant.front c.in-Some.ensures.found c.in-None.ensures.none
+returns-in-None-clause-found c =
+    let read = separated_put _ _ _ c.in_ok-put_location.ensures.ok c.loop-one.invariant.front c.in-Some.ensures.found c.in-None.ensures.none in
+    rw c.shrink_to_fit.ensures.items read
 
 pub returns-in_default-clause-none : goal.returns-in_default-clause-none
 returns-in_default-clause-none c = λ e. not_separated unique_location c.loop-one.invariant.front c.in_default.ensures.none

@@ -22,4 +22,6 @@ returns-in_err-one-clause-none c =
     rw (p.1, p.2) (λ e. no_directives c.loop-alloc.invariant.front next.1 (c.in_err-one.ensures.none e))
 
 pub returns-clause-found : goal.returns-clause-found
-returns-clause-found c = front_directives c.loop-alloc.invariant.front (none_at _ _ c.is_some.ensures c.loop-alloc-test.false c.punctuator.ensures.none)
+returns-clause-found c =
+    let read = front_directives c.loop-alloc.invariant.front (none_at _ _ c.is_some.ensures c.loop-alloc-test.false c.punctuator.ensures.none) in
+    rw c.shrink_to_fit.ensures.items read

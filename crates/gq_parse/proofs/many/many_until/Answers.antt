@@ -14,7 +14,9 @@ loop-end-preserved g c = record {
 }
 
 pub returns-in-Some-clause-found : goal.returns-in-Some-clause-found
-returns-in-Some-clause-found g c = front_closed c.loop-end.invariant.front c.in-Some.ensures.found
+returns-in-Some-clause-found g c =
+    let closed = front_closed c.loop-end.invariant.front c.in-Some.ensures.found in
+    rw c.shrink_to_fit.ensures.items closed
 
 pub returns-in_err-one-clause-none : goal.returns-in_err-one-clause-none
 returns-in_err-one-clause-none g c =

@@ -44,7 +44,9 @@ values-loop-end-preserved t c = record {
 }
 
 pub values-returns-in-Some-clause-found : goal.values-returns-in-Some-clause-found
-values-returns-in-Some-clause-found t c = front_closed c.loop-end.invariant.front c.in-Some.ensures.found
+values-returns-in-Some-clause-found t c =
+    let closed = front_closed c.loop-end.invariant.front c.in-Some.ensures.found in
+    rw c.shrink_to_fit.ensures.items closed
 
 pub values-returns-in_err-one-clause-none : goal.values-returns-in_err-one-clause-none
 values-returns-in_err-one-clause-none t c =
@@ -62,7 +64,9 @@ object_fields-loop-end-preserved t c = record {
 }
 
 pub object_fields-returns-in-Some-clause-found : goal.object_fields-returns-in-Some-clause-found
-object_fields-returns-in-Some-clause-found t c = front_closed c.loop-end.invariant.front c.in-Some.ensures.found
+object_fields-returns-in-Some-clause-found t c =
+    let closed = front_closed c.loop-end.invariant.front c.in-Some.ensures.found in
+    rw c.shrink_to_fit.ensures.items closed
 
 pub object_fields-returns-in_err-name-clause-none : goal.object_fields-returns-in_err-name-clause-none
 object_fields-returns-in_err-name-clause-none t c =

@@ -11,7 +11,7 @@ pub returns-in-Ok : goal.returns-in-Ok
 returns-in-Ok c es us rs one are =
     let before : AreAcross us rs c.if-changes_types.self =
     elim c.if-changes_types.branch [
-      | then-changes_types w ↦ subst (λ (a : Across). AreAcross us rs a) (sym w.self-is) (across_cleared es us rs c.args.self.now _ refl w.clear.ensures.items are)
+      | then-changes_types w ↦ subst (λ (a : Across). AreAcross us rs a) (sym w.self-is) (across_cleared es us rs c.args.self.now _ refl refl refl w.clear.ensures.items are)
       | else-changes_types w ↦ subst (λ (a : Across). AreAcross us rs a) (sym w.self-is) (across_over c.numbers_of_entries_are_unseen.ensures es us (one w.if-changes_types.false) rs c.args.self.now are)
     ] in
     c.replace_names.ensures us rs (parsed_view c.args.reading.now) c.in-Ok.ensures before

@@ -12,4 +12,5 @@ put-requires-clause-new c =
 
 pub returns-else-is_none : goal.returns-else-is_none
 returns-else-is_none c =
-    finds_again (length c.args.self.now.of_buckets.items) c.args.names.now c.args.name.now (in_bucket c.args.self.now.of_buckets.items) (get_by_text c.args.self.now.of_others) c.requires (sym (is_some_position (bytes_eq c.args.name.now) c.args.names.now) ∙ ap is_some (sym c.get.ensures) ∙ c.if-is_none.ensures)
+    finds_again (length c.args.self.now.of_buckets.items) (in_bucket c.args.self.now.of_buckets.items) (get_by_text c.args.self.now.of_others) c.args.names.now c.requires
+    c.args.name.now (sym (is_some_position (bytes_eq c.args.name.now) c.args.names.now) ∙ ap is_some (sym c.get.ensures) ∙ c.if-is_none.ensures)
