@@ -302,9 +302,20 @@ def stop_on_unnamed(name, known):
                 stop(f"{name}/{part}/{file} names Rattle.{library}, and the line of {name} in crates.txt does not name {library}")
 
 
+def stop_on_stale(name):
+    """Stops where a folder of proofs has the name of no function and of no cycle, which a check of parts does not see."""
+    crate = f"{ROOT}/crates/{name}"
+    sources = "".join(read(f"{crate}/src/{file}") for file in files_below(f"{crate}/src") if file.endswith(".rt"))
+    names = set(re.findall(r"\bfn (?:r#)?(\w+)", sources)) | {f"+{it}" for it in re.findall(r"#\[cycle\((\w+)", sources)}
+    for file in sorted(files_below(f"{crate}/proofs")):
+        if os.path.basename(file) in OF_BODIES and os.path.basename(os.path.dirname(file)) not in names:
+            stop(f"{name}/proofs/{file} is of a function that {name} does not have")
+
+
 def check(name, known, asked, more):
     """Checks the crate over the copies, and returns the checker's status."""
     stop_on_unnamed(name, known)
+    stop_on_stale(name)
     at, crate, work = kit(), f"{ROOT}/crates/{name}", os.path.abspath(asked.work)
     for one in all_below(name, known):
         copy_statements(f"{ROOT}/crates/{one}", f"{work}/crates/{one}")

@@ -1,5 +1,5 @@
 //! The definitions of a project's documents (GraphQL, October 2021, section 2.2), by what they define.
-ghost use Rattle.std.specs.Prelude.{◌≡◌, ◌++◌, IfOk, OnOk, flat_map, map};
+ghost use Rattle.std.specs.Prelude.{◌≡◌, ◌++◌, [], false, ℕ, IfOk, OnOk, flat_map, map};
 ghost use Rattle.gq_tree.specs.Views.{def_view};
 ghost use Rattle.gq_types.specs.Entries.{entries_view};
 ghost use Rattle.gq_tree.specs.Readings.{in_document, parsed_view, unshared_view};
@@ -91,7 +91,31 @@ impl<'a> Definitions<'a> {
     }
 }
 
-/// The definitions and extensions of the type system among those of a document, taken out of them: what is left.
+/// Whether it is a definition or an extension of the type system.
+fn is_of_types(definition: &Definition) -> bool
+    ensures { result ≡ false → (file : ℕ) → entry_in file (def_view definition.now) ≡ [] }
+{
+    match definition {
+        Definition::Operation(_) => false,
+        Definition::Fragment(_) => false,
+        Definition::TypeSystem(_) => true,
+    }
+}
+
+/// Whether one of these is a definition or an extension of the type system.
+pub fn one_defines_types(definitions: &[Definition]) -> bool
+    ensures { result ≡ false → (file : ℕ) → flat_map (entry_in file) (map def_view definitions.now) ≡ [] }
+{
+    for definition in definitions {
+        if is_of_types(definition) {
+            return true;
+        }
+    }
+    false
+}
+
+/// The definitions and extensions of the type system among those of a document, taken out of them: what is left. Where there is none, all
+/// stays where it is.
 fn take_among(
     alloc: Global,
     file: usize,
@@ -101,7 +125,10 @@ fn take_among(
     ensures entries { OnOk result (entries_view entries.new.items ≡ entries_view entries.old.items ++ flat_map (entry_in file) (map def_view definitions.items)) }
     ensures left { IfOk result (λ left. map def_view left.items ≡ flat_map without_type_system (map def_view definitions.items)) }
 {
-    let mut left = Vec::with_capacity(alloc, definitions.len())?;
+    if !one_defines_types(&definitions) {
+        return Ok(definitions);
+    }
+    let mut left = Vec::new(alloc);
     for definition in definitions {
         match definition {
             Definition::TypeSystem(definition) => entries.push(Entry { file, definition })?,

@@ -10,7 +10,9 @@ pub mod selections;
 pub mod sets;
 
 pub use as_parsed::AsParsed;
-pub use definitions::{Definitions, FragmentEntry, OperationEntry, take_entries};
+pub use definitions::{
+    Definitions, FragmentEntry, OperationEntry, one_defines_types, take_entries,
+};
 pub use executable::Executable;
 pub use fields::{SelectedField, field_on, is_composite_named, selected_field};
 pub use selections::{Selected, fragment_selections, operation_selections, selections_of};

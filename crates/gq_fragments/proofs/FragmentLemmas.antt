@@ -1,5 +1,5 @@
 -- What is told of fragments is what the rules demand.
-use Rattle.std.proofs.Common.{◌≡◌, ◌↔◌, ℕ, Bool, true, false, if◌then◌else◌, is_some, not, ◌&&◌, List, [], ◌∷◌, ◌++◌, Option, Some, None, Contains, refl, sym, ap, subst, inl, inr}
+use Rattle.std.proofs.Common.{◌≡◌, ◌↔◌, ℕ, Bool, true, false, if◌then◌else◌, is_some, not, ◌&&◌, List, [], ◌∷◌, ◌++◌, Option, Some, None, Contains, flat_map, refl, sym, ap, ◌∙◌, subst, inl, inr}
 use Rattle.std.specs.Str.{bytes_eq}
 use Rattle.std.specs.Cmp.Lexicographic.{bytes_decides}
 use Rattle.std.proofs.lemmas.List.Elements.{Contains-append_left, Contains-append_right, Contains-append_cases}
@@ -27,7 +27,7 @@ use Rattle.gq_fragments.specs.FragmentSpreadIsPossible.{HaveNoObject, IsSpread, 
 use Rattle.gq_fragments.specs.FragmentSpreadIsPossible as spreads
 use Rattle.gq_fragments.specs.FragmentFaults.{IsFragmentFault}
 use Rattle.gq_fragments.specs.FragmentFaults as fault
-use Rattle.gq_fragments.specs.Helping.FragmentPlaces.{repeated_names, condition_of_kind, condition_faults, conditions_in, condition_of_selected, conditions_of_selections, condition_of_fragment, conditions_of_fragments, share_object, is_impossible, impossible_under, impossible_in, is_on, some_condition, impossible_once, impossible_by, impossible_at, impossible_spreads, selections, faults_of_selections, fragment_faults}
+use Rattle.gq_fragments.specs.Helping.FragmentPlaces.{repeated_names, condition_of_kind, condition_faults, conditions_in, condition_of_selected, conditions_of_selections, condition_of_fragment, conditions_of_fragments, share_object, is_impossible, impossible_under, impossible_in, is_on, some_condition, impossible_once, impossible_by, impossible_at, impossible_spreads, selections, is_of_fragment, of_fragments, faults_of_selections, fragment_faults}
 use Rattle.gq_fragments.proofs.FoundLemmas.{found_some}
 use Rattle.gq_fragments.proofs.SharedLemmas.{share_decides}
 use Rattle.gq_fragments.proofs.SpreadLemmas.{from_selections, to_selections}
@@ -214,3 +214,27 @@ module _ (x : ExecutableOf) (item : Fault) where
 
   pub fragment_faults_are : Contains (fragment_faults x) item ↔ IsFragmentFault x item
   fragment_faults_are = (fault_is, to_faults)
+
+-- of a field nothing is told, so that what is told of selections is told of those that are none
+no_condition : (es : List EntryOf) (file : ℕ) (h : Head Span) → is_of_fragment h ≡ false → conditions_in es file h ≡ []
+no_condition es file (field alias name arguments directives braces place) e = refl
+no_condition es file (spread name directives place) e = absurd (cc)
+no_condition es file (inline on directives braces place) e = absurd (cc)
+
+no_spread : (es : List EntryOf) (fs : List FragmentOf) (s : SelectedOf) (h : Head Span) → is_of_fragment h ≡ false → impossible_by es fs s h ≡ []
+no_spread es fs s (field alias name arguments directives braces place) e = refl
+no_spread es fs s (spread name directives place) e = absurd (cc)
+no_spread es fs s (inline on directives braces place) e = absurd (cc)
+
+told_of : (f : SelectedOf → List Fault) → ((s : SelectedOf) → is_of_fragment s.selection.label ≡ false → f s ≡ []) → (ss : List SelectedOf) → flat_map f (of_fragments ss) ≡ flat_map f ss
+told_of f none [] = refl
+told_of f none (s ∷ ss) = by (is_of_fragment s.selection.label) refl (told_of f none ss)
+  where
+    by : (b : Bool) → is_of_fragment s.selection.label ≡ b → flat_map f (of_fragments ss) ≡ flat_map f ss → flat_map f (if b then s ∷ of_fragments ss else of_fragments ss) ≡ f s ++ flat_map f ss
+    by true e rest = ap (λ (l : List Fault). f s ++ l) rest
+    by false e rest = rest ∙ ap (λ (l : List Fault). l ++ flat_map f ss) (sym (none s e))
+
+pub told_of_fragments : (x : ExecutableOf) (ss : List SelectedOf) → faults_of_selections x (of_fragments ss) ≡ faults_of_selections x ss
+told_of_fragments x ss =
+    ap (λ (l : List Fault). l ++ impossible_spreads x.entries x.fragments (of_fragments ss)) (told_of (condition_of_selected x.entries) (λ s e. no_condition x.entries s.file s.selection.label e) ss)
+    ∙ ap (λ (l : List Fault). conditions_of_selections x.entries ss ++ l) (told_of (impossible_at x.entries x.fragments) (λ s e. no_spread x.entries x.fragments s s.selection.label e) ss)

@@ -9,7 +9,7 @@ ghost use Rattle.gq_fragments.specs.Helping.FragmentPlaces.{faults_of_selections
 use crate::conditions_by_name::conditions_by_name;
 use crate::fragment_name_uniqueness::add_repeated_names;
 use crate::fragment_spread_is_possible::add_impossible_spreads;
-use crate::selections::selections;
+use crate::selections::fragment_selections_of;
 use crate::type_conditions::{add_conditions_of_fragments, add_conditions_of_selections};
 use gq_document::{Executable, Selected};
 use gq_fault::Fault;
@@ -40,7 +40,7 @@ fn add_each_rule(
 {
     add_repeated_names(alloc, executable.fragments, faults)?;
     add_conditions_of_fragments(executable.types, executable.fragments, faults)?;
-    let all = selections(alloc, executable)?;
+    let all = fragment_selections_of(alloc, executable)?;
     add_of_selections(alloc, executable, &all, faults)
 }
 

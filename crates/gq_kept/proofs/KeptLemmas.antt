@@ -1,5 +1,5 @@
 -- What is kept of documents, where one is replaced, put in or taken out.
-use Rattle.std.proofs.Common.{◌≡◌, ℕ, Bool, false, List, [], ◌++◌, set, get_or, map, Some, None, Option, IfNone, is_some, ◌<◌, ◌≤◌, length, refl, sym, ap, subst, ◌∙◌, arith}
+use Rattle.std.proofs.Common.{◌≡◌, ℕ, Bool, true, false, if◌then◌else◌, List, [], ◌++◌, set, get_or, map, Some, None, Option, IfNone, IfSome, is_some, ◌<◌, ◌≤◌, length, refl, sym, ap, subst, ◌∙◌, arith}
 use Rattle.std.specs.List.{insert, remove}
 use Rattle.std.specs.List.Sorted.{IsStrictlySortedBy}
 use Rattle.std.proofs.lemmas.List.{length-map, map-set, map-append, take-map, drop-map}
@@ -8,7 +8,7 @@ use mathlib.Core.Logic.{∥∥₁_map, ∥∥₁_elim, ∥∥₁_prop}
 use Rattle.gq_project.specs.declared.document.Doc.{Doc}
 use Rattle.gq_project.specs.Documents.{with_doc, without}
 use Rattle.gq_project.specs.Helping.Places.{IsPlaceOf, IsGapFor}
-use Rattle.gq_tree.specs.Readings.{ParsedOf, SharedParsed, shared_view, readings_view}
+use Rattle.gq_tree.specs.Readings.{ParsedOf, SharedParsed, definitions_read, shared_view, readings_view}
 use Rattle.gq_parse.specs.Parsed.{IsParsed, AreParsed}
 use Rattle.gq_types.specs.BuiltIn.{built_in}
 use Rattle.gq_types.specs.Entries.{EntryOf}
@@ -24,7 +24,10 @@ use Rattle.gq_kept.specs.declared.typed.Typed.{Typed}
 use Rattle.gq_kept.specs.Helping.Facts.{AreKept}
 use Rattle.gq_kept.specs.Helping.ByFile.{AreByFile}
 use Rattle.gq_kept.specs.Helping.TypesOf.{AreTypesOf, IsOneTypeSystem, types_defined}
+use Rattle.gq_kept.specs.Helping.Unindexed.{AddNothing}
+use Rattle.gq_parse.proofs.OneReading.{OneTree}
 use Rattle.gq_index.proofs.Parallel.{as_many}
+use Rattle.gq_kept.proofs.IndexLemmas.{settled}
 use Rattle.gq_kept.proofs.KnownLemmas.{types_known, replaced, inserted, removed}
 use Rattle.gq_kept.proofs.TypesLemmas.{system_inserted, system_removed}
 
@@ -32,6 +35,11 @@ use Rattle.gq_kept.proofs.TypesLemmas.{system_inserted, system_removed}
 kept_by : (documents : List Doc) (readings : List SharedParsed) (typed : Typed) (found : ByFile) → ∥ AreKnown documents readings (types_view typed.types) typed.has_schema × AreByFile (types_view typed.types) (readings_view readings) found ∥₁ →
     AreKept documents readings typed found None
 kept_by documents readings typed found both = record { known = ∥∥₁_map both (λ b. b.0); owned = ∥∥₁_map both (λ b. b.1); indexed = ∣ tt ∣₁ }
+
+-- with an index
+kept_with : (documents : List Doc) (readings : List SharedParsed) (typed : Typed) (found : ByFile) (index : Option Index) → ∥ AreKnown documents readings (types_view typed.types) typed.has_schema × AreByFile (types_view typed.types) (readings_view readings) found ∥₁ →
+    ∥ IfSome index (IsIndexOfProject documents) ∥₁ → AreKept documents readings typed found index
+kept_with documents readings typed found index both indexed = record { known = ∥∥₁_map both (λ b. b.0); owned = ∥∥₁_map both (λ b. b.1); indexed = indexed }
 
 pub kept_first : (documents told : List Doc) (readings : List SharedParsed) (typed : Typed) (found : ByFile) → told ≡ documents → ((es : List EntryOf) (rs : List ParsedOf) → AreByFile es rs found) →
     AreKnown documents readings (types_view typed.types) typed.has_schema → AreKept told readings typed found None
@@ -87,14 +95,17 @@ module _ (documents : List Doc) (readings : List SharedParsed) (typed : Typed) (
         → (AreParsed lent (readings_view given) → IsParsed doc.text (shared_view reading) → AreTypesOf (readings_view given) typed → AreTypesOf (set (readings_view given) at (shared_view reading)) made)
         → (changes ≡ false → IsOneTypeSystem (readings_view given) (set (readings_view given) at (shared_view reading)))
         → ((es us : List EntryOf) (rs : List ParsedOf) → (changes ≡ false → AreOneTypeSystem es us) → AreByFile es rs found → AreByFile us (set rs at (shared_view reading)) left)
-        → AreKept (with_doc documents doc) (set readings at reading) made left None
-    kept_replaced at doc reading made left changes place merely types stays forgets =
-        kept_by _ _ _ left (∥∥₁_elim merely ∥∥₁_prop (λ (parsed : IsParsed doc.text (shared_view reading)). both_known kept.known kept.owned (λ known owned.
+        → OneTree → (keeps : Bool) → (keeps ≡ true → AddNothing (get_or (map definitions_read (readings_view readings)) at []) × AddNothing (definitions_read (shared_view reading)))
+        → AreKept (with_doc documents doc) (set readings at reading) made left (if keeps then index else None)
+    kept_replaced at doc reading made left changes place merely types stays forgets one_tree keeps silent =
+        kept_with _ _ _ left (if keeps then index else None) (∥∥₁_elim merely ∥∥₁_prop (λ (parsed : IsParsed doc.text (shared_view reading)). both_known kept.known kept.owned (λ known owned.
         let was : AreTypesOf (readings_view given) typed = rw is_given (types_known documents readings typed known) in
         let are : AreTypesOf (set (readings_view given) at (shared_view reading)) made = types (parsed_given known.are_readings) parsed was in
         let one = systems (readings_view given) (set (readings_view given) at (shared_view reading)) typed made changes was are stays in
         let there : AreByFile (types_view made.types) (set (readings_view readings) at (shared_view reading)) left = forgets (types_view typed.types) (types_view made.types) (readings_view readings) one owned in
         (replaced documents readings typed known at doc reading made (rw is_told place) parsed (rw (← is_given) are), rw map-set there))))
+        (∥∥₁_elim merely ∥∥₁_prop (λ (parsed : IsParsed doc.text (shared_view reading)). both_known kept.known kept.indexed (λ known indexed.
+        settled one_tree documents (readings_view readings) index at doc (shared_view reading) keeps known.are_readings indexed (rw is_told place) parsed silent)))
 
     pub kept_inserted : (at : ℕ) (doc : Doc) (reading : SharedParsed) (made : Typed) (left : ByFile) (changes : Bool) → IsGapFor (λ d. d.key) doc.key told at → ∥ IsParsed doc.text (shared_view reading) ∥₁
         → (AreParsed lent (readings_view given) → IsParsed doc.text (shared_view reading) → AreTypesOf (insert (readings_view given) at (shared_view reading)) made)

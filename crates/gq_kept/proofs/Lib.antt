@@ -1,5 +1,6 @@
 pub mod Again
 pub mod Brought
+pub mod IndexLemmas
 pub mod JudgingLemmas
 pub mod KeptLemmas
 pub mod KnownLemmas

@@ -5,3 +5,4 @@ pub mod Gone
 pub mod Judgements
 pub mod Own
 pub mod TypesOf
+pub mod Unindexed

@@ -11,6 +11,7 @@ ghost use Rattle.gq_rules.specs.Validity.{IsInvalid, IsReportOf, IsValid};
 ghost use Rattle.gq_kept.specs.Helping.Gone.{AreGone, AreDropped, IsPut, ArePut};
 
 use crate::by_file::ByFile;
+use crate::indexed::{forget_unless, stays_indexed};
 use crate::judged::Judged;
 use crate::judging::report_if_any;
 use crate::pieces::{reading_among, reading_by};
@@ -19,6 +20,7 @@ use crate::typed::{Typed, defines_types_at, has_types, retype, typed_less, typed
 use gq_index::Index;
 use gq_known::{Known, Learned};
 use gq_parse::Piece;
+use gq_parse::laws::one_tree;
 use gq_project::{Doc, Project};
 use gq_rules::laws::no_project_is_valid_and_invalid;
 use gq_rules::{Report, Valid};
@@ -106,7 +108,8 @@ impl Kept {
     }
 
     /// Adds the document, or replaces the one of its key, and reads its text alone; where the piece is one of this document,
-    /// with the same key and text, its tree is taken in place of reading. The project is then neither indexed nor judged.
+    /// with the same key and text, its tree is taken in place of reading. The project is not judged then, and keeps its index only where the
+    /// document has no operation and no fragment, before and after.
     pub fn replace_file(
         &mut self,
         alloc: Global,
@@ -145,6 +148,8 @@ impl Kept {
         ensures ok { OnOk result (self.new.documents ≡ with_doc self.old.documents doc) }
         ensures err { OnErr result (self.new ≡ self.old) }
     {
+        one_tree();
+        let stays = stays_indexed(&self.readings, at, &reading);
         let changes_types = retype(
             alloc,
             self.judged.project().documents(),
@@ -157,7 +162,7 @@ impl Kept {
         self.judged.put(alloc, doc)?;
         self.found.replace(alloc, at, &reading, changes_types);
         write_over(&mut self.readings, at, reading);
-        forget(&mut self.index);
+        forget_unless(stays, &mut self.index);
         Ok(())
     }
 

@@ -2,6 +2,7 @@
 #![tactic(auto)]
 
 mod by_file;
+mod indexed;
 mod judged;
 mod judging;
 pub mod kept;

@@ -1,10 +1,6 @@
 -- Documents that are read once more for their definitions of the type system define the same of it.
 use Rattle.std.proofs.Common.{◌≡◌, ℕ, ◌+◌, List, [], ◌∷◌, ◌++◌, refl, ap, ◌∙◌, flat_map, map}
 use Rattle.std.specs.List.{enumerate_from, zip}
-use Rattle.std.proofs.lemmas.List.{map-append}
-use Rattle.std.proofs.lemmas.Grind.{flat_map-append}
-use Rattle.gq_tree.specs.declared.tree.Definition.{Definition}
-use Rattle.gq_tree.specs.Views.{def_view}
 use Rattle.gq_project.specs.declared.document.Doc.{Doc}
 use Rattle.gq_tree.specs.declared.parsed.Parsed.{Parsed}
 use Rattle.gq_tree.specs.Readings.{SharedParsed, in_document, parsed_view, shared_view, readings_view, unshared_view}
@@ -37,11 +33,3 @@ same_from (document ∷ documents) (a ∷ xs) [] k p q = elim q [ ]
 same_from (document ∷ documents) (a ∷ xs) (b ∷ ys) k (parsed.more is are) (more _ _ _ _ same rest) =
     ap (λ es. es ++ flat_map (λ r. in_document entry_in r.0 r.1) (enumerate_from (k + 1) (unshared_view ys))) (same is k)
     ∙ ap (λ es. in_document entry_in k (shared_view a) ++ es) (same_from documents xs ys (k + 1) are rest)
-
--- one more definition that defines no type
-pub none_more : (file : ℕ) (ds : List Definition) (d : Definition) → flat_map (entry_in file) (map def_view ds) ≡ [] → entry_in file (def_view d) ≡ [] → flat_map (entry_in file) (map def_view (ds ++ d ∷ [])) ≡ []
-none_more file ds d nothing e =
-    ap (flat_map (entry_in file)) (map-append def_view ds (d ∷ []))
-    ∙ flat_map-append (entry_in file) (map def_view ds) (def_view d ∷ [])
-    ∙ ap (λ es. es ++ flat_map (entry_in file) (def_view d ∷ [])) nothing
-    ∙ ap (λ es. es ++ []) e

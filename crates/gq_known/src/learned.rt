@@ -1,7 +1,6 @@
 //! What is learned of a project by reading it.
-ghost use Rattle.std.specs.Prelude.{◌≡◌, ◌++◌, false, [], ℕ, IfOk, flat_map, map};
+ghost use Rattle.std.specs.Prelude.{◌≡◌, ◌++◌, false, [], ℕ, IfOk};
 ghost use Rattle.gq_tree.specs.Readings.{in_document, parsed_view, readings_view, unshared_view};
-ghost use Rattle.gq_tree.specs.Views.{def_view};
 ghost use Rattle.gq_parse.specs.Parsed.{AreParsed, IsParsed};
 ghost use Rattle.gq_types.specs.BuiltIn.{built_in};
 ghost use Rattle.gq_types.specs.Look.{types_view};
@@ -9,13 +8,13 @@ ghost use Rattle.gq_document.specs.Definitions.{entry_in, entries_of};
 ghost use Rattle.gq_known.specs.Known.{IsKnown, IsLearned};
 
 use crate::known::Known;
-use gq_document::take_entries;
+use gq_document::{one_defines_types, take_entries};
 use gq_parse::laws::one_tree;
 use gq_parse::read_shared;
 use gq_parse::reader::read_text;
 use gq_project::{Doc, Project};
 use gq_text::NoMemory;
-use gq_tree::{Definition, Document, Parsed};
+use gq_tree::{Document, Parsed};
 use gq_type_system::schema_faults;
 use gq_types::Types;
 use std::alloc::Global;
@@ -69,29 +68,6 @@ pub fn defines_types(reading: &Parsed) -> bool
         Parsed::Syntax { .. } => false,
         Parsed::Limit { .. } => false,
     }
-}
-
-/// Whether it is a definition or an extension of the type system.
-fn is_of_types(definition: &Definition) -> bool
-    ensures { result ≡ false → (file : ℕ) → entry_in file (def_view definition.now) ≡ [] }
-{
-    match definition {
-        Definition::Operation(_) => false,
-        Definition::Fragment(_) => false,
-        Definition::TypeSystem(_) => true,
-    }
-}
-
-/// Whether one of these is a definition or an extension of the type system.
-fn one_defines_types(definitions: &[Definition]) -> bool
-    ensures { result ≡ false → (file : ℕ) → flat_map (entry_in file) (map def_view definitions.now) ≡ [] }
-{
-    for definition in definitions {
-        if is_of_types(definition) {
-            return true;
-        }
-    }
-    false
 }
 
 /// A document that is read so, once more, for its definitions of the type system alone; nothing is read where it has none.

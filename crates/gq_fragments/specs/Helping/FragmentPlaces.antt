@@ -1,5 +1,5 @@
 -- What is told of fragments, computed.
-use Rattle.std.specs.Prelude.{ℕ, Bool, List, [], ◌∷◌, ◌++◌, Option, Some, None, map, flat_map, is_some, not, if◌then◌else◌, ◌&&◌}
+use Rattle.std.specs.Prelude.{ℕ, Bool, true, false, List, [], ◌∷◌, ◌++◌, Option, Some, None, map, filter, flat_map, is_some, not, if◌then◌else◌, ◌&&◌}
 use Rattle.std.specs.List.{list_any}
 use Rattle.std.specs.Str.{bytes_eq}
 use Rattle.gq_text.specs.declared.place.Span.{Span}
@@ -94,6 +94,15 @@ impossible_spreads es fs ss = flat_map (impossible_at es fs) ss
 -- all selections
 abbrev pub selections : ExecutableOf → List SelectedOf
 selections x = flat_map (operation_selections x.entries) x.operations ++ flat_map (fragment_selections x.entries) x.fragments
+
+-- those that are no fields, of which alone something is told
+abbrev pub is_of_fragment : Head Span → Bool
+is_of_fragment (field alias name arguments directives braces place) = false
+is_of_fragment (spread name directives place) = true
+is_of_fragment (inline on directives braces place) = true
+
+abbrev pub of_fragments : List SelectedOf → List SelectedOf
+of_fragments ss = filter (λ s. is_of_fragment s.selection.label) ss
 
 abbrev pub faults_of_selections : ExecutableOf → List SelectedOf → List Fault
 faults_of_selections x ss = conditions_of_selections x.entries ss ++ impossible_spreads x.entries x.fragments ss

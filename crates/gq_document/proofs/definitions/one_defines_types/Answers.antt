@@ -2,8 +2,8 @@ use Rattle.std.proofs.Common.{◌≡◌, ◌++◌, ◌+◌, ◌∙◌, [], ◌�
 use Rattle.std.proofs.lemmas.List.{take_all}
 use Rattle.gq_tree.specs.Views.{def_view}
 use Rattle.gq_document.specs.Definitions.{entry_in}
-use Rattle.gq_known.proofs.Again.{none_more}
-use Rattle.gq_known.proofs.learned.one_defines_types.Goals as goal
+use Rattle.gq_document.proofs.PartLemmas.{none_more}
+use Rattle.gq_document.proofs.definitions.one_defines_types.Goals as goal
 
 pub loop-definition-preserved : goal.loop-definition-preserved
 loop-definition-preserved c = λ file.
