@@ -4,6 +4,7 @@ use Rattle.std.proofs.lemmas.List.Elements.{Contains-push, Contains-push_cases, 
 use Rattle.std.proofs.lemmas.Option.{same_Some}
 use Rattle.gq_names.proofs.RepeatLemmas.{contains_none, contains_cases}
 use Rattle.gq_tree.specs.Views.{argument_view}
+use Rattle.gq_tree.specs.declared.tree.Selection.TheViews.{out-Field}
 use Rattle.gq_tree.specs.declared.value.Argument.{Argument}
 use Rattle.gq_types.specs.Entries.{EntryOf}
 use Rattle.gq_fault.specs.declared.fault.Fault.{Fault}
@@ -64,7 +65,7 @@ pub alone_none : (w : LookOf) (xs : List Member) (faults : List Fault) → lengt
 alone_none w [] faults e = absurd (omega (arith, e))
 alone_none w (x ∷ []) faults e =
     puts_nothing (IsGiven (AreMet (member_view x ∷ []) (member_view x ∷ [])) (IsFaultOf w)) faults
-    (λ i g. not_itself w.entries w.purpose (field_at x.it) x.it.arguments.now refl
+    (λ i g. not_itself w.entries w.purpose (field_at x.it) (out-Field x.it.field.now).arguments.items refl
     (subst (λ (m : MemberOf). Differ w.entries w.purpose m.field_at (field_at x.it)) (the_one g.one.left g.these.stands_left)
     (subst (λ (m : MemberOf). Differ w.entries w.purpose g.one.left.field_at m.field_at) (the_one g.one.right g.these.stands_right) g.gives.differ)))
   where

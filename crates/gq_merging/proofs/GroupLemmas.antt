@@ -10,6 +10,7 @@ use Rattle.gq_graph.specs.Reach.{Reach, start, step, row}
 use Rattle.gq_graph.proofs.Ways.{way_on, contains_one}
 use Rattle.gq_tree.specs.Plain.{erase_values}
 use Rattle.gq_tree.specs.Views.{argument_view}
+use Rattle.gq_tree.specs.declared.tree.Selection.TheViews.{out-Field}
 use Rattle.gq_tree.specs.declared.value.Argument.{Argument}
 use Rattle.gq_types.specs.Entries.{EntryOf}
 use Rattle.gq_document.specs.Executable.{ExecutableOf}
@@ -52,7 +53,7 @@ code_arguments rows n m c =
     let q = map_get row_view rows n r.0 r.1 in
     let there : Contains (row_view q.0).members m = subst (λ ms. Contains ms m) (members_there (rows_view rows) n r.0 r.1 ∙ ap (λ (t : RowOf). t.members) (sym q.2)) c in
     let w = from_map member_view q.0.members.items m there in
-    (w.0.it.arguments.now, ap (λ (m : MemberOf). m.field_at.arguments) w.2)
+    ((out-Field w.0.it.field.now).arguments.items, ap (λ (m : MemberOf). m.field_at.arguments) w.2)
 
 -- two fields of one key that stand in one group
 record InOneGroup (rows : List RowOf) (groups : List (List ℕ)) (a b : FieldAt) : Type 0 where

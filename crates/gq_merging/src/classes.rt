@@ -56,10 +56,10 @@ pub(crate) fn have_one_parent(left: &StandingField<'_>, right: &StandingField<'_
 fn say_the_same(tables: Tables<'_>, left: &StandingField<'_>, right: &StandingField<'_>) -> bool
     ensures { IsTrue result ↔ SayTheSame (types_view tables.entry.types.now) (field_at left.now) (field_at right.now) }
 {
-    if left.name.text.as_str() != right.name.text.as_str() {
+    if left.field.name.text.as_str() != right.field.name.text.as_str() {
         return false;
     }
-    if !are_same_arguments(left.arguments, right.arguments) {
+    if !are_same_arguments(&left.field.arguments, &right.field.arguments) {
         return false;
     }
     have_one_parent(left, right) || have_one_shape(tables, left, right)

@@ -23,9 +23,9 @@ use std::alloc::Global;
 pub(crate) fn key<'a>(field: &StandingField<'a>) -> &'a str
     ensures { result.now ≡ key (field_at field.now) }
 {
-    match field.alias {
+    match &field.field.alias {
         Some(alias) => alias.text.as_str(),
-        None => field.name.text.as_str(),
+        None => field.field.name.text.as_str(),
     }
 }
 
@@ -33,7 +33,8 @@ pub(crate) fn key<'a>(field: &StandingField<'a>) -> &'a str
 pub(crate) fn is_no_later(first: &StandingField<'_>, later: &StandingField<'_>) -> bool
     ensures { result ≡ is_no_later (field_at first.now) (field_at later.now) }
 {
-    first.file < later.file || (first.file == later.file && first.place.start <= later.place.start)
+    first.file < later.file
+        || (first.file == later.file && first.field.span.start <= later.field.span.start)
 }
 
 /// Whether the name is that of an object type.
@@ -81,7 +82,7 @@ pub(crate) fn leads_on(
 pub(crate) fn known_type<'a>(types: &'a Types, field: &StandingField<'_>) -> Option<&'a TypeRef>
     ensures { option_map (λ t. type_view t.now) result ≡ known_type (types_view types.now) (field_at field.now) }
 {
-    let found = selected_field(types, field.parent, field.name.text.as_str())?;
+    let found = selected_field(types, field.parent, field.field.name.text.as_str())?;
     let type_ref = found.type_ref(types);
     if types.kind(base_name(type_ref)).is_some() {
         Some(type_ref)
@@ -152,10 +153,10 @@ fn calls_differ(
     if !can_coincide(types, left.parent, right.parent) {
         return Ok(false);
     }
-    if left.name.text.as_str() != right.name.text.as_str() {
+    if left.field.name.text.as_str() != right.field.name.text.as_str() {
         return Ok(true);
     }
-    let same = have_same_arguments(alloc, left.arguments, right.arguments)?;
+    let same = have_same_arguments(alloc, &left.field.arguments, &right.field.arguments)?;
     Ok(!same)
 }
 

@@ -46,7 +46,7 @@ pub(crate) fn add_fault_of(
     }
     let breaks = differ(look.alloc, look.types, look.purpose, &left, &right)?;
     if breaks {
-        add_fault_over(right.file, right.name.span, faults)?;
+        add_fault_over(right.file, right.field.name.span, faults)?;
     }
     Ok(())
 }

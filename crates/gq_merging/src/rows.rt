@@ -9,7 +9,7 @@ ghost use Rattle.gq_merging.specs.Helping.Views.{all_spreads_at, field_at, field
 
 use crate::sets::{
     StandingField, StandingSet, StandingSpread, field_set, fragment_set, operation_set, put_fields,
-    put_spreads,
+    put_spreads, selections_below,
 };
 use gq_document::Executable;
 use gq_spreads::FragmentNames;
@@ -40,7 +40,11 @@ fn first_sets<'a>(
 ) -> Result<Vec<StandingSet<'a>>, NoMemory>
     ensures { IfOk result (λ sets. sets_at sets.items ≡ first_sets (executable_view executable.now)) }
 {
-    let mut sets = Vec::new(alloc);
+    let count = executable
+        .fragments
+        .len()
+        .saturating_add(executable.operations.len());
+    let mut sets = Vec::with_capacity(alloc, count)?;
     for fragment in executable.fragments {
         sets.push(fragment_set(fragment))?;
     }
@@ -63,7 +67,7 @@ fn put_set<'a>(
     ensures put { IfOk result (λ number. IsPut (types_view types.now) (field_at field.entry) (sets_at sets.old.items) (sets_at sets.new.items) number) }
 {
     let number = sets.len();
-    if field.below.is_empty() {
+    if selections_below(field.field).is_empty() {
         if let Some(shared) = *empty {
             return Ok(shared);
         }
@@ -264,7 +268,7 @@ pub(crate) fn all_rows<'a>(
         names: &names,
     };
     let mut sets = first_sets(alloc, executable)?;
-    let mut rows = Vec::new(alloc);
+    let mut rows = Vec::with_capacity(alloc, sets.len())?;
     let mut fields = Vec::new(alloc);
     let mut empty = None;
     let mut hubs = no_hubs(alloc, executable.fragments.len())?;

@@ -1,6 +1,7 @@
 //! Selection sets where they stand, and what stands in them at once.
 ghost use Rattle.std.specs.Prelude.{◌≡◌, ◌++◌, OnOk};
-ghost use Rattle.gq_tree.specs.Views.{sel_view, sels_view};
+ghost use Rattle.gq_tree.specs.Views.{below_of, sel_view, sels_view};
+ghost use Rattle.gq_tree.specs.declared.tree.Selection.TheViews.{out-Field};
 ghost use Rattle.gq_types.specs.Look.{types_view, text_of};
 ghost use Rattle.gq_document.specs.Definitions.{operation_view, fragment_view};
 ghost use Rattle.gq_document.specs.FieldSets.{operation_set, fragment_set, field_set};
@@ -9,8 +10,8 @@ ghost use Rattle.gq_merging.specs.Helping.SetTables.{own_fields, own_fields_at};
 ghost use Rattle.gq_merging.specs.Helping.Views.{all_spreads_at, field_at, fields_at, set_at};
 
 use gq_document::{FragmentEntry, OperationEntry, selected_field};
-use gq_text::{NoMemory, Span};
-use gq_tree::{Argument, Name, Selection};
+use gq_text::NoMemory;
+use gq_tree::{Field, Selection};
 use gq_types::Types;
 use std::slice::from_ref;
 
@@ -19,11 +20,7 @@ use std::slice::from_ref;
 pub(crate) struct StandingField<'a> {
     pub(crate) file: usize,
     pub(crate) parent: Option<&'a str>,
-    pub(crate) alias: Option<&'a Name>,
-    pub(crate) name: &'a Name,
-    pub(crate) arguments: &'a [Argument],
-    pub(crate) place: Span,
-    pub(crate) below: &'a [Selection],
+    pub(crate) field: &'a Field,
 }
 
 /// The selections of a set, the number of their document, and the name of the type of their parent where that is known.
@@ -66,18 +63,28 @@ pub(crate) fn fragment_set<'a>(fragment: &'a FragmentEntry<'a>) -> StandingSet<'
     }
 }
 
+/// The selections in the braces of a field, none where it has no braces.
+pub(crate) fn selections_below(field: &Field) -> &[Selection]
+    ensures { sels_view result.now ≡ below_of (out-Field field.now).set }
+{
+    match &field.set {
+        Some(set) => &set.items,
+        None => &[],
+    }
+}
+
 /// What stands in the braces of a field.
 pub(crate) fn field_set<'a>(types: &'a Types, one: StandingField<'a>) -> StandingSet<'a>
     ensures { set_at result ≡ field_set (types_view types.now) (field_at one.entry) }
 {
-    let parent = match selected_field(types, one.parent, one.name.text.as_str()) {
+    let parent = match selected_field(types, one.parent, one.field.name.text.as_str()) {
         Some(field) => Some(field.base_name()),
         None => None,
     };
     StandingSet {
         file: one.file,
         parent,
-        selections: one.below,
+        selections: selections_below(one.field),
     }
 }
 
@@ -93,18 +100,10 @@ fn put_field<'a>(
 {
     match selection {
         Selection::Field(field) => {
-            let below: &[Selection] = match &field.set {
-                Some(set) => &set.items,
-                None => &[],
-            };
             fields.push(StandingField {
                 file,
                 parent,
-                alias: field.alias.as_ref(),
-                name: &field.name,
-                arguments: &field.arguments,
-                place: field.span,
-                below,
+                field,
             })?;
             Ok(())
         }

@@ -11,7 +11,7 @@ use Rattle.gq_merging.proofs.rows.all_rows.Goals as goal
 pub loop-project-init : goal.loop-project-init
 loop-project-init c =
     record {
-      listing = subst (λ rs. Listing (executable_view c.args.executable.now) (rows_view rs) (sets_at c.in_ok-sets.sets.items) c.in_ok-hubs.hubs.items) (sym c.new-rows.ensures.items)
+      listing = subst (λ rs. Listing (executable_view c.args.executable.now) (rows_view rs) (sets_at c.in_ok-sets.sets.items) c.in_ok-hubs.hubs.items) (sym c.in_ok-rows.ensures.items)
           (listing_starts (executable_view c.args.executable.now) (sets_at c.in_ok-sets.sets.items) c.in_ok-hubs.hubs.items c.in_ok-sets.ensures c.in_ok-hubs.ensures);
       empty = tt;
     }

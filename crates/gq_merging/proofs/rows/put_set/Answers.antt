@@ -13,8 +13,9 @@ use Rattle.gq_merging.proofs.rows.put_set.Goals.{then-is_empty+in_default, else-
 
 pub returns-in-Some-clause-put : goal.returns-in-Some-clause-put
 returns-in-Some-clause-put c =
-    let leaf : c.args.field.below.now ≡ [] = nil_from_length _ (grind (arith, nat_tests)) in
-    put_shared (types_view c.args.types.now) (field_at c.args.field) (sets_at c.args.sets.now.items) c.in-Some.shared c.args.empty.now c.in-Some.is c.requires.empty (ap sels_view leaf)
+    let nothing : c.selections_below.result.now ≡ [] = nil_from_length _ (grind (arith, nat_tests)) in
+    let leaf : (field_at c.args.field).below ≡ none = sym c.selections_below.ensures ∙ ap sels_view nothing in
+    put_shared (types_view c.args.types.now) (field_at c.args.field) (sets_at c.args.sets.now.items) c.in-Some.shared c.args.empty.now c.in-Some.is c.requires.empty leaf
 
 pub returns-clause-empty : goal.returns-clause-empty
 returns-clause-empty c =
@@ -22,10 +23,11 @@ returns-clause-empty c =
     ap sets_at c.in_ok-push.ensures.items ∙ map-append set_at c.args.sets.now.items (c.field_set.result ∷ []) in
     elim c.if-is_empty.branch [
       | then-is_empty+in_default w ↦
-          let leaf : c.args.field.below.now ≡ [] = nil_from_length _ (grind (arith, nat_tests)) in
+          let no_selections : c.selections_below.result.now ≡ [] = nil_from_length _ (grind (arith, nat_tests)) in
+          let leaf : (field_at c.args.field).below ≡ none = sym c.selections_below.ensures ∙ ap sels_view no_selections in
           let count : c.len-number.result ≡ length c.args.sets.now.items = search rules in
           let number : c.len-number.result ≡ length (sets_at c.args.sets.now.items) = count ∙ sym (length-map c.args.sets.now.items set_at) in
-          let nothing : (set_at c.field_set.result).selections ≡ none = ap (λ (s : SetOf). s.selections) c.field_set.ensures ∙ ap sels_view leaf in
+          let nothing : (set_at c.field_set.result).selections ≡ none = ap (λ (s : SetOf). s.selections) c.field_set.ensures ∙ leaf in
           subst (λ ss. IsEmptyAt ss c.if-is_empty.empty) (sym grown)
           (subst (IsEmptyAt (sets_at c.args.sets.now.items ++ set_at c.field_set.result ∷ [])) (sym w.empty-is) (empty_here (sets_at c.args.sets.now.items) (set_at c.field_set.result) c.len-number.result number nothing))
       | else-is_empty w ↦
