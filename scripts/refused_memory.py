@@ -195,7 +195,10 @@ class Judge:
 
     def judged(self, at, goes_on):
         """What came of a run with that growth refused, and what is wrong with it, if something is."""
-        ran = self.runner.run(self.case, {"REFUSE_AT": at, "REFUSE_ALL": goes_on})
+        return self.came_of(self.runner.run(self.case, {"REFUSE_AT": at, "REFUSE_ALL": goes_on}), goes_on)
+
+    def came_of(self, ran, goes_on):
+        """What came of that run, and what is wrong with it, if something is."""
         if ran.is_as(self.ample):
             return SAME, None
         if self.case.program:

@@ -29,6 +29,8 @@ SOURCE = r"""
 #include <sys/mman.h>
 #include <sys/syscall.h>
 #include <sys/uio.h>
+#include <sys/wait.h>
+#include <string.h>
 #include <unistd.h>
 extern void *__libc_malloc(size_t);
 extern void *__libc_realloc(void *, size_t);
@@ -37,6 +39,67 @@ static uintptr_t from, to;
 static atomic_long unshared[NUMBERS], *counts = unshared;
 static long first, all, of_thread, no_thread, files, at[KINDS], error[KINDS], most[KINDS];
 static _Thread_local long thread __attribute__((tls_model("initial-exec")));
+/* Each growth of a process with one thread is refused in turn, in a child made at it: the growth alone, then it and all behind it. What the
+   child wrote is put into a log, where that comes for the first time, and is taken back from the files of the outputs. */
+enum { SEEN = 1 << 20, STANDARD = 3 };
+static long forking;
+static int is_child, log_file = -1;
+static unsigned long seen[SEEN];
+static unsigned long sum(unsigned long start, const unsigned char *bytes, long count) {
+    for (long i = 0; i < count; i++) start = (start ^ bytes[i]) * 1099511628211ul;
+    return start;
+}
+static int is_first(unsigned long number) {
+    unsigned long place = number % SEEN;
+    if (!number) number = 1;
+    while (seen[place] && seen[place] != number) place = (place + 1) % SEEN;
+    return seen[place] == number ? 0 : (seen[place] = number, 1);
+}
+static void put(const void *bytes, long count) {
+    for (long done = 0; done < count;) {
+        ssize_t now = syscall(SYS_write, log_file, (const char *)bytes + done, count - done);
+        if (now <= 0) _exit(99);
+        done += now;
+    }
+}
+static void note(long number, long goes_on, long status, const off_t *old) {
+    static unsigned char bytes[STANDARD][1 << 24];
+    long sizes[STANDARD] = {0}, record[7];
+    unsigned long key = sum(14695981039346656037ul, (unsigned char *)(long[]){goes_on, status, old[1], old[2]}, 4 * sizeof(long));
+    for (int file = 1; file < STANDARD; file++) {
+        sizes[file] = pread(file, bytes[file], sizeof bytes[file], old[file]);
+        if (sizes[file] < 0) _exit(99);
+        key = sum(key, bytes[file], sizes[file]);
+    }
+    int is_new = is_first(key);
+    memcpy(record, (long[]){number, goes_on, status, is_new, old[1], is_new ? sizes[1] : 0, is_new ? sizes[2] : 0}, sizeof record);
+    put(record, sizeof record);
+    put(&key, sizeof key);
+    if (is_new) put(bytes[1], sizes[1]), put(bytes[2], sizes[2]);
+}
+static int is_refused_in_child(long number) {
+    if (atomic_load(&counts[THREADS])) _exit(98);
+    for (long goes_on = 0; goes_on < 2; goes_on++) {
+        off_t old[STANDARD];
+        int status;
+        for (int file = 0; file < STANDARD; file++) old[file] = lseek(file, 0, SEEK_CUR);
+        pid_t child = fork();
+        if (child < 0) _exit(97);
+        if (!child) {
+            memcpy(unshared, counts, sizeof unshared);
+            is_child = 1, counts = unshared, first = number, all = goes_on;
+            alarm(100);
+            return 1;
+        }
+        waitpid(child, &status, 0);
+        note(number, goes_on, status, old);
+        for (int file = 0; file < STANDARD; file++) {
+            if (file && ftruncate(file, old[file])) _exit(96);
+            lseek(file, old[file], SEEK_SET);
+        }
+    }
+    return 0;
+}
 static int look(struct dl_phdr_info *info, size_t size, void *data) {
     for (int i = 0; i < info->dlpi_phnum; i++)
         if (info->dlpi_phdr[i].p_type == PT_LOAD && info->dlpi_phdr[i].p_flags & PF_X) {
@@ -53,6 +116,8 @@ __attribute__((constructor)) static void start(void) {
         void *place = mmap(0, sizeof unshared, PROT_READ | PROT_WRITE, MAP_SHARED, open(path, O_RDWR), 0);
         if (place != MAP_FAILED) counts = place;
     }
+    char *log_path = getenv("TRIAL_LOG");
+    if (log_path) log_file = open(log_path, O_WRONLY | O_APPEND), forking = log_file >= 0;
     first = setting("REFUSE_AT");
     all = setting("REFUSE_ALL");
     of_thread = setting("REFUSE_OF");
@@ -66,6 +131,7 @@ static int is_own(void *caller) { return from <= (uintptr_t)caller && (uintptr_t
 static int refused(void *caller) {
     if (!is_own(caller)) return 0;
     long number = atomic_fetch_add(&counts[GROWTHS], 1) + 1, own = atomic_fetch_add(&counts[GROWTHS_OF + thread], 1) + 1, nobody = 0;
+    if (forking && !is_child) return is_refused_in_child(number);
     if (of_thread) number = of_thread == thread ? own : 0;
     if (!first || number < first || (number > first && !all)) return 0;
     atomic_fetch_add(&counts[REFUSALS], 1);
