@@ -1,5 +1,5 @@
 -- Lists that have exactly some places, in order.
-use Rattle.std.proofs.Common.{◌≡◌, ◌↔◌, ℕ, ◌<◌, ◌≤◌, length, Bool, true, false, List, [], ◌∷◌, ◌++◌, Option, Some, None, Contains, refl, sym, ap, subst, ◌∙◌, ◌⊎◌, ⊎_elim, inl, inr, arith, IsTrue}
+use Rattle.std.proofs.Common.{◌≡◌, ◌↔◌, ℕ, ◌<◌, ◌≤◌, length, Bool, true, false, List, [], ◌∷◌, ◌++◌, Option, Some, None, Contains, refl, sym, subst, ◌∙◌, ◌⊎◌, ⊎_elim, inl, inr, arith, IsTrue}
 use Rattle.std.specs.Prelude.{nat_lt, flat_map}
 use Rattle.std.specs.Option.{option_map}
 use Rattle.std.proofs.lemmas.Bool.Decides.{nat_tests}
@@ -17,8 +17,6 @@ use Rattle.gq_index.specs.VariableGroups.{VariableGroup}
 use Rattle.gq_mentions.specs.declared.mention.MentionKind.{MentionKind}
 use Rattle.gq_mentions.specs.declared.mention.MentionKind.TheVariants as kind
 use Rattle.gq_mentions.specs.Mentions.{MentionOf}
-use Rattle.gq_mentions.specs.Views.{mention_view}
-use Rattle.gq_mentions.specs.declared.mention.Mention.{Mention}
 use Rattle.gq_query.specs.Asked.{asked, AtMention}
 use Rattle.gq_query.specs.Helping.Gathered.{if_wanted, places_at, places_among, wanted_among, first_of}
 use Rattle.gq_query.specs.Groups.{StandsInGroup, variable_at}
@@ -26,9 +24,7 @@ use Rattle.gq_query.specs.Hovers.{IsVariableTold}
 use Rattle.gq_query.specs.Words.{variable_words}
 use Rattle.gq_query.specs.Order.{occurrence_cmp, AreExactly}
 use Rattle.gq_query.specs.References.{IsUse, IsDeclaration}
-use Rattle.gq_index.specs.Views.{definitions_view}
 use Rattle.gq_query.specs.Helping.Wants.{IsWanted}
-use Rattle.gq_index.specs.declared.definitions.Executable.{Executable}
 use Rattle.gq_query.proofs.Grouped.{in_group, in_past, first_in_group, first_past}
 
 pub sorted_none : IsStrictlySortedBy occurrence_cmp []
@@ -99,7 +95,7 @@ fragment_wanted ds a b m all is e o =
     subst (λ (k : MentionKind). Contains all o ↔ IsWantedOf ds a b m.name.text m.definition k o) (sym is)
     (contains_wanted a b (fragment_spreads ds m.name.text) (fragment_definitions ds m.name.text) all (λ o. Contains (fragment_spreads ds m.name.text) o) (λ o. Contains (fragment_definitions ds m.name.text) o) e (same_members (fragment_spreads ds m.name.text)) (same_members (fragment_definitions ds m.name.text)) o)
 
-less_or_not : (a b : ℕ) → (a < b) ⊎ (b ≤ a)
+pub less_or_not : (a b : ℕ) → (a < b) ⊎ (b ≤ a)
 less_or_not a b = by (nat_lt a b) refl
   where
     by : (t : Bool) → nat_lt a b ≡ t → (a < b) ⊎ (b ≤ a)
@@ -144,13 +140,6 @@ variable_wanted ds a b m numbers all is members past e o =
       (λ c. ⊎_elim (λ l. inl (l.0, uses.0 l.1)) (λ r. inr (r.0, declarations.0 r.1)) (both.0 c)),
       (λ w. both.1 (⊎_elim (λ l. inl (l.0, uses.1 l.1)) (λ r. inr (r.0, declarations.1 r.1)) w)),
     ))
-
--- what an offset means in documents and definitions that are these
-pub asked_in : (o : Option Mention) (documents : List Doc) (seen all : List Executable) (ds : List DefinitionOf) (key : List ℕ) (offset : ℕ) → option_map mention_view o ≡ asked documents (definitions_view seen) key offset → seen ≡ all → definitions_view all ≡ ds →
-    option_map mention_view o ≡ asked documents ds key offset
-asked_in o documents seen all ds key offset e same_seen same =
-    e ∙ ap (λ (l : List Executable). asked documents (definitions_view l) key offset) same_seen
-    ∙ ap (λ (l : List DefinitionOf). asked documents l key offset) same
 
 -- what is told of a variable whose group has these numbers
 pub variable_is_told : (ds : List DefinitionOf) (text : Text) (n : ℕ) (numbers : List ℕ) (told : Option Text) → IsStrictlyIncreasing numbers → (n < length ds → (k : ℕ) → Contains numbers k ↔ VariableGroup ds text n k) → (length ds ≤ n → numbers ≡ []) →

@@ -6,3 +6,5 @@ pub mod Lookups
 pub mod Telling
 pub mod TypeWords
 pub mod Defining
+pub mod OwnDefinitions
+pub mod FirstDefined

@@ -1,5 +1,6 @@
 -- What only helps to prove that the code does what the definitions say. No contract of a public call is about it.
 pub mod Gathered
+pub mod Own
 pub mod Placed
 pub mod Views
 pub mod Wants

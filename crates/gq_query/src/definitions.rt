@@ -2,11 +2,11 @@
 ghost use Rattle.std.specs.Prelude.{◌≡◌, List, [], ◌∷◌, Some, IfOk};
 ghost use Rattle.gq_index.specs.Indexed.{IsIndexOf, IsIndexOfProject};
 ghost use Rattle.gq_index.specs.Occurrences.{DefinitionOf};
-ghost use Rattle.gq_index.specs.Views.{definitions_view};
 ghost use Rattle.gq_known.specs.Known.{IsKnown};
 ghost use Rattle.gq_mentions.specs.declared.mention.MentionKind.TheVariants as kind;
 ghost use Rattle.gq_mentions.specs.Views.{mention_view};
 ghost use Rattle.gq_query.specs.Definitions.{IsDefinitionOf, AreDefinitions};
+ghost use Rattle.gq_query.specs.Helping.Own.{all_definitions};
 ghost use Rattle.gq_query.specs.Order.{AreExactly};
 ghost use Rattle.gq_query.specs.References.{IsDeclaration};
 
@@ -14,7 +14,7 @@ use crate::asking::asked;
 use crate::schemas::{field_place_by_schema, type_place_by_schema};
 use crate::wanted::{Wanted, wanted_places};
 use gq_index::laws::documents_have_one_list;
-use gq_index::{Executable, Index, Occurrence, executables};
+use gq_index::{Index, Occurrence};
 use gq_known::{Known, Learned};
 use gq_mentions::{Mention, MentionKind};
 use gq_project::Project;
@@ -50,10 +50,9 @@ pub fn definition_by(
         → AreDefinitions known.entry.project.now key.now offset found.items) }
 {
     documents_have_one_list();
-    let definitions = executables(alloc, known.readings)?;
-    match asked(alloc, known.project, &definitions, key, offset)? {
+    match asked(alloc, known, index, key, offset)? {
         Some(mention) => {
-            let found = definition_of(alloc, known, index, &definitions, &mention)?;
+            let found = definition_of(alloc, known, index, &mention)?;
             Ok(found)
         }
         None => Ok(Vec::new(alloc)),
@@ -65,16 +64,15 @@ fn definition_of(
     alloc: Global,
     known: Known<'_>,
     index: &Index,
-    definitions: &[Executable<'_>],
     mention: &Mention<'_>,
 ) -> Result<Vec<Occurrence>, NoMemory>
-    ensures { IfOk result (λ found. IsKnown known.entry → IsIndexOf (definitions_view definitions.now) index.now
-        → AreExactly (IsDefinitionOf known.entry.project.now (definitions_view definitions.now) (mention_view mention.now).kind (mention_view mention.now)) found.items) }
+    ensures { IfOk result (λ found. IsKnown known.entry → IsIndexOf (all_definitions known.entry.readings.now) index.now
+        → AreExactly (IsDefinitionOf known.entry.project.now (all_definitions known.entry.readings.now) (mention_view mention.now).kind (mention_view mention.now)) found.items) }
 {
     match mention.kind {
         MentionKind::Fragment => declarations_of(alloc, index, mention),
         MentionKind::Variable => declarations_of(alloc, index, mention),
-        MentionKind::Field => field_definition(alloc, known, definitions, mention),
+        MentionKind::Field => field_definition(alloc, known, index, mention),
         MentionKind::Condition => condition_definition(alloc, known, mention),
     }
 }
@@ -99,14 +97,14 @@ fn declarations_of(
 fn field_definition(
     alloc: Global,
     known: Known<'_>,
-    definitions: &[Executable<'_>],
+    index: &Index,
     mention: &Mention<'_>,
 ) -> Result<Vec<Occurrence>, NoMemory>
-    ensures { IfOk result (λ found. IsKnown known.entry
-        → AreExactly (IsDefinitionOf known.entry.project.now (definitions_view definitions.now) kind.Field (mention_view mention.now)) found.items) }
+    ensures { IfOk result (λ found. IsKnown known.entry → IsIndexOf (all_definitions known.entry.readings.now) index.now
+        → AreExactly (IsDefinitionOf known.entry.project.now (all_definitions known.entry.readings.now) kind.Field (mention_view mention.now)) found.items) }
 {
     documents_have_one_type_system();
-    let place = field_place_by_schema(alloc, known, definitions, mention)?;
+    let place = field_place_by_schema(alloc, known, index, mention)?;
     at_most_one(alloc, place)
 }
 

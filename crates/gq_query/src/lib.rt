@@ -10,6 +10,7 @@ mod fragments;
 mod groups;
 pub mod hovers;
 mod order;
+mod own;
 mod parents;
 mod places;
 pub mod referring;

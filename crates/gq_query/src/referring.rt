@@ -10,7 +10,7 @@ ghost use Rattle.gq_query.specs.References.{IsReference, AreReferences};
 use crate::asking::asked;
 use crate::wanted::{Wanted, wanted_places};
 use gq_index::laws::documents_have_one_list;
-use gq_index::{Index, Occurrence, executables};
+use gq_index::{Index, Occurrence};
 use gq_known::{Known, Learned};
 use gq_mentions::Mention;
 use gq_project::Project;
@@ -48,8 +48,7 @@ pub fn references_by(
         → AreReferences known.entry.project.now key.now offset include_declaration found.items) }
 {
     documents_have_one_list();
-    let definitions = executables(alloc, known.readings)?;
-    match asked(alloc, known.project, &definitions, key, offset)? {
+    match asked(alloc, known, index, key, offset)? {
         Some(mention) => {
             let found = references_of(alloc, index, &mention, include_declaration)?;
             Ok(found)

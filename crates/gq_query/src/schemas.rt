@@ -8,20 +8,24 @@ ghost use Rattle.gq_mentions.specs.Views.{mention_view};
 ghost use Rattle.gq_query.specs.Parents.{parent_of};
 ghost use Rattle.gq_query.specs.Places.{defined_field_place, type_place};
 ghost use Rattle.gq_query.specs.Schemas.{BySchema};
-ghost use Rattle.gq_index.specs.Views.{definitions_view};
+ghost use Rattle.gq_index.specs.Indexed.{IsIndexOf};
+ghost use Rattle.gq_query.specs.Helping.Own.{all_definitions};
 ghost use Rattle.gq_query.specs.Words.{field_words, field_told, condition_told};
 
+use crate::own::definition_at;
 use crate::parents::parent_at;
 use crate::places::{field_place, type_place};
 use crate::words::{condition_words, field_words};
 use gq_document::field_on;
-use gq_index::{Executable, Occurrence};
+use gq_index::{Index, Occurrence};
 use gq_known::Known;
 use gq_mentions::Mention;
 use gq_schema::laws::documents_have_one_type_system;
 use gq_text::{NoMemory, OwnedText};
+use gq_tree::Parsed;
 use gq_types::{Types, is_built_in_scalar};
 use std::alloc::Global;
+use std::sync::Arc;
 
 /// The type system of the project, where no rule of it is broken.
 fn schema_of<'a>(known: Known<'a>) -> Option<&'a Types>
@@ -39,14 +43,14 @@ fn schema_of<'a>(known: Known<'a>) -> Option<&'a Types>
 pub(crate) fn field_place_by_schema(
     alloc: Global,
     known: Known<'_>,
-    definitions: &[Executable<'_>],
+    index: &Index,
     mention: &Mention<'_>,
 ) -> Result<Option<Occurrence>, NoMemory>
-    ensures { IfOk result (λ place. IsKnown known.entry
-        → BySchema known.entry.project.now (λ es. defined_field_place es (definitions_view definitions.now) (mention_view mention.now)) place) }
+    ensures { IfOk result (λ place. IsKnown known.entry → IsIndexOf (all_definitions known.entry.readings.now) index.now
+        → BySchema known.entry.project.now (λ es. defined_field_place es (all_definitions known.entry.readings.now) (mention_view mention.now)) place) }
 {
     match schema_of(known) {
-        Some(types) => defined_field_place(alloc, types, definitions, mention),
+        Some(types) => defined_field_place(alloc, types, known.readings, index, mention),
         None => Ok(None),
     }
 }
@@ -65,14 +69,14 @@ pub(crate) fn type_place_by_schema(known: Known<'_>, name: &str) -> Option<Occur
 pub(crate) fn field_told_by_schema(
     alloc: Global,
     known: Known<'_>,
-    definitions: &[Executable<'_>],
+    index: &Index,
     mention: &Mention<'_>,
 ) -> Result<Option<OwnedText>, NoMemory>
-    ensures { IfOk result (λ told. IsKnown known.entry
-        → BySchema known.entry.project.now (λ es. field_told es (definitions_view definitions.now) (mention_view mention.now)) told) }
+    ensures { IfOk result (λ told. IsKnown known.entry → IsIndexOf (all_definitions known.entry.readings.now) index.now
+        → BySchema known.entry.project.now (λ es. field_told es (all_definitions known.entry.readings.now) (mention_view mention.now)) told) }
 {
     match schema_of(known) {
-        Some(types) => field_told(alloc, types, definitions, mention),
+        Some(types) => field_told(alloc, types, known.readings, index, mention),
         None => Ok(None),
     }
 }
@@ -95,13 +99,15 @@ pub(crate) fn condition_told_by_schema(
 fn parent_of<'a>(
     alloc: Global,
     types: &'a Types,
-    definitions: &[Executable<'a>],
+    readings: &'a [Arc<Parsed>],
+    index: &Index,
     mention: &Mention<'_>,
 ) -> Result<Option<&'a str>, NoMemory>
-    ensures { IfOk result (λ parent. text_of parent ≡ parent_of (types_view types.now) (definitions_view definitions.now) (mention_view mention.now)) }
+    ensures { IfOk result (λ parent. IsIndexOf (all_definitions readings.now) index.now
+        → text_of parent ≡ parent_of (types_view types.now) (all_definitions readings.now) (mention_view mention.now)) }
 {
-    match definitions.get(mention.definition) {
-        Some(one) => parent_at(alloc, types, one, mention.name.span),
+    match definition_at(alloc, readings, index, mention.definition)? {
+        Some(one) => parent_at(alloc, types, &one, mention.name.span),
         None => Ok(None),
     }
 }
@@ -109,12 +115,14 @@ fn parent_of<'a>(
 fn defined_field_place(
     alloc: Global,
     types: &Types,
-    definitions: &[Executable<'_>],
+    readings: &[Arc<Parsed>],
+    index: &Index,
     mention: &Mention<'_>,
 ) -> Result<Option<Occurrence>, NoMemory>
-    ensures { IfOk result (λ place. place ≡ defined_field_place (types_view types.now) (definitions_view definitions.now) (mention_view mention.now)) }
+    ensures { IfOk result (λ place. IsIndexOf (all_definitions readings.now) index.now
+        → place ≡ defined_field_place (types_view types.now) (all_definitions readings.now) (mention_view mention.now)) }
 {
-    match parent_of(alloc, types, definitions, mention)? {
+    match parent_of(alloc, types, readings, index, mention)? {
         Some(type_name) => Ok(field_place(types, type_name, mention.name.text.as_str())),
         None => Ok(None),
     }
@@ -123,12 +131,14 @@ fn defined_field_place(
 fn field_told(
     alloc: Global,
     types: &Types,
-    definitions: &[Executable<'_>],
+    readings: &[Arc<Parsed>],
+    index: &Index,
     mention: &Mention<'_>,
 ) -> Result<Option<OwnedText>, NoMemory>
-    ensures { IfOk result (λ told. told ≡ field_told (types_view types.now) (definitions_view definitions.now) (mention_view mention.now)) }
+    ensures { IfOk result (λ told. IsIndexOf (all_definitions readings.now) index.now
+        → told ≡ field_told (types_view types.now) (all_definitions readings.now) (mention_view mention.now)) }
 {
-    match parent_of(alloc, types, definitions, mention)? {
+    match parent_of(alloc, types, readings, index, mention)? {
         Some(type_name) => told_on(alloc, types, type_name, mention.name.text.as_str()),
         None => Ok(None),
     }

@@ -2,7 +2,7 @@ use Rattle.std.proofs.Common.{Some, None, refl}
 use Rattle.std.proofs.lemmas.Result.{IfOk-weaker}
 use Rattle.gq_types.specs.Look.{types_view}
 use Rattle.gq_mentions.specs.Views.{mention_view}
-use Rattle.gq_index.specs.Views.{definitions_view}
+use Rattle.gq_query.specs.Helping.Own.{all_definitions}
 use Rattle.gq_query.specs.Places.{defined_field_place}
 use Rattle.gq_query.proofs.Telling.{told_by}
 use Rattle.gq_query.proofs.schemas.field_place_by_schema.Goals as goal
@@ -10,8 +10,8 @@ use Rattle.gq_query.proofs.schemas.field_place_by_schema.Goals as goal
 pub returns-in-Some : goal.returns-in-Some
 returns-in-Some c =
     IfOk-weaker c.defined_field_place.result _ _
-    (λ told e is. told_by c.args.known.project.now (λ es. defined_field_place es (definitions_view c.args.definitions.now) (mention_view c.args.mention.now)) (Some (types_view c.in-Some.types.now)) told (c.in-Some.ensures is) e)
+    (λ told e known is. told_by c.args.known.project.now (λ es. defined_field_place es (all_definitions c.args.known.readings.now) (mention_view c.args.mention.now)) (Some (types_view c.in-Some.types.now)) told (c.in-Some.ensures known) (e is))
     c.defined_field_place.ensures
 
 pub returns-in-None : goal.returns-in-None
-returns-in-None c = λ is. told_by c.args.known.project.now (λ es. defined_field_place es (definitions_view c.args.definitions.now) (mention_view c.args.mention.now)) None None (c.in-None.ensures is) refl
+returns-in-None c = λ known is. told_by c.args.known.project.now (λ es. defined_field_place es (all_definitions c.args.known.readings.now) (mention_view c.args.mention.now)) None None (c.in-None.ensures known) refl
