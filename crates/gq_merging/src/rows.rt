@@ -33,7 +33,7 @@ pub(crate) struct Row<'a> {
     pub(crate) spreads: Vec<usize>,
 }
 
-/// The selection sets of the fragments, then those of the operations.
+/// The selection sets of the fragments, then those of the operations. There is room for as many more: room that is not used is not touched.
 fn first_sets<'a>(
     alloc: Global,
     executable: &Executable<'a>,
@@ -44,7 +44,7 @@ fn first_sets<'a>(
         .fragments
         .len()
         .saturating_add(executable.operations.len());
-    let mut sets = Vec::with_capacity(alloc, count)?;
+    let mut sets = Vec::with_capacity(alloc, count.saturating_mul(2))?;
     for fragment in executable.fragments {
         sets.push(fragment_set(fragment))?;
     }
@@ -268,7 +268,7 @@ pub(crate) fn all_rows<'a>(
         names: &names,
     };
     let mut sets = first_sets(alloc, executable)?;
-    let mut rows = Vec::with_capacity(alloc, sets.len())?;
+    let mut rows = Vec::with_capacity(alloc, sets.len().saturating_mul(2))?;
     let mut fields = Vec::new(alloc);
     let mut empty = None;
     let mut hubs = no_hubs(alloc, executable.fragments.len())?;
