@@ -8,9 +8,10 @@ and proves anything, as the C function that it calls promises `⊥`. What is see
 whether or not those hold: the gate alone says that a crate is proved. Each crate's contracts, types, specs and lemmas stay as they are. Without --only, all of NAME is checked. Each other FLAG, as
 --allow-holes or --short-goals, goes on to `rattle check`, whose output and status are those of this script.
 
-NAME is checked where it lies, and nothing is written there. DIR, by default a folder of this checkout's among the temporary files, keeps what was
-checked, by NAME, so that a second run checks only what changed. In one DIR one run works at a time, and a second waits. For a crate far up the first
-takes minutes, and seven GB.
+NAME is checked where it lies, and nothing is written there. It stops where a file names a library that the crate's line of crates.txt does not,
+or a folder of proofs has the name of no function: the gate refuses both, and a check of parts sees neither. DIR, by default a folder of this
+checkout's among the temporary files, keeps what was checked, by NAME, so that a second run checks only what changed. In one DIR one run works at
+a time, and a second waits. For a crate far up the first takes minutes, and seven GB.
 
 A `const fn` keeps its body, since a constant may stand for what it returns; where it needs a proof file, it has none in the copy. A crate of tests
 wants the flag --test."""
