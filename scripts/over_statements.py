@@ -303,13 +303,26 @@ def stop_on_unnamed(name, known):
                 stop(f"{name}/{part}/{file} names Rattle.{library}, and the line of {name} in crates.txt does not name {library}")
 
 
+def has_function(crate, folder):
+    """Whether a function or a cycle has this folder of proofs: a free function in its module, a method in any file, as an `impl` may stand in any."""
+    *place, name = folder.split(os.sep)
+    files = [it for it in files_below(f"{crate}/src") if it.endswith(".rt")]
+    indent, is_method = "", bool(place) and place[-1][:1].isupper()
+    if is_method:
+        indent = r"[ \t]+"
+    elif not name.startswith("+"):
+        files = [it for it in files if it == "/".join(place) + ".rt" or not place and f"src/{it}" == root_file(crate)]
+    text = "\n".join(read(f"{crate}/src/{it}") for it in files)
+    if name.startswith("+"):
+        return f"#[cycle({name[1:]}" in text
+    return bool(re.search(rf"^{indent}(?:pub(?:\([^)]*\))? )?(?:const )?(?:unsafe )?fn (?:r#)?{re.escape(name)}\b", text, re.M))
+
+
 def stop_on_stale(name):
-    """Stops where a folder of proofs has the name of no function and of no cycle, which a check of parts does not see."""
+    """Stops where a folder of proofs is that of no function and of no cycle, which a check of parts does not see."""
     crate = f"{ROOT}/crates/{name}"
-    sources = "".join(read(f"{crate}/src/{file}") for file in files_below(f"{crate}/src") if file.endswith(".rt"))
-    names = set(re.findall(r"\bfn (?:r#)?(\w+)", sources)) | {f"+{it}" for it in re.findall(r"#\[cycle\((\w+)", sources)}
     for file in sorted(files_below(f"{crate}/proofs")):
-        if os.path.basename(file) in OF_BODIES and os.path.basename(os.path.dirname(file)) not in names:
+        if os.path.basename(file) in OF_BODIES and not has_function(crate, os.path.dirname(file)):
             stop(f"{name}/proofs/{file} is of a function that {name} does not have")
 
 
