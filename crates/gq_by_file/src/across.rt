@@ -34,7 +34,6 @@ use std::sync::Arc;
 
 /// What is known of files together: the names in each and what these come to, and closed sets of them with what is told of each set by itself. It
 /// grows where it is asked, and what a change of a file may touch is forgotten.
-#[derive(Drop)]
 pub struct Across {
     /// The names in each file, or none at all.
     pub names: Vec<FileNames>,
@@ -43,6 +42,17 @@ pub struct Across {
     /// Where the spreads in each file lead, if that is known.
     pub links: Links,
     pub covers: Vec<Cover>,
+}
+
+impl Drop for Across {
+    fn drop(self) {
+        let Across {
+            names: _names,
+            is_clean: _,
+            links: _links,
+            covers: _covers,
+        } = self;
+    }
 }
 
 /// What rests on names, and whether nothing does, where that is known of these names if the flag stands.

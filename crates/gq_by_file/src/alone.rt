@@ -12,13 +12,12 @@ ghost use Rattle.gq_by_file.specs.Helping.Alone.{IsToldAlone};
 use gq_document::{Definitions, Executable};
 use gq_fault::Fault;
 use gq_fields::add_field_faults;
-use gq_fragments::{add_fragment_faults, add_operation_faults};
+use gq_fragments::{add_condition_faults, add_operation_faults};
 use gq_rules::by_file::rests_on_file;
-use gq_spreads::Spreads;
 use gq_text::NoMemory;
 use gq_tree::Parsed;
 use gq_types::Types;
-use gq_variables::add_variable_faults;
+use gq_variables::add_variable_definition_faults;
 use std::alloc::Global;
 use std::slice;
 
@@ -28,10 +27,9 @@ fn told_alone(alloc: Global, executable: &Executable<'_>) -> Result<Vec<Fault>, 
 {
     let mut faults = Vec::new(alloc);
     add_operation_faults(alloc, executable, &mut faults)?;
-    add_fragment_faults(alloc, executable, &mut faults)?;
+    add_condition_faults(alloc, executable, &mut faults)?;
     add_field_faults(alloc, executable, &mut faults)?;
-    let spreads = Spreads::of(alloc, executable)?;
-    add_variable_faults(alloc, executable, &spreads, &mut faults)?;
+    add_variable_definition_faults(alloc, executable, &mut faults)?;
     Ok(faults)
 }
 

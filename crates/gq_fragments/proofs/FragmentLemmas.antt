@@ -1,36 +1,33 @@
 -- What is told of fragments is what the rules demand.
-use Rattle.std.proofs.Common.{◌≡◌, ◌↔◌, ℕ, Bool, true, false, if◌then◌else◌, is_some, not, ◌&&◌, List, [], ◌∷◌, ◌++◌, Option, Some, None, Contains, flat_map, refl, sym, ap, ◌∙◌, subst, inl, inr}
+use Rattle.std.proofs.Common.{◌≡◌, ◌↔◌, ℕ, Bool, true, false, is_some, not, ◌&&◌, List, [], ◌++◌, Option, Some, None, Contains, refl, sym, ap, ◌∙◌, subst, inl, inr}
 use Rattle.std.specs.Str.{bytes_eq}
 use Rattle.std.specs.Cmp.Lexicographic.{bytes_decides}
 use Rattle.std.proofs.lemmas.List.Elements.{Contains-append_left, Contains-append_right, Contains-append_cases}
 use Rattle.gq_text.specs.declared.place.Span.{Span}
 use Rattle.gq_tree.specs.Plain.{NameOf, Head, field, spread, inline}
 use Rattle.gq_names.specs.Repeats.{repeated}
-use Rattle.gq_names.proofs.RepeatLemmas.{contains_none, contains_first, repeated_is}
-use Rattle.gq_fault.specs.declared.code.Code.TheVariants.{FragmentNameNotUnique, UnknownTypeCondition, ConditionNotComposite, SpreadNotPossible}
+use Rattle.gq_names.proofs.RepeatLemmas.{contains_none, repeated_is}
+use Rattle.gq_fault.specs.declared.code.Code.TheVariants.{FragmentNameNotUnique, SpreadNotPossible}
 use Rattle.gq_fault.specs.declared.fault.Fault.{Fault}
-use Rattle.gq_types.specs.declared.entry.TypeKind.{TypeKind}
 use Rattle.gq_types.specs.Entries.{Text, EntryOf}
-use Rattle.gq_types.specs.Kinds.{is_composite}
 use Rattle.gq_types.specs.Joined.{kind_named}
-use Rattle.gq_types.proofs.Gathered.{from_flat, to_flat, from_any, to_any, and_parts, and_both, not_true, only, from_if, to_if, from_map_as as from_map, to_map_as as to_map}
+use Rattle.gq_types.proofs.Gathered.{from_flat, to_flat, from_any, to_any, and_parts, and_both, not_true, from_if, to_if, from_map_as as from_map, to_map_as as to_map}
 use Rattle.gq_document.specs.Definitions.{FragmentOf}
 use Rattle.gq_document.specs.Selections.{SelectedOf}
 use Rattle.gq_document.specs.Executable.{ExecutableOf, Selects}
 use Rattle.gq_fault.specs.FaultPlaces.{fault_over, fault_at, first_bytes}
-use Rattle.gq_fragments.specs.TypeConditions.{IsTypeCondition}
-use Rattle.gq_fragments.specs.TypeConditions as condition
 use Rattle.gq_fragments.specs.FragmentNameUniqueness.{IsRepeatedFragmentName}
-use Rattle.gq_fragments.specs.FragmentSpreadTypeExistence.{IsUnknownCondition}
-use Rattle.gq_fragments.specs.FragmentsOnCompositeTypes.{IsConditionNotComposite}
 use Rattle.gq_fragments.specs.FragmentSpreadIsPossible.{HaveNoObject, IsSpread, IsSpreadNotPossible}
 use Rattle.gq_fragments.specs.FragmentSpreadIsPossible as spreads
+use Rattle.gq_fragments.specs.ConditionFaults.{IsConditionFault}
+use Rattle.gq_fragments.specs.ConditionFaults as rule
 use Rattle.gq_fragments.specs.FragmentFaults.{IsFragmentFault}
 use Rattle.gq_fragments.specs.FragmentFaults as fault
-use Rattle.gq_fragments.specs.Helping.FragmentPlaces.{repeated_names, condition_of_kind, condition_faults, conditions_in, condition_of_selected, conditions_of_selections, condition_of_fragment, conditions_of_fragments, share_object, is_impossible, impossible_under, impossible_in, is_on, some_condition, impossible_once, impossible_by, impossible_at, impossible_spreads, selections, is_of_fragment, of_fragments, faults_of_selections, fragment_faults}
+use Rattle.gq_fragments.specs.Helping.FragmentPlaces.{repeated_names, conditions_of_selections, conditions_of_fragments, share_object, is_impossible, impossible_under, impossible_in, is_on, some_condition, impossible_once, impossible_by, impossible_at, impossible_spreads, selections, is_of_fragment, of_fragments, faults_of_selections, fragment_faults}
 use Rattle.gq_fragments.proofs.FoundLemmas.{found_some}
 use Rattle.gq_fragments.proofs.SharedLemmas.{share_decides}
 use Rattle.gq_fragments.proofs.SpreadLemmas.{from_selections, to_selections}
+use Rattle.gq_fragments.proofs.TypeConditionLemmas.{conditions_are, told_of, told_of_conditions}
 
 -- two types without an object type in common
 have_no_object : (es : List EntryOf) (parent condition : Text) → is_impossible es parent condition ≡ true → HaveNoObject es parent condition
@@ -70,33 +67,17 @@ module _ (x : ExecutableOf) (item : Fault) where
       ((repeated_is (λ (f : FragmentOf). f.name.text) x.fragments w.later).1 w.is_repeated) w.is
 
   -- type conditions
-  condition_is_fault : (file : ℕ) (name : NameOf Span) → IsTypeCondition x file name → (o : Option TypeKind) → kind_named x.entries name.text ≡ o →
-      Contains (condition_of_kind file name o) item → IsFragmentFault x item
-  condition_is_fault file name is None unknown found =
-      fault.unknown_condition (record { file = file; name = name; is_condition = is; is_unknown = unknown; is = only (fault_at file UnknownTypeCondition name) item found })
-  condition_is_fault file name is (Some kind) known found = by_composite (is_composite kind) refl found
-    where
-      by_composite : (b : Bool) → is_composite kind ≡ b → Contains (if b then [] else fault_at file ConditionNotComposite name ∷ []) item → IsFragmentFault x item
-      by_composite true composite told = absurd (contains_none item told)
-      by_composite false composite told = fault.condition_not_composite
-          (record { file = file; name = name; is_condition = is; kind = kind; is_known = known; is_not_composite = composite; is = only (fault_at file ConditionNotComposite name) item told })
+  condition_is_fault : IsConditionFault x item → IsFragmentFault x item
+  condition_is_fault (rule.unknown_condition w) = fault.unknown_condition w
+  condition_is_fault (rule.condition_not_composite w) = fault.condition_not_composite w
 
   fragment_condition_is_fault : Contains (conditions_of_fragments x.entries x.fragments) item → IsFragmentFault x item
   fragment_condition_is_fault found =
-      let one = from_flat (condition_of_fragment x.entries) x.fragments item found in
-      condition_is_fault one.0.file one.0.on (condition.of_fragment one.1) (kind_named x.entries one.0.on.text) refl one.2
-
-  selected_condition_is_fault : (s : SelectedOf) → Selects x s → (h : Head Span) → s.selection.label ≡ h → Contains (conditions_in x.entries s.file h) item → IsFragmentFault x item
-  selected_condition_is_fault s selects (field alias name arguments directives braces place) is found = absurd (contains_none item found)
-  selected_condition_is_fault s selects (spread name directives place) is found = absurd (contains_none item found)
-  selected_condition_is_fault s selects (inline None directives braces place) is found = absurd (contains_none item found)
-  selected_condition_is_fault s selects (inline (Some name) directives braces place) is found =
-      condition_is_fault s.file name (condition.of_inline_fragment selects is) (kind_named x.entries name.text) refl found
+      condition_is_fault ((conditions_are x item).0 (Contains-append_left (conditions_of_fragments x.entries x.fragments) (conditions_of_selections x.entries (selections x)) item found))
 
   inline_condition_is_fault : Contains (conditions_of_selections x.entries (selections x)) item → IsFragmentFault x item
   inline_condition_is_fault found =
-      let one = from_flat (condition_of_selected x.entries) (selections x) item found in
-      selected_condition_is_fault one.0 (from_selections x one.0 one.1) one.0.selection.label refl one.2
+      condition_is_fault ((conditions_are x item).0 (Contains-append_right (conditions_of_fragments x.entries x.fragments) (conditions_of_selections x.entries (selections x)) item found))
 
   -- where a fault stands among all
   in_conditions_of_fragments : Contains (conditions_of_fragments x.entries x.fragments) item → Contains (fragment_faults x) item
@@ -112,23 +93,14 @@ module _ (x : ExecutableOf) (item : Fault) where
   in_conditions_of_selections : Contains (conditions_of_selections x.entries (selections x)) item → Contains (fragment_faults x) item
   in_conditions_of_selections c = in_selections (Contains-append_left (conditions_of_selections x.entries (selections x)) (impossible_spreads x.entries x.fragments (selections x)) item c)
 
+  in_conditions : IsConditionFault x item → Contains (fragment_faults x) item
+  in_conditions w = elim (Contains-append_cases (conditions_of_fragments x.entries x.fragments) (conditions_of_selections x.entries (selections x)) item ((conditions_are x item).1 w)) [
+    | inl a ↦ in_conditions_of_fragments a
+    | inr b ↦ in_conditions_of_selections b
+  ]
+
   in_impossible_spreads : Contains (impossible_spreads x.entries x.fragments (selections x)) item → Contains (fragment_faults x) item
   in_impossible_spreads c = in_selections (Contains-append_right (conditions_of_selections x.entries (selections x)) (impossible_spreads x.entries x.fragments (selections x)) item c)
-
-  to_condition : {file : ℕ} {name : NameOf Span} → IsTypeCondition x file name → Contains (condition_faults x.entries file name) item → Contains (fragment_faults x) item
-  to_condition (condition.of_fragment {f} stands) c = in_conditions_of_fragments (to_flat (condition_of_fragment x.entries) x.fragments f item stands c)
-  to_condition (condition.of_inline_fragment {s} {name} {directives} {braces} {place} selects is) c =
-      in_conditions_of_selections (to_flat (condition_of_selected x.entries) (selections x) s item (to_selections x s selects)
-      (subst (λ h. Contains (conditions_in x.entries s.file h) item) (sym is) c))
-
-  to_unknown : IsUnknownCondition x item → Contains (fragment_faults x) item
-  to_unknown w = to_condition w.is_condition
-      (subst (λ o. Contains (condition_of_kind w.file w.name o) item) (sym w.is_unknown) (contains_first (fault_at w.file UnknownTypeCondition w.name) [] item (sym w.is)))
-
-  to_not_composite : IsConditionNotComposite x item → Contains (fragment_faults x) item
-  to_not_composite w = to_condition w.is_condition
-      (subst (λ o. Contains (condition_of_kind w.file w.name o) item) (sym w.is_known)
-      (subst (λ b. Contains (if b then [] else fault_at w.file ConditionNotComposite w.name ∷ []) item) (sym w.is_not_composite) (contains_first (fault_at w.file ConditionNotComposite w.name) [] item (sym w.is))))
 
   -- spreads
   impossible_is_fault : (s : SelectedOf) → Selects x s → (type_name : Text) (place : Span) → IsSpread x.fragments s.selection.label type_name place → (o : Option Text) → s.parent ≡ o →
@@ -208,33 +180,20 @@ module _ (x : ExecutableOf) (item : Fault) where
   to_faults : IsFragmentFault x item → Contains (fragment_faults x) item
   to_faults (fault.repeated_fragment_name w) =
       Contains-append_left (repeated_names [] x.fragments) (conditions_of_fragments x.entries x.fragments ++ faults_of_selections x (selections x)) item (to_repeated w)
-  to_faults (fault.unknown_condition w) = to_unknown w
-  to_faults (fault.condition_not_composite w) = to_not_composite w
+  to_faults (fault.unknown_condition w) = in_conditions (rule.unknown_condition w)
+  to_faults (fault.condition_not_composite w) = in_conditions (rule.condition_not_composite w)
   to_faults (fault.spread_not_possible w) = to_spread w
 
   pub fragment_faults_are : Contains (fragment_faults x) item ↔ IsFragmentFault x item
   fragment_faults_are = (fault_is, to_faults)
 
--- of a field nothing is told, so that what is told of selections is told of those that are none
-no_condition : (es : List EntryOf) (file : ℕ) (h : Head Span) → is_of_fragment h ≡ false → conditions_in es file h ≡ []
-no_condition es file (field alias name arguments directives braces place) e = refl
-no_condition es file (spread name directives place) e = absurd (cc)
-no_condition es file (inline on directives braces place) e = absurd (cc)
-
+-- of a field nothing is told
 no_spread : (es : List EntryOf) (fs : List FragmentOf) (s : SelectedOf) (h : Head Span) → is_of_fragment h ≡ false → impossible_by es fs s h ≡ []
 no_spread es fs s (field alias name arguments directives braces place) e = refl
 no_spread es fs s (spread name directives place) e = absurd (cc)
 no_spread es fs s (inline on directives braces place) e = absurd (cc)
 
-told_of : (f : SelectedOf → List Fault) → ((s : SelectedOf) → is_of_fragment s.selection.label ≡ false → f s ≡ []) → (ss : List SelectedOf) → flat_map f (of_fragments ss) ≡ flat_map f ss
-told_of f none [] = refl
-told_of f none (s ∷ ss) = by (is_of_fragment s.selection.label) refl (told_of f none ss)
-  where
-    by : (b : Bool) → is_of_fragment s.selection.label ≡ b → flat_map f (of_fragments ss) ≡ flat_map f ss → flat_map f (if b then s ∷ of_fragments ss else of_fragments ss) ≡ f s ++ flat_map f ss
-    by true e rest = ap (λ (l : List Fault). f s ++ l) rest
-    by false e rest = rest ∙ ap (λ (l : List Fault). l ++ flat_map f ss) (sym (none s e))
-
 pub told_of_fragments : (x : ExecutableOf) (ss : List SelectedOf) → faults_of_selections x (of_fragments ss) ≡ faults_of_selections x ss
 told_of_fragments x ss =
-    ap (λ (l : List Fault). l ++ impossible_spreads x.entries x.fragments (of_fragments ss)) (told_of (condition_of_selected x.entries) (λ s e. no_condition x.entries s.file s.selection.label e) ss)
+    ap (λ (l : List Fault). l ++ impossible_spreads x.entries x.fragments (of_fragments ss)) (told_of_conditions x.entries ss)
     ∙ ap (λ (l : List Fault). conditions_of_selections x.entries ss ++ l) (told_of (impossible_at x.entries x.fragments) (λ s e. no_spread x.entries x.fragments s s.selection.label e) ss)

@@ -4,4 +4,5 @@ pub mod OperationLemmas
 pub mod SharedLemmas
 pub mod SpreadLemmas
 pub mod ConditionLemmas
+pub mod TypeConditionLemmas
 pub mod FragmentLemmas

@@ -10,4 +10,5 @@ pub mod FragmentSpreadTypeExistence
 pub mod FragmentsOnCompositeTypes
 pub mod FragmentSpreadIsPossible
 pub mod FragmentFaults
+pub mod ConditionFaults
 pub mod Helping

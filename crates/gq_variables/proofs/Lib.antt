@@ -5,4 +5,5 @@ pub mod AgainLemmas
 pub mod AlikeLemmas
 pub mod RuleLemmas
 pub mod FaultLemmas
+pub mod DefinitionFaultLemmas
 pub mod LeadingLemmas

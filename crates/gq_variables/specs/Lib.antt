@@ -6,4 +6,5 @@ pub mod AllVariableUsesDefined
 pub mod AllVariablesUsed
 pub mod AllVariableUsagesAreAllowed
 pub mod VariableFaults
+pub mod VariableDefinitionFaults
 pub mod Helping

@@ -36,7 +36,7 @@ use gq_types::Types;
 use std::alloc::Global;
 
 /// Puts what is wrong with the variables themselves.
-fn add_definition_faults(
+pub(crate) fn add_definition_faults(
     types: &Types,
     file: usize,
     all: &[VariableDefinition],

@@ -8,6 +8,7 @@ mod all_variable_uses_defined;
 mod all_variables_used;
 mod behind;
 mod compatible;
+pub mod definition_faults;
 pub mod faults;
 mod leading;
 mod parts;
@@ -20,4 +21,5 @@ mod variable_uniqueness;
 mod variables;
 mod variables_are_input_types;
 
+pub use definition_faults::add_variable_definition_faults;
 pub use faults::add_variable_faults;

@@ -104,6 +104,11 @@ is_of_fragment (inline on directives braces place) = true
 abbrev pub of_fragments : List SelectedOf → List SelectedOf
 of_fragments ss = filter (λ s. is_of_fragment s.selection.label) ss
 
+-- of all type conditions
+abbrev pub conditions_of_all : ExecutableOf → List Fault
+conditions_of_all x = conditions_of_fragments x.entries x.fragments ++ conditions_of_selections x.entries (selections x)
+
+-- of all rules
 abbrev pub faults_of_selections : ExecutableOf → List SelectedOf → List Fault
 faults_of_selections x ss = conditions_of_selections x.entries ss ++ impossible_spreads x.entries x.fragments ss
 

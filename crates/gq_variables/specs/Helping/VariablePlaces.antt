@@ -112,6 +112,9 @@ not_allowed es variables repeated uses = flat_map (not_allowed_at es variables r
 abbrev pub definition_faults : List EntryOf → ℕ → (variables repeated : List (VariableOf Span)) → List Fault
 definition_faults es file variables repeated = not_unique file repeated ++ not_of_input_type es file variables
 
+abbrev pub definition_faults_of : List EntryOf → OperationOf → List Fault
+definition_faults_of es o = definition_faults es o.file o.variables (repeated_variables [] o.variables)
+
 abbrev pub use_faults : List EntryOf → (variables repeated : List (VariableOf Span)) → List UseOf → List Fault
 use_faults es variables repeated uses = not_defined (variable_texts variables) uses ++ not_allowed es variables repeated uses
 
