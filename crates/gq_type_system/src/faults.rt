@@ -16,8 +16,7 @@ use crate::implementations::add_bad_implementations;
 use crate::query_root::add_no_query_root;
 use crate::reserved_name::add_reserved_names;
 use crate::root_types::add_wrong_roots;
-use crate::unknown_type::add_unknown_types;
-use crate::wrong_kind::add_wrong_kinds;
+use crate::used_types::add_wrong_uses;
 use gq_fault::{Fault, put_in_order};
 use gq_text::NoMemory;
 use gq_types::Types;
@@ -51,8 +50,7 @@ fn add_name_faults(alloc: Global, types: &Types, faults: &mut Vec<Fault>) -> Res
     add_defined_twice(types, faults)?;
     add_bad_extensions(types, faults)?;
     add_reserved_names(alloc, types, faults)?;
-    add_unknown_types(alloc, types, faults)?;
-    add_wrong_kinds(alloc, types, faults)
+    add_wrong_uses(alloc, types, faults)
 }
 
 /// What is wrong with the parts of types and of the schema.

@@ -19,9 +19,8 @@ mod required_inputs;
 mod reserved_name;
 mod root_entries;
 mod root_types;
-mod unknown_type;
+mod used_types;
 mod uses;
-mod wrong_kind;
 
 pub use defined_twice::definition_place;
 pub use faults::schema_faults;

@@ -1,9 +1,0 @@
-use Rattle.std.proofs.Common.{◌≡◌, ◌++◌, drop, flat_map}
-use Rattle.gq_types.specs.Look.{types_view}
-use Rattle.gq_types.specs.Entries.{entries_view}
-use Rattle.gq_type_system.specs.Helping.Walk.{judged_from}
-use Rattle.gq_type_system.specs.Helping.WrongKindPlaces.{wrong_kinds_at, wrong_kinds}
-use Rattle.gq_type_system.proofs.wrong_kind.add_wrong_kinds.Given as goal
-
-abbrev pub invariant-loop-number : goal.invariant-loop-number
-invariant-loop-number l = l.faults.items ++ flat_map (wrong_kinds_at (types_view l.types)) (judged_from l.number (entries_view (drop l.number l.entries))) ≡ l.initial.faults.items ++ wrong_kinds (types_view l.types)

@@ -1,0 +1,129 @@
+//! Names of types that are used: those that nothing defines, and those where a type of another kind has to stand.
+ghost use Rattle.std.specs.Prelude.{◌≡◌, ◌++◌, OnOk};
+ghost use Rattle.std.specs.Arc.{arc_value};
+ghost use Rattle.gq_tree.specs.Views.{type_system_view};
+ghost use Rattle.gq_types.specs.Look.{types_view};
+ghost use Rattle.gq_fault.specs.FaultPlaces.{fault_at};
+ghost use Rattle.gq_type_system.specs.Uses.{used_types};
+ghost use Rattle.gq_type_system.specs.WrongKind.{suits};
+ghost use Rattle.gq_type_system.specs.Helping.UsesViews.{use_view, uses_view};
+ghost use Rattle.gq_type_system.specs.Helping.UnknownTypePlaces.{unknown_type, unknown_types_in, unknown_types};
+ghost use Rattle.gq_type_system.specs.Helping.WrongKindPlaces.{wrong_kind, wrong_kinds_in, wrong_kinds};
+
+use crate::judged::is_judged;
+use crate::uses::{Use, Wants, put_used_types};
+use gq_fault::{Code, Fault};
+use gq_text::NoMemory;
+use gq_types::{Entry, TypeKind, Types};
+use std::alloc::Global;
+
+/// Whether a type of that kind may stand where that is wanted.
+fn suits(wants: Wants, kind: TypeKind) -> bool
+    ensures { result ≡ suits wants kind }
+{
+    match wants {
+        Wants::OutputType => kind.is_output(),
+        Wants::InputType => kind.is_input(),
+        Wants::ObjectMember => kind == TypeKind::Object,
+        Wants::InterfaceType => kind == TypeKind::Interface,
+        Wants::RootOperationType => true,
+    }
+}
+
+/// The fault of the name of a type that is used in that document.
+fn fault_of(file: usize, code: Code, one: &Use<'_>) -> Fault
+    ensures { result ≡ fault_at file code (use_view one.now).name }
+{
+    Fault {
+        file,
+        start: one.name.span.start,
+        code,
+        end: one.name.span.end,
+    }
+}
+
+/// Puts the fault of the name of a type that is used in that document, among those that nothing defines or among those of another kind
+/// than what is wanted.
+fn put_fault_of(
+    types: &Types,
+    file: usize,
+    one: &Use<'_>,
+    unknown: &mut Vec<Fault>,
+    wrong: &mut Vec<Fault>,
+) -> Result<(), NoMemory>
+    ensures unknown { OnOk result (unknown.new.items ≡ unknown.old.items ++ unknown_type (types_view types.now) file (use_view one.now)) }
+    ensures wrong { OnOk result (wrong.new.items ≡ wrong.old.items ++ wrong_kind (types_view types.now) file (use_view one.now)) }
+{
+    match types.kind(one.name.text.as_str()) {
+        Some(kind) => {
+            if !suits(one.wants, kind) {
+                wrong.push(fault_of(file, Code::WrongKindOfType, one))?;
+            }
+        }
+        None => unknown.push(fault_of(file, Code::UnknownType, one))?,
+    }
+    Ok(())
+}
+
+/// The same of each of those uses.
+fn put_faults_in(
+    types: &Types,
+    file: usize,
+    uses: &[Use<'_>],
+    unknown: &mut Vec<Fault>,
+    wrong: &mut Vec<Fault>,
+) -> Result<(), NoMemory>
+    ensures unknown { OnOk result (unknown.new.items ≡ unknown.old.items ++ unknown_types_in (types_view types.now) file (uses_view uses.now)) }
+    ensures wrong { OnOk result (wrong.new.items ≡ wrong.old.items ++ wrong_kinds_in (types_view types.now) file (uses_view uses.now)) }
+{
+    for one in uses {
+        put_fault_of(types, file, one, unknown, wrong)?;
+    }
+    Ok(())
+}
+
+/// The same of each type that an entry uses.
+fn put_faults_of(
+    alloc: Global,
+    types: &Types,
+    entry: &Entry,
+    unknown: &mut Vec<Fault>,
+    wrong: &mut Vec<Fault>,
+) -> Result<(), NoMemory>
+    ensures unknown { OnOk result (unknown.new.items ≡ unknown.old.items ++ unknown_types_in (types_view types.now) entry.now.file (used_types (type_system_view (arc_value entry.now.definition)))) }
+    ensures wrong { OnOk result (wrong.new.items ≡ wrong.old.items ++ wrong_kinds_in (types_view types.now) entry.now.file (used_types (type_system_view (arc_value entry.now.definition)))) }
+{
+    let mut uses = Vec::new(alloc);
+    put_used_types(&entry.definition, &mut uses)?;
+    put_faults_in(types, entry.file, &uses, unknown, wrong)
+}
+
+/// The same of all entries.
+fn put_all(
+    alloc: Global,
+    types: &Types,
+    unknown: &mut Vec<Fault>,
+    wrong: &mut Vec<Fault>,
+) -> Result<(), NoMemory>
+    ensures unknown { OnOk result (unknown.new.items ≡ unknown.old.items ++ unknown_types (types_view types.now)) }
+    ensures wrong { OnOk result (wrong.new.items ≡ wrong.old.items ++ wrong_kinds (types_view types.now)) }
+{
+    let entries = types.entries();
+    for number in 0..entries.len() {
+        if is_judged(&entries[number].definition) {
+            put_faults_of(alloc, types, &entries[number], unknown, wrong)?;
+        }
+    }
+    Ok(())
+}
+
+/// Each name of a type that nothing defines (section 3.4.1), and behind these each where a type of another kind has to stand (sections
+/// 3.4.2, 3.6, 3.7 and 3.8).
+pub fn add_wrong_uses(alloc: Global, types: &Types, faults: &mut Vec<Fault>) -> Result<(), NoMemory>
+    ensures { OnOk result (faults.new.items ≡ faults.old.items ++ (unknown_types (types_view types.now) ++ wrong_kinds (types_view types.now))) }
+{
+    let mut wrong = Vec::new(alloc);
+    put_all(alloc, types, faults, &mut wrong)?;
+    faults.append(&mut wrong)?;
+    Ok(())
+}
