@@ -2,7 +2,7 @@
 use denote.Ref.{NamedLft}
 use denote.Param.Send.{IsSend, IsSync, sendable}
 use Rattle.std.proofs.Crossing.{crosses}
-use Rattle.gq_tree.proofs.Crossing.{Operation-field_sync, Fragment-field_sync, TypeSystemDefinition-field_sync}
+use Rattle.gq_tree.proofs.Crossing.{Operation-field_sync, Fragment-field_sync, TypeSystemDefinition-send, TypeSystemDefinition-sync}
 use Rattle.gq_tree.proofs.tree.Name.TheSendSync as Name
 use Rattle.gq_tree.proofs.types.TypeRef.TheLaws.TheKnot.{sync-TypeRef}
 use Rattle.gq_tree.specs.contracts.types.TypeRef as TypeRef
@@ -18,7 +18,7 @@ use Rattle.gq_types.proofs.parts.Parts.TheSendSync as Parts
 use Rattle.gq_names.proofs.by_name.ByName.TheSendSync as ByName
 
 Entry-field_sync : IsSync (Entry.the_field).row
-Entry-field_sync = search (sendable, crosses, TypeSystemDefinition-field_sync) depth 12
+Entry-field_sync = search (sendable, crosses, TypeSystemDefinition-send, TypeSystemDefinition-sync) depth 12
 
 Entry-sync : IsSync Entry.the_row
 Entry-sync = search (sendable, crosses, Entry-field_sync) depth 12

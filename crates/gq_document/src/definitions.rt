@@ -2,16 +2,16 @@
 ghost use Rattle.std.specs.Prelude.{◌≡◌, ◌++◌, [], false, ℕ, IfOk, OnOk, flat_map, map};
 ghost use Rattle.gq_tree.specs.Views.{def_view};
 ghost use Rattle.gq_types.specs.Entries.{entries_view};
-ghost use Rattle.gq_tree.specs.Readings.{in_document, parsed_view, unshared_view};
+ghost use Rattle.gq_tree.specs.Readings.{in_document, parsed_view};
 ghost use Rattle.gq_document.specs.ReadBy.{read_by};
 ghost use Rattle.gq_document.specs.Definitions.{operation_in, fragment_in, entry_in, operations_of, fragments_of, entries_of, operations_view, fragments_view};
-ghost use Rattle.gq_document.specs.Helping.Parts.{without_type_system, executable_part};
 
 use crate::as_parsed::AsParsed;
 use gq_text::NoMemory;
-use gq_tree::{Definition, Document, Fragment, Operation, Parsed};
+use gq_tree::{Definition, Fragment, Operation, Parsed};
 use gq_types::Entry;
 use std::alloc::Global;
+use std::sync::Arc;
 
 /// An operation, and the document that it stands in.
 #[derive(Clone, Copy)]
@@ -114,65 +114,45 @@ pub fn one_defines_types(definitions: &[Definition]) -> bool
     false
 }
 
-/// The definitions and extensions of the type system among those of a document, taken out of them: what is left. Where there is none, all
-/// stays where it is.
-fn take_among(
-    alloc: Global,
+/// Puts the definitions and extensions of the type system among those of a document behind others.
+fn put_among(
     file: usize,
-    definitions: Vec<Definition>,
+    definitions: &[Definition],
     entries: &mut Vec<Entry>,
-) -> Result<Vec<Definition>, NoMemory>
-    ensures entries { OnOk result (entries_view entries.new.items ≡ entries_view entries.old.items ++ flat_map (entry_in file) (map def_view definitions.items)) }
-    ensures left { IfOk result (λ left. map def_view left.items ≡ flat_map without_type_system (map def_view definitions.items)) }
+) -> Result<(), NoMemory>
+    ensures { OnOk result (entries_view entries.new.items ≡ entries_view entries.old.items ++ flat_map (entry_in file) (map def_view definitions.now)) }
 {
-    if !one_defines_types(&definitions) {
-        return Ok(definitions);
-    }
-    let mut left = Vec::new(alloc);
     for definition in definitions {
-        match definition {
-            Definition::TypeSystem(definition) => entries.push(Entry { file, definition })?,
-            Definition::Operation(one) => left.push(Definition::Operation(one))?,
-            Definition::Fragment(one) => left.push(Definition::Fragment(one))?,
+        if let Definition::TypeSystem(shared) = definition {
+            let definition = Arc::try_clone(shared)?;
+            entries.push(Entry { file, definition })?;
         }
     }
-    Ok(left)
+    Ok(())
 }
 
 /// The same of a document as it is read.
-fn take_in(
-    alloc: Global,
-    file: usize,
-    reading: Parsed,
-    entries: &mut Vec<Entry>,
-) -> Result<Parsed, NoMemory>
-    ensures entries { OnOk result (entries_view entries.new.items ≡ entries_view entries.old.items ++ in_document entry_in file (parsed_view reading)) }
-    ensures left { IfOk result (λ left. parsed_view left ≡ executable_part (parsed_view reading)) }
+fn put_entries_of(file: usize, reading: &Parsed, entries: &mut Vec<Entry>) -> Result<(), NoMemory>
+    ensures { OnOk result (entries_view entries.new.items ≡ entries_view entries.old.items ++ in_document entry_in file (parsed_view reading.now)) }
 {
     match reading {
-        Parsed::Tree(document) => {
-            let definitions = take_among(alloc, file, document.definitions, entries)?;
-            Ok(Parsed::Tree(Document { definitions }))
-        }
-        Parsed::Syntax { place } => Ok(Parsed::Syntax { place }),
-        Parsed::Limit { place } => Ok(Parsed::Limit { place }),
+        Parsed::Tree(document) => put_among(file, &document.definitions, entries),
+        Parsed::Syntax { .. } => Ok(()),
+        Parsed::Limit { .. } => Ok(()),
     }
 }
 
-/// The definitions and extensions of the type system of documents as they are read, and what is left of the documents:
-/// their operations and fragments.
-pub fn take_entries(
+/// The definitions and extensions of the type system of documents as they are read, in the order of documents and places. The trees
+/// have them too: nothing is copied.
+pub fn type_system_entries<R: AsParsed>(
     alloc: Global,
-    readings: Vec<Parsed>,
-) -> Result<(Vec<Entry>, Vec<Parsed>), NoMemory>
-    ensures entries { IfOk result (λ taken. entries_view taken.0.items ≡ entries_of (unshared_view readings.items)) }
-    ensures operations { IfOk result (λ taken. operations_of (unshared_view taken.1.items) ≡ operations_of (unshared_view readings.items)) }
-    ensures fragments { IfOk result (λ taken. fragments_of (unshared_view taken.1.items) ≡ fragments_of (unshared_view readings.items)) }
+    readings: &[R],
+) -> Result<Vec<Entry>, NoMemory>
+    ensures { IfOk result (λ entries. entries_view entries.items ≡ entries_of (read_by R.as_parsed readings.now)) }
 {
     let mut entries = Vec::new(alloc);
-    let mut left = Vec::with_capacity(alloc, readings.len())?;
-    for (file, reading) in readings.into_iter().enumerate() {
-        left.push(take_in(alloc, file, reading, &mut entries)?)?;
+    for (file, reading) in readings.iter().enumerate() {
+        put_entries_of(file, reading.as_parsed(), &mut entries)?;
     }
-    Ok((entries, left))
+    Ok(entries)
 }

@@ -11,7 +11,7 @@ pub mod sets;
 
 pub use as_parsed::AsParsed;
 pub use definitions::{
-    Definitions, FragmentEntry, OperationEntry, one_defines_types, take_entries,
+    Definitions, FragmentEntry, OperationEntry, one_defines_types, type_system_entries,
 };
 pub use executable::Executable;
 pub use fields::{SelectedField, field_on, is_composite_named, selected_field};

@@ -15,7 +15,7 @@ ghost use Rattle.gq_exec.specs.Coerced.{AreCoerced, AreCoercedTo, IsRefused, coe
 
 use crate::refusal::CoercionRefusal;
 use gq_coerce::Coercion;
-use gq_document::{Definitions, Executable, OperationEntry, take_entries};
+use gq_document::{Definitions, Executable, OperationEntry, type_system_entries};
 use gq_executor::{operation, respond};
 use gq_laws::validity::fragments_can_be_ranked;
 use gq_parse::read;
@@ -41,7 +41,7 @@ pub fn execute(
     fragments_can_be_ranked();
     let project = valid.project();
     let readings = read(alloc, project.documents())?;
-    let (entries, readings) = take_entries(alloc, readings)?;
+    let entries = type_system_entries(alloc, &readings)?;
     let response = by_readings(alloc, entries, &readings, name, table, &variables.entries)?;
     Ok(response)
 }
@@ -111,7 +111,7 @@ fn coerced(
 {
     let project = valid.project();
     let readings = read(alloc, project.documents())?;
-    let (entries, readings) = take_entries(alloc, readings)?;
+    let entries = type_system_entries(alloc, &readings)?;
     let found = coerced_by_readings(alloc, entries, &readings, name, raw)?;
     Ok(found)
 }

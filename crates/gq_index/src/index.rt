@@ -38,9 +38,17 @@ pub struct Tables {
 }
 
 /// Where fragments and variables stand in a project.
-#[derive(Drop)]
 pub struct Index {
     pub(crate) tables: Tables,
     /// What the tables are made of, document by document.
     pub(crate) files: Files,
+}
+
+impl Drop for Index {
+    fn drop(self) {
+        let Index {
+            tables: _tables,
+            files: _files,
+        } = self;
+    }
 }

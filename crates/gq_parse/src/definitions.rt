@@ -1,5 +1,6 @@
 //! Definitions, by descent. Each function answers the phrase that stands at an index, and the index behind it.
 ghost use Rattle.std.specs.Prelude.{◌≡◌, ◌≢◌, true, false, ◌+◌, ◌<◌, ◌≤◌, ◌++◌, ◌∷◌, [], IfOk, IfErr, OnOk, IfSome, IfNone, length, List, map};
+ghost use Rattle.std.specs.Arc.{arc_value};
 ghost use Rattle.gq_text.specs.declared.place.Span.{Span};
 ghost use Rattle.gq_tree.specs.Plain.{Def};
 ghost use Rattle.gq_tree.specs.Views.{def_view, document_view};
@@ -18,8 +19,9 @@ use crate::selections::selection_set;
 use crate::type_system::type_system_definition;
 use crate::variables::variable_definitions;
 use gq_lex::{Kind, Token};
-use gq_tree::{Definition, Document, Fragment, Operation, OperationKind};
+use gq_tree::{Definition, Document, Fragment, Operation, OperationKind, TypeSystemDefinition};
 use std::alloc::Global;
+use std::sync::Arc;
 
 /// All tokens as a document.
 pub(crate) fn document(alloc: Global, tokens: &[Token<'_>]) -> Result<Document, Miss>
@@ -96,7 +98,22 @@ fn type_system(alloc: Global, tokens: &[Token<'_>], at: usize) -> Result<(Defini
     ensures none { IfErr result (λ miss. miss ≢ Miss.NoMemory → Lacks IsTypeSystem (from tokens.now at)) }
 {
     let (definition, end) = type_system_definition(alloc, tokens, at)?;
+    let definition = shared(alloc, definition)?;
     Ok((Definition::TypeSystem(definition), end))
+}
+
+// The definition, which may have several owners then.
+fn shared(
+    alloc: Global,
+    definition: TypeSystemDefinition,
+) -> Result<Arc<TypeSystemDefinition>, Miss>
+    ensures ok { IfOk result (λ shared. arc_value shared ≡ definition) }
+    ensures err { IfErr result (λ miss. miss ≡ Miss.NoMemory) }
+{
+    match Arc::new(alloc, definition) {
+        Ok(shared) => Ok(shared),
+        Err(_) => Err(Miss::NoMemory),
+    }
 }
 
 // An operation.

@@ -15,11 +15,20 @@ use std::sync::Arc;
 /// place of reading the text.
 ///
 /// Contracts see it as its key and its text.
-#[derive(Drop)]
 pub struct Piece {
     key: OwnedText,
     text: OwnedText,
     tree: Arc<Parsed>,
+}
+
+impl Drop for Piece {
+    fn drop(self) {
+        let Piece {
+            key: _key,
+            text: _text,
+            tree: _tree,
+        } = self;
+    }
 }
 
 impl Model for Piece {

@@ -5,7 +5,7 @@ use crate::row::{Row, project_of};
 use crate::telling::Telling;
 use gq_document::{
     Definitions, FragmentEntry, OperationEntry, Selected, fragment_selections,
-    operation_selections, take_entries,
+    operation_selections, type_system_entries,
 };
 use gq_parse::{read, read_by_threads};
 use gq_project::{Doc, Project};
@@ -58,7 +58,8 @@ pub fn tell_definitions(
     telling: &mut Telling,
 ) -> Result<(), NoAnswer> {
     let project = project_of(alloc, &row.entries)?;
-    let (entries, readings) = take_entries(alloc, read(alloc, project.documents())?)?;
+    let readings = read(alloc, project.documents())?;
+    let entries = type_system_entries(alloc, &readings)?;
     let definitions = Definitions::of(alloc, &readings)?;
     tell_files(alloc, &entries, &definitions, telling)
 }

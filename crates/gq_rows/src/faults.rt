@@ -2,7 +2,7 @@
 use crate::no_answer::NoAnswer;
 use crate::row::{self, Row};
 use crate::telling::Telling;
-use gq_document::{Definitions, Executable, take_entries};
+use gq_document::{Definitions, Executable, type_system_entries};
 use gq_fault::{Fault, put_in_order};
 use gq_parse::{Parsed, parse};
 use gq_spreads::Spreads;
@@ -36,7 +36,8 @@ fn read_texts(alloc: Global, texts: &[row::Entry<'_>]) -> Result<Vec<Parsed>, No
 
 /// What texts define.
 pub fn documents_of(alloc: Global, texts: &[row::Entry<'_>]) -> Result<Documents, NoAnswer> {
-    let (entries, readings) = take_entries(alloc, read_texts(alloc, texts)?)?;
+    let readings = read_texts(alloc, texts)?;
+    let entries = type_system_entries(alloc, &readings)?;
     Ok(Documents {
         types: Types::of(alloc, entries)?,
         readings,

@@ -55,7 +55,7 @@ fn directives(types: &Types) -> &[Directive] {
     let Some(entry) = types.entries().get(number) else {
         return &[];
     };
-    match &entry.definition {
+    match &*entry.definition {
         TypeSystemDefinition::Type(one) => one.directives.as_slice(),
         _ => &[],
     }

@@ -14,7 +14,7 @@ use crate::giving_back::give_back;
 use crate::unread::add_unread;
 use crate::wrong::add_wrong;
 use crate::wrong_by_threads::add_wrong_by_threads;
-use gq_document::{AsParsed, take_entries};
+use gq_document::{AsParsed, type_system_entries};
 use gq_fault::{Fault, put_in_order};
 use gq_parse::{read, read_by_threads};
 use gq_project::Doc;
@@ -50,7 +50,7 @@ fn all_faults(alloc: Global, readings: Vec<Parsed>) -> Result<Vec<Fault>, NoMemo
     ensures { IfOk result (λ faults. (fault : Fault) → Contains faults.items fault ↔ IsFaultOf (unshared_view readings.items) fault) }
 {
     let mut faults = faults_of_texts(alloc, &readings)?;
-    let (entries, readings) = take_entries(alloc, readings)?;
+    let entries = type_system_entries(alloc, &readings)?;
     add_wrong(alloc, entries, &readings, &mut faults)?;
     Ok(faults)
 }
@@ -64,7 +64,7 @@ fn all_faults_by_threads<R: Threads + Sync>(
     ensures { IfOk result (λ faults. (fault : Fault) → Contains faults.items fault ↔ IsFaultOf (unshared_view readings.items) fault) }
 {
     let mut faults = faults_of_texts(alloc, &readings)?;
-    let (entries, readings) = take_entries(alloc, readings)?;
+    let entries = type_system_entries(alloc, &readings)?;
     add_wrong_by_threads(rt, alloc, entries, &readings, &mut faults)?;
     give_back(rt, readings);
     Ok(faults)

@@ -10,7 +10,7 @@ ghost use Rattle.gq_types.specs.Possible.{IsPossible, IsSubtype};
 ghost use Rattle.gq_types.specs.Roots.{root_of};
 ghost use Rattle.gq_schema.specs.SchemaOf.{IsTypeSystemOf, HasNoFault};
 
-use gq_document::take_entries;
+use gq_document::type_system_entries;
 use gq_fault::{Fault, Found, found_at};
 use gq_parse::read;
 use gq_project::Project;
@@ -80,7 +80,7 @@ impl Schema {
         ensures faults { IfErr result (λ fault. IsFaultOf project.now fault) }
     {
         let readings = read(alloc, project.documents())?;
-        let (entries, _) = take_entries(alloc, readings)?;
+        let entries = type_system_entries(alloc, &readings)?;
         let types = Types::of(alloc, entries)?;
         let faults = schema_faults(alloc, &types)?;
         if faults.is_empty() {

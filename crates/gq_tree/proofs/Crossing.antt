@@ -188,11 +188,17 @@ DirectiveDefinition-field_sync = search (sendable, crosses, Literal.the_sync, Na
 TypeSystemDefinition-field_send : IsSend (TypeSystemDefinitionType.the_field).row
 TypeSystemDefinition-field_send = search (sendable, crosses, SchemaDefinition-field_send, TypeDefinition-field_send, DirectiveDefinition-field_send) depth 12
 
-pub TypeSystemDefinition-field_sync : IsSync (TypeSystemDefinitionType.the_field).row
+TypeSystemDefinition-field_sync : IsSync (TypeSystemDefinitionType.the_field).row
 TypeSystemDefinition-field_sync = search (sendable, crosses, SchemaDefinition-field_sync, TypeDefinition-field_sync, DirectiveDefinition-field_sync) depth 12
 
+pub TypeSystemDefinition-send : IsSend TypeSystemDefinitionType.the_row
+TypeSystemDefinition-send = search (sendable, crosses, TypeSystemDefinition-field_send) depth 12
+
+pub TypeSystemDefinition-sync : IsSync TypeSystemDefinitionType.the_row
+TypeSystemDefinition-sync = search (sendable, crosses, TypeSystemDefinition-field_sync) depth 12
+
 Definition-field_send : IsSend (DefinitionType.the_field).row
-Definition-field_send = search (sendable, crosses, Operation-field_send, Fragment-field_send, TypeSystemDefinition-field_send) depth 12
+Definition-field_send = search (sendable, crosses, Operation-field_send, Fragment-field_send, TypeSystemDefinition-send, TypeSystemDefinition-sync) depth 12
 
 Definition-send : IsSend DefinitionType.the_row
 Definition-send = search (sendable, crosses, Definition-field_send) depth 12
@@ -204,7 +210,7 @@ pub Parsed-send : IsSend ReadingType.the_row
 Parsed-send = search (sendable, crosses, Document-field_send) depth 12
 
 Definition-field_sync : IsSync (DefinitionType.the_field).row
-Definition-field_sync = search (sendable, crosses, Operation-field_sync, Fragment-field_sync, TypeSystemDefinition-field_sync) depth 12
+Definition-field_sync = search (sendable, crosses, Operation-field_sync, Fragment-field_sync, TypeSystemDefinition-send, TypeSystemDefinition-sync) depth 12
 
 Definition-sync : IsSync DefinitionType.the_row
 Definition-sync = search (sendable, crosses, Definition-field_sync) depth 12

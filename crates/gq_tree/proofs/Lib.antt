@@ -4,4 +4,3 @@ pub mod NameLemmas
 pub mod ValueLemmas
 pub mod Sameness
 pub mod Crossing
-pub mod ReadingLemmas

@@ -1,6 +1,7 @@
 -- The plain trees that the code's trees stand for.
 use Rattle.std.specs.Prelude.{List, Option, Some, None, map}
 use Rattle.std.specs.Option.{option_map}
+use Rattle.std.specs.Arc.{arc_value}
 use Rattle.gq_text.specs.declared.place.Span.{Span}
 use Rattle.gq_tree.specs.declared.tree.Name.{Name}
 use Rattle.gq_tree.specs.declared.tree.Selection.{Selection}
@@ -191,7 +192,7 @@ def_view (Operation o) =
     operation o.kind (option_map name_of o.name) (map variable_view o.variables.items) (map directive_view o.directives.items) (sels_view o.set.items.items) o.set.span o.span
 def_view (Fragment f) =
     fragment (name_of f.name) (name_of f.on) (map directive_view f.directives.items) (sels_view f.set.items.items) f.set.span f.span
-def_view (TypeSystem d) = type_system (type_system_view d)
+def_view (TypeSystem d) = type_system (type_system_view (arc_value d))
 
 -- a document
 abbrev pub document_view : Document → List (Def Span)

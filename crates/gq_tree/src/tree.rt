@@ -4,6 +4,7 @@ use crate::type_system::TypeSystemDefinition;
 use crate::types::TypeRef;
 use crate::value::{Argument, Directive, Value, Variable};
 use gq_text::{SmallText, Span};
+use std::sync::Arc;
 
 /// A name, with the place of its token (section 2.1.9).
 #[derive(Drop)]
@@ -81,7 +82,6 @@ pub struct VariableDefinition {
 
 /// An operation definition (section 2.3). Its span goes from its first token, the keyword or the opening brace, to the
 /// end of its closing brace.
-#[derive(Drop)]
 pub struct Operation {
     pub kind: OperationKind,
     pub name: Option<Name>,
@@ -91,9 +91,21 @@ pub struct Operation {
     pub span: Span,
 }
 
+impl Drop for Operation {
+    fn drop(self) {
+        let Operation {
+            kind: _,
+            name: _name,
+            variables: _variables,
+            directives: _directives,
+            set: _set,
+            span: _,
+        } = self;
+    }
+}
+
 /// A fragment definition (section 2.8), with its type condition. Its span goes from the keyword `fragment` to the
 /// end of its closing brace.
-#[derive(Drop)]
 pub struct Fragment {
     pub name: Name,
     pub on: Name,
@@ -102,12 +114,24 @@ pub struct Fragment {
     pub span: Span,
 }
 
-/// A definition (section 2.2).
+impl Drop for Fragment {
+    fn drop(self) {
+        let Fragment {
+            name: _name,
+            on: _on,
+            directives: _directives,
+            set: _set,
+            span: _,
+        } = self;
+    }
+}
+
+/// A definition (section 2.2). One of the type system may have several owners: a type system shares it with the tree.
 #[derive(Drop)]
 pub enum Definition {
     Operation(Operation),
     Fragment(Fragment),
-    TypeSystem(TypeSystemDefinition),
+    TypeSystem(Arc<TypeSystemDefinition>),
 }
 
 /// A document (section 2.2), its definitions in the order of the text.

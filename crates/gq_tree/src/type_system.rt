@@ -8,11 +8,20 @@ use gq_text::Span;
 
 /// A type system definition or extension (section 3). Its span goes from its first token, which is the description where
 /// it has one, to the end of its last token.
-#[derive(Drop)]
 pub enum TypeSystemDefinition {
     Schema(SchemaDefinition),
     Type(TypeDefinition),
     Directive(DirectiveDefinition),
+}
+
+impl Drop for TypeSystemDefinition {
+    fn drop(self) {
+        match self {
+            TypeSystemDefinition::Schema(_one) => {}
+            TypeSystemDefinition::Type(_one) => {}
+            TypeSystemDefinition::Directive(_one) => {}
+        }
+    }
 }
 
 /// A schema definition (section 3.3) or, where `extends` is true, a schema extension (section 3.3.2).

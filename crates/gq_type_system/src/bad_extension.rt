@@ -1,5 +1,6 @@
 //! Type extensions: what is extended must be defined, and must be of the extension's kind.
 ghost use Rattle.std.specs.Prelude.{◌≡◌, ◌++◌, OnOk};
+ghost use Rattle.std.specs.Arc.{arc_value};
 ghost use Rattle.gq_tree.specs.Views.{type_system_view};
 ghost use Rattle.gq_type_system.specs.Helping.BadExtensionPlaces.{bad_extension, bad_extensions};
 ghost use Rattle.gq_types.specs.Look.{types_view};
@@ -12,9 +13,9 @@ use gq_types::{Entry, TypeKind, Types};
 
 /// The fault of the entry, if it extends a type where no type of its kind has that name.
 fn add_bad_extension(types: &Types, entry: &Entry, faults: &mut Vec<Fault>) -> Result<(), NoMemory>
-    ensures { OnOk result (faults.new.items ≡ faults.old.items ++ bad_extension (types_view types.now) entry.now.file (type_system_view entry.now.definition)) }
+    ensures { OnOk result (faults.new.items ≡ faults.old.items ++ bad_extension (types_view types.now) entry.now.file (type_system_view (arc_value entry.now.definition))) }
 {
-    let TypeSystemDefinition::Type(one) = &entry.definition else {
+    let TypeSystemDefinition::Type(one) = &*entry.definition else {
         return Ok(());
     };
     if one.extends && types.kind(one.name.text.as_str()) != Some(TypeKind::of(&one.body)) {

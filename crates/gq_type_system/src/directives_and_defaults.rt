@@ -1,5 +1,6 @@
 //! Directives and default values in a type system.
 ghost use Rattle.std.specs.Prelude.{◌≡◌, ◌++◌, OnOk, IfOk, map};
+ghost use Rattle.std.specs.Arc.{arc_value};
 ghost use Rattle.gq_tree.specs.Views.{directive_view, input_view, type_system_view};
 ghost use Rattle.gq_types.specs.Entries.{entry_view, entries_view};
 ghost use Rattle.gq_types.specs.Look.{types_view};
@@ -99,8 +100,8 @@ fn add_inner_faults_of(
 ) -> Result<(), NoMemory>
     ensures { OnOk result
         (faults.new.items ≡ faults.old.items ++
-        (site_faults (types_view types.now) entry.now.file (sites_in (type_system_view entry.now.definition)) ++ default_faults
-        (types_view types.now) entry.now.file (all_inputs (type_system_view entry.now.definition)))) }
+        (site_faults (types_view types.now) entry.now.file (sites_in (type_system_view (arc_value entry.now.definition))) ++ default_faults
+        (types_view types.now) entry.now.file (all_inputs (type_system_view (arc_value entry.now.definition))))) }
 {
     let mut sites = Vec::new(alloc);
     put_sites(&entry.definition, &mut sites)?;

@@ -1,5 +1,6 @@
 //! Types without parts, and parts that stand twice.
 ghost use Rattle.std.specs.Prelude.{◌≡◌, ◌++◌, ◌<◌, OnOk, flat_map, map, length};
+ghost use Rattle.std.specs.Arc.{arc_value};
 ghost use Rattle.gq_tree.specs.Views.{type_system_view, input_view, field_definition_view};
 ghost use Rattle.gq_type_system.specs.Helping.EmptyOrRepeatedPlaces.{empty_type, empty_types, repeated_faults, repeated_part, repeated_parts_of, repeated_parts, repeated_arguments_in, repeated_arguments_of, repeated_arguments, empty_or_repeated};
 ghost use Rattle.gq_type_system.specs.Helping.Groups.{names_in};
@@ -22,9 +23,9 @@ fn add_empty_type(
     entry: &Entry,
     faults: &mut Vec<Fault>,
 ) -> Result<(), NoMemory>
-    ensures { OnOk result (faults.new.items ≡ faults.old.items ++ empty_type (types_view types.now) number entry.now.file (type_system_view entry.now.definition)) }
+    ensures { OnOk result (faults.new.items ≡ faults.old.items ++ empty_type (types_view types.now) number entry.now.file (type_system_view (arc_value entry.now.definition))) }
 {
-    let TypeSystemDefinition::Type(one) = &entry.definition else {
+    let TypeSystemDefinition::Type(one) = &*entry.definition else {
         return Ok(());
     };
     if one.extends {
@@ -168,9 +169,9 @@ fn add_repeated_arguments_of(
     entry: &Entry,
     faults: &mut Vec<Fault>,
 ) -> Result<(), NoMemory>
-    ensures { OnOk result (faults.new.items ≡ faults.old.items ++ repeated_arguments_of entry.now.file (type_system_view entry.now.definition)) }
+    ensures { OnOk result (faults.new.items ≡ faults.old.items ++ repeated_arguments_of entry.now.file (type_system_view (arc_value entry.now.definition))) }
 {
-    match &entry.definition {
+    match &*entry.definition {
         TypeSystemDefinition::Schema(_) => Ok(()),
         TypeSystemDefinition::Type(one) => {
             add_repeated_arguments_of_fields(alloc, entry.file, fields_in(&one.body), faults)

@@ -1,6 +1,7 @@
 //! Input objects that lead back to themselves (section 3.10, Circular References): by fields without null, or by default
 //! values.
 ghost use Rattle.std.specs.Prelude.{◌≡◌, ◌++◌, OnOk};
+ghost use Rattle.std.specs.Arc.{arc_value};
 ghost use Rattle.gq_tree.specs.Views.{type_system_view};
 ghost use Rattle.gq_type_system.specs.EndlessInputs.{input_object_in, IsEndlessInput};
 ghost use Rattle.gq_fault.specs.Adds.{AddsExactly};
@@ -37,7 +38,7 @@ fn add_endless_input(
     number: usize,
     faults: &mut Vec<Fault>,
 ) -> Result<(), NoMemory>
-    ensures { OnOk result (faults.new.items ≡ faults.old.items ++ endless_named (types_view types.now) entry.now.file number (input_object_in (type_system_view entry.now.definition))) }
+    ensures { OnOk result (faults.new.items ≡ faults.old.items ++ endless_named (types_view types.now) entry.now.file number (input_object_in (type_system_view (arc_value entry.now.definition)))) }
 {
     if let Some(name) = input_object_in(&entry.definition) {
         if types.type_number(name.text.as_str()) == Some(number) {

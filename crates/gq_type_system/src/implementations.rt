@@ -1,5 +1,6 @@
 //! How a type implements the interfaces that it declares (GraphQL, October 2021, sections 3.6.1 and 3.7).
 ghost use Rattle.std.specs.Prelude.{◌≡◌, ◌++◌, IfSome, OnOk, map};
+ghost use Rattle.std.specs.Arc.{arc_value};
 ghost use Rattle.std.specs.List.{list_any};
 ghost use Rattle.std.specs.Option.{option_map};
 ghost use Rattle.gq_tree.specs.Same.{same_types};
@@ -32,9 +33,9 @@ fn add_bad_implementation(
     entry: &Entry,
     faults: &mut Vec<Fault>,
 ) -> Result<(), NoMemory>
-    ensures { OnOk result (faults.new.items ≡ faults.old.items ++ bad_implementation (types_view types.now) number entry.now.file (type_system_view entry.now.definition)) }
+    ensures { OnOk result (faults.new.items ≡ faults.old.items ++ bad_implementation (types_view types.now) number entry.now.file (type_system_view (arc_value entry.now.definition))) }
 {
-    let TypeSystemDefinition::Type(one) = &entry.definition else {
+    let TypeSystemDefinition::Type(one) = &*entry.definition else {
         return Ok(());
     };
     if one.extends {

@@ -31,7 +31,7 @@ pub fn inputs_at(types: &Types, number: usize) -> &[InputValueDefinition]
     let Some(entry) = types.entries().get(number) else {
         return &[];
     };
-    match &entry.definition {
+    match &*entry.definition {
         TypeSystemDefinition::Type(one) => match &one.body {
             TypeBody::InputObject(inputs) => inputs.as_slice(),
             _ => &[],
@@ -47,7 +47,7 @@ pub fn type_name(types: &Types, number: usize) -> &str
     let Some(entry) = types.entries().get(number) else {
         return "";
     };
-    match &entry.definition {
+    match &*entry.definition {
         TypeSystemDefinition::Type(one) => one.name.text.as_str(),
         _ => "",
     }

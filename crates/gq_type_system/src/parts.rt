@@ -163,7 +163,7 @@ fn put_names_in<'a>(
 ) -> Result<(), NoMemory>
     ensures { OnOk result (names_in names.new.items ≡ names_in names.old.items ++ part_names_in part (entry_view entry.now)) }
 {
-    let TypeSystemDefinition::Type(one) = &entry.definition else {
+    let TypeSystemDefinition::Type(one) = &*entry.definition else {
         return Ok(());
     };
     match part {

@@ -1,5 +1,6 @@
 //! Names that are reserved for introspection.
 ghost use Rattle.std.specs.Prelude.{◌≡◌, ◌++◌, OnOk, nat_eq, codes};
+ghost use Rattle.std.specs.Arc.{arc_value};
 ghost use Rattle.std.specs.List.{starts_with};
 ghost use Rattle.gq_tree.specs.Views.{name_of, type_system_view};
 ghost use Rattle.gq_types.specs.Entries.{entry_view};
@@ -58,7 +59,7 @@ fn add_reserved_names_of(
     entry: &Entry,
     faults: &mut Vec<Fault>,
 ) -> Result<(), NoMemory>
-    ensures { OnOk result (faults.new.items ≡ faults.old.items ++ reserved_names_in entry.now.file (defined_names (type_system_view entry.now.definition))) }
+    ensures { OnOk result (faults.new.items ≡ faults.old.items ++ reserved_names_in entry.now.file (defined_names (type_system_view (arc_value entry.now.definition)))) }
 {
     let mut names = Vec::new(alloc);
     put_defined_names(&entry.definition, &mut names)?;

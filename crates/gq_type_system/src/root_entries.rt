@@ -35,7 +35,7 @@ fn put_roots<'a>(
 fn put_roots_in<'a>(entry: &'a Entry, roots: &mut Vec<RootIn<'a>>) -> Result<(), NoMemory>
     ensures { OnOk result (roots_in_view roots.new.items ≡ roots_in_view roots.old.items ++ roots_in_entry (entry_view entry.now)) }
 {
-    match &entry.definition {
+    match &*entry.definition {
         TypeSystemDefinition::Schema(one) => put_roots(entry.file, &one.roots, roots),
         TypeSystemDefinition::Type(_) | TypeSystemDefinition::Directive(_) => Ok(()),
     }

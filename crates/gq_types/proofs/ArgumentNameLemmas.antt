@@ -2,6 +2,7 @@
 use Rattle.std.proofs.Common.{◌≡◌, ℕ, ◌<◌, List, [], ◌∷◌, ◌++◌, Option, Some, None, length, get_or, map, refl, sym, ap, subst, ◌∙◌}
 use Rattle.std.specs.Prelude.{slice_get, option_and_then, Vec}
 use Rattle.std.specs.Option.{option_map}
+use Rattle.std.specs.Arc.{arc_value}
 use Rattle.std.proofs.lemmas.List.{length-map, map-append}
 use Rattle.std.proofs.lemmas.Option.{slice_get-map, slice_get_read}
 use Rattle.gq_text.specs.declared.place.Span.{Span}
@@ -85,7 +86,8 @@ directive_pushed arguments n here =
 
 -- the names for one entry more
 pub entry_pushed : {Z : Type 0} (entries : List Entry) (e : Entry) (i : ℕ) (all : List (Vec ArgumentNames Z)) (names : Vec ArgumentNames Z) → i < length entries → e ≡ get_or entries i e → length all ≡ i
-    → AreArgumentNames (entries_view entries) (lists_of all) → AreNamesOfEach (argument_lists (type_system_view e.definition)) names.items → AreArgumentNames (entries_view entries) (lists_of (all ++ names ∷ []))
+    → AreArgumentNames (entries_view entries) (lists_of all) → AreNamesOfEach (argument_lists (type_system_view (arc_value e.definition))) names.items
+    → AreArgumentNames (entries_view entries) (lists_of (all ++ names ∷ []))
 entry_pushed entries e i all names within is count each here =
     let es = entries_view entries in
     let there : slice_get es (length (lists_of all)) ≡ Some (entry_view e) = ap (slice_get es) (length-map all (λ v. v.items) ∙ count) ∙ view_got entries i e within is in

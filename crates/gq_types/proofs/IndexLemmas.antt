@@ -2,6 +2,7 @@
 use Rattle.std.proofs.Common.{◌≡◌, ℕ, ◌+◌, ◌<◌, Bool, true, false, List, [], ◌∷◌, ◌++◌, Some, None, length, get_or, drop, drop-cons, add-one, refl, sym, ap, subst, ◌∙◌, append_assoc, arith, nat_eq}
 use Rattle.std.specs.Prelude.{slice_get, option_and_then, Vec, ◌||◌}
 use Rattle.std.specs.Option.{option_map, option_map_or}
+use Rattle.std.specs.Arc.{arc_value}
 use Rattle.std.specs.List.{list_any}
 use Rattle.std.proofs.lemmas.Bool.Decides.{Decides-eqb}
 use Rattle.std.proofs.lemmas.List.{length-map, map-append}
@@ -49,7 +50,8 @@ known_already kept x known location = by_test (same_locations location x) refl
 
 -- the locations for one entry more
 pub locations_pushed : {Z : Type 0} (entries : List Entry) (e : Entry) (i : ℕ) (all : List (Vec DirectiveLocation Z)) (kept : Vec DirectiveLocation Z) → i < length entries → e ≡ get_or entries i e → length all ≡ i
-    → EachAt (λ k kept. (e : EntryOf) → slice_get (entries_view entries) k ≡ Some e → AreLocationsOf (locations_in e.definition) kept) (lists_of all) → AreLocationsOf (locations_in (type_system_view e.definition)) kept.items
+    → EachAt (λ k kept. (e : EntryOf) → slice_get (entries_view entries) k ≡ Some e → AreLocationsOf (locations_in e.definition) kept) (lists_of all)
+    → AreLocationsOf (locations_in (type_system_view (arc_value e.definition))) kept.items
     → EachAt (λ k kept. (e : EntryOf) → slice_get (entries_view entries) k ≡ Some e → AreLocationsOf (locations_in e.definition) kept) (lists_of (all ++ kept ∷ []))
 locations_pushed entries e i all kept within is count each here =
     let es = entries_view entries in

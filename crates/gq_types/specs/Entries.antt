@@ -1,5 +1,6 @@
 -- The definitions and extensions of a type system (section 3), each with the document that it stands in.
 use Rattle.std.specs.Prelude.{ℕ, ◌+◌, List, [], ◌∷◌, map}
+use Rattle.std.specs.Arc.{arc_value}
 use Rattle.gq_text.specs.declared.place.Span.{Span}
 use Rattle.gq_tree.specs.Plain.{Def, operation, fragment, type_system, TypeSystemOf}
 use Rattle.gq_tree.specs.Views.{type_system_view}
@@ -36,7 +37,7 @@ entries_in file (type_system definition ∷ ds) = record { file = file; definiti
 
 -- the entries that the code's entries stand for
 abbrev pub entry_view : Entry → EntryOf
-entry_view e = record { file = e.file; definition = type_system_view e.definition }
+entry_view e = record { file = e.file; definition = type_system_view (arc_value e.definition) }
 
 abbrev pub entries_view : List Entry → List EntryOf
 entries_view es = map entry_view es

@@ -16,6 +16,7 @@ use gq_tree::{
     TypeDefinition, TypeRef, TypeSystemDefinition, Value,
 };
 use std::alloc::Global;
+use std::sync::Arc;
 
 /// Whether it is the name of a scalar that is built in (section 3.5).
 pub fn is_built_in_scalar(name: &str) -> bool
@@ -77,16 +78,18 @@ fn scalar(alloc: Global, text: &str) -> Result<Entry, NoMemory>
     ensures { IfOk result (λ e. entry_view e ≡ scalar text.now) }
 {
     let name = name(alloc, text)?;
+    let scalar = TypeSystemDefinition::Type(TypeDefinition {
+        extends: false,
+        description: None,
+        name,
+        directives: Vec::new(alloc),
+        body: TypeBody::Scalar,
+        span: nowhere(),
+    });
+    let definition = Arc::new(alloc, scalar)?;
     Ok(Entry {
         file: 0,
-        definition: TypeSystemDefinition::Type(TypeDefinition {
-            extends: false,
-            description: None,
-            name,
-            directives: Vec::new(alloc),
-            body: TypeBody::Scalar,
-            span: nowhere(),
-        }),
+        definition,
     })
 }
 
@@ -131,16 +134,18 @@ fn directive(
 {
     let name = name(alloc, text)?;
     let arguments = vec![in alloc; only]?;
+    let directive = TypeSystemDefinition::Directive(DirectiveDefinition {
+        description: None,
+        name,
+        arguments,
+        repeatable: false,
+        locations,
+        span: nowhere(),
+    });
+    let definition = Arc::new(alloc, directive)?;
     Ok(Entry {
         file: 0,
-        definition: TypeSystemDefinition::Directive(DirectiveDefinition {
-            description: None,
-            name,
-            arguments,
-            repeatable: false,
-            locations,
-            span: nowhere(),
-        }),
+        definition,
     })
 }
 

@@ -1,5 +1,6 @@
 //! The definitions of a type system, found by their names.
 ghost use Rattle.std.specs.Prelude.{◌≡◌, ◌++◌, ◌<◌, ◌≤◌, IfOk, IfSome, OnOk, length};
+ghost use Rattle.std.specs.Arc.{arc_value};
 ghost use Rattle.std.specs.Option.{option_map};
 ghost use Rattle.gq_tree.specs.Views.{body_view, type_system_view};
 ghost use Rattle.gq_types.specs.Entries.{entry_view, entries_view};
@@ -112,7 +113,7 @@ impl Definitions {
         ensures is { result ≡ owner_at (entries_view self.now) number }
         ensures within { result ≤ length (entries_view self.now) }
     {
-        match &self.entries[number].definition {
+        match &*self.entries[number].definition {
             TypeSystemDefinition::Schema(schema) if schema.extends => self.schema_number(),
             TypeSystemDefinition::Type(one) if one.extends => self.extended(number, one),
             _ => number,
@@ -137,9 +138,9 @@ impl Definitions {
 
 /// The name of the type that the entry defines.
 fn type_name(entry: &Entry) -> Option<&str>
-    ensures { text_of result ≡ type_key (type_system_view entry.now.definition) }
+    ensures { text_of result ≡ type_key (type_system_view (arc_value entry.now.definition)) }
 {
-    match &entry.definition {
+    match &*entry.definition {
         TypeSystemDefinition::Type(one) if !one.extends => Some(one.name.text.as_str()),
         _ => None,
     }
@@ -147,9 +148,9 @@ fn type_name(entry: &Entry) -> Option<&str>
 
 /// The name of the directive that the entry defines.
 fn directive_name(entry: &Entry) -> Option<&str>
-    ensures { text_of result ≡ directive_key (type_system_view entry.now.definition) }
+    ensures { text_of result ≡ directive_key (type_system_view (arc_value entry.now.definition)) }
 {
-    match &entry.definition {
+    match &*entry.definition {
         TypeSystemDefinition::Directive(one) => Some(one.name.text.as_str()),
         _ => None,
     }
@@ -157,9 +158,9 @@ fn directive_name(entry: &Entry) -> Option<&str>
 
 /// Whether the entry is a schema definition.
 fn is_schema(entry: &Entry) -> bool
-    ensures { result ≡ is_schema (type_system_view entry.now.definition) }
+    ensures { result ≡ is_schema (type_system_view (arc_value entry.now.definition)) }
 {
-    match &entry.definition {
+    match &*entry.definition {
         TypeSystemDefinition::Schema(one) => !one.extends,
         _ => false,
     }
@@ -167,9 +168,9 @@ fn is_schema(entry: &Entry) -> bool
 
 /// The kind of the type that the entry defines or extends.
 fn kind_in(entry: &Entry) -> Option<TypeKind>
-    ensures { result ≡ kind_in (type_system_view entry.now.definition) }
+    ensures { result ≡ kind_in (type_system_view (arc_value entry.now.definition)) }
 {
-    match &entry.definition {
+    match &*entry.definition {
         TypeSystemDefinition::Type(one) => Some(TypeKind::of(&one.body)),
         _ => None,
     }
@@ -177,9 +178,9 @@ fn kind_in(entry: &Entry) -> Option<TypeKind>
 
 /// The directive that the entry defines.
 fn directive_in(entry: &Entry) -> Option<&DirectiveDefinition>
-    ensures { directive_of result ≡ directive_in (type_system_view entry.now.definition) }
+    ensures { directive_of result ≡ directive_in (type_system_view (arc_value entry.now.definition)) }
 {
-    match &entry.definition {
+    match &*entry.definition {
         TypeSystemDefinition::Directive(one) => Some(one),
         _ => None,
     }

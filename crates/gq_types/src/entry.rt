@@ -1,13 +1,14 @@
 //! The definitions and extensions of a type system, and the kinds of types.
 
 use gq_tree::{TypeBody, TypeSystemDefinition};
+use std::sync::Arc;
 
-/// A definition or extension of the type system, and the document that it stands in.
+/// A definition or extension of the type system, which the tree of its document may have too, and the document that it stands in.
 #[derive(Drop)]
 pub struct Entry {
     /// The number of the document in the project, from 0.
     pub file: usize,
-    pub definition: TypeSystemDefinition,
+    pub definition: Arc<TypeSystemDefinition>,
 }
 
 /// The kinds of types (GraphQL, October 2021, section 3.4).

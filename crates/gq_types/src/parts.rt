@@ -54,7 +54,7 @@ impl Parts {
         let Some(entry) = entries.get(number) else {
             return Ok(());
         };
-        match &entry.definition {
+        match &*entry.definition {
             TypeSystemDefinition::Type(one) => self.add_body(number, &one.body),
             TypeSystemDefinition::Schema(_) => Ok(()),
             TypeSystemDefinition::Directive(_) => Ok(()),

@@ -1,5 +1,6 @@
 //! What stands at places in the entries of a type system.
 ghost use Rattle.std.specs.Prelude.{◌≡◌, map};
+ghost use Rattle.std.specs.Arc.{arc_value};
 ghost use Rattle.gq_tree.specs.Views.{input_view, type_system_view};
 ghost use Rattle.gq_types.specs.Entries.{entries_view};
 ghost use Rattle.gq_types.specs.Joined.{body_in, fields_in_body, inputs_in_body};
@@ -29,9 +30,9 @@ pub(crate) fn input_at(entries: &[Entry], place: Place) -> Option<&InputValueDef
 
 /// The fields of an input object; none of any other definition.
 pub(crate) fn inputs_in(entry: &Entry) -> &[InputValueDefinition]
-    ensures { map input_view result.now ≡ inputs_in_body (body_in (type_system_view entry.now.definition)) }
+    ensures { map input_view result.now ≡ inputs_in_body (body_in (type_system_view (arc_value entry.now.definition))) }
 {
-    match &entry.definition {
+    match &*entry.definition {
         TypeSystemDefinition::Type(one) => match &one.body {
             TypeBody::InputObject(fields) => fields.as_slice(),
             _ => &[],

@@ -1,5 +1,6 @@
 //! The entries for root operation types in schema definitions.
 ghost use Rattle.std.specs.Prelude.{◌≡◌, IfOk, map, find};
+ghost use Rattle.std.specs.Arc.{arc_value};
 ghost use Rattle.std.specs.Option.{option_map};
 ghost use Rattle.gq_tree.specs.Same.{same_kinds};
 ghost use Rattle.gq_tree.specs.Views.{root_view, type_system_view};
@@ -105,9 +106,9 @@ fn root_at(entries: &[Entry], number: usize, kind: OperationKind) -> Option<&str
 
 /// The roots that a schema definition or extension gives.
 fn roots_in(entry: &Entry) -> &[RootOperationType]
-    ensures { map root_view result.now ≡ roots_in (type_system_view entry.now.definition) }
+    ensures { map root_view result.now ≡ roots_in (type_system_view (arc_value entry.now.definition)) }
 {
-    match &entry.definition {
+    match &*entry.definition {
         TypeSystemDefinition::Schema(one) => one.roots.as_slice(),
         _ => &[],
     }

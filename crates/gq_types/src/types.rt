@@ -51,7 +51,6 @@ pub struct DefinedField<'a> {
 ///
 /// Contracts see it as the list of its definitions and extensions (`types_view`). A look-up goes over at most sixteen types or
 /// fields, more are in tables, and takes no memory.
-#[derive(Drop)]
 pub struct Types {
     definitions: Definitions,
     joined: Vec<Vec<usize>>,
@@ -59,6 +58,19 @@ pub struct Types {
     declarers: ByName<usize>,
     uses: Uses,
     typename_type: TypeRef,
+}
+
+impl Drop for Types {
+    fn drop(self) {
+        let Types {
+            definitions: _definitions,
+            joined: _joined,
+            parts: _parts,
+            declarers: _declarers,
+            uses: _uses,
+            typename_type: _typename_type,
+        } = self;
+    }
 }
 
 impl Model for Types {

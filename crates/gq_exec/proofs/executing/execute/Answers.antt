@@ -1,4 +1,4 @@
-use Rattle.std.proofs.Common.{List, subst}
+use Rattle.std.proofs.Common.{List, refl, subst}
 use Rattle.gq_project.specs.declared.document.Doc.{Doc}
 use Rattle.gq_tree.specs.Readings.{unshared_view}
 use Rattle.gq_parse.specs.Parsed.{AreParsed}
@@ -11,8 +11,7 @@ pub by_readings-requires : goal.by_readings-requires
 by_readings-requires c =
     let documents = c.args.valid.now in
     let read = unshared_view c.in_ok-readings.readings.items in
-    let taken = c.in_ok-entries in
     let are = subst (λ (ds : List Doc). AreParsed ds read) c.project-project.ensures.same (subst (λ (ds : List Doc). AreParsed ds read) c.documents.ensures.all c.in_ok-readings.ensures) in
-    rw c.deref.ensures.value
-    (ranked (operations_of read) (operations_of (unshared_view taken.readings.items)) (fragments_of read) (fragments_of (unshared_view taken.readings.items)) (text_of c.args.name)
-    (c.fragments_can_be_ranked.ensures documents c.project-project.ensures.valid read are) taken.ensures.operations taken.ensures.fragments)
+    rw c.deref-2.ensures.value
+    (ranked (operations_of read) (operations_of read) (fragments_of read) (fragments_of read) (text_of c.args.name)
+    (c.fragments_can_be_ranked.ensures documents c.project-project.ensures.valid read are) refl refl)

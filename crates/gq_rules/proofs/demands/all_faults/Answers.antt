@@ -1,6 +1,7 @@
-use Rattle.std.proofs.Common.{subst, ap, ◌∙◌, ◌++◌}
+use Rattle.std.proofs.Common.{subst, ap, refl, ◌∙◌, ◌++◌}
 use Rattle.gq_tree.specs.Readings.{unshared_view}
 use Rattle.gq_types.specs.BuiltIn.{built_in}
+use Rattle.gq_document.specs.Definitions.{entries_of}
 use Rattle.gq_rules.specs.Helping.Places.{unread_at, mixed_at, each_from}
 use Rattle.gq_rules.specs.Project.{defined_in}
 use Rattle.gq_rules.specs.Helping.Wrongs.{PutsWrong}
@@ -10,10 +11,10 @@ use Rattle.gq_rules.proofs.demands.all_faults.Goals as goal
 pub returns : goal.returns
 returns c =
     let readings = unshared_view c.args.readings.items in
-    let taken = c.in_ok-entries in
+    let given = c.in_ok-entries in
     all_are readings
-    (defined_in taken.entries.items (unshared_view taken.readings.items))
-    (executable_is readings _ _ _ (ap (λ es. built_in ++ es) taken.ensures.entries) taken.ensures.operations taken.ensures.fragments)
+    (defined_in given.entries.items readings)
+    (executable_is readings _ _ _ (ap (λ es. built_in ++ es) (given.ensures ∙ ap (λ rs. entries_of (unshared_view rs)) c.deref-2.ensures.value)) refl refl)
     c.in_ok-faults.faults.items c.add_wrong.new.faults.items
     (c.in_ok-faults.ensures ∙ ap (λ rs. each_from unread_at 0 (unshared_view rs) ++ each_from mixed_at 0 (unshared_view rs)) c.deref.ensures.value)
-    (subst (λ rs. PutsWrong (defined_in taken.entries.items (unshared_view rs)) c.in_ok-faults.faults.items c.add_wrong.new.faults.items) c.deref-2.ensures.value c.in_ok-add_wrong.ensures)
+    (subst (λ rs. PutsWrong (defined_in given.entries.items (unshared_view rs)) c.in_ok-faults.faults.items c.add_wrong.new.faults.items) c.deref-3.ensures.value c.in_ok-add_wrong.ensures)

@@ -10,5 +10,6 @@ loop-entry-preserved c =
     let pushed = c.in_ok-push.ensures.items in
     rw pushed (
       length_push all names ∙ ap (λ n. n + 1) c.loop-entry.invariant.0,
-      entry_pushed c.args.entries.now c.entry-item.result c.loop-entry.entry-index all names c.loop-entry-test.true c.entry-item.is c.loop-entry.invariant.0 c.loop-entry.invariant.1 c.in_ok-names.ensures,
+      entry_pushed c.args.entries.now c.entry-item.result c.loop-entry.entry-index all names c.loop-entry-test.true c.entry-item.is c.loop-entry.invariant.0 c.loop-entry.invariant.1
+          (rw c.deref.ensures at c.in_ok-names.ensures),
     )

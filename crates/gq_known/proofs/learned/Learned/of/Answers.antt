@@ -1,4 +1,4 @@
-use Rattle.std.proofs.Common.{◌∙◌, ◌++◌, ap, sym, subst, length, List, arith}
+use Rattle.std.proofs.Common.{◌∙◌, ◌++◌, ap, subst, length, List, arith}
 use Rattle.std.proofs.lemmas.List.{nil_from_length}
 use Rattle.std.proofs.lemmas.Bool.Decides.{nat_tests}
 use Rattle.gq_project.specs.declared.document.Doc.{Doc}
@@ -17,7 +17,7 @@ returns c =
     let faults = c.in_ok-schema_faults.field-0.items in
     record {
       are_readings = subst (λ (ds : List Doc). AreParsed ds (readings_view rs)) c.documents-documents.ensures.all c.in_ok-readings.ensures;
-      is_type_system = c.in_ok-types.ensures (subst (λ (xs : List SharedParsed). AreParsed c.documents-documents.result.now (readings_view xs)) (sym c.deref.ensures.value) c.in_ok-readings.ensures) ∙ ap (λ (xs : List SharedParsed). built_in ++ entries_of (readings_view xs)) c.deref.ensures.value;
+      is_type_system = c.in_ok-types.ensures ∙ ap (λ (xs : List SharedParsed). built_in ++ entries_of (readings_view xs)) c.deref.ensures.value;
       sound = λ yes. none_found es faults c.in_ok-schema_faults.ensures.exact (nil_from_length _ (grind (arith, nat_tests)));
       faulty = λ no. some_found es faults c.in_ok-schema_faults.ensures.exact (λ e. let l = ap length e in grind (arith, nat_tests));
     }
