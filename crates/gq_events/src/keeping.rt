@@ -160,7 +160,11 @@ fn answer_by(alloc: Global, kept: &mut Option<Kept>, task: &Task) -> Result<Answ
     ensures documents { option_map (λ k. k.documents) kept.new ≡ option_map (λ k. k.documents) kept.old }
 {
     match kept {
-        Some(now) => find_answer(alloc, now, task),
+        Some(now) => {
+            let answer = find_answer(alloc, now, task)?;
+            now.let_go();
+            Ok(answer)
+        }
         None => unreachable!(),
     }
 }

@@ -63,7 +63,7 @@ systems before after old made changes was is stays e =
 
 module _ (documents : List Doc) (readings : List SharedParsed) (typed : Typed) (found : ByFile) (index : Option Index) (kept : AreKept documents readings typed found index) where
   -- as many readings as documents
-  pub kept_count : length documents ≡ length readings
+  kept_count : length documents ≡ length readings
   kept_count = ∥∥₁_elim kept.known (ℕ_set _ _) (λ known. as_many known.are_readings ∙ length-map readings shared_view)
 
   pub kept_indexed : (made : Index) → (AreParsed documents (readings_view readings) → IsIndexOfProject documents made) → AreKept documents readings typed found (Some made)
@@ -77,22 +77,16 @@ module _ (documents : List Doc) (readings : List SharedParsed) (typed : Typed) (
   pub kept_owned : (others : ByFile) → (AreByFile (types_view typed.types) (readings_view readings) found → AreByFile (types_view typed.types) (readings_view readings) others) → AreKept documents readings typed others index
   kept_owned others goes_on = record { known = kept.known; owned = ∥∥₁_map kept.owned goes_on; indexed = kept.indexed }
 
-  -- the documents as they are told of and lent, and the readings as they are given
-  module _ (told lent : List Doc) (given : List SharedParsed) (is_told : documents ≡ told) (is_lent : lent ≡ documents) (is_given : given ≡ readings) where
-    pub count_given : length lent ≡ length given
-    count_given = rw (is_lent, is_given) kept_count
-
+  -- the documents as they are told of, and the readings as they are given
+  module _ (told : List Doc) (given : List SharedParsed) (is_told : documents ≡ told) (is_given : given ≡ readings) where
     pub given_in_range : (at : ℕ) (key : List ℕ) → IsPlaceOf (λ d. d.key) key told at → at < length readings
     given_in_range at key place = let count = kept_count in let below : at < length told = place.in_range in let same = ap length is_told in omega arith
 
     pub gap_in_range : (at : ℕ) (key : List ℕ) → IsGapFor (λ d. d.key) key told at → at ≤ length readings
     gap_in_range at key gap = let count = kept_count in let below : at ≤ length told = gap.in_range in let same = ap length is_told in omega arith
 
-    parsed_given : AreParsed documents (readings_view readings) → AreParsed lent (readings_view given)
-    parsed_given are = rw (is_lent, is_given) are
-
     pub kept_replaced : (at : ℕ) (doc : Doc) (reading : SharedParsed) (made : Typed) (left : ByFile) (changes : Bool) → IsPlaceOf (λ d. d.key) doc.key told at → ∥ IsParsed doc.text (shared_view reading) ∥₁
-        → (AreParsed lent (readings_view given) → IsParsed doc.text (shared_view reading) → AreTypesOf (readings_view given) typed → AreTypesOf (set (readings_view given) at (shared_view reading)) made)
+        → (AreTypesOf (readings_view given) typed → AreTypesOf (set (readings_view given) at (shared_view reading)) made)
         → (changes ≡ false → IsOneTypeSystem (readings_view given) (set (readings_view given) at (shared_view reading)))
         → ((es us : List EntryOf) (rs : List ParsedOf) → (changes ≡ false → AreOneTypeSystem es us) → AreByFile es rs found → AreByFile us (set rs at (shared_view reading)) left)
         → OneTree → (keeps : Bool) → (keeps ≡ true → AddNothing (get_or (map definitions_read (readings_view readings)) at []) × AddNothing (definitions_read (shared_view reading)))
@@ -100,7 +94,7 @@ module _ (documents : List Doc) (readings : List SharedParsed) (typed : Typed) (
     kept_replaced at doc reading made left changes place merely types stays forgets one_tree keeps silent =
         kept_with _ _ _ left (if keeps then index else None) (∥∥₁_elim merely ∥∥₁_prop (λ (parsed : IsParsed doc.text (shared_view reading)). both_known kept.known kept.owned (λ known owned.
         let was : AreTypesOf (readings_view given) typed = rw is_given (types_known documents readings typed known) in
-        let are : AreTypesOf (set (readings_view given) at (shared_view reading)) made = types (parsed_given known.are_readings) parsed was in
+        let are : AreTypesOf (set (readings_view given) at (shared_view reading)) made = types was in
         let one = systems (readings_view given) (set (readings_view given) at (shared_view reading)) typed made changes was are stays in
         let there : AreByFile (types_view made.types) (set (readings_view readings) at (shared_view reading)) left = forgets (types_view typed.types) (types_view made.types) (readings_view readings) one owned in
         (replaced documents readings typed known at doc reading made (rw is_told place) parsed (rw (← is_given) are), rw map-set there))))
@@ -108,28 +102,26 @@ module _ (documents : List Doc) (readings : List SharedParsed) (typed : Typed) (
         settled one_tree documents (readings_view readings) index at doc (shared_view reading) keeps known.are_readings indexed (rw is_told place) parsed silent)))
 
     pub kept_inserted : (at : ℕ) (doc : Doc) (reading : SharedParsed) (made : Typed) (left : ByFile) (changes : Bool) → IsGapFor (λ d. d.key) doc.key told at → ∥ IsParsed doc.text (shared_view reading) ∥₁
-        → (AreParsed lent (readings_view given) → IsParsed doc.text (shared_view reading) → AreTypesOf (insert (readings_view given) at (shared_view reading)) made)
+        → AreTypesOf (insert (readings_view given) at (shared_view reading)) made
         → (changes ≡ false → types_defined (shared_view reading) ≡ [])
         → ((es us : List EntryOf) (rs : List ParsedOf) (r : ParsedOf) → (changes ≡ false → AreOneTypeSystem es us) → AreByFile es rs found → AreByFile us (insert rs at r) left)
         → AreKept (with_doc documents doc) (insert readings at reading) made left None
-    kept_inserted at doc reading made left changes gap merely types defines opens =
+    kept_inserted at doc reading made left changes gap merely are defines opens =
         kept_by _ _ _ left (∥∥₁_elim merely ∥∥₁_prop (λ (parsed : IsParsed doc.text (shared_view reading)). both_known kept.known kept.owned (λ known owned.
         let was : AreTypesOf (readings_view given) typed = rw is_given (types_known documents readings typed known) in
-        let are : AreTypesOf (insert (readings_view given) at (shared_view reading)) made = types (parsed_given known.are_readings) parsed in
         let one = systems (readings_view given) (insert (readings_view given) at (shared_view reading)) typed made changes was are (λ e. system_inserted (readings_view given) at (shared_view reading) (defines e)) in
         let there : AreByFile (types_view made.types) (insert (readings_view readings) at (shared_view reading)) left = opens (types_view typed.types) (types_view made.types) (readings_view readings) (shared_view reading) one owned in
         let same : readings_view (insert readings at reading) ≡ insert (readings_view readings) at (shared_view reading) = simp (map-append, take-map, drop-map) in
         (inserted documents readings typed known at doc reading made (rw is_told gap) parsed (rw (← is_given) are), rw same there))))
 
     pub kept_removed : (at : ℕ) (key : List ℕ) (made : Typed) (left : ByFile) (changes : Bool) → IsPlaceOf (λ d. d.key) key told at
-        → (AreParsed lent (readings_view given) → AreTypesOf (remove (readings_view given) at) made)
+        → AreTypesOf (remove (readings_view given) at) made
         → (changes ≡ false → get_or (map types_defined (readings_view given)) at [] ≡ [])
         → ((es us : List EntryOf) (rs : List ParsedOf) → (changes ≡ false → AreOneTypeSystem es us) → AreByFile es rs found → AreByFile us (remove rs at) left)
         → AreKept (without documents key) (remove readings at) made left None
-    kept_removed at key made left changes place types defines closes =
+    kept_removed at key made left changes place are defines closes =
         kept_by _ _ _ left (both_known kept.known kept.owned (λ known owned.
         let was : AreTypesOf (readings_view given) typed = rw is_given (types_known documents readings typed known) in
-        let are : AreTypesOf (remove (readings_view given) at) made = types (parsed_given known.are_readings) in
         let one = systems (readings_view given) (remove (readings_view given) at) typed made changes was are (λ e. system_removed (readings_view given) at (defines e)) in
         let there : AreByFile (types_view made.types) (remove (readings_view readings) at) left = closes (types_view typed.types) (types_view made.types) (readings_view readings) one owned in
         let same : readings_view (remove readings at) ≡ remove (readings_view readings) at = simp (map-append, take-map, drop-map) in

@@ -1,4 +1,3 @@
-pub mod Again
 pub mod Brought
 pub mod IndexLemmas
 pub mod JudgingLemmas

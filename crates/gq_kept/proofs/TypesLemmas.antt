@@ -1,13 +1,13 @@
 -- What documents define of the type system, document by document.
-use Rattle.std.proofs.Common.{◌≡◌, ◌<◌, ℕ, zero, suc, ◌+◌, List, [], ◌∷◌, ◌++◌, append_assoc, drop, get_or, length, set, take, refl, sym, ◌∙◌, ap, arith}
+use Rattle.std.proofs.Common.{◌≡◌, ◌<◌, ℕ, zero, suc, ◌+◌, ◌-◌, List, [], ◌∷◌, ◌++◌, drop, get_or, length, set, take, refl, sym, ◌∙◌, ap, subst, arith}
 use Rattle.std.specs.Prelude.{map, flat_map}
 use Rattle.std.specs.List.{enumerate_from, insert, remove}
-use Rattle.std.proofs.lemmas.List.{map-append}
+use Rattle.std.proofs.lemmas.List.{drop-map, length-drop, map-append, take-map}
 use Rattle.std.proofs.Math.ListN.{get_or-map}
+use Rattle.std.proofs.Math.Seq.{take-length}
 use Rattle.gq_text.specs.declared.place.Span.{Span}
 use Rattle.gq_tree.specs.Plain.{Def, TypeSystemOf, operation, fragment, type_system}
-use Rattle.gq_tree.specs.declared.parsed.Parsed.{Parsed}
-use Rattle.gq_tree.specs.Readings.{ParsedOf, SharedParsed, definitions_read, in_document, parsed_view, shared_view, readings_view, unshared_view}
+use Rattle.gq_tree.specs.Readings.{ParsedOf, SharedParsed, definitions_read, in_document, shared_view, readings_view}
 use Rattle.gq_types.specs.BuiltIn.{built_in}
 use Rattle.gq_types.specs.Entries.{EntryOf}
 use Rattle.gq_document.specs.Definitions.{entry_in, entries_of}
@@ -39,10 +39,10 @@ entries_from n (r ∷ rs) =
     ∙ ap (λ (rest : List EntryOf). map (entry_at n) (types_defined r) ++ rest) (entries_from (n + 1) rs)
 
 -- what the documents define settles the entries
-pub same_entries : (xs ys : List ParsedOf) → map types_defined xs ≡ map types_defined ys → entries_of xs ≡ entries_of ys
+same_entries : (xs ys : List ParsedOf) → map types_defined xs ≡ map types_defined ys → entries_of xs ≡ entries_of ys
 same_entries xs ys e = entries_from 0 xs ∙ ap (gathered 0) e ∙ sym (entries_from 0 ys)
 
-pub same_types : (xs ys : List ParsedOf) (made : Typed) → map types_defined xs ≡ map types_defined ys → AreTypesOf xs made → AreTypesOf ys made
+same_types : (xs ys : List ParsedOf) (made : Typed) → map types_defined xs ≡ map types_defined ys → AreTypesOf xs made → AreTypesOf ys made
 same_types xs ys made e are = record {
   is_type_system = are.is_type_system ∙ ap (λ (es : List EntryOf). built_in ++ es) (same_entries xs ys e);
   sound = are.sound;
@@ -63,8 +63,23 @@ types_alike readings at old new made is none none_new are =
     let same : types_defined (get_or (readings_view readings) at (shared_view old)) ≡ types_defined (shared_view new) = ap types_defined there ∙ none ∙ sym none_new in
     same_types (readings_view readings) (set (readings_view readings) at (shared_view new)) made (sym (same_map types_defined (readings_view readings) at (shared_view new) (shared_view old) same)) are
 
+-- as many as are left are all that are left
+all_left : {X : Type 0} (xs : List X) (n : ℕ) → take (length xs - n) (drop n xs) ≡ drop n xs
+all_left xs n = subst (λ (count : ℕ). take count (drop n xs) ≡ drop n xs) (length-drop n xs) (take-length (drop n xs))
+
+-- what stands before a place, or from it on, is read as it is among all
+pub read_before : (readings : List SharedParsed) (n : ℕ) → readings_view (take n readings) ≡ take n (readings_view readings)
+read_before readings n = sym (take-map shared_view n readings)
+
+pub read_behind : (readings : List SharedParsed) (n : ℕ) → readings_view (take (length readings - n) (drop n readings)) ≡ drop n (readings_view readings)
+read_behind readings n = ap readings_view (all_left readings n) ∙ sym (drop-map shared_view n readings)
+
 next : (i : ℕ) → i + 1 ≡ suc i
 next i = omega arith
+
+-- what is left where one is taken out
+pub removed_between : {X : Type 0} (xs : List X) (i : ℕ) → take i xs ++ drop (i + 1) xs ≡ remove xs i
+removed_between xs i = ap (λ (n : ℕ). take i xs ++ drop n xs) (next i)
 
 parts : {X : Type 0} (xs : List X) (i : ℕ) (x : X) → i < length xs → take i xs ++ (x ∷ drop (suc i) xs) ≡ set xs i x
 parts [] i x h = absurd (omega arith)
@@ -74,32 +89,6 @@ parts {X} (y ∷ xs) (suc i) x h = ap (λ (zs : List X). y ∷ zs) (parts xs i x
 -- what is replaced stands between what is before it and what is behind it
 pub set_between : {X : Type 0} (xs : List X) (i : ℕ) (x : X) → i < length xs → take i xs ++ (x ∷ drop (i + 1) xs) ≡ set xs i x
 set_between xs i x h = ap (λ (n : ℕ). take i xs ++ (x ∷ drop n xs)) (next i) ∙ parts xs i x h
-
--- what is read again defines the same as what stands before one place and from another one on, so it does with one between them
-module _ (again : List Parsed) (rs : List ParsedOf) (made : Typed) where
-  pub types_between : (before : List Parsed) (one : Parsed) (r : ParsedOf) (end start : ℕ) → map types_defined (unshared_view before) ≡ map types_defined (take end rs)
-      → types_defined (parsed_view one) ≡ types_defined r → map types_defined (unshared_view again) ≡ map types_defined (unshared_view (before ++ one ∷ [])) ++ map types_defined (drop start rs)
-      → AreTypesOf (unshared_view again) made → AreTypesOf (take end rs ++ (r ∷ drop start rs)) made
-  types_between before one r end start front same all =
-      let ends : List (List EntryOf) = map types_defined (drop start rs) in
-      let one_more : map types_defined (unshared_view (before ++ one ∷ [])) ≡ map types_defined (take end rs) ++ (types_defined r ∷ []) =
-      ap (map types_defined) (map-append parsed_view before (one ∷ []))
-      ∙ map-append types_defined (unshared_view before) (parsed_view one ∷ [])
-      ∙ ap (λ (ess : List (List EntryOf)). ess ++ (types_defined (parsed_view one) ∷ [])) front
-      ∙ ap (λ (es : List EntryOf). map types_defined (take end rs) ++ (es ∷ [])) same in
-      same_types (unshared_view again) (take end rs ++ (r ∷ drop start rs)) made
-      (all ∙ ap (λ (ess : List (List EntryOf)). ess ++ ends) one_more
-      ∙ append_assoc (map types_defined (take end rs)) (types_defined r ∷ []) ends
-      ∙ sym (map-append types_defined (take end rs) (r ∷ drop start rs)))
-
-  pub types_removed : (before : List Parsed) (at : ℕ) → map types_defined (unshared_view before) ≡ map types_defined (take at rs)
-      → map types_defined (unshared_view again) ≡ map types_defined (unshared_view before) ++ map types_defined (drop (at + 1) rs)
-      → AreTypesOf (unshared_view again) made → AreTypesOf (remove rs at) made
-  types_removed before at front all =
-      same_types (unshared_view again) (remove rs at) made
-      (all ∙ ap (λ (ess : List (List EntryOf)). ess ++ map types_defined (drop (at + 1) rs)) front
-      ∙ sym (map-append types_defined (take at rs) (drop (at + 1) rs))
-      ∙ ap (λ (n : ℕ). map types_defined (take at rs ++ drop n rs)) (next at))
 
 -- ---- one type system, whatever the numbers of its documents are
 

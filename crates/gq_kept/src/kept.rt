@@ -28,12 +28,12 @@ use gq_text::{NoMemory, OwnedText};
 use gq_tree::Parsed;
 use std::alloc::Global;
 use std::marker::Model;
+use std::mem;
 use std::sync::Arc;
 
 /// A project, what its documents read as, and their type system; its index and its validity too, once they were asked for.
 ///
 /// Contracts see it as the list of its documents, whether it is indexed, and whether it is known if it is valid.
-#[derive(Drop)]
 pub struct Kept {
     judged: Judged,
     /// What the documents read as, one for each, in their order.
@@ -42,6 +42,27 @@ pub struct Kept {
     /// What is known of the faults of documents, each by itself and together.
     found: ByFile,
     index: Option<Index>,
+    past: Past,
+}
+
+impl Drop for Kept {
+    fn drop(self) {
+        let Kept {
+            judged: _judged,
+            readings: _readings,
+            typed: _typed,
+            found: _found,
+            index: _index,
+            past: _past,
+        } = self;
+    }
+}
+
+/// What the last change replaced, which takes a while to drop.
+#[derive(Drop)]
+struct Past {
+    typed: Option<Typed>,
+    reading: Option<Arc<Parsed>>,
 }
 
 impl Model for Kept {
@@ -74,6 +95,10 @@ impl Kept {
             typed: Typed { types, has_schema },
             found: ByFile::new(alloc),
             index: None,
+            past: Past {
+                typed: None,
+                reading: None,
+            },
         })
     }
 
@@ -109,7 +134,7 @@ impl Kept {
 
     /// Adds the document, or replaces the one of its key, and reads its text alone; where the piece is one of this document,
     /// with the same key and text, its tree is taken in place of reading. The project is not judged then, and keeps its index only where the
-    /// document has no operation and no fragment, before and after.
+    /// document has no operation and no fragment, before and after. What it replaces stays until the next such change or `let_go`.
     pub fn replace_file(
         &mut self,
         alloc: Global,
@@ -150,20 +175,23 @@ impl Kept {
     {
         one_tree();
         let stays = stays_indexed(&self.readings, at, &reading);
-        let changes_types = retype(
-            alloc,
-            self.judged.project().documents(),
-            &self.readings,
-            at,
-            doc.text.as_str(),
-            &reading,
-            &mut self.typed,
-        )?;
+        let typed = retype(alloc, &self.readings, at, &reading, &mut self.typed)?;
         self.judged.put(alloc, doc)?;
-        self.found.replace(alloc, at, &reading, changes_types);
-        write_over(&mut self.readings, at, reading);
+        self.found.replace(alloc, at, &reading, typed.is_some());
+        let reading = Some(write_over(&mut self.readings, at, reading));
+        self.past = Past { typed, reading };
         forget_unless(stays, &mut self.index);
         Ok(())
+    }
+
+    /// Drops what the last change replaced, which takes a part of the time that the change took. Nothing that is known changes.
+    pub fn let_go(&mut self)
+        ensures { self.new ≡ self.old }
+    {
+        self.past = Past {
+            typed: None,
+            reading: None,
+        };
     }
 
     /// Puts in a document whose key no document has.
@@ -180,15 +208,7 @@ impl Kept {
         ensures err { OnErr result (self.new ≡ self.old) }
     {
         let changes_types = has_types(&reading);
-        let documents = self.judged.project().documents();
-        let made = typed_more(
-            alloc,
-            documents,
-            &self.readings,
-            at,
-            doc.text.as_str(),
-            &reading,
-        )?;
+        let made = typed_more(alloc, &self.readings, at, &reading)?;
         match put_in(
             alloc,
             &mut self.judged,
@@ -226,8 +246,7 @@ impl Kept {
         ensures err { OnErr result (self.new ≡ self.old) }
     {
         let changes_types = defines_types_at(&self.readings, at);
-        let documents = self.judged.project().documents();
-        let made = typed_less(alloc, documents, &self.readings, at)?;
+        let made = typed_less(alloc, &self.readings, at)?;
         self.judged.take(alloc, key);
         take_out(&mut self.readings, at);
         settle(&mut self.typed, made);
@@ -418,12 +437,12 @@ fn put_in(
     Ok(())
 }
 
-/// Writes what a document reads as over what is at that place.
-fn write_over(readings: &mut Vec<Arc<Parsed>>, at: usize, reading: Arc<Parsed>)
+/// Writes what a document reads as over what is at that place, and answers what was there.
+fn write_over(readings: &mut Vec<Arc<Parsed>>, at: usize, reading: Arc<Parsed>) -> Arc<Parsed>
     requires { at < length readings.old.items }
     ensures { readings.new.items ≡ slice_set readings.old.items at reading }
 {
-    readings[at] = reading;
+    mem::replace(&mut readings[at], reading)
 }
 
 /// Takes out what is at that place.

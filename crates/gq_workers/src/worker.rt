@@ -92,6 +92,7 @@ fn serve<J: Room, G: Gate, R: Wait>(
 {
     for _ in rt.forever() {
         let (next, goes_on) = serve_one(rt, alloc, looker, jobs, inbox, kept, gate);
+        kept.let_go();
         looker = next;
         if !goes_on {
             return;

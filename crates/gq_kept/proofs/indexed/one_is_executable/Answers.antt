@@ -1,7 +1,5 @@
-use Rattle.std.proofs.Common.{◌≡◌, ◌++◌, ◌+◌, ◌∙◌, List, [], ◌∷◌, arith, map, refl, take, take-suc, add-one, subst, sym, ap}
+use Rattle.std.proofs.Common.{◌≡◌, ◌++◌, ◌+◌, ◌∙◌, List, [], ◌∷◌, arith, map, take, take-suc, add-one, subst, sym, ap}
 use Rattle.std.proofs.lemmas.List.{take_all, map-append}
-use Rattle.gq_text.specs.declared.place.Span.{Span}
-use Rattle.gq_tree.specs.Plain.{Def}
 use Rattle.gq_tree.specs.declared.tree.Definition.{Definition}
 use Rattle.gq_tree.specs.Views.{def_view}
 use Rattle.gq_kept.specs.Helping.Unindexed.{AddNothing}

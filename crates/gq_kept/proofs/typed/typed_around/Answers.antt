@@ -1,15 +1,29 @@
--- What is read again defines the same.
-use Rattle.std.proofs.Common.{List, ◌++◌, ap, drop, map, ◌∙◌}
+-- What stands before a place, one, and what stands from another place on.
+use Rattle.std.proofs.Common.{◌≡◌, List, [], ◌∷◌, ◌++◌, append_assoc, ap, drop, subst, take, ◌∙◌}
+use Rattle.std.proofs.lemmas.List.{map-append}
 use Rattle.gq_tree.specs.declared.parsed.Parsed.{Parsed}
-use Rattle.gq_tree.specs.Readings.{readings_view, shared_view, unshared_view}
-use Rattle.gq_kept.specs.Helping.TypesOf.{types_defined}
-use Rattle.gq_kept.proofs.TypesLemmas.{types_between}
+use Rattle.gq_tree.specs.Readings.{ParsedOf, SharedParsed, parsed_view, readings_view, shared_view}
+use Rattle.gq_kept.specs.Helping.TypesOf.{AreTypesOf}
+use Rattle.gq_kept.proofs.TypesLemmas.{read_before, read_behind}
 use Rattle.gq_kept.proofs.typed.typed_around.Goals as goal
 
 pub returns : goal.returns
-returns c are is =
-    let rest = c.in_ok-add_types_from.ensures are in
-    types_between c.add_types_from.new.again.items (readings_view c.args.readings.now) c.in_ok-made.made c.in_ok-again.again.items c.in_ok-types_in.field-0
-    (shared_view c.args.reading.now) c.args.end c.args.start (c.in_ok-again.ensures are) (c.in_ok-types_in.ensures is)
-    (rest ∙ ap (λ (xs : List Parsed). map types_defined (unshared_view xs) ++ map types_defined (drop c.args.start (readings_view c.args.readings.now))) c.in_ok-push.ensures.items)
-    c.in_ok-made.ensures
+returns c =
+    let readings = c.args.readings.now in
+    let front = take c.args.end (readings_view readings) in
+    let one : List ParsedOf = shared_view c.args.reading.now ∷ [] in
+    let back = drop c.args.start (readings_view readings) in
+    let before : readings_view c.add_shared.new.all.items ≡ front =
+    c.in_ok-add_shared.ensures ∙ ap (λ (all : List SharedParsed). readings_view all ++ readings_view (take c.args.end readings)) c.in_ok-all.ensures.items ∙ read_before readings c.args.end in
+    let with_one : readings_view c.push.new.self.items ≡ front ++ one =
+    ap readings_view c.in_ok-push.ensures.items
+    ∙ map-append shared_view c.add_shared.new.all.items (c.in_ok-try_clone.field-0 ∷ [])
+    ∙ ap (λ (rs : List ParsedOf). rs ++ shared_view c.in_ok-try_clone.field-0 ∷ []) before
+    ∙ ap (λ (parsed : Parsed). front ++ parsed_view parsed ∷ []) c.in_ok-try_clone.ensures in
+    let all : readings_view c.deref.result.now ≡ front ++ shared_view c.args.reading.now ∷ back =
+    ap readings_view c.deref.ensures.value
+    ∙ c.in_ok-add_shared-2.ensures
+    ∙ ap (λ (rs : List ParsedOf). readings_view c.push.new.self.items ++ rs) (read_behind readings c.args.start)
+    ∙ ap (λ (rs : List ParsedOf). rs ++ back) with_one
+    ∙ append_assoc front one back in
+    subst (λ (rs : List ParsedOf). AreTypesOf rs c.in_ok-made.made) all c.in_ok-made.ensures

@@ -1,9 +1,21 @@
--- What is read again defines the same.
-use Rattle.gq_tree.specs.Readings.{readings_view}
-use Rattle.gq_kept.proofs.TypesLemmas.{types_removed}
+-- What stands before a place, and what stands behind it.
+use Rattle.std.proofs.Common.{◌≡◌, ◌+◌, List, ◌++◌, ap, drop, subst, take, ◌∙◌}
+use Rattle.std.specs.List.{remove}
+use Rattle.gq_tree.specs.Readings.{ParsedOf, SharedParsed, readings_view}
+use Rattle.gq_kept.specs.Helping.TypesOf.{AreTypesOf}
+use Rattle.gq_kept.proofs.TypesLemmas.{read_before, read_behind, removed_between}
 use Rattle.gq_kept.proofs.typed.typed_less.Goals as goal
 
 pub returns : goal.returns
-returns c are =
-    types_removed c.add_types_from.new.again.items (readings_view c.args.readings.now) c.in_ok-made.made c.in_ok-again.again.items c.args.at (c.in_ok-again.ensures are)
-    (c.in_ok-add_types_from.ensures are) c.in_ok-made.ensures
+returns c =
+    let readings = c.args.readings.now in
+    let rs = readings_view readings in
+    let before : readings_view c.add_shared.new.all.items ≡ take c.args.at rs =
+    c.in_ok-add_shared.ensures ∙ ap (λ (all : List SharedParsed). readings_view all ++ readings_view (take c.args.at readings)) c.in_ok-all.ensures.items ∙ read_before readings c.args.at in
+    let all : readings_view c.deref.result.now ≡ remove rs c.args.at =
+    ap readings_view c.deref.ensures.value
+    ∙ c.in_ok-add_shared-2.ensures
+    ∙ ap (λ (others : List ParsedOf). readings_view c.add_shared.new.all.items ++ others) (read_behind readings (c.args.at + 1))
+    ∙ ap (λ (others : List ParsedOf). others ++ drop (c.args.at + 1) rs) before
+    ∙ removed_between rs c.args.at in
+    subst (λ (others : List ParsedOf). AreTypesOf others c.in_ok-made.made) all c.in_ok-made.ensures

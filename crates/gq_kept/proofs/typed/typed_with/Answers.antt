@@ -7,7 +7,7 @@ use Rattle.gq_kept.proofs.TypesLemmas.{set_between}
 use Rattle.gq_kept.proofs.typed.typed_with.Goals as goal
 
 pub returns : goal.returns
-returns c are is =
+returns c =
     let rs = readings_view c.args.readings.now in
-    let within : c.args.at < length rs = subst (λ (n : ℕ). c.args.at < n) (sym (length-map c.args.readings.now shared_view)) c.requires.in_range in
-    subst (λ (xs : List ParsedOf). AreTypesOf xs c.in_ok-made.made) (set_between rs c.args.at (shared_view c.args.reading.now) within) (c.in_ok-made.ensures are is)
+    let within : c.args.at < length rs = subst (λ (n : ℕ). c.args.at < n) (sym (length-map c.args.readings.now shared_view)) c.requires in
+    subst (λ (xs : List ParsedOf). AreTypesOf xs c.in_ok-made.made) (set_between rs c.args.at (shared_view c.args.reading.now) within) c.in_ok-made.ensures

@@ -1,32 +1,39 @@
 -- The document and its reading are written over.
-use Rattle.std.proofs.Common.{◌≡◌, true, List, [], get_or, map, refl, ap, ◌∙◌, subst}
+use Rattle.std.proofs.Common.{◌≡◌, true, List, [], get_or, map, ap, ◌∙◌, subst, sym}
 use Rattle.gq_tree.specs.Readings.{SharedParsed, definitions_read, shared_view, readings_view}
 use Rattle.gq_kept.specs.Helping.Unindexed.{AddNothing}
 use Rattle.gq_kept.specs.KeptOf.{KeptOf, JudgedOf}
 use Rattle.gq_kept.proofs.Brought.{place_found}
-use Rattle.gq_kept.proofs.KeptLemmas.{count_given, given_in_range, kept_replaced}
+use Rattle.gq_kept.proofs.KeptLemmas.{given_in_range, kept_replaced}
 use Rattle.gq_kept.proofs.kept.Kept.replace_at.Goals as goal
 
 pub stays_indexed-stays-requires : goal.stays_indexed-stays-requires
-stays_indexed-stays-requires c = rw c.deref.ensures.value (given_in_range _ _ _ _ _ c.self.invariant c.args.self.now.documents c.self.inside.judged.documents c.deref.result.now (ap (λ (k : KeptOf). k.documents) c.self.view_is) refl c.deref.ensures.value c.args.at c.args.doc.key c.requires.place)
+stays_indexed-stays-requires c =
+    let same = ap (λ (k : KeptOf). k.documents) c.self.view_is in
+    rw c.deref.ensures.value (given_in_range _ _ _ _ _ c.self.invariant c.args.self.now.documents c.deref.result.now same c.deref.ensures.value c.args.at c.args.doc.key c.requires.place)
 
-pub retype-requires-clause-count : goal.retype-requires-clause-count
-retype-requires-clause-count c = count_given _ _ _ _ _ c.self.invariant c.args.self.now.documents c.documents.result.now c.deref-2.result.now (ap (λ (k : KeptOf). k.documents) c.self.view_is) (c.documents.ensures.all ∙ c.project.ensures) c.deref-2.ensures.value
-
-pub retype-requires-clause-in_range : goal.retype-requires-clause-in_range
-retype-requires-clause-in_range c = rw c.deref-2.ensures.value (given_in_range _ _ _ _ _ c.self.invariant c.args.self.now.documents c.documents.result.now c.deref-2.result.now (ap (λ (k : KeptOf). k.documents) c.self.view_is) (c.documents.ensures.all ∙ c.project.ensures) c.deref-2.ensures.value c.args.at c.args.doc.key c.requires.place)
+pub retype-requires : goal.retype-requires
+retype-requires c =
+    let same = ap (λ (k : KeptOf). k.documents) c.self.view_is in
+    rw c.deref-2.ensures.value (given_in_range _ _ _ _ _ c.self.invariant c.args.self.now.documents c.deref-2.result.now same c.deref-2.ensures.value c.args.at c.args.doc.key c.requires.place)
 
 pub invariant_of-self-in_err-put : goal.invariant_of-self-in_err-put
 invariant_of-self-in_err-put c =
     absurd (place_found c.self.inside.judged.documents c.args.doc.key c.args.at (rw (ap (λ (k : KeptOf). k.documents) c.self.view_is) c.requires.place) c.in_err-put.ensures.refused)
 
 pub write_over-requires : goal.write_over-requires
-write_over-requires c = given_in_range _ _ _ _ _ c.self.invariant c.args.self.now.documents c.documents.result.now c.deref-2.result.now (ap (λ (k : KeptOf). k.documents) c.self.view_is) (c.documents.ensures.all ∙ c.project.ensures) c.deref-2.ensures.value c.args.at c.args.doc.key c.requires.place
+write_over-requires c =
+    let same = ap (λ (k : KeptOf). k.documents) c.self.view_is in
+    given_in_range _ _ _ _ _ c.self.invariant c.args.self.now.documents c.deref-2.result.now same c.deref-2.ensures.value c.args.at c.args.doc.key c.requires.place
 
 pub invariant_of-self-2 : goal.invariant_of-self-2
 invariant_of-self-2 c =
+    let same = ap (λ (k : KeptOf). k.documents) c.self.view_is in
     rw (ap (λ (j : JudgedOf). j.documents) c.in_ok-put.ensures.ok, c.write_over.ensures, c.forget_unless.ensures)
-    (kept_replaced _ _ _ _ _ c.self.invariant c.args.self.now.documents c.documents.result.now c.deref-2.result.now (ap (λ (k : KeptOf). k.documents) c.self.view_is) (c.documents.ensures.all ∙ c.project.ensures) c.deref-2.ensures.value c.args.at c.args.doc c.args.reading c.retype.new.typed c.replace.new.self c.in_ok-changes_types.changes_types
-    c.requires.place c.requires.parsed (λ are is. c.in_ok-changes_types.ensures.ok are (rw c.as_str.ensures is)) c.in_ok-changes_types.ensures.stays c.replace.ensures
+    (kept_replaced _ _ _ _ _ c.self.invariant c.args.self.now.documents c.deref-2.result.now same c.deref-2.ensures.value
+    c.args.at c.args.doc c.args.reading c.retype.new.typed c.replace.new.self c.is_some.result
+    c.requires.place c.requires.parsed c.in_ok-typed.ensures.ok (λ e. c.in_ok-typed.ensures.stays (sym c.is_some.ensures ∙ e)) c.replace.ensures
     c.one_tree.ensures c.stays_indexed-stays.result
-    (subst (λ (rs : List SharedParsed). c.stays_indexed-stays.result ≡ true → AddNothing (get_or (map definitions_read (readings_view rs)) c.args.at []) × AddNothing (definitions_read (shared_view c.args.reading))) c.deref.ensures.value c.stays_indexed-stays.ensures))
+    (subst (λ (rs : List SharedParsed).
+    c.stays_indexed-stays.result ≡ true → AddNothing (get_or (map definitions_read (readings_view rs)) c.args.at []) × AddNothing (definitions_read (shared_view c.args.reading)))
+    c.deref.ensures.value c.stays_indexed-stays.ensures))
