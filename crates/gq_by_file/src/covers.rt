@@ -138,6 +138,44 @@ fn cover_these(
     Ok(())
 }
 
+/// So few files are looked at together, whatever they lead to.
+const FEW: usize = 4;
+
+/// Whether the two halves of these files lead to little that both lead to.
+fn lead_apart(alloc: Global, rows: &[Vec<usize>], rest: &[usize]) -> Result<bool, NoMemory>
+    requires rows { InRange rows.now }
+    requires range { All (λ n. n < length rows.now) rest.now }
+{
+    let (front, back) = rest.split_at(rest.len() / 2);
+    let whole = reach_rows(alloc, rows, rest)?.len();
+    let halves = reach_rows(alloc, rows, front)?.len() + reach_rows(alloc, rows, back)?.len();
+    Ok(halves <= whole + rest.len() / 8)
+}
+
+/// The same by halves, as long as these lead to little that both lead to: files that have nothing to do with each other are not
+/// looked at together, since their trees do not fit into a processor's caches.
+fn cover_by_halves(
+    alloc: Global,
+    executable: &Executable<'_>,
+    rows: &[Vec<usize>],
+    rest: &[usize],
+    marks: &mut Vec<bool>,
+    covers: &mut Vec<Cover>,
+) -> Result<(), NoMemory>
+    requires rows { InRange rows.now }
+    requires range { All (λ n. n < length rows.now) rest.now }
+    ensures kept { AreLinks (executable_view executable.now) rows.now → AreCovers (executable_view executable.now) covers.old.items → AreCovers (executable_view executable.now) covers.new.items }
+    ensures old { (n : ℕ) → IsCovered covers.old.items n → IsCovered covers.new.items n }
+    ensures rest { OnOk result ((n : ℕ) → Contains rest.now n → IsCovered covers.new.items n) }
+{
+    if rest.len() <= FEW || !lead_apart(alloc, rows, rest)? {
+        return cover_these(alloc, executable, rows, rest, marks, covers);
+    }
+    let (front, back) = rest.split_at(rest.len() / 2);
+    cover_by_halves(alloc, executable, rows, front, marks, covers)?;
+    cover_by_halves(alloc, executable, rows, back, marks, covers)
+}
+
 /// Adds covers until each file stands in one.
 pub(crate) fn cover_rest(
     alloc: Global,
@@ -155,7 +193,7 @@ pub(crate) fn cover_rest(
     if rest.is_empty() {
         return Ok(());
     }
-    cover_these(alloc, executable, rows, &rest, &mut marks, covers)
+    cover_by_halves(alloc, executable, rows, &rest, &mut marks, covers)
 }
 
 /// Puts what is told of the covers behind the others.
