@@ -304,7 +304,8 @@ def stop_on_unnamed(name, known):
 
 
 def has_function(crate, folder):
-    """Whether a function or a cycle has this folder of proofs: a free function in its module, a method in any file, as an `impl` may stand in any."""
+    """Whether a function or a cycle has this folder of proofs: a free function in its module, a method in any file, as an `impl` may stand in any.
+    A cycle has the name that its attribute gives, or that of a function which calls itself."""
     *place, name = folder.split(os.sep)
     files = [it for it in files_below(f"{crate}/src") if it.endswith(".rt")]
     indent, is_method = "", bool(place) and place[-1][:1].isupper()
@@ -313,8 +314,9 @@ def has_function(crate, folder):
     elif not name.startswith("+"):
         files = [it for it in files if it == "/".join(place) + ".rt" or not place and f"src/{it}" == root_file(crate)]
     text = "\n".join(read(f"{crate}/src/{it}") for it in files)
-    if name.startswith("+"):
-        return f"#[cycle({name[1:]}" in text
+    if name.startswith("+") and f"#[cycle({name[1:]}" in text:
+        return True
+    name = name.lstrip("+")
     return bool(re.search(rf"^{indent}(?:pub(?:\([^)]*\))? )?(?:const )?(?:unsafe )?fn (?:r#)?{re.escape(name)}\b", text, re.M))
 
 

@@ -23,8 +23,8 @@ returns-then-is_empty-clause-all c n h =
     let empty : unmarked_from 0 marks ≡ [] = sym there ∙ nil_from_length _ (grind (arith, nat_tests)) in
     ⊎_elim (λ l. l) (λ d. nothing_in n (subst (λ (ns : List ℕ). Contains ns n) empty d)) (covered_or_open c.args.covers.now.items marks are n (omega (arith, h, count)))
 
-pub cover_these-requires-clause-range : goal.cover_these-requires-clause-range
-cover_these-requires-clause-range c =
+pub cover_by_halves-requires-clause-range : goal.cover_by_halves-requires-clause-range
+cover_by_halves-requires-clause-range c =
     let none : c.in_ok-marks.marks.items ≡ replicate (length c.args.rows.now) false = search rules in
     let marks : List Bool = c.mark_covers.new.marks.items in
     let count : length marks ≡ length c.args.rows.now = c.mark_covers.ensures.count ∙ ap length none ∙ length-replicate (length c.args.rows.now) false in
@@ -39,6 +39,6 @@ returns-clause-all c =
     let are = marked_alone (length c.args.rows.now) c.in_ok-marks.marks.items marks c.args.covers.now.items none c.mark_covers.ensures.count
     (subst (λ (cs : List Cover). (k : ℕ) → k < length c.in_ok-marks.marks.items → slice_index_or marks k false ≡ (slice_index_or c.in_ok-marks.marks.items k false || list_any (λ (d : Cover). is_among d.files.items k) cs)) c.deref.ensures.value c.mark_covers.ensures.marked) in
     let there : c.in_ok-rest.rest.items ≡ unmarked_from 0 marks = c.in_ok-rest.ensures ∙ ap (unmarked_from 0) c.deref-2.ensures.value in
-    on_ok_weaker c.cover_these.result
-    (λ added n h. ⊎_elim (λ l. c.cover_these.ensures.old n l) (λ d. added n (subst (λ (ns : List ℕ). Contains ns n) (sym (c.deref-3.ensures.value ∙ there)) d)) (covered_or_open c.args.covers.now.items marks are n (omega (arith, h, count))))
-    c.cover_these.ensures.rest
+    on_ok_weaker c.cover_by_halves.result
+    (λ added n h. ⊎_elim (λ l. c.cover_by_halves.ensures.old n l) (λ d. added n (subst (λ (ns : List ℕ). Contains ns n) (sym (c.deref-3.ensures.value ∙ there)) d)) (covered_or_open c.args.covers.now.items marks are n (omega (arith, h, count))))
+    c.cover_by_halves.ensures.rest
