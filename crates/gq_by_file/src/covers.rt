@@ -138,8 +138,11 @@ fn cover_these(
     Ok(())
 }
 
-/// So few files are looked at together, whatever they lead to.
+/// So few files are looked at together, whatever they lead to, and as many more as one of so many parts of all has: each look goes over
+/// the list of all operations and fragments.
 const FEW: usize = 4;
+
+const PARTS: usize = 64;
 
 /// Whether the two halves of these files lead to little that both lead to.
 fn lead_apart(alloc: Global, rows: &[Vec<usize>], rest: &[usize]) -> Result<bool, NoMemory>
@@ -168,7 +171,7 @@ fn cover_by_halves(
     ensures old { (n : ℕ) → IsCovered covers.old.items n → IsCovered covers.new.items n }
     ensures rest { OnOk result ((n : ℕ) → Contains rest.now n → IsCovered covers.new.items n) }
 {
-    if rest.len() <= FEW || !lead_apart(alloc, rows, rest)? {
+    if rest.len() <= FEW + rows.len() / PARTS || !lead_apart(alloc, rows, rest)? {
         return cover_these(alloc, executable, rows, rest, marks, covers);
     }
     let (front, back) = rest.split_at(rest.len() / 2);
