@@ -179,7 +179,7 @@ def session(program, files, rounds):
     """What is timed in sessions over these files: pairs of a name and milliseconds."""
     uri = {name: "file:///project/" + name for name in files}
     opening = []
-    for _ in range(max(1, rounds // 2)):
+    for _ in range(rounds - 1):
         client, spent = opened(program, files, uri)
         opening.append(spent)
         client.end()
@@ -210,7 +210,7 @@ def session(program, files, rounds):
     actions = {"textDocument": {"uri": uri[name]}, "range": {"start": position(text, set_start), "end": position(text, set_end)}, "context": {"diagnostics": []}}
     one("code actions", "textDocument/codeAction", actions, bool)
     rows.append(("a keystroke in a file of operations", typed(client, rounds, uri[name], text, brace)))
-    rows.append(("a keystroke in the schema", typed(client, max(1, rounds // 3), uri["s.graphql"], schema, schema.index("{"))))
+    rows.append(("a keystroke in the schema", typed(client, rounds, uri["s.graphql"], schema, schema.index("{"))))
     for _ in range(100):
         typed(client, 1, uri[name], text, brace)
     for _ in range(20):
