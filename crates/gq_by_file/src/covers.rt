@@ -142,7 +142,7 @@ fn cover_these(
 /// the list of all operations and fragments.
 const FEW: usize = 4;
 
-const PARTS: usize = 64;
+const PARTS: usize = 256;
 
 /// Whether the two halves of these files lead to little that both lead to.
 fn lead_apart(alloc: Global, rows: &[Vec<usize>], rest: &[usize]) -> Result<bool, NoMemory>
