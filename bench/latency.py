@@ -20,6 +20,8 @@ from projects import large  # noqa: E402
 
 BYTES_EACH = 20_000
 TYPES_A_FILE = 25
+LENGTH = b"Content-Length: "
+NOTHING_WRONG = b'"diagnostics":[]'
 CAPABILITIES = {
     "workspace": {"workspaceEdit": {"documentChanges": True}},
     "textDocument": {
@@ -34,6 +36,18 @@ CAPABILITIES = {
 }
 
 
+def framed(message):
+    """The frame of a message."""
+    body = json.dumps({"jsonrpc": "2.0", **message}).encode()
+    return LENGTH + b"%d\r\n\r\n" % len(body) + body
+
+
+def opening(uri, text):
+    """The frame that opens a document."""
+    document = {"uri": uri, "languageId": "graphql", "version": 1, "text": text}
+    return framed({"method": "textDocument/didOpen", "params": {"textDocument": document}})
+
+
 class Client:
     """A session with a server, message by message."""
 
@@ -46,13 +60,15 @@ class Client:
         self.held, self.at = b"", 0
 
     def send(self, message):
-        body = json.dumps({"jsonrpc": "2.0", **message}).encode()
-        self.server.stdin.write(b"Content-Length: %d\r\n\r\n" % len(body) + body)
+        self.write(framed(message))
+
+    def write(self, frame):
+        self.server.stdin.write(frame)
         self.server.stdin.flush()
 
     def take(self):
         """Takes what the server wrote meanwhile, many messages at once."""
-        more = self.server.stdout.read1(1 << 20)
+        more = os.read(self.server.stdout.fileno(), 1 << 16)
         if not more:
             sys.exit("the server has ended")
         self.held, self.at = self.held[self.at :] + more, 0
@@ -62,7 +78,7 @@ class Client:
         head = self.held.find(b"\r\n\r\n", start)
         if head < 0:
             return None
-        end = head + 4 + int(self.held[start + len(b"Content-Length: ") : head])
+        end = head + 4 + int(self.held[start + len(LENGTH) : head])
         return end if end <= len(self.held) else None
 
     def read(self):
@@ -86,22 +102,41 @@ class Client:
     def tell(self, method, params):
         self.send({"method": method, "params": params})
 
-    def diagnosed(self, count):
-        """So many notifications of diagnostics: those in which something is wrong. There is one for each document that is
-        open after each change; where nothing is wrong they are counted, and not read as JSON, which would take the client
-        longer than the server takes to write them."""
-        while self.held.count(b"Content-Length: ", self.at) < count or not self.end_of(self.held.rindex(b"Content-Length: ")):
+    def told(self, count):
+        """Waits for so many notifications of diagnostics: there is one for each document that is open after each change. They are
+        counted, and not read as JSON, which would take the client longer than the server takes to write them."""
+        self.held, self.at = self.held[self.at :], 0
+        told, last = self.held.count(LENGTH), self.held.rfind(LENGTH)
+        while told < count or not self.end_of(last):
             self.take()
-        if self.held.count(b'"diagnostics":[]', self.at) == count:
-            self.held, self.at = b"", 0
+            told += self.held.count(LENGTH, last + 1)
+            last = self.held.rfind(LENGTH)
+        return self.end_of(last)
+
+    def pass_over(self, count):
+        """Waits for so many notifications of diagnostics, whatever they say."""
+        self.at = self.told(count)
+
+    def diagnosed(self, count):
+        """So many notifications of diagnostics: those in which something is wrong."""
+        end = self.told(count)
+        if self.held.count(NOTHING_WRONG, 0, end) == count:
+            self.at = end
             return []
         told = [self.read() for _ in range(count)]
-        return [json.loads(one)["params"] for one in told if b'"diagnostics":[]' not in one]
+        return [json.loads(one)["params"] for one in told if NOTHING_WRONG not in one]
 
     def open(self, uri, text):
         self.versions[uri] = 1
-        self.tell("textDocument/didOpen", {"textDocument": {"uri": uri, "languageId": "graphql", "version": 1, "text": text}})
+        self.write(opening(uri, text))
         return self.diagnosed(len(self.versions))
+
+    def open_all(self, frames):
+        """Opens documents one after the other, each by a frame that is made already."""
+        for uri, frame in frames:
+            self.versions[uri] = 1
+            self.write(frame)
+            self.pass_over(len(self.versions))
 
     def edit(self, uri, start, end, text):
         self.versions[uri] += 1
@@ -171,7 +206,8 @@ def opened(program, files, uri):
     client = Client(program)
     client.ask("initialize", {"capabilities": CAPABILITIES, "processId": None, "rootUri": None})
     client.tell("initialized", {})
-    spent, _ = best(1, lambda: [client.open(uri[name], files[name]) for name in sorted(files)])
+    frames = [(uri[name], opening(uri[name], files[name])) for name in sorted(files)]
+    spent, _ = best(1, lambda: client.open_all(frames))
     return client, spent
 
 
