@@ -6,9 +6,9 @@ use Rattle.std.specs.Str.{bytes_eq}
 use Rattle.std.proofs.lemmas.Grind.{common_steps}
 use Rattle.std.specs.Map.{update}
 use Rattle.std.proofs.lemmas.Bool.{eqb-true, eq-eqb, false≢true}
-use Rattle.std.proofs.lemmas.List.{get_or-set_other, get_or-set_same, get_or_append_left, get_or_push}
+use Rattle.std.proofs.lemmas.List.{get_or-set_other, get_or-set_same, get_or_append_left, get_or_push, length-set}
 use Rattle.gq_names.specs.Helping.Places.{Finds, digest, first_of, found_by, found_in, in_bucket, place_of, second_of}
-use Rattle.gq_names.proofs.PlaceLemmas.{is_some_position, position_none, position_push_found, position_push_here, position_push_apart, first_places_stay}
+use Rattle.gq_names.proofs.PlaceLemmas.{is_some_position, position_at_head, position_none, position_push_found, position_push_here, position_push_apart, first_places_stay}
 
 no_place : {X : Type 0} (place : ℕ) → None ≡ Some place → X
 no_place place h = absurd (false≢true (ap is_some h))
@@ -44,6 +44,33 @@ not_here names name at rest here is other = ap (λ o. found_in names name o rest
 
 is_here : (names : List (List ℕ)) (name : List ℕ) (at rest : Option ℕ) (here : ℕ) → at ≡ Some here → bytes_eq name (get_or names here []) ≡ true → found_in names name at rest ≡ Some here
 is_here names name at rest here is same = ap (λ o. found_in names name o rest) is ∙ ap (λ b. cond b (Some here) rest) same
+
+-- a place is told by what holds it
+some_is : {a b : ℕ} → Some a ≡ Some b → a ≡ b
+some_is {a} {b} h = ap (λ o. elim o as (λ o. ℕ) [ None ↦ 0 | Some n ↦ n ]) h
+
+-- a place is put in an empty bucket
+module _ (at at_new : ℕ → Option ℕ) (bucket here : ℕ) (free : at bucket ≡ None) (sets : (number : ℕ) → at_new number ≡ cond (bucket == number) (Some here) (at number)) where
+  sets_here : at_new bucket ≡ Some here
+  sets_here = sets bucket ∙ ap (λ b. cond b (Some here) (at bucket)) (eq-eqb bucket bucket refl)
+
+  kept_in_buckets : (number place : ℕ) → at number ≡ Some place → at_new number ≡ Some place
+  kept_in_buckets number place is = elim (bucket == number) as (λ b. (bucket == number) ≡ b → at_new number ≡ Some place) [
+    | true ↦ λ t. no_place place (sym free ∙ ap at (eqb-true bucket number t) ∙ is)
+    | false ↦ λ t. sets number ∙ ap (λ b. cond b (Some here) (at number)) t ∙ is
+  ] refl
+
+  -- what a bucket holds then is that place, or what it held
+  by_bucket : (P : ℕ → Type 0) → P here → ((number place : ℕ) → at number ≡ Some place → P place) → (number place : ℕ) → at_new number ≡ Some place → P place
+  by_bucket P last before number place is = elim (bucket == number) as (λ b. (bucket == number) ≡ b → P place) [
+    | true ↦ λ t. subst P (some_is (sym (sets number ∙ ap (λ b. cond b (Some here) (at number)) t) ∙ is)) last
+    | false ↦ λ t. before number place (sym (sets number ∙ ap (λ b. cond b (Some here) (at number)) t) ∙ is)
+  ] refl
+
+-- the first of the names has the place 0
+first_is : (names : List (List ℕ)) → 0 < length names → position (bytes_eq (get_or names 0 [])) names ≡ Some 0
+first_is [] some = absurd (omega (arith, some))
+first_is (name ∷ names) some = position_at_head (bytes_eq name) name names ((bytes_decides name name).1 refl)
 
 module _ (count : ℕ) (at : ℕ → Option ℕ) (under : List ℕ → Option ℕ) (names : List (List ℕ)) (finds : Finds count at under names) where
   of_first : (name : List ℕ) (place : ℕ) → found_by count at under names name ≡ Some place → position (bytes_eq name) names ≡ Some place
@@ -83,6 +110,30 @@ module _ (count : ℕ) (at : ℕ → Option ℕ) (under : List ℕ → Option �
       → at (second_of count (digest name)) ≡ Some there → bytes_eq name (get_or names there []) ≡ false → position (bytes_eq name) names ≡ under name
   behind_second name here there is other then another = behind_first name here is other ∙ not_here names name (at (second_of count (digest name))) (under name) there then another
 
+  -- what was found is found where more is kept
+  module _ (names_new : List (List ℕ)) (at_new : ℕ → Option ℕ) (under_new : List ℕ → Option ℕ) (stay : (place : ℕ) → place < length names → get_or names_new place [] ≡ get_or names place [])
+      (kept : (bucket place : ℕ) → at bucket ≡ Some place → at_new bucket ≡ Some place) (told : (text : List ℕ) (place : ℕ) → under text ≡ Some place → under_new text ≡ Some place) where
+    same_in : (bucket : ℕ) → AreSame names names_new (at bucket) (at_new bucket)
+    same_in bucket place is = (kept bucket place is, stay place (finds.inside bucket place is))
+
+    found_still : (text : List ℕ) (place : ℕ) → found_by count at under names text ≡ Some place → found_by count at_new under_new names_new text ≡ Some place
+    found_still text =
+        more_is_found names names_new text (at (first_of count (digest text))) (at_new (first_of count (digest text))) (found_in names text (at (second_of count (digest text))) (under text))
+        (found_in names_new text (at_new (second_of count (digest text))) (under_new text)) (same_in (first_of count (digest text)))
+        (more_is_found names names_new text (at (second_of count (digest text))) (at_new (second_of count (digest text))) (under text) (under_new text)
+        (same_in (second_of count (digest text))) (told text))
+
+  -- an empty bucket gets the place of the first name: each name is found as before, since none is found by way of an empty bucket
+  pub finds_filled : (bucket : ℕ) (at_new : ℕ → Option ℕ) → at bucket ≡ None → ((number : ℕ) → at_new number ≡ cond (bucket == number) (Some 0) (at number))
+      → 0 < length names → Finds count at_new under names
+  finds_filled bucket at_new free sets some = record {
+    some = finds.some;
+    inside = by_bucket at at_new bucket 0 free sets (λ place. place < length names) some finds.inside;
+    of_buckets = by_bucket at at_new bucket 0 free sets (λ place. position (bytes_eq (get_or names place [])) names ≡ Some place) (first_is names some) finds.of_buckets;
+    of_others = finds.of_others;
+    all = λ text place is. found_still names at_new under (λ place inside. refl) (kept_in_buckets at at_new bucket 0 free sets) (λ t here h. h) text place (finds.all text place is);
+  }
+
   -- a name behind the others moves no name that a bucket holds
   module _ (name : List ℕ) where
     stays : (place : ℕ) → place < length names → get_or (names ++ name ∷ []) place [] ≡ get_or names place []
@@ -95,15 +146,6 @@ module _ (count : ℕ) (at : ℕ → Option ℕ) (under : List ℕ → Option �
         → position (bytes_eq (get_or (names ++ name ∷ []) place [])) (names ++ name ∷ []) ≡ Some place
     still_of_bucket place inside is = ap (λ n. position (bytes_eq n) (names ++ name ∷ [])) (stays place inside) ∙ still_first (get_or names place []) place is
 
-    -- what was found is found where more is kept
-    still_found : (at_new : ℕ → Option ℕ) (under_new : List ℕ → Option ℕ) → ((bucket place : ℕ) → at bucket ≡ Some place → at_new bucket ≡ Some place) → ((text : List ℕ) (place : ℕ) → under text ≡ Some place → under_new text ≡ Some place)
-        → (text : List ℕ) (place : ℕ) → found_by count at under names text ≡ Some place → found_by count at_new under_new (names ++ name ∷ []) text ≡ Some place
-    still_found at_new under_new kept told text =
-        let same : (bucket : ℕ) → AreSame names (names ++ name ∷ []) (at bucket) (at_new bucket) = λ bucket place is. (kept bucket place is, stays place (finds.inside bucket place is)) in
-        more_is_found names (names ++ name ∷ []) text (at (first_of count (digest text))) (at_new (first_of count (digest text))) (found_in names text (at (second_of count (digest text))) (under text))
-        (found_in (names ++ name ∷ []) text (at_new (second_of count (digest text))) (under_new text)) (same (first_of count (digest text)))
-        (more_is_found names (names ++ name ∷ []) text (at (second_of count (digest text))) (at_new (second_of count (digest text))) (under text) (under_new text) (same (second_of count (digest text))) (told text))
-
     longer : (place : ℕ) → place < length names → place < length (names ++ name ∷ [])
     longer place inside = grind (arith, common_steps, inside)
 
@@ -114,7 +156,8 @@ module _ (count : ℕ) (at : ℕ → Option ℕ) (under : List ℕ → Option �
       inside = λ bucket place is. longer place (finds.inside bucket place is);
       of_buckets = λ bucket place is. still_of_bucket place (finds.inside bucket place is) (finds.of_buckets bucket place is);
       of_others = λ text place is. still_first text place (finds.of_others text place is);
-      all = λ text place is. still_found at under (λ bucket here h. h) (λ t here h. h) text place (finds.all text place (sym (first_places_stay names name stands text) ∙ is));
+      all = λ text place is. found_still (names ++ name ∷ []) at under stays (λ bucket here h. h) (λ t here h. h) text place
+          (finds.all text place (sym (first_places_stay names name stands text) ∙ is));
     }
 
     module _ (is_new : list_any (bytes_eq name) names ≡ false) where
@@ -140,7 +183,7 @@ module _ (count : ℕ) (at : ℕ → Option ℕ) (under : List ℕ → Option �
         all_found : (text : List ℕ) (place : ℕ) → position (bytes_eq text) (names ++ name ∷ []) ≡ Some place → found_by count at_new under_new (names ++ name ∷ []) text ≡ Some place
         all_found text place is = elim (bytes_eq text name) as (λ b. bytes_eq text name ≡ b → found_by count at_new under_new (names ++ name ∷ []) text ≡ Some place) [
           | true ↦ λ same. subst (λ t. found_by count at_new under_new (names ++ name ∷ []) t ≡ Some place) (sym ((bytes_decides text name).0 same)) (there ∙ sym (here_after text same) ∙ is)
-          | false ↦ λ other. still_found at_new under_new kept told text place (finds.all text place (sym (position_push_apart (bytes_eq text) names name other) ∙ is))
+          | false ↦ λ other. found_still (names ++ name ∷ []) at_new under_new stays kept told text place (finds.all text place (sym (position_push_apart (bytes_eq text) names name other) ∙ is))
         ] refl
 
         pub finds_more : ((bucket place : ℕ) → at_new bucket ≡ Some place → place < length (names ++ name ∷ []))
@@ -150,42 +193,25 @@ module _ (count : ℕ) (at : ℕ → Option ℕ) (under : List ℕ → Option �
 
       -- the name is put in an empty bucket
       module _ (bucket : ℕ) (at_new : ℕ → Option ℕ) (free : at bucket ≡ None) (sets : (number : ℕ) → at_new number ≡ cond (bucket == number) (Some (length names)) (at number)) where
-        sets_here : at_new bucket ≡ Some (length names)
-        sets_here = sets bucket ∙ ap (λ b. cond b (Some (length names)) (at bucket)) (eq-eqb bucket bucket refl)
-
-        kept_in_buckets : (number place : ℕ) → at number ≡ Some place → at_new number ≡ Some place
-        kept_in_buckets number place is = elim (bucket == number) as (λ b. (bucket == number) ≡ b → at_new number ≡ Some place) [
-          | true ↦ λ t. no_place place (sym free ∙ ap at (eqb-true bucket number t) ∙ is)
-          | false ↦ λ t. sets number ∙ ap (λ b. cond b (Some (length names)) (at number)) t ∙ is
-        ] refl
-
-        some_is : {a b : ℕ} → Some a ≡ Some b → a ≡ b
-        some_is {a} {b} h = ap (λ o. elim o as (λ o. ℕ) [ None ↦ 0 | Some n ↦ n ]) h
-
-        -- what a bucket holds then is the last name, or what it held
-        by_bucket : (P : ℕ → Type 0) → P (length names) → ((number place : ℕ) → at number ≡ Some place → P place) → (number place : ℕ) → at_new number ≡ Some place → P place
-        by_bucket P last before number place is = elim (bucket == number) as (λ b. (bucket == number) ≡ b → P place) [
-          | true ↦ λ t. subst P (some_is (sym (sets number ∙ ap (λ b. cond b (Some (length names)) (at number)) t) ∙ is)) last
-          | false ↦ λ t. before number place (sym (sets number ∙ ap (λ b. cond b (Some (length names)) (at number)) t) ∙ is)
-        ] refl
-
         pub finds_in_bucket : found_by count at_new under (names ++ name ∷ []) name ≡ Some (length names) → Finds count at_new under (names ++ name ∷ [])
-        finds_in_bucket there = finds_more at_new under there kept_in_buckets (λ text place h. h)
-            (by_bucket (λ place. place < length (names ++ name ∷ [])) (grind (arith, common_steps)) (λ number place is. longer place (finds.inside number place is)))
-            (by_bucket (λ place. position (bytes_eq (get_or (names ++ name ∷ []) place [])) (names ++ name ∷ []) ≡ Some place)
+        finds_in_bucket there = finds_more at_new under there (kept_in_buckets at at_new bucket (length names) free sets) (λ text place h. h)
+            (by_bucket at at_new bucket (length names) free sets (λ place. place < length (names ++ name ∷ [])) (grind (arith, common_steps))
+            (λ number place is. longer place (finds.inside number place is)))
+            (by_bucket at at_new bucket (length names) free sets (λ place. position (bytes_eq (get_or (names ++ name ∷ []) place [])) (names ++ name ∷ []) ≡ Some place)
             (ap (λ n. position (bytes_eq n) (names ++ name ∷ [])) (get_or_push names name [] (length names) refl) ∙ here_after name itself)
             (λ number place is. still_of_bucket place (finds.inside number place is) (finds.of_buckets number place is)))
             (λ text place is. still_first text place (finds.of_others text place is))
 
         pub in_first : bucket ≡ first_of count (digest name) → Finds count at_new under (names ++ name ∷ [])
-        in_first is = finds_in_bucket (is_here (names ++ name ∷ []) name (at_new (first_of count (digest name))) (found_in (names ++ name ∷ []) name (at_new (second_of count (digest name))) (under name))
-            (length names) (sym (ap at_new is) ∙ sets_here) last_is)
+        in_first is = finds_in_bucket
+            (is_here (names ++ name ∷ []) name (at_new (first_of count (digest name))) (found_in (names ++ name ∷ []) name (at_new (second_of count (digest name))) (under name)) (length names)
+            (sym (ap at_new is) ∙ sets_here at at_new bucket (length names) free sets) last_is)
 
         pub in_second : (here : ℕ) → at (first_of count (digest name)) ≡ Some here → bucket ≡ second_of count (digest name) → Finds count at_new under (names ++ name ∷ [])
         in_second here taken is = finds_in_bucket
             (not_here (names ++ name ∷ []) name (at_new (first_of count (digest name))) (found_in (names ++ name ∷ []) name (at_new (second_of count (digest name))) (under name)) here
-            (kept_in_buckets (first_of count (digest name)) here taken) (not_held (first_of count (digest name)) here taken)
-            ∙ is_here (names ++ name ∷ []) name (at_new (second_of count (digest name))) (under name) (length names) (sym (ap at_new is) ∙ sets_here) last_is)
+            (kept_in_buckets at at_new bucket (length names) free sets (first_of count (digest name)) here taken) (not_held (first_of count (digest name)) here taken)
+            ∙ is_here (names ++ name ∷ []) name (at_new (second_of count (digest name))) (under name) (length names) (sym (ap at_new is) ∙ sets_here at at_new bucket (length names) free sets) last_is)
 
       -- the name is put under its text, since both buckets are taken
       pub by_text : (under_new : List ℕ → Option ℕ) (here there : ℕ) → at (first_of count (digest name)) ≡ Some here → at (second_of count (digest name)) ≡ Some there
@@ -221,15 +247,22 @@ module _ (count : ℕ) (at : ℕ → Option ℕ) (under : List ℕ → Option �
           ] refl
 
 -- what is kept of a place is that place
-kept_place : (place : ℕ) → place_of (place + 1) ≡ Some place
-kept_place place = grind (arith, common_steps)
+kept_place : (place kept : ℕ) → kept ≡ place + 1 → place_of kept ≡ Some place
+kept_place place kept is = grind (arith, common_steps, is)
 
 -- a bucket of a list into which the place of a name is put
-pub fills : (buckets : List ℕ) (bucket place : ℕ) → bucket < length buckets → (number : ℕ) → in_bucket (set buckets bucket (place + 1)) number ≡ cond (bucket == number) (Some place) (in_bucket buckets number)
-fills buckets bucket place within number = elim (bucket == number) as (λ b. (bucket == number) ≡ b → in_bucket (set buckets bucket (place + 1)) number ≡ cond b (Some place) (in_bucket buckets number)) [
-  | true ↦ λ t. subst (λ k. in_bucket (set buckets bucket (place + 1)) k ≡ Some place) (eqb-true bucket number t) (ap place_of (get_or-set_same buckets bucket (place + 1) 0 within) ∙ kept_place place)
-  | false ↦ λ t. ap place_of (get_or-set_other buckets bucket number (place + 1) 0 (λ same. false≢true (sym t ∙ eq-eqb bucket number (sym same))))
-] refl
+pub fills : (buckets : List ℕ) (bucket place kept : ℕ) → kept ≡ place + 1 → bucket < length buckets
+    → (number : ℕ) → in_bucket (set buckets bucket kept) number ≡ cond (bucket == number) (Some place) (in_bucket buckets number)
+fills buckets bucket place kept is within number = by_same (bucket == number) refl
+  where
+    by_same : (b : Bool) → (bucket == number) ≡ b → in_bucket (set buckets bucket kept) number ≡ cond b (Some place) (in_bucket buckets number)
+    by_same true t = subst (λ k. in_bucket (set buckets bucket kept) k ≡ Some place) (eqb-true bucket number t) (ap place_of (get_or-set_same buckets bucket kept 0 within) ∙ kept_place place kept is)
+    by_same false t = ap place_of (get_or-set_other buckets bucket number kept 0 (λ same. false≢true (sym t ∙ eq-eqb bucket number (sym same))))
+
+-- there are as many buckets after one of them is filled
+pub as_many : (buckets : List ℕ) (bucket kept : ℕ) (at : ℕ → Option ℕ) (under : List ℕ → Option ℕ) (names : List (List ℕ))
+    → Finds (length buckets) at under names → Finds (length (set buckets bucket kept)) at under names
+as_many buckets bucket kept at under names = subst (λ count. Finds count at under names) (sym (length-set buckets bucket kept))
 
 -- a bucket holds no place, or one
 pub is_free : (held : Option ℕ) → is_some held ≡ false → held ≡ None

@@ -43,6 +43,10 @@ module _ {X : Type 0} (p : X → Bool) where
   pub position_push_here : (xs : List X) (y : X) → list_any p xs ≡ false → p y ≡ true → position p (xs ++ y ∷ []) ≡ Some (length xs)
   position_push_here xs y h q = rw (position_is (xs ++ y ∷ []), any_push xs y, h, q, first_here xs y h q) refl
 
+  -- the first of the items is found at the place 0
+  pub position_at_head : (y : X) (xs : List X) → p y ≡ true → position p (y ∷ xs) ≡ Some 0
+  position_at_head y xs q = grind (arith, common_steps, q)
+
   -- an item that is not looked for moves no first place
   pub position_push_apart : (xs : List X) (y : X) → p y ≡ false → position p (xs ++ y ∷ []) ≡ position p xs
   position_push_apart xs y apart = by_found (list_any p xs) refl

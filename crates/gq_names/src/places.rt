@@ -1,9 +1,9 @@
 //! First places of names, found in a table of buckets, of which two may hold a name. Names that find both taken are found by comparing
 //! texts, so that no choice of names makes that slow.
-ghost use Rattle.std.specs.Prelude.{◌≡◌, ◌≢◌, ◌<◌, ◌≤◌, ◌++◌, ◌∷◌, [], false, not, length, position, IfOk, OnOk, OnErr};
+ghost use Rattle.std.specs.Prelude.{◌≡◌, ◌≢◌, ◌<◌, ◌≤◌, ◌++◌, ◌∷◌, [], ℕ, false, not, length, position, IfOk, OnOk, OnErr};
 ghost use Rattle.std.specs.List.{list_any};
 ghost use Rattle.std.specs.Str.{bytes_eq};
-ghost use Rattle.gq_names.specs.Helping.Places.{FindFirstPlaces, digest, digest_from, first_of, in_bucket, joined, mixed, second_of};
+ghost use Rattle.gq_names.specs.Helping.Places.{FindFirstPlaces, IsTaken, digest, digest_from, first_of, in_bucket, joined, mixed, second_of};
 
 use gq_text::{NoMemory, SmallText};
 use std::alloc::Global;
@@ -15,11 +15,11 @@ pub const FEW: usize = 16;
 /// An odd number without a pattern in its bits.
 const MIXER: usize = 0x9E37_79B9_7F4A_7C15;
 
-/// The first places of names: of each bucket one more than the place of a name, or 0 where none is, and of each other name its own
-/// place.
+/// The first places of names: of each bucket one more than the place of a name, as a number of 32 bits, or 0 where none is, and of each
+/// other name its own place. A name whose place is too large for a bucket is one of those others.
 #[derive(Drop)]
 pub struct FirstPlaces {
-    of_buckets: Vec<usize>,
+    of_buckets: Vec<u32>,
     of_others: BTreeMap<String, usize>,
 }
 
@@ -122,7 +122,7 @@ impl FirstPlaces {
         requires { bucket < length self.now.of_buckets.items }
         ensures { result ≡ in_bucket self.now.of_buckets.items bucket }
     {
-        let kept = self.of_buckets[bucket];
+        let kept = self.of_buckets[bucket] as usize;
         if kept == 0 { None } else { Some(kept - 1) }
     }
 
@@ -143,9 +143,42 @@ impl FirstPlaces {
         self.of_others.get(name).copied()
     }
 
-    /// Puts a name that is not among the names behind them.
-    fn put(&mut self, alloc: Global, names: &[SmallText], name: &str) -> Result<(), NoMemory>
+    /// Puts a name that is not among the names behind them, under its text, since both its buckets are taken.
+    fn put_under(&mut self, alloc: Global, names: &[SmallText], name: &str) -> Result<(), NoMemory>
         requires places { FindFirstPlaces self.now names.now }
+        requires new { list_any (bytes_eq name.now) names.now ≡ false }
+        requires first { IsTaken self.now.of_buckets.items (first_of (length self.now.of_buckets.items) (digest name.now)) }
+        requires second { IsTaken self.now.of_buckets.items (second_of (length self.now.of_buckets.items) (digest name.now)) }
+        ensures ok { OnOk result (FindFirstPlaces self.new (names.now ++ name.now ∷ [])) }
+        ensures err { OnErr result (FindFirstPlaces self.new names.now) }
+    {
+        let key = String::from_str(alloc, name)?;
+        self.of_others.insert(key, names.len())?;
+        Ok(())
+    }
+
+    /// Puts the place of the first name in that bucket, where it is empty. Each of the names is found as before, since no look-up of one
+    /// comes to an empty bucket.
+    fn fill(&mut self, names: &[SmallText], bucket: usize)
+        requires places { FindFirstPlaces self.now names.now }
+        requires some { 0 < length names.now }
+        requires within { bucket < length self.now.of_buckets.items }
+        ensures places { FindFirstPlaces self.new names.now }
+        ensures count { length self.new.of_buckets.items ≡ length self.old.of_buckets.items }
+        ensures taken { IsTaken self.new.of_buckets.items bucket }
+        ensures others { (other : ℕ) → IsTaken self.old.of_buckets.items other → IsTaken self.new.of_buckets.items other }
+    {
+        if self.place_in(bucket).is_none() {
+            self.of_buckets[bucket] = 1;
+        }
+    }
+
+    /// Puts a name that is not among the names behind them, under its text, since its place is too large for a bucket. A look-up ends at
+    /// an empty bucket, and would not come to what is under the text: so each of the name's buckets that is empty gets the place of
+    /// another name, the first of all.
+    fn put_apart(&mut self, alloc: Global, names: &[SmallText], name: &str) -> Result<(), NoMemory>
+        requires places { FindFirstPlaces self.now names.now }
+        requires some { 0 < length names.now }
         requires new { list_any (bytes_eq name.now) names.now ≡ false }
         ensures ok { OnOk result (FindFirstPlaces self.new (names.now ++ name.now ∷ [])) }
         ensures err { OnErr result (FindFirstPlaces self.new names.now) }
@@ -153,15 +186,33 @@ impl FirstPlaces {
         let number = digest(name);
         let first = self.first_bucket(number);
         let second = self.second_bucket(number);
+        self.fill(names, first);
+        self.fill(names, second);
+        self.put_under(alloc, names, name)
+    }
+
+    /// Puts a name that is not among the names behind them: in a bucket, if one of its own is empty and the place fits into it.
+    fn put(&mut self, alloc: Global, names: &[SmallText], name: &str) -> Result<(), NoMemory>
+        requires places { FindFirstPlaces self.now names.now }
+        requires new { list_any (bytes_eq name.now) names.now ≡ false }
+        ensures ok { OnOk result (FindFirstPlaces self.new (names.now ++ name.now ∷ [])) }
+        ensures err { OnErr result (FindFirstPlaces self.new names.now) }
+    {
+        let Ok(kept) = u32::try_from(names.len() + 1) else {
+            return self.put_apart(alloc, names, name);
+        };
+        let number = digest(name);
+        let first = self.first_bucket(number);
+        let second = self.second_bucket(number);
         if self.place_in(first).is_none() {
-            self.of_buckets[first] = names.len() + 1;
+            self.of_buckets[first] = kept;
+            Ok(())
         } else if self.place_in(second).is_none() {
-            self.of_buckets[second] = names.len() + 1;
+            self.of_buckets[second] = kept;
+            Ok(())
         } else {
-            let key = String::from_str(alloc, name)?;
-            self.of_others.insert(key, names.len())?;
+            self.put_under(alloc, names, name)
         }
-        Ok(())
     }
 
     /// Puts a name behind the names, unless it is one of them.

@@ -1,5 +1,5 @@
 -- What the tables of first places hold. Only the invariant of `NameList` speaks of it.
-use Rattle.std.specs.Prelude.{◌≡◌, cond, bit_and, ◌==◌, ◌<◌, ◌+◌, ◌*◌, ◌%◌, ◌^◌, ◌-◌, ◌/◌, ℕ, List, [], ◌∷◌, Option, Some, None, get_or, length, position}
+use Rattle.std.specs.Prelude.{◌≡◌, cond, bit_and, ◌==◌, ◌<◌, ◌+◌, ◌*◌, ◌%◌, ◌^◌, ◌-◌, ◌/◌, ℕ, List, [], ◌∷◌, Option, Some, None, IsSome, get_or, length, position}
 use Rattle.std.specs.BTreeMap.{get_by_text}
 use Rattle.std.specs.Str.{bytes_eq}
 use Rattle.gq_names.specs.declared.places.FirstPlaces.{FirstPlaces}
@@ -54,6 +54,10 @@ place_of kept = cond (kept == 0) None (Some (kept - 1))
 -- the place that a bucket keeps
 abbrev pub in_bucket : List ℕ → ℕ → Option ℕ
 in_bucket buckets bucket = place_of (get_or buckets bucket 0)
+
+-- the bucket keeps a place
+abbrev pub IsTaken : List ℕ → ℕ → Type 0
+IsTaken buckets bucket = IsSome (in_bucket buckets bucket)
 
 abbrev pub FindFirstPlaces : FirstPlaces → List (List ℕ) → Type 0
 FindFirstPlaces places names = Finds (length places.of_buckets.items) (in_bucket places.of_buckets.items) (get_by_text places.of_others) names
