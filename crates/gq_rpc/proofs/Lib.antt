@@ -10,3 +10,4 @@ pub mod Unique
 pub mod Framed
 pub mod Stays
 pub mod Members
+pub mod Faultless

@@ -125,7 +125,7 @@ pub(crate) fn framed(alloc: Global, body: &[u8]) -> Result<Vec<u8>, AllocError>
     ensures { IfOk result (λ bytes. bytes.items ≡ frame body.now) }
 {
     let head = format!(in alloc; "Content-Length: {}\r\n\r\n", body.len())?;
-    let mut out = Vec::new(alloc);
+    let mut out = Vec::with_capacity(alloc, head.len() + body.len())?;
     out.extend_from_slice(head.as_bytes())?;
     out.extend_from_slice(body)?;
     Ok(out)

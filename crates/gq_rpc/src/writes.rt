@@ -1,8 +1,10 @@
 //! Messages written: from a message to the bytes of its frame.
-ghost use Rattle.std.specs.Prelude.{◌≡◌, List, ℕ, codes, IfOk};
+ghost use Rattle.std.specs.Prelude.{◌≡◌, ◌++◌, List, [], ℕ, codes, IfOk, OnOk};
+ghost use Rattle.json.specs.Tree.{json_tokens, members_tokens};
 ghost use Rattle.serde_json.specs.Data.{Data};
 ghost use Rattle.serde_json.specs.View.{view};
-ghost use Rattle.gq_rpc.specs.Encoding.{id_value, id_or_null, response, error_response, code_of, words_of, diagnostics_value, told, value_of, frame_of};
+ghost use Rattle.serde_json.specs.Written.{outline, members_outline, compact_text};
+ghost use Rattle.gq_rpc.specs.Encoding.{id_value, id_or_null, response, error_response, code_of, words_of, version_members, diagnostics_value, told, value_of, frame_of};
 
 use crate::capabilities::write_initialize_result;
 use crate::edits::write_workspace_edit;
@@ -13,6 +15,7 @@ use crate::results::{
     write_found_prepared, write_locations,
 };
 use gq_text::NoMemory;
+use json::Writer;
 use serde_json::{Value, json};
 use std::alloc::{AllocError, Global};
 
@@ -130,10 +133,78 @@ fn write_value(alloc: Global, message: &Outgoing) -> Result<Value, AllocError>
     }
 }
 
+/// Ends an object with a version, where there is one.
+fn put_version(out: &mut Writer, version: Option<i64>) -> Result<(), AllocError>
+    ensures before { OnOk result (out.new.before ≡ out.old.before) }
+    ensures tokens { OnOk result (out.new.tokens ≡ out.old.tokens ++ members_tokens (members_outline (version_members version))) }
+{
+    if let Some(version) = version {
+        out.key("version")?;
+        out.i64(version)?;
+        return out.end_object();
+    }
+    out.end_object()
+}
+
+/// Writes the parameters that say that a document has no diagnostics.
+fn put_faultless(out: &mut Writer, params: &PublishDiagnosticsParams) -> Result<(), AllocError>
+    ensures before { OnOk result (out.new.before ≡ out.old.before) }
+    ensures tokens { OnOk result (params.now.diagnostics ≡ [] → out.new.tokens ≡ out.old.tokens ++ json_tokens (outline (diagnostics_value params.now))) }
+{
+    out.begin_object()?;
+    out.key("diagnostics")?;
+    out.begin_array()?;
+    out.end_array()?;
+    out.key("uri")?;
+    out.string(params.uri.as_str())?;
+    put_version(out, params.version)
+}
+
+/// Writes the notification that a document has no diagnostics.
+fn put_told_faultless(out: &mut Writer, params: &PublishDiagnosticsParams) -> Result<(), AllocError>
+    ensures before { OnOk result (out.new.before ≡ out.old.before) }
+    ensures tokens { OnOk result (params.now.diagnostics ≡ []
+        → out.new.tokens ≡ out.old.tokens ++ json_tokens (outline (told (codes "textDocument/publishDiagnostics") (diagnostics_value params.now)))) }
+{
+    out.begin_object()?;
+    out.key("jsonrpc")?;
+    out.string("2.0")?;
+    out.key("method")?;
+    out.string("textDocument/publishDiagnostics")?;
+    out.key("params")?;
+    put_faultless(out, params)?;
+    out.end_object()
+}
+
+/// The compact JSON text of that notification. Nearly every open document gets one after each change,
+/// so no `Value` is made for it.
+fn write_faultless(alloc: Global, params: &PublishDiagnosticsParams) -> Result<Vec<u8>, AllocError>
+    ensures { IfOk result (λ bytes. params.now.diagnostics ≡ []
+        → bytes.items ≡ compact_text (told (codes "textDocument/publishDiagnostics") (diagnostics_value params.now))) }
+{
+    // The rest is at most 128 bytes.
+    let room = params.uri.as_str().len().saturating_add(144);
+    let mut out = Writer::new(Vec::with_capacity(alloc, room)?);
+    put_told_faultless(&mut out, params)?;
+    Ok(out.into_inner())
+}
+
+/// The compact JSON text of a message.
+fn write_body(alloc: Global, message: &Outgoing) -> Result<Vec<u8>, AllocError>
+    ensures { IfOk result (λ bytes. bytes.items ≡ compact_text (value_of message.now)) }
+{
+    match message {
+        Outgoing::Diagnostics(params) if params.diagnostics.is_empty() => {
+            write_faultless(alloc, params)
+        }
+        _ => write_value(alloc, message)?.to_vec(alloc),
+    }
+}
+
 /// The frame of a message: a header part with `Content-Length` alone, and its compact JSON text.
 pub fn encode(alloc: Global, message: &Outgoing) -> Result<Vec<u8>, NoMemory>
     ensures { IfOk result (λ bytes. bytes.items ≡ frame_of message.now) }
 {
-    let body = write_value(alloc, message)?.to_vec(alloc)?;
+    let body = write_body(alloc, message)?;
     Ok(framed(alloc, &body)?)
 }
