@@ -1,8 +1,9 @@
 -- What documents define of the type system, document by document.
-use Rattle.std.proofs.Common.{◌≡◌, ◌<◌, ℕ, zero, suc, ◌+◌, ◌-◌, List, [], ◌∷◌, ◌++◌, drop, get_or, length, set, take, refl, sym, ◌∙◌, ap, subst, arith}
+use Rattle.std.proofs.Common.{◌≡◌, ◌<◌, ◌≤◌, ℕ, zero, suc, ◌+◌, ◌-◌, List, [], ◌∷◌, ◌++◌, All, drop, get_or, length, set, take, refl, sym, ◌∙◌, ap, subst, arith}
 use Rattle.std.specs.Prelude.{map, flat_map}
 use Rattle.std.specs.List.{enumerate_from, insert, remove}
 use Rattle.std.proofs.lemmas.List.{drop-map, length-drop, map-append, take-map}
+use Rattle.std.proofs.lemmas.List.Elements.{All-head, All-tail}
 use Rattle.std.proofs.Math.ListN.{get_or-map}
 use Rattle.std.proofs.Math.Seq.{take-length}
 use Rattle.gq_text.specs.declared.place.Span.{Span}
@@ -10,6 +11,7 @@ use Rattle.gq_tree.specs.Plain.{Def, TypeSystemOf, operation, fragment, type_sys
 use Rattle.gq_tree.specs.Readings.{ParsedOf, SharedParsed, definitions_read, in_document, shared_view, readings_view}
 use Rattle.gq_types.specs.BuiltIn.{built_in}
 use Rattle.gq_types.specs.Entries.{EntryOf}
+use Rattle.gq_types.specs.Look.{types_view}
 use Rattle.gq_document.specs.Definitions.{entry_in, entries_of}
 use Rattle.gq_index.proofs.Parallel.{map_insert, map_remove}
 use Rattle.gq_kept.specs.declared.typed.Typed.{Typed}
@@ -42,9 +44,10 @@ entries_from n (r ∷ rs) =
 same_entries : (xs ys : List ParsedOf) → map types_defined xs ≡ map types_defined ys → entries_of xs ≡ entries_of ys
 same_entries xs ys e = entries_from 0 xs ∙ ap (gathered 0) e ∙ sym (entries_from 0 ys)
 
-same_types : (xs ys : List ParsedOf) (made : Typed) → map types_defined xs ≡ map types_defined ys → AreTypesOf xs made → AreTypesOf ys made
+-- and the entries settle the type system
+same_types : (xs ys : List ParsedOf) (made : Typed) → entries_of xs ≡ entries_of ys → AreTypesOf xs made → AreTypesOf ys made
 same_types xs ys made e are = record {
-  is_type_system = are.is_type_system ∙ ap (λ (es : List EntryOf). built_in ++ es) (same_entries xs ys e);
+  is_type_system = are.is_type_system ∙ ap (λ (es : List EntryOf). built_in ++ es) e;
   sound = are.sound;
   faulty = are.faulty;
 }
@@ -61,7 +64,7 @@ pub types_alike : (readings : List SharedParsed) (at : ℕ) (old new : SharedPar
 types_alike readings at old new made is none none_new are =
     let there : get_or (readings_view readings) at (shared_view old) ≡ shared_view old = get_or-map shared_view readings at old ∙ ap shared_view (sym is) in
     let same : types_defined (get_or (readings_view readings) at (shared_view old)) ≡ types_defined (shared_view new) = ap types_defined there ∙ none ∙ sym none_new in
-    same_types (readings_view readings) (set (readings_view readings) at (shared_view new)) made (sym (same_map types_defined (readings_view readings) at (shared_view new) (shared_view old) same)) are
+    same_types _ _ made (same_entries _ _ (sym (same_map types_defined (readings_view readings) at (shared_view new) (shared_view old) same))) are
 
 -- as many as are left are all that are left
 all_left : {X : Type 0} (xs : List X) (n : ℕ) → take (length xs - n) (drop n xs) ≡ drop n xs
@@ -89,6 +92,49 @@ parts {X} (y ∷ xs) (suc i) x h = ap (λ (zs : List X). y ∷ zs) (parts xs i x
 -- what is replaced stands between what is before it and what is behind it
 pub set_between : {X : Type 0} (xs : List X) (i : ℕ) (x : X) → i < length xs → take i xs ++ (x ∷ drop (i + 1) xs) ≡ set xs i x
 set_between xs i x h = ap (λ (n : ℕ). take i xs ++ (x ∷ drop n xs)) (next i) ∙ parts xs i x h
+
+-- ---- one that defines nothing is put in behind all that is defined
+
+-- what holds of all of two lists holds of all of the second
+all_behind : {X : Type 0} (P : X → Type 0) (xs ys : List X) → All P (xs ++ ys) → All P ys
+all_behind P [] ys all = all
+all_behind P (x ∷ xs) ys all = all_behind P xs ys (All-tail P x (xs ++ ys) all)
+
+-- its document is one before that place
+stands_before : ℕ → EntryOf → Type 0
+stands_before at e = e.file < at
+
+-- where all entries of documents stand before the first of these, the documents have none, whatever number the first one gets
+none_gathered : (at n m : ℕ) → at ≤ n → (ess : List (List EntryOf)) → All (stands_before at) (gathered n ess) → gathered m ess ≡ []
+unfolding gathered entry_at stands_before
+none_gathered at n m le [] all = refl
+none_gathered at n m le ([] ∷ ess) all = none_gathered at (n + 1) (m + 1) (omega arith) ess all
+none_gathered at n m le ((e ∷ es) ∷ ess) all = let first : n < at = All-head (stands_before at) _ _ all in absurd (omega arith)
+
+-- where all entries stand before a place, they stay as they are when a document that has none is put in there
+same_gathered : (at n i : ℕ) → at ≤ n + i → (ess : List (List EntryOf)) → All (stands_before at) (gathered n ess) → gathered n (insert ess i []) ≡ gathered n ess
+unfolding gathered
+same_gathered at n zero le [] all = refl
+same_gathered at n (suc i) le [] all = refl
+same_gathered at n zero le (es ∷ ess) all = none_gathered at n (n + 1) (omega arith) (es ∷ ess) all ∙ sym (none_gathered at n n (omega arith) (es ∷ ess) all)
+same_gathered at n (suc i) le (es ∷ ess) all =
+    ap (λ (others : List EntryOf). map (entry_at n) es ++ others)
+    (same_gathered at (n + 1) i (omega arith) ess (all_behind (stands_before at) (map (entry_at n) es) (gathered (n + 1) ess) all))
+
+-- so of what documents are read as
+entries_stay : (rs : List ParsedOf) (at : ℕ) (r : ParsedOf) → types_defined r ≡ [] → All (stands_before at) (entries_of rs) → entries_of rs ≡ entries_of (insert rs at r)
+entries_stay rs at r none before =
+    let more : map types_defined (insert rs at r) ≡ insert (map types_defined rs) at [] = map_insert types_defined rs at r ∙ ap (λ (es : List EntryOf). insert (map types_defined rs) at es) none in
+    let same = same_gathered at 0 at (omega arith) (map types_defined rs) (subst (All (stands_before at)) (entries_from 0 rs) before) in
+    entries_from 0 rs ∙ sym (entries_from 0 (insert rs at r) ∙ ap (gathered 0) more ∙ same)
+
+-- and their type system stays
+pub types_stay : (rs : List ParsedOf) (at : ℕ) (r : ParsedOf) (typed : Typed) → types_defined r ≡ [] → All (λ e. e.file < at) (types_view typed.types)
+    → AreTypesOf rs typed → AreTypesOf (insert rs at r) typed
+unfolding stands_before
+types_stay rs at r typed none before are =
+    let among = all_behind (stands_before at) built_in (entries_of rs) (subst (All (stands_before at)) are.is_type_system before) in
+    same_types _ _ typed (entries_stay rs at r none among) are
 
 -- ---- one type system, whatever the numbers of its documents are
 

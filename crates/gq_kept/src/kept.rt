@@ -1,6 +1,7 @@
 //! What is known of a project, kept from question to question.
 ghost use Rattle.std.specs.Prelude.{◌≡◌, ◌<◌, ◌≤◌, true, false, Some, None, IfOk, IfSome, IfNone, OnOk, OnErr, find, length, remove, slice_set};
 ghost use Rattle.std.specs.List.{insert};
+ghost use Rattle.std.specs.Option.{unwrap_or};
 ghost use Rattle.gq_tree.specs.Readings.{shared_view};
 ghost use Rattle.gq_parse.specs.Parsed.{IsParsed};
 ghost use Rattle.gq_project.specs.Documents.{IsInOrder, has_key, with_doc, without};
@@ -208,7 +209,7 @@ impl Kept {
         ensures err { OnErr result (self.new ≡ self.old) }
     {
         let changes_types = has_types(&reading);
-        let made = typed_more(alloc, &self.readings, at, &reading)?;
+        let made = typed_more(alloc, &self.readings, at, &reading, &self.typed)?;
         match put_in(
             alloc,
             &mut self.judged,
@@ -218,7 +219,7 @@ impl Kept {
             reading,
         ) {
             Ok(()) => {
-                settle(&mut self.typed, made);
+                settle_if_some(&mut self.typed, made);
                 self.found.make_room(at, changes_types);
                 forget(&mut self.index);
                 Ok(())
@@ -458,6 +459,15 @@ fn settle(typed: &mut Typed, made: Typed)
     ensures { typed.new ≡ made }
 {
     *typed = made;
+}
+
+/// Puts that type system in the place of another one, where there is one.
+fn settle_if_some(typed: &mut Typed, made: Option<Typed>)
+    ensures { typed.new ≡ unwrap_or made typed.old }
+{
+    if let Some(made) = made {
+        *typed = made;
+    }
 }
 
 /// Forgets the index.

@@ -1,7 +1,9 @@
 //! The type system of documents, made anew where one of them changes.
-ghost use Rattle.std.specs.Prelude.{◌≡◌, ◌<◌, ◌≤◌, ◌++◌, [], ◌∷◌, false, IfOk, OnOk, OnErr, drop, is_some, length, map, remove, slice_index_or, slice_set, take};
+ghost use Rattle.std.specs.Prelude.{◌≡◌, ◌<◌, ◌≤◌, ◌++◌, [], ◌∷◌, true, false, All, IfOk, OnOk, OnErr, drop, is_some, length, map, remove, slice_index_or, slice_set, take};
+ghost use Rattle.std.specs.Option.{unwrap_or};
 ghost use Rattle.std.specs.List.{insert};
 ghost use Rattle.gq_tree.specs.Readings.{shared_view, readings_view};
+ghost use Rattle.gq_types.specs.Look.{types_view};
 ghost use Rattle.gq_kept.specs.Helping.TypesOf.{AreTypesOf, IsOneTypeSystem, types_defined};
 
 use gq_known::learned::{defines_types, type_system};
@@ -101,18 +103,30 @@ fn typed_with(
     Ok(made)
 }
 
-/// The type system, where a document that reads so is put in at that place.
+/// Whether all definitions and extensions of the type system stand in documents before that place.
+fn stand_before(types: &Types, at: usize) -> bool
+    ensures { result ≡ true → All (λ e. e.file < at) (types_view types.now) }
+{
+    types.entries().iter().all(|entry| entry.file < at)
+}
+
+/// The type system, where a document that reads so is put in at that place. None is made where it stays as it is: the document defines
+/// no types, and neither do those behind it, whose numbers change.
 pub(crate) fn typed_more(
     alloc: Global,
     readings: &[Arc<Parsed>],
     at: usize,
     reading: &Arc<Parsed>,
-) -> Result<Typed, NoMemory>
+    typed: &Typed,
+) -> Result<Option<Typed>, NoMemory>
     requires { at ≤ length readings.now }
-    ensures { IfOk result (AreTypesOf (insert (readings_view readings.now) at (shared_view reading.now))) }
+    ensures { IfOk result (λ made. AreTypesOf (readings_view readings.now) typed.now → AreTypesOf (insert (readings_view readings.now) at (shared_view reading.now)) (unwrap_or made typed.now)) }
 {
+    if !has_types(reading) && stand_before(&typed.types, at) {
+        return Ok(None);
+    }
     let made = typed_around(alloc, readings, at, reading, at)?;
-    Ok(made)
+    Ok(Some(made))
 }
 
 /// The type system, where the document at that place is taken out.

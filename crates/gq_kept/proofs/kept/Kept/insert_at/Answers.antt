@@ -1,5 +1,6 @@
 -- The document and its reading are put in.
 use Rattle.std.proofs.Common.{ap, ◌∙◌}
+use Rattle.std.specs.Option.{unwrap_or}
 use Rattle.gq_project.specs.Documents.{with_doc}
 use Rattle.gq_kept.specs.KeptOf.{KeptOf, JudgedOf}
 use Rattle.gq_kept.proofs.KeptLemmas.{gap_in_range, kept_inserted}
@@ -18,9 +19,9 @@ put_in-requires c =
 pub invariant_of-self : goal.invariant_of-self
 invariant_of-self c =
     let same = ap (λ (k : KeptOf). k.documents) c.self.view_is in
-    rw (ap (λ (j : JudgedOf). j.documents) c.in-Ok.ensures.document, c.in-Ok.ensures.reading, c.settle.ensures, c.forget.ensures)
+    rw (ap (λ (j : JudgedOf). j.documents) c.in-Ok.ensures.document, c.in-Ok.ensures.reading, c.settle_if_some.ensures, c.forget.ensures)
     (kept_inserted _ _ _ _ _ c.self.invariant c.args.self.now.documents c.deref.result.now same c.deref.ensures.value
-    c.args.at c.args.doc c.args.reading c.in_ok-made.made c.make_room.new.self c.has_types-changes_types.result
+    c.args.at c.args.doc c.args.reading (unwrap_or c.in_ok-made.made c.self.inside.typed) c.make_room.new.self c.has_types-changes_types.result
     c.requires.gap c.requires.parsed c.in_ok-made.ensures c.has_types-changes_types.ensures c.make_room.ensures)
 
 pub returns-in-Ok-clause-ok : goal.returns-in-Ok-clause-ok
