@@ -1,4 +1,5 @@
 pub mod ItemLemmas
+pub mod MixedLemmas
 pub mod HalvesLemmas
 pub mod DemandLemmas
 pub mod WrongLemmas

@@ -12,7 +12,7 @@ ghost use Rattle.gq_rules.specs.Files.{alone, IsFaultAcross, IsLocalFault};
 ghost use Rattle.gq_rules.specs.RestsOnFile.{rests_on_file};
 ghost use Rattle.gq_rules.specs.Helping.RuleGroups.{IsAcrossGroup};
 
-use crate::demands::faults_of_texts;
+use crate::demands::faults_of_known_texts;
 use crate::rule_faults::{add_definition_faults, add_reach_faults, rule_faults};
 use gq_document::{Definitions, Executable};
 use gq_fault::{Code, Fault};
@@ -71,7 +71,7 @@ fn resting(alloc: Global, faults: &[Fault], on_file: bool) -> Result<Vec<Fault>,
 pub fn first_faults(alloc: Global, known: Known<'_>) -> Result<Vec<Fault>, NoMemory>
     ensures { IfOk result (λ faults. IsKnown known.entry → (fault : Fault) → Contains faults.items fault ↔ IsToldFirst (readings_view known.entry.readings.now) fault) }
 {
-    let mut faults = faults_of_texts(alloc, known.readings)?;
+    let mut faults = faults_of_known_texts(alloc, known)?;
     if !known.has_schema {
         let mut wrong = schema_faults(alloc, known.types)?;
         faults.append(&mut wrong)?;

@@ -1,21 +1,23 @@
 //! What is told of documents: first of their texts and of the type system, and where that is nothing, of the rules.
 ghost use Rattle.std.specs.Prelude.{◌≡◌, ◌↔◌, ◌++◌, Contains, IfOk};
 ghost use Rattle.std.specs.List.Sorted.{IsStrictlySortedBy};
-ghost use Rattle.gq_tree.specs.Readings.{unshared_view};
+ghost use Rattle.gq_tree.specs.Readings.{readings_view, unshared_view};
 ghost use Rattle.gq_document.specs.ReadBy.{read_by};
 ghost use Rattle.gq_fault.specs.declared.fault.Fault.{Fault};
 ghost use Rattle.gq_fault.specs.Order.{fault_cmp};
+ghost use Rattle.gq_known.specs.Known.{IsKnown};
 ghost use Rattle.gq_rules.specs.Helping.AllFaults.{AreFaultsOf};
 ghost use Rattle.gq_rules.specs.Faults.{IsFaultOf};
 ghost use Rattle.gq_rules.specs.Helping.Places.{unread_at, mixed_at, each_from};
 
-use crate::executable_definitions::add_mixed;
+use crate::executable_definitions::{add_mixed, add_mixed_of};
 use crate::giving_back::give_back;
 use crate::unread::add_unread;
 use crate::wrong::add_wrong;
 use crate::wrong_by_threads::add_wrong_by_threads;
 use gq_document::{AsParsed, type_system_entries};
 use gq_fault::{Fault, put_in_order};
+use gq_known::Known;
 use gq_parse::{read, read_by_threads};
 use gq_project::Doc;
 use gq_text::NoMemory;
@@ -80,6 +82,16 @@ pub(crate) fn faults_of_texts<R: AsParsed>(
     let mut faults = Vec::new(alloc);
     add_unread(readings, &mut faults)?;
     add_mixed(readings, &mut faults)?;
+    Ok(faults)
+}
+
+/// The same of what is known, where only documents that define types are looked at for both sorts.
+pub(crate) fn faults_of_known_texts(alloc: Global, known: Known<'_>) -> Result<Vec<Fault>, NoMemory>
+    ensures { IfOk result (λ faults. IsKnown known.entry → faults.items ≡ each_from unread_at 0 (readings_view known.entry.readings.now) ++ each_from mixed_at 0 (readings_view known.entry.readings.now)) }
+{
+    let mut faults = Vec::new(alloc);
+    add_unread(known.readings, &mut faults)?;
+    add_mixed_of(alloc, known.types.entries(), known.readings, &mut faults)?;
     Ok(faults)
 }
 

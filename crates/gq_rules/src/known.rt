@@ -13,7 +13,7 @@ ghost use Rattle.gq_rules.specs.Helping.AllFaults.{AreFaultsOf};
 ghost use Rattle.gq_rules.specs.Helping.Reported.{IsReported};
 ghost use Rattle.gq_rules.specs.Helping.Wrongs.{PutsWrong};
 
-use crate::demands::{faults_of_texts, in_order};
+use crate::demands::{faults_of_known_texts, in_order};
 use crate::report::{Report, report_of};
 use crate::rule_faults::rule_faults;
 use crate::valid::report_if_any;
@@ -63,7 +63,7 @@ fn demanded_known(alloc: Global, known: Known<'_>) -> Result<Vec<Fault>, NoMemor
 fn all_faults_known(alloc: Global, known: Known<'_>) -> Result<Vec<Fault>, NoMemory>
     ensures { IfOk result (λ faults. IsKnown known.entry → (fault : Fault) → Contains faults.items fault ↔ IsFaultOf (readings_view known.entry.readings.now) fault) }
 {
-    let mut faults = faults_of_texts(alloc, known.readings)?;
+    let mut faults = faults_of_known_texts(alloc, known)?;
     add_wrong_known(alloc, known, &mut faults)?;
     Ok(faults)
 }

@@ -1,5 +1,5 @@
 -- The faults of documents without a tree and of mixed ones, computed.
-use Rattle.std.specs.Prelude.{ℕ, ◌+◌, List, [], ◌∷◌, ◌++◌, Option, Some, None, if◌then◌else◌}
+use Rattle.std.specs.Prelude.{ℕ, ◌+◌, Bool, false, List, [], ◌∷◌, ◌++◌, Option, Some, None, if◌then◌else◌, slice_index_or}
 use Rattle.std.specs.List.{list_any}
 use Rattle.gq_text.specs.declared.place.Span.{Span}
 use Rattle.gq_tree.specs.Plain.{Def, TypeSystemOf}
@@ -26,6 +26,10 @@ mixed_in file ds = if list_any is_executable ds then mixed_fault file (first_of_
 
 abbrev pub mixed_at : ℕ → ParsedOf → List Fault
 mixed_at file reading = mixed_in file (definitions_read reading)
+
+-- so of a document that is marked
+abbrev pub marked_mixed_at : List Bool → ℕ → ParsedOf → List Fault
+marked_mixed_at marks file reading = if slice_index_or marks file false then mixed_at file reading else []
 
 -- what is told of each reading, the first of which has that number
 abbrev pub each_from : (ℕ → ParsedOf → List Fault) → ℕ → List ParsedOf → List Fault

@@ -15,8 +15,8 @@ returns c = λ (k : IsKnown c.args.known).
     elim c.if-not-known.branch [
       | then-not-known+in_ok-wrong+in_ok-append w ↦
           subst (λ v. (f : Fault) → Contains v.items f ↔ IsToldFirst rs f) (sym w.faults-is)
-          (first_with rs es k.is_type_system w.in_ok-wrong.wrong.items c.in_ok-faults.faults.items w.append.new.self.items w.in_ok-wrong.ensures.exact c.in_ok-faults.ensures w.in_ok-append.ensures.items)
+          (first_with rs es k.is_type_system w.in_ok-wrong.wrong.items c.in_ok-faults.faults.items w.append.new.self.items w.in_ok-wrong.ensures.exact (c.in_ok-faults.ensures k) w.in_ok-append.ensures.items)
       | else-not-known w ↦
           subst (λ v. (f : Fault) → Contains v.items f ↔ IsToldFirst rs f) (sym w.faults-is)
-          (first_without rs es k.is_type_system c.in_ok-faults.faults.items (k.sound w.if-not-known.false) c.in_ok-faults.ensures)
+          (first_without rs es k.is_type_system c.in_ok-faults.faults.items (k.sound w.if-not-known.false) (c.in_ok-faults.ensures k))
     ]

@@ -9,4 +9,4 @@ pub returns : goal.returns
 returns c = λ (k : IsKnown c.args.known).
     let readings = readings_view c.args.known.readings.now in
     all_are readings (executable_of readings) refl c.in_ok-faults.faults.items c.add_wrong_known.new.faults.items
-    c.in_ok-faults.ensures (c.in_ok-add_wrong_known.ensures k)
+    (c.in_ok-faults.ensures k) (c.in_ok-add_wrong_known.ensures k)
