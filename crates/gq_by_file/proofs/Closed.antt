@@ -5,4 +5,5 @@ pub mod Spreading
 pub mod Variables
 pub mod ByNames
 pub mod Replaced
+pub mod PutIn
 pub mod Rules

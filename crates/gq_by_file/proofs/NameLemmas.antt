@@ -1,8 +1,10 @@
 -- The names of fragments in each file: one file by its number, one file more, and one replaced.
-use Rattle.std.proofs.Common.{◌≡◌, ℕ, zero, suc, ◌+◌, ◌<◌, List, [], ◌∷◌, ◌++◌, Option, Some, None, Bool, true, get_or, slice_get, slice_set, length, take, refl, sym, ap, ◌∙◌, subst}
+use Rattle.std.proofs.Common.{◌≡◌, ℕ, zero, suc, ◌+◌, ◌<◌, ◌≤◌, List, [], ◌∷◌, ◌++◌, Option, Some, None, Bool, true, get_or, slice_get, slice_set, length, take}
+use Rattle.std.proofs.Common.{refl, sym, ap, ◌∙◌, subst, arith}
 use Rattle.std.proofs.lemmas.List.{map-append, take_more}
 use Rattle.std.proofs.lemmas.Option.{none-some, same_Some}
 use Rattle.std.specs.Bool.{Decides}
+use Rattle.std.specs.List.{insert}
 use Rattle.std.specs.Cmp.Lexicographic.{bytes_decides, pointwise, pointwise_decides}
 use Rattle.std.specs.Option.{option_eq}
 use Rattle.std.specs.Str.{bytes_eq}
@@ -21,6 +23,14 @@ pub names_set : (at : ℕ) (r : ParsedOf) (one : FileNames) {rs : List ParsedOf}
 names_set at r one is none = none
 names_set zero r one is (more h hs) = more is hs
 names_set (suc at) r one is (more h hs) = more h (names_set at r one is hs)
+
+-- one file more at some place
+pub names_insert : (at : ℕ) (r : ParsedOf) (one : FileNames) {rs : List ParsedOf} {names : List FileNames} → at ≤ length names → AreNamesIn r one → AreNames rs names →
+    AreNames (insert rs at r) (insert names at one)
+names_insert zero r one h is none = more is none
+names_insert (suc at) r one h is none = absurd (omega (arith, h))
+names_insert zero r one h is (more p ps) = more is (more p ps)
+names_insert (suc at) r one h is (more p ps) = more p (names_insert at r one (omega (arith, h)) is ps)
 
 -- one file more at the end
 pub names_push : (r : ParsedOf) (one : FileNames) {rs : List ParsedOf} {names : List FileNames} → AreNamesIn r one → AreNames rs names → AreNames (rs ++ r ∷ []) (names ++ one ∷ [])

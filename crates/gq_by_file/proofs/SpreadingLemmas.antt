@@ -38,9 +38,9 @@ mark_of p [] n one e = absurd (cc)
 mark_of p (x ∷ names) zero one e = let same : x ≡ one = cc in ap p same
 mark_of p (x ∷ names) (suc n) one e = mark_of p names n one e
 
-module _ (rs : List ParsedOf) (names : List FileNames) (are : AreNames rs names) (r : ParsedOf) (new : FileNames) (is : AreNamesIn r new) (at : ℕ) where
+module _ (rs : List ParsedOf) (names : List FileNames) (are : AreNames rs names) (r : ParsedOf) (new : FileNames) (is : AreNamesIn r new) where
   abbrev marks : List Bool
-  marks = set (map (λ (one : FileNames). has_one_of new.fragments.items one.spreads.items) names) at true
+  marks = map (λ (one : FileNames). has_one_of new.fragments.items one.spreads.items) names
 
   pub not_spread : (n : ℕ) → slice_index_or marks n false ≡ false → AreNotSpread rs (n ∷ []) r
   not_spread n clean k q inside read name stands g defined same =
@@ -50,13 +50,14 @@ module _ (rs : List ParsedOf) (names : List FileNames) (are : AreNames rs names)
       let there : Contains new.fragments.items g.name.text = subst (λ (ts : List Text). Contains ts g.name.text) (sym is.fragments) (name_of_fragment 0 r g defined) in
       let one : list_any (bytes_eq name.text) new.fragments.items ≡ true = any_of (bytes_eq name.text) new.fragments.items g.name.text there (same_bytes name.text g.name.text same) in
       let found : has_one_of new.fragments.items t.0.spreads.items ≡ true = any_of (λ (text : Text). list_any (bytes_eq text) new.fragments.items) t.0.spreads.items name.text spread one in
-      let marked : slice_index_or (map (λ (one : FileNames). has_one_of new.fragments.items one.spreads.items) names) k false ≡ has_one_of new.fragments.items t.0.spreads.items =
+      let marked : slice_index_or marks k false ≡ has_one_of new.fragments.items t.0.spreads.items =
       mark_of (λ (one : FileNames). has_one_of new.fragments.items one.spreads.items) names k t.0 t.1 in
-      let bare : slice_index_or (map (λ (one : FileNames). has_one_of new.fragments.items one.spreads.items) names) n false ≡ false =
-      set_here (map (λ (one : FileNames). has_one_of new.fragments.items one.spreads.items) names) at n clean in
-      let at_k : slice_index_or (map (λ (one : FileNames). has_one_of new.fragments.items one.spreads.items) names) k false ≡ false =
-      subst (λ z. slice_index_or (map (λ (one : FileNames). has_one_of new.fragments.items one.spreads.items) names) z false ≡ false) (sym here) bare in
+      let at_k : slice_index_or marks k false ≡ false = subst (λ z. slice_index_or marks z false ≡ false) (sym here) clean in
       absurd (let e = sym at_k ∙ marked ∙ found in cc)
+
+  -- nor is one where another mark was set
+  pub not_spread_elsewhere : (at n : ℕ) → slice_index_or (set marks at true) n false ≡ false → AreNotSpread rs (n ∷ []) r
+  not_spread_elsewhere at n clean = not_spread n (set_here marks at n clean)
 
 -- a closed set of files
 module _ (es : List EntryOf) (rs : List ParsedOf) (files : List ℕ) (closed : IsClosed files (together es rs)) where

@@ -1,5 +1,6 @@
 //! What rests on several files, kept by closed sets of them.
-ghost use Rattle.std.specs.Prelude.{◌≡◌, ◌↔◌, ◌<◌, false, true, List, Contains, IfOk, OnOk, Some, length, map, slice_get, slice_set};
+ghost use Rattle.std.specs.Prelude.{◌≡◌, ◌↔◌, ◌<◌, ◌≤◌, false, true, List, Contains, IfOk, OnOk, Some, length, map, slice_get, slice_set};
+ghost use Rattle.std.specs.List.{insert};
 ghost use Rattle.gq_fault.specs.declared.fault.Fault.{Fault};
 ghost use Rattle.gq_tree.specs.Readings.{ParsedOf, parsed_view, readings_view};
 ghost use Rattle.gq_types.specs.Entries.{EntryOf};
@@ -16,10 +17,11 @@ ghost use Rattle.gq_by_file.specs.Helping.Learned.{AreLearned};
 
 use crate::by_names::{found_by_names, put_names};
 use crate::closed_sets::{
-    closed_sets_stay, faults_across_are_by_names_or_spreads, faults_are_of_closed_sets,
-    faults_of_closed_sets_are_faults, other_files_are_unseen,
+    closed_sets_stay, closed_sets_stay_before, faults_across_are_by_names_or_spreads,
+    faults_are_of_closed_sets, faults_of_closed_sets_are_faults, later_files_are_unseen,
+    other_files_are_unseen,
 };
-use crate::covers::{Cover, cover_rest, keep_unmarked, keep_without, put_faults};
+use crate::covers::{Cover, cover_rest, keep_before, keep_unmarked, keep_without, put_faults};
 use crate::laws::numbers_of_entries_are_unseen;
 use crate::links::{Links, links_of};
 use crate::names::{FileNames, names_of_all};
@@ -276,5 +278,53 @@ impl Across {
             }
             Err(NoMemory) => self.forget(),
         }
+    }
+
+    /// What is known stays where a file is put in at that place, but of the closed sets with a file at it or behind, whose numbers change,
+    /// and of those in which a fragment of the new one is spread; where that changes the type system, of no closed set.
+    pub fn make_room(&mut self, alloc: Global, at: usize, reading: &Parsed, changes_types: bool)
+        ensures { (es us : List EntryOf) (rs : List ParsedOf) → (changes_types ≡ false → AreOneTypeSystem es us)
+            → AreAcross es rs self.old → AreAcross us (insert rs at (parsed_view reading.now)) self.new }
+    {
+        numbers_of_entries_are_unseen();
+        if changes_types {
+            self.covers.clear();
+        }
+        match FileNames::of(alloc, reading) {
+            Ok(names) => self.put_names(alloc, at, names),
+            Err(NoMemory) => self.forget(),
+        }
+    }
+
+    /// The same where the names in the new file are given.
+    fn put_names(&mut self, alloc: Global, at: usize, names: FileNames)
+        ensures { (es : List EntryOf) (rs : List ParsedOf) (r : ParsedOf) → AreNamesIn r names → AreAcross es rs self.old → AreAcross es (insert rs at r) self.new }
+    {
+        if self.names.is_empty() || at > self.names.len() {
+            self.forget();
+            return;
+        }
+        match spreading(alloc, &self.names, &names.fragments) {
+            Ok(marks) => self.put_marked(at, names, &marks),
+            Err(NoMemory) => self.forget(),
+        }
+    }
+
+    /// The same where the files are marked in which a fragment of the new one is spread.
+    fn put_marked(&mut self, at: usize, names: FileNames, marks: &[bool])
+        requires some { 0 < length self.old.names.items }
+        requires range { at ≤ length self.old.names.items }
+        ensures { marks.now ≡ map (λ one. has_one_of names.fragments.items one.spreads.items) self.old.names.items
+            → (es : List EntryOf) (rs : List ParsedOf) (r : ParsedOf) → AreNamesIn r names → AreAcross es rs self.old → AreAcross es (insert rs at r) self.new }
+    {
+        closed_sets_stay_before();
+        later_files_are_unseen();
+        if self.names.insert(at, names).is_err() {
+            self.forget();
+            return;
+        }
+        keep_before(&mut self.covers, at, marks);
+        self.is_clean = false;
+        self.links.forget();
     }
 }

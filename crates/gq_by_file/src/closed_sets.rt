@@ -1,5 +1,6 @@
 //! Laws of the faults that rest on names and on spreads.
 ghost use Rattle.gq_by_file.specs.Closed.Laws.{ClosedSetsStay, FaultsAreOfClosedSets, FaultsOfClosedSetsAreFaults, FaultsStayInLargerSets, OtherFilesAreUnseen};
+ghost use Rattle.gq_by_file.specs.Closed.Laws.{ClosedSetsStayBefore, LaterFilesAreUnseen};
 ghost use Rattle.gq_by_file.specs.Closed.Laws.{FaultsAcrossAreByNamesOrSpreads, FaultsByNamesAreByRules};
 
 /// What rests on several files rests on names alone, or on what spreads lead to.
@@ -35,4 +36,14 @@ pub fn other_files_are_unseen()
 /// A closed set stays so where a file outside is replaced, if no fragment of the new one is spread in the set.
 pub fn closed_sets_stay()
     ensures { ClosedSetsStay }
+{}
+
+/// A file that is put in behind those of a set is not seen in it, nor that those behind get other numbers.
+pub fn later_files_are_unseen()
+    ensures { LaterFilesAreUnseen }
+{}
+
+/// A closed set stays so where a file is put in behind it, if no fragment of the new one is spread in the set.
+pub fn closed_sets_stay_before()
+    ensures { ClosedSetsStayBefore }
 {}

@@ -37,7 +37,7 @@ module _ {A : Type 0} (what : ℕ → Def Span → List A) (number : A → ℕ) 
   abbrev held : ℕ × ParsedOf → List A
   held z = in_document what z.0 z.1
 
-  none_here : (n : ℕ) (r : ParsedOf) → (Contains files n → ⊥) → filter passes (in_document what n r) ≡ []
+  pub none_here : (n : ℕ) (r : ParsedOf) → (Contains files n → ⊥) → filter passes (in_document what n r) ≡ []
   none_here n r outside = filter_none passes (in_document what n r) (λ a c. ap (is_among files) (numbers n r a c) ∙ not_among files n outside)
 
   -- from a document of the number k on
@@ -61,10 +61,10 @@ module _ {A : Type 0} (what : ℕ → Def Span → List A) (number : A → ℕ) 
       filter passes (in_documents what (slice_set rs at r)) ≡ filter passes (in_documents what rs)
   unseen rs at r outside = unseen_from 0 rs at r (λ c. outside (let e : 0 + at ≡ at = omega arith in subst (Contains files) e c))
 
-operation_number : (n : ℕ) (r : ParsedOf) (o : OperationOf) → Contains (in_document operation_in n r) o → o.file ≡ n
+pub operation_number : (n : ℕ) (r : ParsedOf) (o : OperationOf) → Contains (in_document operation_in n r) o → o.file ≡ n
 operation_number n r o c = (operation_moves n r o c).0
 
-fragment_number : (n : ℕ) (r : ParsedOf) (f : FragmentOf) → Contains (in_document fragment_in n r) f → f.file ≡ n
+pub fragment_number : (n : ℕ) (r : ParsedOf) (f : FragmentOf) → Contains (in_document fragment_in n r) f → f.file ≡ n
 fragment_number n r f c = (fragment_moves n r f c).0
 
 pub others_unseen : OtherFilesAreUnseen
@@ -113,12 +113,12 @@ fragment_spreads n (operation kind of_name variables directives set braces place
 fragment_spreads n (fragment of_name on directives set braces place) g name c s = let e = only _ g c in subst (λ (z : FragmentOf). Contains (spread_names z.set) name) e s
 fragment_spreads n (type_system definition) g name c s = nothing_in g c
 
-operation_reads : (n : ℕ) (q : ParsedOf) (o : OperationOf) (name : NameOf Span) → Contains (in_document operation_in n q) o → Contains (spread_names o.set) name → Contains (spreads_read q) name
+pub operation_reads : (n : ℕ) (q : ParsedOf) (o : OperationOf) (name : NameOf Span) → Contains (in_document operation_in n q) o → Contains (spread_names o.set) name → Contains (spreads_read q) name
 operation_reads n q o name c s =
     let p = from_flat (operation_in n) (definitions_read q) o c in
     to_flat spreads_in (definitions_read q) p.0 name p.1 (operation_spreads n p.0 o name p.2 s)
 
-fragment_reads : (n : ℕ) (q : ParsedOf) (g : FragmentOf) (name : NameOf Span) → Contains (in_document fragment_in n q) g → Contains (spread_names g.set) name → Contains (spreads_read q) name
+pub fragment_reads : (n : ℕ) (q : ParsedOf) (g : FragmentOf) (name : NameOf Span) → Contains (in_document fragment_in n q) g → Contains (spread_names g.set) name → Contains (spreads_read q) name
 fragment_reads n q g name c s =
     let p = from_flat (fragment_in n) (definitions_read q) g c in
     to_flat spreads_in (definitions_read q) p.0 name p.1 (fragment_spreads n p.0 g name p.2 s)

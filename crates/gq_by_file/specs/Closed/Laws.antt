@@ -1,5 +1,6 @@
 -- What is told of closed sets of files, and what of all files.
-use Rattle.std.specs.Prelude.{◌≡◌, ◌↔◌, ◌⊎◌, ℕ, List, [], Some, Contains, flat_map, slice_get, slice_set}
+use Rattle.std.specs.Prelude.{◌≡◌, ◌↔◌, ◌⊎◌, ◌<◌, ◌≤◌, ℕ, List, [], Some, Contains, flat_map, length, slice_get, slice_set}
+use Rattle.std.specs.List.{insert}
 use Rattle.gq_text.specs.declared.place.Span.{Span}
 use Rattle.gq_tree.specs.Names.{spread_names}
 use Rattle.gq_tree.specs.Plain.{NameOf, Def, operation, fragment, type_system}
@@ -66,3 +67,17 @@ AreNotSpread rs files r = (n : ℕ) (q : ParsedOf) → Contains files n → slic
 abbrev pub ClosedSetsStay : Type 0
 ClosedSetsStay = (es : List EntryOf) (rs : List ParsedOf) (at : ℕ) (r : ParsedOf) (files : List ℕ) → (Contains files at → ⊥) → AreNotSpread rs files r →
     IsClosed files (together es rs) → IsClosed files (together es (slice_set rs at r))
+
+-- all of those files stand before that place
+abbrev pub AreBefore : ℕ → List ℕ → Type 0
+AreBefore at files = (n : ℕ) → Contains files n → n < at
+
+-- A file that is put in behind those of a set is not seen in it, and no more are those behind it, whose numbers change.
+abbrev pub LaterFilesAreUnseen : Type 0
+LaterFilesAreUnseen = (es : List EntryOf) (rs : List ParsedOf) (at : ℕ) (r : ParsedOf) (files : List ℕ) → at ≤ length rs → AreBefore at files →
+    within files (together es (insert rs at r)) ≡ within files (together es rs)
+
+-- A closed set stays so where a file is put in behind it of which no fragment is spread in the set.
+abbrev pub ClosedSetsStayBefore : Type 0
+ClosedSetsStayBefore = (es : List EntryOf) (rs : List ParsedOf) (at : ℕ) (r : ParsedOf) (files : List ℕ) → at ≤ length rs → AreBefore at files → AreNotSpread rs files r →
+    IsClosed files (together es rs) → IsClosed files (together es (insert rs at r))

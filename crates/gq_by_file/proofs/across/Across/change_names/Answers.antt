@@ -12,7 +12,7 @@ use Rattle.gq_by_file.specs.Names.{AreNames}
 use Rattle.gq_by_file.specs.Helping.Covers.{has_one_of}
 use Rattle.gq_by_file.proofs.AcrossLemmas.{covers_stay}
 use Rattle.gq_by_file.proofs.NameLemmas.{names_set}
-use Rattle.gq_by_file.proofs.SpreadingLemmas.{not_spread, set_there}
+use Rattle.gq_by_file.proofs.SpreadingLemmas.{not_spread_elsewhere, set_there}
 use Rattle.gq_by_file.proofs.across.Across.change_names.Goals as goal
 
 pub returns-in-Ok : goal.returns-in-Ok
@@ -28,7 +28,8 @@ returns-in-Ok c es rs r named are =
     ∙ ap (λ (ts : List Text). map (λ (one : FileNames). has_one_of ts one.spreads.items) names) c.deref-2.ensures.value in
     let used : c.deref-in-Ok.result.now ≡ set found at true = c.deref-in-Ok.ensures.value ∙ ap (λ (ms : List Bool). set ms at true) there in
     let here : slice_index_or (set found at true) at false ≡ true = set_there found at (let l = length-map names (λ (one : FileNames). has_one_of new.fragments.items one.spreads.items) in omega (arith, l, inside)) in
-    let stays = covers_stay c.closed_sets_stay.ensures c.other_files_are_unseen.ensures es rs at r (set found at true) c.args.self.now.covers.items here (λ n. not_spread rs names known r new named at n) are.covers in
+    let stays = covers_stay c.closed_sets_stay.ensures c.other_files_are_unseen.ensures es rs at r (set found at true) c.args.self.now.covers.items here
+    (λ n. not_spread_elsewhere rs names known r new named at n) are.covers in
     let left : AreCovers (together es (set rs at r)) c.keep_unmarked.new.covers.items =
     subst (λ (cs : List Cover). AreCovers (together es (set rs at r)) cs)
     (sym (c.keep_unmarked.ensures ∙ ap (λ (ms : List Bool). filter (λ (d : Cover). not (list_any (λ n. slice_index_or ms n false) d.files.items)) c.args.self.now.covers.items) used)) stays in
