@@ -287,6 +287,10 @@ impl Across {
             → AreAcross es rs self.old → AreAcross us (insert rs at (parsed_view reading.now)) self.new }
     {
         numbers_of_entries_are_unseen();
+        if self.names.is_empty() {
+            self.forget();
+            return;
+        }
         if changes_types {
             self.covers.clear();
         }
