@@ -104,14 +104,14 @@ module _ (documents : List Doc) (readings : List SharedParsed) (typed : Typed) (
     pub kept_inserted : (at : ℕ) (doc : Doc) (reading : SharedParsed) (made : Typed) (left : ByFile) (changes : Bool) → IsGapFor (λ d. d.key) doc.key told at → ∥ IsParsed doc.text (shared_view reading) ∥₁
         → (AreTypesOf (readings_view given) typed → AreTypesOf (insert (readings_view given) at (shared_view reading)) made)
         → (changes ≡ false → types_defined (shared_view reading) ≡ [])
-        → ((es us : List EntryOf) (rs : List ParsedOf) (r : ParsedOf) → (changes ≡ false → AreOneTypeSystem es us) → AreByFile es rs found → AreByFile us (insert rs at r) left)
+        → ((es us : List EntryOf) (rs : List ParsedOf) → (changes ≡ false → AreOneTypeSystem es us) → AreByFile es rs found → AreByFile us (insert rs at (shared_view reading)) left)
         → AreKept (with_doc documents doc) (insert readings at reading) made left None
     kept_inserted at doc reading made left changes gap merely types defines opens =
         kept_by _ _ _ left (∥∥₁_elim merely ∥∥₁_prop (λ (parsed : IsParsed doc.text (shared_view reading)). both_known kept.known kept.owned (λ known owned.
         let was : AreTypesOf (readings_view given) typed = rw is_given (types_known documents readings typed known) in
         let are : AreTypesOf (insert (readings_view given) at (shared_view reading)) made = types was in
         let one = systems (readings_view given) (insert (readings_view given) at (shared_view reading)) typed made changes was are (λ e. system_inserted (readings_view given) at (shared_view reading) (defines e)) in
-        let there : AreByFile (types_view made.types) (insert (readings_view readings) at (shared_view reading)) left = opens (types_view typed.types) (types_view made.types) (readings_view readings) (shared_view reading) one owned in
+        let there : AreByFile (types_view made.types) (insert (readings_view readings) at (shared_view reading)) left = opens (types_view typed.types) (types_view made.types) (readings_view readings) one owned in
         let same : readings_view (insert readings at reading) ≡ insert (readings_view readings) at (shared_view reading) = simp (map-append, take-map, drop-map) in
         (inserted documents readings typed known at doc reading made (rw is_told gap) parsed (rw (← is_given) are), rw same there))))
 

@@ -72,13 +72,19 @@ impl ByFile {
         self.across.replace(alloc, at, reading, changes_types);
     }
 
-    /// What is known of each other file stays where a file is put in at that place.
-    pub(crate) fn make_room(&mut self, at: usize, changes_types: bool)
-        ensures { (es us : List EntryOf) (rs : List ParsedOf) (r : ParsedOf) → (changes_types ≡ false → AreOneTypeSystem es us)
-            → AreByFile es rs self.old → AreByFile us (insert rs at r) self.new }
+    /// What is known of each other file by itself stays where a file is put in at that place, and what is known of those before it together.
+    pub(crate) fn make_room(
+        &mut self,
+        alloc: Global,
+        at: usize,
+        reading: &Arc<Parsed>,
+        changes_types: bool,
+    )
+        ensures { (es us : List EntryOf) (rs : List ParsedOf) → (changes_types ≡ false → AreOneTypeSystem es us)
+            → AreByFile es rs self.old → AreByFile us (insert rs at (shared_view reading.now)) self.new }
     {
         make_room(&mut self.own, at, changes_types);
-        self.across.forget();
+        self.across.make_room(alloc, at, reading, changes_types);
     }
 
     /// The same where the file at that place is taken out.

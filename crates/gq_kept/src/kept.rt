@@ -210,6 +210,7 @@ impl Kept {
     {
         let changes_types = has_types(&reading);
         let made = typed_more(alloc, &self.readings, at, &reading, &self.typed)?;
+        let shared = Arc::try_clone(&reading)?;
         match put_in(
             alloc,
             &mut self.judged,
@@ -220,7 +221,7 @@ impl Kept {
         ) {
             Ok(()) => {
                 settle_if_some(&mut self.typed, made);
-                self.found.make_room(at, changes_types);
+                self.found.make_room(alloc, at, &shared, changes_types);
                 forget(&mut self.index);
                 Ok(())
             }
