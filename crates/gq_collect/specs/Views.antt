@@ -8,7 +8,7 @@ use Rattle.gq_tree.specs.Plain.{erase_values}
 use Rattle.std.specs.Option.{option_map, option_map_or}
 use Rattle.gq_tree.specs.declared.tree.Field.{Field}
 use Rattle.gq_tree.specs.declared.tree.Selection.TheViews.{out-Field}
-use Rattle.gq_tree.specs.Views.{name_of, argument_view, below_of, type_view}
+use Rattle.gq_tree.specs.Views.{name_of, alias_of, argument_view, below_of, type_view}
 use Rattle.gq_meaning.specs.Selected.{key_of, set_of}
 use Rattle.gq_table.specs.Views.{answer_view}
 use Rattle.gq_meaning.specs.Values.{Text}
@@ -26,7 +26,7 @@ asked_of t = record { key = t.key.now; name = t.name.now; arguments = erase_valu
 -- the field of the tree
 abbrev pub asked_in : Field → Asked
 asked_in f = record {
-  key = key_of (option_map name_of (out-Field f).alias) (name_of (out-Field f).name);
+  key = key_of (alias_of (out-Field f).alias) (name_of (out-Field f).name);
   name = (out-Field f).name.text;
   arguments = erase_values (map argument_view (out-Field f).arguments.items);
   set = set_of (below_of (out-Field f).set);

@@ -1,7 +1,7 @@
 //! The fields of selection sets (section 6.3.2).
 ghost use Rattle.std.specs.Prelude.{◌≡◌, ℕ, List, [], IfOk, OnOk, length, map};
 ghost use Rattle.std.specs.Option.{option_map};
-ghost use Rattle.gq_tree.specs.Views.{name_of, below_of};
+ghost use Rattle.gq_tree.specs.Views.{name_of, alias_of, below_of};
 ghost use Rattle.gq_meaning.specs.Values.{Text};
 ghost use Rattle.gq_meaning.specs.Selected.{Set, set_of, key_of as response_key};
 ghost use Rattle.gq_tree.specs.declared.tree.Selection.TheViews.{out-Field};
@@ -50,7 +50,7 @@ fn is_applicable(world: World, on: &Option<Name>, object: &str) -> bool
 
 /// The response key of a field.
 fn key_of(field: &Field) -> &str
-    ensures { result.now ≡ response_key (option_map name_of (out-Field field.now).alias) (name_of (out-Field field.now).name) }
+    ensures { result.now ≡ response_key (alias_of (out-Field field.now).alias) (name_of (out-Field field.now).name) }
 {
     match &field.alias {
         Some(alias) => alias.text.as_str(),

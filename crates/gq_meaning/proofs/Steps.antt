@@ -13,7 +13,7 @@ use Rattle.gq_tree.specs.declared.tree.Selection.{Selection}
 use Rattle.gq_tree.specs.declared.tree.Selection.TheVariants as variant
 use Rattle.gq_tree.specs.declared.tree.Selection.TheViews.{out-Field}
 use Rattle.gq_tree.specs.Plain as tree
-use Rattle.gq_tree.specs.Views.{name_of, argument_view, directive_view, sel_view, below_of}
+use Rattle.gq_tree.specs.Views.{name_of, alias_of, argument_view, directive_view, sel_view, below_of}
 use Rattle.gq_tree.proofs.Trees.{view_field, view_spread, view_inline}
 use Rattle.gq_meaning.specs.Values.{Text}
 use Rattle.gq_meaning.specs.Selected.{Directives, Arguments, Set, none, field, spread, inline, bare, key_of, put_before, set_of, join}
@@ -30,7 +30,8 @@ abbrev before_of : tree.Sel Span → Set → Set
 before_of t rest = put_before t.label (set_of t.below) rest
 
 pub field_is : (sel : Selection) (f : Field) (rest : Set) → sel ≡ variant.Field f →
-    before sel rest ≡ field (bare (map directive_view (out-Field f).directives.items)) (key_of (option_map name_of (out-Field f).alias) (name_of (out-Field f).name)) (out-Field f).name.text (tree.erase_values (map argument_view (out-Field f).arguments.items)) (set_of (below_of (out-Field f).set)) rest
+    before sel rest ≡ field (bare (map directive_view (out-Field f).directives.items)) (key_of (alias_of (out-Field f).alias) (name_of (out-Field f).name)) (out-Field f).name.text
+    (tree.erase_values (map argument_view (out-Field f).arguments.items)) (set_of (below_of (out-Field f).set)) rest
 field_is sel f rest e = ap (λ z. before_of z rest) (ap sel_view e ∙ view_field f)
 
 pub spread_is : (sel : Selection) (f : Spread) (rest : Set) → sel ≡ variant.Spread f → before sel rest ≡ spread (bare (map directive_view f.directives.items)) f.name.text rest

@@ -1,11 +1,11 @@
 -- The selections that the descent makes are those that stand there, and where a part of one is missing none stands.
-use Rattle.std.proofs.Common.{◌≡◌, ◌<◌, false, List, [], ◌∷◌, length, map, refl, ap, sym, subst, ◌∙◌, Option, Some, Vec, Global, arith, codes}
+use Rattle.std.proofs.Common.{◌≡◌, ◌<◌, false, List, [], ◌∷◌, length, map, refl, ap, sym, subst, ◌∙◌, Option, Some, Vec, Global, Box, arith, codes}
 use Rattle.std.specs.Option.{option_map}
 use Rattle.gq_text.specs.declared.place.Span.{Span}
 use Rattle.gq_lex.specs.declared.token.Kind.TheVariants as kind
 use Rattle.gq_tree.specs.Forest.{none, row}
 use Rattle.gq_tree.specs.Plain.{NameOf, Val, DirectiveOf, Head, Sel, Sels, field, spread, inline}
-use Rattle.gq_tree.specs.Views.{name_of, argument_view, directive_view, sel_view, sels_view, below_of, braces_of}
+use Rattle.gq_tree.specs.Views.{name_of, alias_of, argument_view, directive_view, sel_view, sels_view, below_of, braces_of}
 use Rattle.gq_tree.specs.declared.tree.Name.{Name}
 use Rattle.gq_tree.specs.declared.tree.Spread.{Spread}
 use Rattle.gq_tree.specs.declared.tree.SelectionSet.{SelectionSet}
@@ -36,11 +36,12 @@ seen_as : {x y : Sel Span} {tokens rest : Tokens} → y ≡ x → IsSel x tokens
 seen_as {tokens = tokens} {rest = rest} e v = subst (λ (z : Sel Span). IsSel z tokens rest) (sym e) v
 
 -- a field
-pub field_of : (x : Option Name) (n : Name) (arguments : Vec Argument Global) (directives : Vec Directive Global) (o : Option SelectionSet) (place : Span) {tokens a b c rest : Tokens} →
-    IsFieldName (option_map name_of x) (name_of n) tokens a → IsArguments false (map argument_view arguments.items) a b → IsDirectives false (map directive_view directives.items) b c → IsOptionalSet (braces_of o) (below_of o) c rest → place ≡ covered tokens rest →
+pub field_of : (x : Option (Box Name Global)) (n : Name) (arguments : Vec Argument Global) (directives : Vec Directive Global) (o : Option SelectionSet) (place : Span) {tokens a b c rest : Tokens} →
+    IsFieldName (alias_of x) (name_of n) tokens a → IsArguments false (map argument_view arguments.items) a b → IsDirectives false (map directive_view directives.items) b c →
+    IsOptionalSet (braces_of o) (below_of o) c rest → place ≡ covered tokens rest →
     IsSel (sel_view (variant.Field (roll-Field (record { alias = x; name = n; arguments = arguments; directives = directives; set = o; span = place })))) tokens rest
 field_of x n arguments directives o place {tokens} {a} {b} {c} {rest} h r d s e =
-    let F : Span → Sel Span = λ p. record { label = field (option_map name_of x) (name_of n) (map argument_view arguments.items) (map directive_view directives.items) (braces_of o) p; below = below_of o } in
+    let F : Span → Sel Span = λ p. record { label = field (alias_of x) (name_of n) (map argument_view arguments.items) (map directive_view directives.items) (braces_of o) p; below = below_of o } in
     seen_as (view_made x n arguments directives o place ∙ ap F e) (a_field a b c h r d s)
 
 -- a spread

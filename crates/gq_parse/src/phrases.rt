@@ -95,6 +95,17 @@ fn copied(alloc: Global, token: Token<'_>) -> Result<Literal, Miss>
     }
 }
 
+/// The value, in a box.
+pub(crate) fn boxed<T: Drop>(alloc: Global, inner: T) -> Result<Box<T>, Miss>
+    ensures ok { IfOk result (λ b. b.value ≡ inner) }
+    ensures err { IfErr result (λ e. e ≡ Miss.NoMemory) }
+{
+    match Box::new(alloc, inner) {
+        Ok(inner) => Ok(inner),
+        Err(_) => Err(Miss::NoMemory),
+    }
+}
+
 /// A name, and the index behind it.
 pub(crate) fn name(alloc: Global, tokens: &[Token<'_>], at: usize) -> Result<(Name, usize), Miss>
     ensures found { IfOk result (λ x. IsName (name_of x.0) (from tokens.now at) (from tokens.now x.1)) }

@@ -1,16 +1,17 @@
 //! Selection sets, by descent. Each function answers the phrase that stands at an index, and the index behind it.
 ghost use Rattle.std.specs.Prelude.{◌≡◌, ◌≢◌, true, false, ◌+◌, ◌<◌, ◌≤◌, ◌++◌, ◌∷◌, [], IfOk, IfErr, OnOk, Option, length, map};
-ghost use Rattle.std.specs.Option.{option_map};
 ghost use Rattle.gq_text.specs.declared.place.Span.{Span};
 ghost use Rattle.gq_lex.specs.declared.token.Kind.TheVariants as kind;
 ghost use Rattle.gq_tree.specs.Plain.{NameOf, Sels};
-ghost use Rattle.gq_tree.specs.Views.{name_of, sel_view, sels_view, below_of, braces_of};
+ghost use Rattle.gq_tree.specs.Views.{name_of, alias_of, sel_view, sels_view, below_of, braces_of};
 ghost use Rattle.gq_parse.specs.Grammar.{Tokens, covered, ManyUntil, NotNext, IsPunctuator, IsFragmentName, IsOptionalCondition, IsFieldName, IsOptionalSet, IsSelectionSet};
 ghost use Rattle.gq_parse.specs.Helping.From.{from};
 ghost use Rattle.gq_parse.specs.Helping.Phrases.{Lacks, IsSel};
 
 use crate::directives::directives;
-use crate::phrases::{Miss, covered, fragment_name, keyword, name, optional_condition, punctuator};
+use crate::phrases::{
+    Miss, boxed, covered, fragment_name, keyword, name, optional_condition, punctuator,
+};
 use crate::values::arguments;
 use gq_lex::{Kind, Token};
 use gq_tree::{Field, InlineFragment, Name, Selection, SelectionSet, Spread};
@@ -157,8 +158,8 @@ fn field_name(
     alloc: Global,
     tokens: &[Token<'_>],
     at: usize,
-) -> Result<(Option<Name>, Name, usize), Miss>
-    ensures found { IfOk result (λ x. IsFieldName (option_map name_of x.0) (name_of x.1) (from tokens.now at) (from tokens.now x.2)) }
+) -> Result<(Option<Box<Name>>, Name, usize), Miss>
+    ensures found { IfOk result (λ x. IsFieldName (alias_of x.0) (name_of x.1) (from tokens.now at) (from tokens.now x.2)) }
     ensures within { IfOk result (λ x. (at < x.2) × (x.2 ≤ length tokens.now)) }
     ensures none { IfErr result (λ miss. miss ≢ Miss.NoMemory → (alias : Option (NameOf Span)) (n : NameOf Span) (rest : Tokens) → IsFieldName alias n (from tokens.now at) rest → ⊥) }
 {
@@ -166,7 +167,8 @@ fn field_name(
     match punctuator(Kind::Colon, tokens, end) {
         Some(behind) => {
             let (second, end) = name(alloc, tokens, behind)?;
-            Ok((Some(first), second, end))
+            let alias = boxed(alloc, first)?;
+            Ok((Some(alias), second, end))
         }
         None => Ok((None, first, end)),
     }

@@ -1,11 +1,11 @@
 //! Type references, by descent. Each function answers the phrase that stands at an index, and the index behind it.
-ghost use Rattle.std.specs.Prelude.{◌≡◌, ◌≢◌, ◌+◌, ◌<◌, ◌≤◌, length, IfOk, IfErr};
+ghost use Rattle.std.specs.Prelude.{◌≢◌, ◌+◌, ◌<◌, ◌≤◌, length, IfOk, IfErr};
 ghost use Rattle.gq_tree.specs.Views.{type_view};
 ghost use Rattle.gq_parse.specs.Grammar.{IsType, IsNullableType};
 ghost use Rattle.gq_parse.specs.Helping.From.{from};
 ghost use Rattle.gq_parse.specs.Helping.Phrases.{Lacks};
 
-use crate::phrases::{Miss, name, punctuator};
+use crate::phrases::{Miss, boxed, name, punctuator};
 use gq_lex::{Kind, Token};
 use gq_tree::TypeRef;
 use std::alloc::Global;
@@ -53,15 +53,5 @@ fn nullable_type(alloc: Global, tokens: &[Token<'_>], at: usize) -> Result<(Type
             let (name, end) = name(alloc, tokens, at)?;
             Ok((TypeRef::Named(name), end))
         }
-    }
-}
-
-fn boxed(alloc: Global, inner: TypeRef) -> Result<Box<TypeRef>, Miss>
-    ensures ok { IfOk result (λ b. b.value ≡ inner) }
-    ensures err { IfErr result (λ e. e ≡ Miss.NoMemory) }
-{
-    match Box::new(alloc, inner) {
-        Ok(inner) => Ok(inner),
-        Err(_) => Err(Miss::NoMemory),
     }
 }

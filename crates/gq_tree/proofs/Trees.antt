@@ -6,7 +6,7 @@ use Rattle.std.specs.Option.{option_map}
 use Rattle.gq_text.specs.declared.place.Span.{Span}
 use Rattle.gq_tree.specs.Forest.{none, row}
 use Rattle.gq_tree.specs.Plain.{Val, variable, int, float, string, boolean, null, enum, list, object, unnamed, TypeOf, named, list_of, non_null, Sel, field, spread, inline}
-use Rattle.gq_tree.specs.Views.{name_of, value_step, entry_step, value_view, values_view, entry_view, entries_view, argument_view, directive_view, type_step, type_view, Braces, sel_view, sels_view, below_of, braces_of, sel_step, field_step, inline_step, set_step}
+use Rattle.gq_tree.specs.Views.{name_of, alias_of, value_step, entry_step, value_view, values_view, entry_view, entries_view, argument_view, directive_view, type_step, type_view, Braces, sel_view, sels_view, below_of, braces_of, sel_step, field_step, inline_step, set_step}
 use Rattle.gq_tree.specs.declared.tree.Name.{Name}
 use Rattle.gq_tree.specs.declared.tree.Spread.{Spread}
 use Rattle.gq_tree.specs.declared.tree.Selection.{Selection}
@@ -129,25 +129,33 @@ of_layer x = field_step (map-Field Selection Field InlineFragment SelectionSet (
     (fold-InlineFragment (Sel Span) (Sel Span) (Sel Span) Braces sel_step field_step inline_step set_step)
     set_view x)
 
-by_set : (alias : Option Name) (name : Name) (arguments : Vec Argument Global) (directives : Vec Directive Global) (o : Option SelectionSet) (place : Span) →
+by_set : (alias : Option (Box Name Global)) (name : Name) (arguments : Vec Argument Global) (directives : Vec Directive Global) (o : Option SelectionSet) (place : Span) →
     of_layer (record { alias = alias; name = name; arguments = arguments; directives = directives; set = o; span = place })
-    ≡ record { label = field (option_map name_of alias) (name_of name) (map argument_view arguments.items) (map directive_view directives.items) (braces_of o) place; below = below_of o }
+    ≡ record { label = field (alias_of alias) (name_of name) (map argument_view arguments.items) (map directive_view directives.items) (braces_of o) place; below = below_of o }
 by_set alias name arguments directives None place = refl
 by_set alias name arguments directives (Some s) place =
-    ap (λ (b : Braces). let one : Sel Span = record { label = field (option_map name_of alias) (name_of name) (map argument_view arguments.items) (map directive_view directives.items) (Some b.place) place; below = b.sels } in one) (view_set s)
+    let made : Braces → Sel Span = λ b. record {
+      label = field (alias_of alias) (name_of name) (map argument_view arguments.items) (map directive_view directives.items) (Some b.place) place;
+      below = b.sels;
+    } in
+    ap made (view_set s)
 
 -- a field that is read
 pub view_field : (f : Field) → sel_view (variant.Field f)
-    ≡ record { label = field (option_map name_of (out-Field f).alias) (name_of (out-Field f).name) (map argument_view (out-Field f).arguments.items) (map directive_view (out-Field f).directives.items) (braces_of (out-Field f).set) (out-Field f).span; below = below_of (out-Field f).set }
+    ≡ record {
+      label = field (alias_of (out-Field f).alias) (name_of (out-Field f).name) (map argument_view (out-Field f).arguments.items)
+          (map directive_view (out-Field f).directives.items) (braces_of (out-Field f).set) (out-Field f).span;
+      below = below_of (out-Field f).set;
+    }
 unfolding sel_view
 view_field f = ap sel_view (sym (rolls-Field f)) ∙ fold-roll-Selection (Sel Span) (Sel Span) (Sel Span) Braces sel_step field_step inline_step set_step (layer.Field f)
     ∙ fold_out-Field (Sel Span) (Sel Span) (Sel Span) Braces sel_step field_step inline_step set_step f
     ∙ by_set (out-Field f).alias (out-Field f).name (out-Field f).arguments (out-Field f).directives (out-Field f).set (out-Field f).span
 
 -- a field that was just made
-pub view_made : (alias : Option Name) (name : Name) (arguments : Vec Argument Global) (directives : Vec Directive Global) (o : Option SelectionSet) (place : Span) →
+pub view_made : (alias : Option (Box Name Global)) (name : Name) (arguments : Vec Argument Global) (directives : Vec Directive Global) (o : Option SelectionSet) (place : Span) →
     sel_view (variant.Field (roll-Field (record { alias = alias; name = name; arguments = arguments; directives = directives; set = o; span = place })))
-    ≡ record { label = field (option_map name_of alias) (name_of name) (map argument_view arguments.items) (map directive_view directives.items) (braces_of o) place; below = below_of o }
+    ≡ record { label = field (alias_of alias) (name_of name) (map argument_view arguments.items) (map directive_view directives.items) (braces_of o) place; below = below_of o }
 unfolding sel_view
 view_made alias name arguments directives o place =
     let made : layer.Field-F Selection Field InlineFragment SelectionSet = record { alias = alias; name = name; arguments = arguments; directives = directives; set = o; span = place } in

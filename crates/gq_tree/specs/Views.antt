@@ -1,7 +1,8 @@
 -- The plain trees that the code's trees stand for.
-use Rattle.std.specs.Prelude.{List, Option, Some, None, map}
+use Rattle.std.specs.Prelude.{List, Option, Some, None, map, Box}
 use Rattle.std.specs.Option.{option_map}
 use Rattle.std.specs.Arc.{arc_value}
+use Rattle.std.specs.declared.alloc.Global.{Global}
 use Rattle.gq_text.specs.declared.place.Span.{Span}
 use Rattle.gq_tree.specs.declared.tree.Name.{Name}
 use Rattle.gq_tree.specs.declared.tree.Selection.{Selection}
@@ -37,6 +38,10 @@ use Rattle.gq_tree.specs.Plain.{NameOf, Val, Vals, variable, int, float, string,
 -- a name
 abbrev pub name_of : Name → NameOf Span
 name_of n = record { text = n.text; place = n.span }
+
+-- the alias of a field, where it has one
+abbrev pub alias_of : Option (Box Name Global) → Option (NameOf Span)
+alias_of o = option_map (λ b. name_of b.value) o
 
 -- one layer of a value, and of a field of an object, whose parts are seen already
 abbrev pub value_step : Value-F (Val Span) (Val Span) → Val Span
@@ -115,7 +120,7 @@ sel_step (layer.Inline i) = i
 
 abbrev pub field_step : Field-F (Sel Span) (Sel Span) (Sel Span) Braces → Sel Span
 field_step f = record {
-  label = field (option_map name_of f.alias) (name_of f.name) (map argument_view f.arguments.items) (map directive_view f.directives.items) (place_of f.set) f.span;
+  label = field (alias_of f.alias) (name_of f.name) (map argument_view f.arguments.items) (map directive_view f.directives.items) (place_of f.set) f.span;
   below = sels_of f.set;
 }
 

@@ -27,7 +27,7 @@ pub enum Selection {
 #[derive(Drop)]
 #[cycle(tree)]
 pub struct Field {
-    pub alias: Option<Name>,
+    pub alias: Option<Box<Name>>,
     pub name: Name,
     pub arguments: Vec<Argument>,
     pub directives: Vec<Directive>,

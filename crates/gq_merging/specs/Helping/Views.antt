@@ -1,7 +1,6 @@
 -- What the code's fields, sets and tables stand for.
 use Rattle.std.specs.Prelude.{List, length, map}
-use Rattle.std.specs.Option.{option_map}
-use Rattle.gq_tree.specs.Views.{name_of, argument_view, below_of, sels_view}
+use Rattle.gq_tree.specs.Views.{name_of, alias_of, argument_view, below_of, sels_view}
 use Rattle.gq_tree.specs.declared.tree.Selection.TheViews.{out-Field}
 use Rattle.gq_types.specs.Look.{types_view, text_of}
 use Rattle.gq_document.specs.FieldSets.{SetOf, FieldAt}
@@ -20,7 +19,7 @@ abbrev pub field_at : StandingField → FieldAt
 field_at f = record {
   file = f.file;
   parent = text_of f.parent;
-  alias = option_map name_of (out-Field f.field.now).alias;
+  alias = alias_of (out-Field f.field.now).alias;
   name = name_of (out-Field f.field.now).name;
   arguments = map argument_view (out-Field f.field.now).arguments.items;
   place = (out-Field f.field.now).span;
