@@ -3,11 +3,13 @@
 
     python3 bench/latency.py PROGRAM [PROGRAM..] [--rounds N] [--sizes 12,50,200]
 
-Each program is run on one processor (taskset -c 0), beside a `check` of the same files by the same program. Each question
-and each keystroke is timed so often, and the best time is told in milliseconds and as a part of that check's time. A
-keystroke lasts until the last diagnostics notification that it brings. docs/PERFORMANCE.md has what was seen.
+Each program is run on one processor (taskset -c 0), beside a `check` of the same files by the same program. Sizes and programs take
+turns, so often, since a machine is faster in one minute than in the next. Of each question and keystroke the best time is told, in
+milliseconds, as a part of the best time of that check, and what it grows by from a project of a quarter of the files. A keystroke lasts
+until the last diagnostics notification that it brings. docs/PERFORMANCE.md has what was seen.
 """
 import argparse
+import contextlib
 import json
 import os
 import subprocess
@@ -22,6 +24,9 @@ BYTES_EACH = 20_000
 TYPES_A_FILE = 25
 LENGTH = b"Content-Length: "
 NOTHING_WRONG = b'"diagnostics":[]'
+OPERATIONS, SCHEMA = "q0.graphql", "s.graphql"
+CHECK, CHECK_MEMORY, MEMORY = "check", "memory of the check", "memory of the server, at the end"
+ASKED = 3  # how often a question is asked in a round
 CAPABILITIES = {
     "workspace": {"workspaceEdit": {"documentChanges": True}},
     "textDocument": {
@@ -160,19 +165,15 @@ def position(text, offset):
     return {"line": text.count("\n", 0, offset), "character": offset - (text.rfind("\n", 0, offset) + 1)}
 
 
-def best(rounds, what):
-    """The best time of so many, in milliseconds, and the last result."""
-    times, result = [], None
-    for _ in range(rounds):
-        start = time.perf_counter()
-        result = what()
-        times.append(time.perf_counter() - start)
-    return min(times) * 1000, result
+def timed(what):
+    """How long it takes, in milliseconds, and its result."""
+    start = time.perf_counter()
+    result = what()
+    return (time.perf_counter() - start) * 1000, result
 
 
-def checked(program, folder, files, rounds):
-    """The best time of a check on one processor, in milliseconds, and its memory in MB."""
-    names = [os.path.join(folder, name) for name in sorted(files)]
+def checked(program, names):
+    """How long a check of a valid project of these files takes on one processor, in milliseconds, and its memory in MB."""
 
     def check():
         done = subprocess.Popen(["taskset", "-c", "0", program, "check", *names], stdout=subprocess.PIPE)
@@ -181,79 +182,101 @@ def checked(program, folder, files, rounds):
         done.returncode = os.waitstatus_to_exitcode(status)
         return out, used.ru_maxrss / 1024
 
-    spent, (out, memory) = best(rounds, check)
+    spent, (out, memory) = timed(check)
     if out != b"ok\n":
         sys.exit("the project is not valid")
     return spent, memory
 
 
-def typed(client, rounds, uri, text, offset):
-    """A space is typed, and taken away again: the best time of both."""
-    there, behind = position(text, offset), position(text, offset)
-    behind["character"] += 1
-    spent = []
-    for _ in range(rounds):
+class Project:
+    """A project on the disk, and the least time of each thing that was done with it, by program."""
+
+    def __init__(self, count, folder):
+        self.count, self.folder = count, folder
+        self.files = dict(large(count, BYTES_EACH, True, TYPES_A_FILE * count))
+        self.uri = {name: "file:///project/" + name for name in self.files}
+        self.least = {}
+        for name, text in self.files.items():
+            with open(os.path.join(folder, name), "w", encoding="utf-8") as out:
+                out.write(text)
+
+    def note(self, program, what, spent):
+        times = self.least.setdefault(program, {})
+        times[what] = min(spent, times.get(what, spent))
+
+    def check(self, program):
+        """Checks the project."""
+        spent, memory = checked(program, [os.path.join(self.folder, name) for name in sorted(self.files)])
+        self.note(program, CHECK, spent)
+        self.note(program, CHECK_MEMORY, memory)
+
+    def type(self, program, client, name, what, offset):
+        """A space is typed, and taken away again."""
+        there, behind = (position(self.files[name], offset) for _ in range(2))
+        behind["character"] += 1
         for start, end, new in ((there, there, " "), (there, behind, "")):
-            one, wrong = best(1, lambda: client.edit(uri, start, end, new))
-            spent.append(one)
+            spent, wrong = timed(lambda: client.edit(self.uri[name], start, end, new))
+            self.note(program, what, spent)
             if wrong:
                 sys.exit("something is wrong after a keystroke: %s" % wrong[:1])
-    return min(spent)
 
-
-def opened(program, files, uri):
-    """A session in which all files are open, and how long it took to open them, in milliseconds."""
-    client = Client(program)
-    client.ask("initialize", {"capabilities": CAPABILITIES, "processId": None, "rootUri": None})
-    client.tell("initialized", {})
-    frames = [(uri[name], opening(uri[name], files[name])) for name in sorted(files)]
-    spent, _ = best(1, lambda: client.open_all(frames))
-    return client, spent
-
-
-def session(program, files, rounds):
-    """What is timed in sessions over these files: pairs of a name and milliseconds."""
-    uri = {name: "file:///project/" + name for name in files}
-    opening = []
-    for _ in range(rounds - 1):
-        client, spent = opened(program, files, uri)
-        opening.append(spent)
+    def serve(self, program, is_last):
+        """A session in which all files are opened, and asked about. The last one goes on, and tells the memory that it takes."""
+        client = Client(program)
+        client.ask("initialize", {"capabilities": CAPABILITIES, "processId": None, "rootUri": None})
+        client.tell("initialized", {})
+        frames = [(self.uri[name], opening(self.uri[name], self.files[name])) for name in sorted(self.files)]
+        spent, _ = timed(lambda: client.open_all(frames))
+        self.note(program, "opening all files one after the other", spent)
+        text, schema = self.files[OPERATIONS], self.files[SCHEMA]
+        for what, method, params in questions(self.uri[OPERATIONS], text):
+            for _ in range(ASKED):
+                spent, answer = timed(lambda: client.ask(method, params))
+                if not answer.get("result"):
+                    sys.exit("no answer to %s: %s" % (what, str(answer)[:300]))
+                self.note(program, what, spent)
+        brace = text.index("{", text.index("fragment F0_0"))
+        for _ in range(100 if is_last else ASKED):
+            self.type(program, client, OPERATIONS, "a keystroke in a file of operations", brace)
+        self.type(program, client, SCHEMA, "a keystroke in the schema", schema.index("{"))
+        if is_last:
+            for _ in range(20):
+                client.ask(method, params)
+            self.note(program, MEMORY, client.memory())
         client.end()
-    client, spent = opened(program, files, uri)
-    rows = [("opening all files one after the other", min([*opening, spent]))]
-    name = "q0.graphql"
-    text, schema = files[name], files["s.graphql"]
-    field, spread, fragment = text.index("t0("), text.index("...F0_0") + 3, text.index("fragment F0_0") + 9
+
+    def tell(self, program, smaller):
+        """Prints the times of a program, each beside that of a check, and what it grew by since a project of a quarter of the files."""
+        times, before = self.least[program], smaller and smaller.least[program]
+        size = sum(map(len, self.files.values())) / 1e6
+        grows = ", which grows by %.1f" % (times[CHECK] / before[CHECK]) if before else ""
+        print("%s: %d files, %.1f MB; check %.0f ms%s, %.0f MB" % (program, len(self.files), size, times[CHECK], grows, times[CHECK_MEMORY]))
+        for what, spent in times.items():
+            if what in (CHECK, CHECK_MEMORY):
+                continue
+            unit, whole = ("MB", CHECK_MEMORY) if what == MEMORY else ("ms", CHECK)
+            grows = "  grows by %.1f" % (spent / before[what]) if before else ""
+            print("  %-40s %10.2f %s %8.4f of the check%s" % (what, spent, unit, spent / times[whole], grows), flush=True)
+
+
+def questions(uri, text):
+    """What is asked about a file of operations: of each its name, its method and its parameters. Code actions are the last."""
     brace = text.index("{", text.index("fragment F0_0"))
-    set_start, set_end = text.index("id", brace), text.index("size", brace)
+    start, end = text.index("id", brace), text.index("size", brace)
 
     def place(offset):
-        return {"textDocument": {"uri": uri[name]}, "position": position(text, offset)}
+        return {"textDocument": {"uri": uri}, "position": position(text, offset)}
 
-    def one(what, method, params, is_answer):
-        spent, answer = best(rounds, lambda: client.ask(method, params))
-        if not is_answer(answer.get("result")):
-            sys.exit("no answer to %s: %s" % (what, str(answer)[:300]))
-        rows.append((what, spent))
-
-    one("hover on a field", "textDocument/hover", place(field), bool)
-    one("hover on a fragment", "textDocument/hover", place(spread), bool)
-    one("definition of a field", "textDocument/definition", place(field), bool)
-    one("completion of a field", "textDocument/completion", place(set_start), bool)
-    one("prepareRename", "textDocument/prepareRename", place(spread), bool)
-    one("references", "textDocument/references", {**place(fragment), "context": {"includeDeclaration": True}}, bool)
-    one("rename of a fragment", "textDocument/rename", {**place(spread), "newName": "Renamed"}, bool)
-    actions = {"textDocument": {"uri": uri[name]}, "range": {"start": position(text, set_start), "end": position(text, set_end)}, "context": {"diagnostics": []}}
-    one("code actions", "textDocument/codeAction", actions, bool)
-    rows.append(("a keystroke in a file of operations", typed(client, rounds, uri[name], text, brace)))
-    rows.append(("a keystroke in the schema", typed(client, rounds, uri["s.graphql"], schema, schema.index("{"))))
-    for _ in range(100):
-        typed(client, 1, uri[name], text, brace)
-    for _ in range(20):
-        client.ask("textDocument/codeAction", actions)
-    memory = client.memory()
-    client.end()
-    return rows, memory
+    field, spread, fragment = place(text.index("t0(")), place(text.index("...F0_0") + 3), place(text.index("fragment F0_0") + 9)
+    yield "hover on a field", "textDocument/hover", field
+    yield "hover on a fragment", "textDocument/hover", spread
+    yield "definition of a field", "textDocument/definition", field
+    yield "completion of a field", "textDocument/completion", place(start)
+    yield "prepareRename", "textDocument/prepareRename", spread
+    yield "references", "textDocument/references", {**fragment, "context": {"includeDeclaration": True}}
+    yield "rename of a fragment", "textDocument/rename", {**spread, "newName": "Renamed"}
+    places = {"start": position(text, start), "end": position(text, end)}
+    yield "code actions", "textDocument/codeAction", {"textDocument": {"uri": uri}, "range": places, "context": {"diagnostics": []}}
 
 
 def main():
@@ -262,19 +285,16 @@ def main():
     words.add_argument("--rounds", type=int, default=9)
     words.add_argument("--sizes", default="12,50,200", help="numbers of files of operations")
     asked = words.parse_args()
-    for count in map(int, asked.sizes.split(",")):
-        files = dict(large(count, BYTES_EACH, True, TYPES_A_FILE * count))
-        with tempfile.TemporaryDirectory() as folder:
-            for name, text in files.items():
-                with open(os.path.join(folder, name), "w", encoding="utf-8") as out:
-                    out.write(text)
+    with contextlib.ExitStack() as folders:
+        projects = {count: Project(count, folders.enter_context(tempfile.TemporaryDirectory())) for count in map(int, asked.sizes.split(","))}
+        for number in range(asked.rounds):
+            for project in projects.values():
+                for program in asked.programs:
+                    project.check(program)
+                    project.serve(program, number == asked.rounds - 1)
+        for count, project in projects.items():
             for program in asked.programs:
-                check, check_memory = checked(program, folder, files, asked.rounds)
-                rows, memory = session(program, files, asked.rounds)
-                print("%s: %d files, %.1f MB; check %.0f ms, %.0f MB" % (program, len(files), sum(map(len, files.values())) / 1e6, check, check_memory))
-                for what, spent in rows:
-                    print("  %-40s %10.2f ms %8.4f of the check" % (what, spent, spent / check))
-                print("  %-40s %10.0f MB %8.2f of the check" % ("memory of the server, at the end", memory, memory / check_memory), flush=True)
+                project.tell(program, projects.get(count // 4))
 
 
 if __name__ == "__main__":

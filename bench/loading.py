@@ -11,7 +11,7 @@ import os
 import sys
 import tempfile
 
-from latency import BYTES_EACH, CAPABILITIES, TYPES_A_FILE, Client, best, checked, position
+from latency import BYTES_EACH, CAPABILITIES, TYPES_A_FILE, Client, checked, position, timed
 from projects import large
 
 
@@ -33,7 +33,7 @@ def first_reply(program, folder, rounds):
     """The best time from the start of the process to its first reply, in milliseconds."""
     times = []
     for _ in range(rounds):
-        spent, client = best(1, lambda: started(program, folder))
+        spent, client = timed(lambda: started(program, folder))
         times.append(spent)
         client.end()
     return min(times)
@@ -48,7 +48,7 @@ def first_rename(program, folder, files):
     uri = "file://" + os.path.join(folder, name)
     client.open(uri, text)
     asked = {"textDocument": {"uri": uri}, "position": position(text, offset), "newName": "Renamed"}
-    spent, answer = best(1, lambda: client.ask("textDocument/rename", asked))
+    spent, answer = timed(lambda: client.ask("textDocument/rename", asked))
     if not answer.get("result"):
         sys.exit("no rename: %s" % str(answer)[:300])
     memory = client.memory()
@@ -66,8 +66,9 @@ def main():
             for name, text in files.items():
                 with open(os.path.join(folder, name), "w", encoding="utf-8") as out:
                     out.write(text)
+            names = [os.path.join(folder, name) for name in sorted(files)]
             for program in asked.programs:
-                check, check_memory = checked(program, folder, files, asked.rounds)
+                check, check_memory = map(min, zip(*(checked(program, names) for _ in range(asked.rounds))))
                 reply = first_reply(program, folder, asked.rounds)
                 spent, memory = first_rename(program, folder, files)
                 print("%s: %s; check %.0f ms, %.0f MB" % (program, what, check, check_memory))
