@@ -24,7 +24,7 @@ With all growths refused from one on, several of these come, the last of them th
 and `rename` end with `gqls: NoMemory` and the status 3, and write nothing to standard output; what `--verbose` says may be missing, too.
 
 A program of rows may say of a row that it has no answer, or one that names the refusal, or that a project whose judgement found no
-memory is handed back, and may end early. One of lists of events may end early too, or go on with a question refused as above, or
+memory is handed back, or that the page on which a check writes, which takes memory, failed as a device; and it may end early. One of lists of events may end early too, or go on with a question refused as above, or
 without what is wrong with the documents.
 
 Anything else is printed: the case, the growth and the first difference. Behind that a table counts what the runs came to, by the file of
@@ -46,7 +46,7 @@ STATUS = 3
 ENDED = b"gqls: NoMemory\n"
 ASKS = {f"textDocument/{name}" for name in "hover definition references completion prepareRename rename codeAction".split()}
 MANY, SHARE = 6, 250
-NO_ANSWER = re.compile(rb'no answer"$|NoMemory|document lost|publishDiagnostics.*"diagnostics\\*":\[\]|told "\\n\d+ handed back"$')
+NO_ANSWER = re.compile(rb'no answer"$|NoMemory|gqls: Device|document lost|publishDiagnostics.*"diagnostics\\*":\[\]|told "\\n\d+ handed back"$')
 NOT_PUBLISHED = re.compile(rb': None, wanted "<- .*publishDiagnostics')
 OUTCOMES = "the same answer", "an ask refused", "not published", "a document lost", "ended with NoMemory", "else"
 SAME, REFUSED, UNPUBLISHED, LOST, END, WRONG = OUTCOMES
