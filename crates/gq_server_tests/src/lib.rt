@@ -1,5 +1,5 @@
-//! Tests of what no program shows of the server: growths that are refused, devices and folders that fail, and hands that take
-//! no more.
+//! Tests of what no program shows of the server: growths that are refused, devices and folders that fail, hands that take
+//! no more, runs with workers of which one is held, and the board between threads.
 #![tactic(auto)]
 
 #[cfg(test)]

@@ -1,3 +1,0 @@
-mod boards;
-mod runs;
-mod superseded;
