@@ -5,9 +5,8 @@
 
 The stored run (crates/gqls/stdin), each case of crates/gqls/cases, each session of crates/gqls/folders in which the folder stays as it
 is, and each row of crates/gqls/commands that writes no file is run with ample memory first, which counts its growths; TEXT keeps those that
-have it in their names. So is each file of crates/gq_rows/data and of crates/gq_sessions/data by the program of its crate, where that is
-built; these call the libraries. Then it is run with the Nth growth refused, and with all from the Nth on, for each N, or for so many at even
-distances where there are more (`--most`, by default 60; of the stored run each, and of each case that has so many as `--each` says or fewer).
+have it in their names. So is each file of crates/gq_rows/data by the program of that crate, where that is built; it calls the libraries.
+Then it is run with the Nth growth refused, and with all from the Nth on, for each N, or for so many at even distances where there are more (`--most`, by default 60; of the stored run each, and of each case that has so many as `--each` says or fewer).
 Only growths that the program itself asks for are counted. With `--minutes` no run begins that much later. scripts/refused_workers.py refuses
 growths to a server with workers.
 
@@ -24,8 +23,7 @@ With all growths refused from one on, several of these come, the last of them th
 and `rename` end with `gqls: NoMemory` and the status 3, and write nothing to standard output; what `--verbose` says may be missing, too.
 
 A program of rows may say of a row that it has no answer, or one that names the refusal, or that a project whose judgement found no
-memory is handed back, or that the page on which a check writes, which takes memory, failed as a device; and it may end early. One of lists of events may end early too, or go on with a question refused as above, or
-without what is wrong with the documents.
+memory is handed back, or that the page on which a check writes, which takes memory, failed as a device; and it may end early.
 
 Anything else is printed: the case, the growth and the first difference. Behind that a table counts what the runs came to, by the file of
 their case, and it is said how many cases were tried at each growth, and which were not; the status is 1 where one differed."""
@@ -46,8 +44,7 @@ STATUS = 3
 ENDED = b"gqls: NoMemory\n"
 ASKS = {f"textDocument/{name}" for name in "hover definition references completion prepareRename rename codeAction".split()}
 MANY, SHARE = 6, 250
-NO_ANSWER = re.compile(rb'no answer"$|NoMemory|gqls: Device|document lost|publishDiagnostics.*"diagnostics\\*":\[\]|told "\\n\d+ handed back"$')
-NOT_PUBLISHED = re.compile(rb': None, wanted "<- .*publishDiagnostics')
+NO_ANSWER = re.compile(rb'no answer"$|NoMemory|gqls: Device|told "\\n\d+ handed back"$')
 OUTCOMES = "the same answer", "an ask refused", "not published", "a document lost", "ended with NoMemory", "else"
 SAME, REFUSED, UNPUBLISHED, LOST, END, WRONG = OUTCOMES
 
@@ -169,13 +166,10 @@ def judged_command(case, ample, ran):
 
 
 def judged_rows(case, ample, ran):
-    """The same of a run of a program of rows, or of lists of events: there a list goes on otherwise behind what was refused."""
+    """The same of a run of a program of rows."""
     wanted = ample.output.splitlines()
     other = [line for line in ran.output.splitlines() if line not in wanted]
-    looked = other if case.name.startswith("gq_rows") else other[:1]
-    if looked and ran.status == 1 and not ran.errors and case.name.startswith("gq_sessions") and NOT_PUBLISHED.search(looked[0]):
-        return UNPUBLISHED, None
-    if ran.status != 1 or ran.errors or not all(NO_ANSWER.search(line.partition(b", wanted ")[0]) for line in looked):
+    if ran.status != 1 or ran.errors or not all(NO_ANSWER.search(line.partition(b", wanted ")[0]) for line in other):
         return WRONG, f"it ends with {ran.status} {ran.errors[-200:]!r}, and writes {other[:1]!r}"
     return (REFUSED if other else END), None
 

@@ -449,13 +449,12 @@ def commands():
 
 
 def programs_of_rows():
-    """The files of rows of gq_rows and of lists of gq_sessions, each run by the program that judges it, where that is built."""
-    for name in ("gq_rows", "gq_sessions"):
-        crate = os.path.join(os.path.dirname(CRATE), name)
-        program = os.path.join(crate, "out", name)
-        if not os.path.exists(program):
-            print(f"{program} is not built: its rows are not run", flush=True)
-            continue
-        for path in sorted(glob.glob(os.path.join(crate, "data", "*"))):
-            file = os.path.basename(path)
-            yield Case(f"{name}:{file}", [file], steps=[("bytes", (file, contents(path, b"")))], program=program)
+    """The files of rows of gq_rows, each run by the program that judges them, where that is built."""
+    crate = os.path.join(os.path.dirname(CRATE), "gq_rows")
+    program = os.path.join(crate, "out", "gq_rows")
+    if not os.path.exists(program):
+        print(f"{program} is not built: its rows are not run", flush=True)
+        return
+    for path in sorted(glob.glob(os.path.join(crate, "data", "*"))):
+        file = os.path.basename(path)
+        yield Case(f"gq_rows:{file}", [file], steps=[("bytes", (file, contents(path, b"")))], program=program)

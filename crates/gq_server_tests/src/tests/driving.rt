@@ -229,7 +229,7 @@ fn error(alloc: Global, id: u64, code: i64, words: &str) -> Result<String, Fail>
 }
 
 /// Whether each text has at most 4 MiB.
-fn are_texts(texts: &Project) -> bool
+pub fn are_texts(texts: &Project) -> bool
     ensures { result ≡ true → AreTexts texts.now }
 {
     texts

@@ -2,10 +2,10 @@
 ghost use Rattle.std.specs.Prelude.{◌≡◌, Some};
 ghost use Rattle.gq_events.specs.Machine.{start};
 
-use crate::no_answer::NoAnswer;
 use gq_desk::{Desk, Event, Out};
 use std::alloc::Global;
 use std::marker::Model;
+use std::test::Fail;
 
 /// So many events a list has, at most.
 const EVENTS_MAX: u64 = 1 << 32;
@@ -39,15 +39,15 @@ impl Taker {
     }
 
     /// What the desk puts out for an event.
-    pub fn step(&mut self, alloc: Global, event: Event) -> Result<Vec<Out>, NoAnswer> {
+    pub fn step(&mut self, alloc: Global, event: Event) -> Result<Vec<Out>, Fail> {
         if self.taken >= EVENTS_MAX {
-            return Err(NoAnswer);
+            return Err("too many events".into());
         }
         let stepped = self.desk.step(alloc, event);
         self.taken += 1;
         match stepped {
             Ok(outs) => Ok(outs),
-            Err(_) => Err(NoAnswer),
+            Err(fault) => Err(fault.into()),
         }
     }
 }

@@ -1,4 +1,9 @@
-# Lists of events that a desk with workers takes.
+//! Lists of events for a desk with workers, as `event_lists` judges them.
+
+/// The line on which they begin.
+pub const FIRST_LINE: usize = 6;
+
+pub const EVENTS: &str = r#"# Lists of events that a desk with workers takes.
 #
 # `workers N` begins a list. An event is `->` with a body from the client; `done NUMBER of TASK seeing TEXTS` for what a worker made of a job,
 # where the task is that of the job of a number or of a request's body, and the texts are the documents of now or those as the job of a
@@ -954,3 +959,4 @@ workers 2
 load file:///w/f.graphql text fragment A on Query{x}
 -> {"jsonrpc":"2.0","method":"exit"}
 stop 0
+"#;

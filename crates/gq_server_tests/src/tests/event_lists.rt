@@ -1,17 +1,18 @@
 //! Lists of events that a desk with workers takes, with what it puts out for each of them.
-ghost use Rattle.std.specs.Prelude.{◌≡◌, true};
 ghost use Rattle.gq_edit.specs.Workspace.{AreTexts};
 
-use crate::no_answer::NoAnswer;
-use crate::taker::Taker;
+use crate::tests::desk_events::{EVENTS, FIRST_LINE};
+use crate::tests::driving::are_texts;
+use crate::tests::taker::Taker;
 use gq_desk::{Done, Event, InputEnd, Job, Out, Task};
 use gq_events::{Load, LoadedContent, copy_task};
 use gq_kept::Kept;
 use gq_project::{Doc, DocChange, Project};
 use gq_rpc::{Incoming, Outgoing, Request, encode, read_message};
-use gq_text::text::TEXT_MAX;
 use gq_text::{OwnedText, PositionEncoding};
 use std::alloc::Global;
+use std::process::Abort;
+use std::test::Fail;
 
 /// A job that was handed on, and the documents that workers saw then.
 #[derive(Drop)]
@@ -34,7 +35,7 @@ struct Play {
 }
 
 /// What a worker that keeps nothing yet makes of a job.
-fn done_of(alloc: Global, number: u64, task: Task, texts: Project) -> Result<Done, NoAnswer>
+fn done_of(alloc: Global, number: u64, task: Task, texts: Project) -> Result<Done, Fail>
     requires { AreTexts texts }
 {
     let mut kept = Kept::of(alloc, &Project::new(alloc))?;
@@ -42,18 +43,18 @@ fn done_of(alloc: Global, number: u64, task: Task, texts: Project) -> Result<Don
 }
 
 /// The line for a message to the client.
-fn message_line(alloc: Global, message: &Outgoing) -> Result<String, NoAnswer> {
+fn message_line(alloc: Global, message: &Outgoing) -> Result<String, Fail> {
     let frame = String::from_utf8(encode(alloc, message)?)?;
     let mut line = String::new(alloc);
     match frame.as_str().split_once("\r\n\r\n") {
         Some((_, body)) => write!(line, "<- {body}")?,
-        None => return Err(NoAnswer),
+        None => return Err("a frame has no body".into()),
     }
     Ok(line)
 }
 
 /// The line for a change that workers are to see.
-fn change_line(alloc: Global, change: &DocChange) -> Result<String, NoAnswer> {
+fn change_line(alloc: Global, change: &DocChange) -> Result<String, Fail> {
     let mut line = String::new(alloc);
     match change {
         DocChange::Put(doc) => {
@@ -69,7 +70,7 @@ fn change_line(alloc: Global, change: &DocChange) -> Result<String, NoAnswer> {
 }
 
 /// The version that a word says: a number, or `null` for none.
-fn version_in(word: &str) -> Result<Option<i64>, NoAnswer> {
+fn version_in(word: &str) -> Result<Option<i64>, Fail> {
     if word == "null" {
         return Ok(None);
     }
@@ -77,24 +78,14 @@ fn version_in(word: &str) -> Result<Option<i64>, NoAnswer> {
 }
 
 /// The number behind the word, and what comes then.
-fn numbered<'a>(words: &'a str, word: &str) -> Result<(u64, &'a str), NoAnswer> {
+fn numbered<'a>(words: &'a str, word: &str) -> Result<(u64, &'a str), Fail> {
     let Some(rest) = words.strip_prefix(word) else {
-        return Err(NoAnswer);
+        return Err("a number is missing".into());
     };
     match rest.split_once(' ') {
         Some((number, rest)) => Ok((number.parse::<u64>()?, rest)),
         None => Ok((rest.parse::<u64>()?, "")),
     }
-}
-
-/// Whether each text has at most 4 MiB.
-fn are_texts(texts: &Project) -> bool
-    ensures { result ≡ true → AreTexts texts.now }
-{
-    texts
-        .documents()
-        .iter()
-        .all(|doc| doc.text.as_str().len() <= TEXT_MAX)
 }
 
 impl Play {
@@ -110,15 +101,15 @@ impl Play {
     }
 
     /// The job of that number, which was handed on.
-    fn given(&self, number: u64) -> Result<&Given, NoAnswer> {
+    fn given(&self, number: u64) -> Result<&Given, Fail> {
         match self.given.iter().find(|given| given.job.number == number) {
             Some(given) => Ok(given),
-            None => Err(NoAnswer),
+            None => Err("no job has that number".into()),
         }
     }
 
     /// The task that is meant: that of a job, or that of a request's body, with positions in UTF-16.
-    fn task(&self, word: &str) -> Result<Task, NoAnswer> {
+    fn task(&self, word: &str) -> Result<Task, Fail> {
         if !word.starts_with('{') {
             let given = self.given(word.parse::<u64>()?)?;
             return Ok(copy_task(self.alloc, &given.job.task)?);
@@ -126,14 +117,14 @@ impl Play {
         match read_message(self.alloc, word.as_bytes())? {
             Incoming::Request(id, request) => match request {
                 Request::Ask(question) => Ok(Task::Ask(PositionEncoding::Utf16, id, question)),
-                _ => Err(NoAnswer),
+                _ => Err("no question".into()),
             },
-            _ => Err(NoAnswer),
+            _ => Err("no request".into()),
         }
     }
 
     /// The documents that are meant: those of now, or those as a job was handed on.
-    fn texts(&self, word: &str) -> Result<Project, NoAnswer> {
+    fn texts(&self, word: &str) -> Result<Project, Fail> {
         if word == "now" {
             return Ok(self.seen.copied(self.alloc)?);
         }
@@ -142,12 +133,12 @@ impl Play {
     }
 
     /// Puts a document in place of the one of its key: a key, a version and a text.
-    fn change_text(&self, texts: &mut Project, words: &str) -> Result<(), NoAnswer> {
+    fn change_text(&self, texts: &mut Project, words: &str) -> Result<(), Fail> {
         let Some((key, rest)) = words.split_once(' ') else {
-            return Err(NoAnswer);
+            return Err("a key stands alone".into());
         };
         let Some((version, text)) = rest.split_once(' ') else {
-            return Err(NoAnswer);
+            return Err("a text is missing".into());
         };
         texts.put(Doc {
             key: OwnedText::from_str(self.alloc, key)?,
@@ -159,13 +150,13 @@ impl Play {
     }
 
     /// What a worker made of a job: `NUMBER of TASK seeing TEXTS`, and behind that `with KEY VERSION TEXT`.
-    fn done(&self, words: &str) -> Result<Done, NoAnswer> {
+    fn done(&self, words: &str) -> Result<Done, Fail> {
         let (number, rest) = numbered(words, "")?;
         let Some((task, rest)) = rest.split_once(" seeing ") else {
-            return Err(NoAnswer);
+            return Err("a job has no texts".into());
         };
         let Some(task) = task.strip_prefix("of ") else {
-            return Err(NoAnswer);
+            return Err("a job has no task".into());
         };
         let (seen, change) = match rest.split_once(" with ") {
             Some((seen, change)) => (seen, Some(change)),
@@ -176,21 +167,21 @@ impl Play {
             self.change_text(&mut texts, change)?;
         }
         if !are_texts(&texts) {
-            return Err(NoAnswer);
+            return Err("a text is too long".into());
         }
         done_of(self.alloc, number, self.task(task)?, texts)
     }
 
     /// What was loaded: `KEY text TEXT`, `KEY gone` or `KEY unfit`.
-    fn load(&self, words: &str) -> Result<Load, NoAnswer> {
+    fn load(&self, words: &str) -> Result<Load, Fail> {
         let Some((key, rest)) = words.split_once(' ') else {
-            return Err(NoAnswer);
+            return Err("a key stands alone".into());
         };
         let content = match rest.split_once(' ') {
             Some(("text", text)) => LoadedContent::Text(OwnedText::from_str(self.alloc, text)?),
             None if rest == "gone" => LoadedContent::Gone,
             None if rest == "unfit" => LoadedContent::Unfit,
-            _ => return Err(NoAnswer),
+            _ => return Err("nothing is loaded so".into()),
         };
         Ok(Load {
             key: OwnedText::from_str(self.alloc, key)?,
@@ -200,7 +191,7 @@ impl Play {
     }
 
     /// The event of a line, if it is one.
-    fn event(&self, word: &str, rest: &str) -> Result<Option<Event>, NoAnswer> {
+    fn event(&self, word: &str, rest: &str) -> Result<Option<Event>, Fail> {
         match word {
             "->" => Ok(Some(Event::Message(read_message(self.alloc, rest.as_bytes())?))),
             "load" => Ok(Some(Event::Load(self.load(rest)?))),
@@ -212,7 +203,7 @@ impl Play {
     }
 
     /// Takes what is put out, and answers the line for it.
-    fn take(&mut self, out: Out) -> Result<String, NoAnswer> {
+    fn take(&mut self, out: Out) -> Result<String, Fail> {
         let mut line = String::new(self.alloc);
         match out {
             Out::Reply(message) => return message_line(self.alloc, &message),
@@ -233,7 +224,7 @@ impl Play {
     }
 
     /// Lets the desk take an event.
-    fn step(&mut self, event: Event) -> Result<(), NoAnswer> {
+    fn step(&mut self, event: Event) -> Result<(), Fail> {
         let outs = self.desk.step(self.alloc, event)?;
         self.told = Vec::new(self.alloc);
         self.met = 0;
@@ -250,90 +241,59 @@ impl Play {
     }
 }
 
-/// What judging a file comes to.
-#[derive(Clone, Copy)]
-pub struct Judged {
-    pub lists: usize,
-    pub wrong: usize,
-}
-
-/// Prints what was told and what was wanted.
-fn tell(rt: &HostRuntime, place: (&str, usize), play: &Play, wanted: &str) -> Result<(), NoAnswer> {
-    let (name, number) = place;
-    println!(rt; "{name}:{number}: {:?}, wanted {wanted:?}", play.left())?;
-    Ok(())
-}
-
 /// Judges a line. An event wants that all that was put out for the one before was wanted.
-fn judge_line(
-    rt: &HostRuntime,
-    place: (&str, usize),
-    play: &mut Play,
-    line: &str,
-) -> Result<bool, NoAnswer> {
+fn judge_line<R: Abort>(rt: &R, number: usize, play: &mut Play, line: &str) -> Result<(), Fail> {
     let (word, rest) = line.split_once(' ').unwrap_or((line, ""));
     match play.event(word, rest)? {
         Some(event) => {
-            let is_right = play.left().is_none();
-            if !is_right {
-                tell(rt, place, play, "nothing more")?;
-            }
-            play.step(event)?;
-            Ok(is_right)
+            assert_eq!(rt; play.left(), None, "before line {number}");
+            play.step(event)
         }
         None => {
-            let is_right = play.left() == Some(line);
-            if !is_right {
-                tell(rt, place, play, line)?;
-            }
+            assert_eq!(rt; play.left(), Some(line), "line {number}");
             play.met = play.met.saturating_add(1);
-            Ok(is_right)
+            Ok(())
         }
     }
 }
 
 /// Begins a list: a new desk with so many workers.
-fn begin(alloc: Global, play: &mut Play, workers: &str) -> Result<(), NoAnswer> {
+fn begin(play: &mut Play, workers: &str) -> Result<(), Fail> {
     let workers = workers.parse::<u8>()?;
-    *play = Play::new(alloc, workers);
+    *play = Play::new(play.alloc, workers);
     Ok(())
 }
 
-/// Judges the lines of a file, and answers how many lists it has and how many lines are not as wanted.
-fn judge_lines(
-    rt: &HostRuntime,
-    name: &str,
-    text: &str,
-    play: &mut Play,
-) -> Result<Judged, NoAnswer> {
-    let mut judged = Judged { lists: 0, wrong: 0 };
-    for (number, line) in text.lines().enumerate() {
+/// Judges the lines of lists, and answers how many lists they are: `workers N` begins one.
+fn judge_lines<R: Abort>(rt: &R, play: &mut Play, text: &str) -> Result<usize, Fail> {
+    let mut lists: usize = 0;
+    for (index, line) in text.lines().enumerate() {
         if line.is_empty() || line.starts_with('#') {
             continue;
         }
-        let place = (name, number.saturating_add(1));
-        let is_right = match line.strip_prefix("workers ") {
+        let number = index.saturating_add(FIRST_LINE);
+        match line.strip_prefix("workers ") {
             Some(workers) => {
-                let is_right = play.left().is_none();
-                begin(rt.alloc(), play, workers)?;
-                judged.lists = judged.lists.saturating_add(1);
-                is_right
+                assert_eq!(rt; play.left(), None, "before line {number}");
+                begin(play, workers)?;
+                lists = lists.saturating_add(1);
             }
-            None => judge_line(rt, place, play, line)?,
-        };
-        if !is_right {
-            judged.wrong = judged.wrong.saturating_add(1);
+            None => judge_line(rt, number, play, line)?,
         }
     }
-    if play.left().is_some() {
-        judged.wrong = judged.wrong.saturating_add(1);
-    }
-    Ok(judged)
+    assert_eq!(rt; play.left(), None, "behind the last line");
+    Ok(lists)
 }
 
-/// Judges the lists of a file: `workers N` begins one.
-pub fn judge_events(rt: &HostRuntime, name: &str, text: &str) -> Result<Judged, NoAnswer> {
-    let mut play = Play::new(rt.alloc(), 0);
-    let judged = judge_lines(rt, name, text, &mut play)?;
-    Ok(judged)
+/// The same, the first list on a new desk.
+fn judge_events<R: Abort>(rt: &R, alloc: Global, text: &str) -> Result<usize, Fail> {
+    let mut play = Play::new(alloc, 0);
+    judge_lines(rt, &mut play, text)
+}
+
+#[test]
+fn a_desk_puts_out_what_lists_of_events_say(rt: HostRuntime) -> Result<(), Fail> {
+    let lists = judge_events(&rt, rt.alloc(), EVENTS)?;
+    assert_eq!(rt; lists, 24);
+    Ok(())
 }
