@@ -1,1 +1,2 @@
 pub mod LearnedLemmas
+pub mod MixedLemmas

@@ -1,1 +1,4 @@
 pub mod Known
+pub mod ExecutableDefinitions
+pub mod MixedFaults
+pub mod Helping

@@ -10,7 +10,7 @@ use Rattle.gq_tree.specs.Readings as reading
 use Rattle.gq_tree.specs.Readings.{ParsedOf, definitions_read}
 use Rattle.gq_rules.specs.Unread.{IsUnread}
 use Rattle.gq_rules.specs.Unread as unread
-use Rattle.gq_rules.specs.ExecutableDefinitions.{is_executable, first_of_type_system, IsMixed}
+use Rattle.gq_known.specs.ExecutableDefinitions.{is_executable, first_of_type_system, IsMixed}
 use Rattle.gq_rules.specs.Helping.Places.{unread_at, mixed_fault, mixed_at, each_from}
 
 -- where it stands

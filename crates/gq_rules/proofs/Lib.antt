@@ -1,5 +1,4 @@
 pub mod ItemLemmas
-pub mod MixedLemmas
 pub mod HalvesLemmas
 pub mod DemandLemmas
 pub mod WrongLemmas

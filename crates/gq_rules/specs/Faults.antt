@@ -6,7 +6,7 @@ use Rattle.gq_tree.specs.Readings.{ParsedOf}
 use Rattle.gq_type_system.specs.SchemaFaults.{IsSchemaFault}
 use Rattle.gq_rules.specs.Project.{type_system_of, executable_of}
 use Rattle.gq_rules.specs.Unread.{IsUnread}
-use Rattle.gq_rules.specs.ExecutableDefinitions.{IsMixed}
+pub use Rattle.gq_known.specs.ExecutableDefinitions.{is_executable, first_of_type_system, IsMixed}
 use Rattle.gq_rules.specs.RuleFaults.{IsRuleFault}
 
 -- what is told whatever else is wrong

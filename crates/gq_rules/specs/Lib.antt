@@ -1,6 +1,5 @@
 pub mod Project
 pub mod Unread
-pub mod ExecutableDefinitions
 pub mod RuleFaults
 pub mod Faults
 pub mod RestsOnFile

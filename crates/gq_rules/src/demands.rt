@@ -10,7 +10,6 @@ ghost use Rattle.gq_rules.specs.Helping.AllFaults.{AreFaultsOf};
 ghost use Rattle.gq_rules.specs.Faults.{IsFaultOf};
 ghost use Rattle.gq_rules.specs.Helping.Places.{unread_at, mixed_at, each_from};
 
-use crate::executable_definitions::{add_mixed, add_mixed_of};
 use crate::giving_back::give_back;
 use crate::unread::add_unread;
 use crate::wrong::add_wrong;
@@ -18,6 +17,7 @@ use crate::wrong_by_threads::add_wrong_by_threads;
 use gq_document::{AsParsed, type_system_entries};
 use gq_fault::{Fault, put_in_order};
 use gq_known::Known;
+use gq_known::executable_definitions::{add_mixed, add_mixed_of};
 use gq_parse::{read, read_by_threads};
 use gq_project::Doc;
 use gq_text::NoMemory;

@@ -3,7 +3,6 @@
 
 pub mod by_file;
 mod demands;
-mod executable_definitions;
 mod fields_by_threads;
 mod giving_back;
 pub mod known;

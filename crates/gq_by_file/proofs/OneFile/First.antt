@@ -3,7 +3,7 @@ use Rattle.std.proofs.Common.{◌≡◌, inl, inr, ℕ, List, [], ◌∷◌, Som
 use Rattle.gq_fault.specs.declared.fault.Fault.{Fault}
 use Rattle.gq_tree.specs.Readings.{ParsedOf}
 use Rattle.gq_rules.specs.Unread.{IsUnread, syntax, limit}
-use Rattle.gq_rules.specs.ExecutableDefinitions.{IsMixed}
+use Rattle.gq_rules.specs.Faults.{IsMixed}
 use Rattle.gq_rules.specs.Files.{in_file}
 use Rattle.gq_by_file.specs.OneFile.Laws.{UnreadAndMixedAreOfTheirFile, IsUnreadOrMixed}
 

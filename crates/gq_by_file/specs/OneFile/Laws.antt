@@ -9,8 +9,7 @@ use Rattle.gq_document.specs.Definitions.{OperationOf, FragmentOf}
 use Rattle.gq_rules.specs.RuleFaults.{IsRuleFault}
 use Rattle.gq_rules.specs.Project.{type_system_of, executable_of}
 use Rattle.gq_rules.specs.Unread.{IsUnread}
-use Rattle.gq_rules.specs.ExecutableDefinitions.{IsMixed}
-use Rattle.gq_rules.specs.Faults.{IsToldFirst, IsFaultOf}
+use Rattle.gq_rules.specs.Faults.{IsToldFirst, IsFaultOf, IsMixed}
 use Rattle.gq_rules.specs.Files.{alone, together, in_file, IsLocalFault, IsFaultAcross, IsOfItsFile}
 
 -- The local faults of files together are those of each file alone.

@@ -17,7 +17,7 @@ use Rattle.gq_renamed.specs.Projects.{AreTrees, number_behind, rename_trees}
 use Rattle.gq_renamed.specs.Projects as trees
 use Rattle.gq_rules.specs.Trees.{HasTree}
 use Rattle.gq_rules.specs.Unread.{IsUnread, syntax, limit}
-use Rattle.gq_rules.specs.ExecutableDefinitions.{is_executable, first_of_type_system, IsMixed}
+use Rattle.gq_rules.specs.Faults.{is_executable, first_of_type_system, IsMixed}
 use Rattle.gq_laws.proofs.Renaming.SameTypes.{IsExecutable, IsOfTypes, AreOfOneKind, executables_after, first_tree, other_trees}
 
 -- where no text is without a tree, what is read are the trees

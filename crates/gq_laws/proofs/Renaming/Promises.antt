@@ -9,8 +9,7 @@ use Rattle.gq_fault.specs.declared.fault.Fault.{Fault}
 use Rattle.gq_parse.specs.Parsed.{AreParsed}
 use Rattle.gq_tree.specs.Readings.{ParsedOf, definitions_read}
 use Rattle.gq_index.specs.Occurrences.{executables}
-use Rattle.gq_rules.specs.Faults.{IsFaultOf}
-use Rattle.gq_rules.specs.ExecutableDefinitions.{is_executable, first_of_type_system}
+use Rattle.gq_rules.specs.Faults.{IsFaultOf, is_executable, first_of_type_system}
 use Rattle.gq_rules.specs.Validity.{IsValid, IsInvalid}
 use Rattle.gq_laws.specs.Renaming.Helping.Paired.{VariablesAreDefined, SpreadsAreDefined}
 use Rattle.gq_laws.proofs.Renaming.SameTypes.{IsExecutable, IsOfTypes, AreOfOneKind}

@@ -17,10 +17,9 @@ use Rattle.gq_document.specs.Definitions.{OperationOf}
 use Rattle.gq_index.specs.Occurrences.{executables}
 use Rattle.gq_index.specs.VariableGroups.{IsOperationAt}
 use Rattle.gq_laws.specs.Renaming.Uses.{UsesAreThoseOfTheRules}
-use Rattle.gq_rules.specs.ExecutableDefinitions.{is_executable, first_of_type_system}
 use Rattle.gq_rules.specs.Project.{type_system_of, executable_of}
 use Rattle.gq_rules.specs.RuleFaults.{IsRuleFault}
-use Rattle.gq_rules.specs.Faults.{IsFaultOf, mixed, first as told_first, rule}
+use Rattle.gq_rules.specs.Faults.{IsFaultOf, mixed, first as told_first, rule, is_executable, first_of_type_system}
 use Rattle.gq_rules.specs.Validity.{IsValid}
 use Rattle.gq_laws.proofs.Renaming.Promises.{NothingIsDemanded}
 use Rattle.gq_laws.specs.Renaming.Helping.Paired.{VariablesAreDefined, SpreadsAreDefined}

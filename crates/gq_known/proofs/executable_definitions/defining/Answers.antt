@@ -3,7 +3,7 @@ use Rattle.std.proofs.Math.Seq.{drop-cons}
 use Rattle.gq_types.specs.Entries.{EntryOf, entries_view, entry_view}
 use Rattle.gq_types.specs.declared.entry.Entry.{Entry}
 use Rattle.gq_types.proofs.Gathered.{cases_cons}
-use Rattle.gq_rules.proofs.executable_definitions.defining.Goals as goal
+use Rattle.gq_known.proofs.executable_definitions.defining.Goals as goal
 
 -- the entry that comes is marked, and those behind it are still to come
 pub loop-entry-preserved : goal.loop-entry-preserved

@@ -1,12 +1,13 @@
-use Rattle.std.proofs.Common.{◌≡◌, ◌++◌, List, Bool, Contains, ap, sym, ◌∙◌, length, subst, ◌<◌}
+use Rattle.std.proofs.Common.{◌++◌, List, Bool, ap, ◌∙◌, length, subst, ◌<◌}
 use Rattle.std.proofs.lemmas.List.{length-map}
 use Rattle.std.proofs.lemmas.Result.{on_ok_weaker}
 use Rattle.gq_tree.specs.Readings.{readings_view, shared_view}
 use Rattle.gq_fault.specs.declared.fault.Fault.{Fault}
-use Rattle.gq_types.specs.Entries.{EntryOf, entries_view}
-use Rattle.gq_rules.specs.Helping.Places.{marked_mixed_at, each_from}
-use Rattle.gq_rules.proofs.MixedLemmas.{marked_are}
-use Rattle.gq_rules.proofs.executable_definitions.add_mixed_of.Goals as goal
+use Rattle.gq_types.specs.Entries.{entries_view}
+use Rattle.gq_known.specs.MixedFaults.{each_from}
+use Rattle.gq_known.specs.Helping.Marked.{marked_mixed_at}
+use Rattle.gq_known.proofs.MixedLemmas.{marked_are}
+use Rattle.gq_known.proofs.executable_definitions.add_mixed_of.Goals as goal
 
 pub returns : goal.returns
 returns c =

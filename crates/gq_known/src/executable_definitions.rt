@@ -6,10 +6,12 @@ ghost use Rattle.gq_tree.specs.Readings.{parsed_view, readings_view};
 ghost use Rattle.gq_document.specs.ReadBy.{read_by};
 ghost use Rattle.gq_tree.specs.Views.{def_view, type_system_view};
 ghost use Rattle.gq_type_system.specs.DefinedTwice.{definition_place};
-ghost use Rattle.gq_rules.specs.ExecutableDefinitions.{is_executable, first_of_type_system};
+ghost use Rattle.gq_known.specs.ExecutableDefinitions.{is_executable, first_of_type_system};
 ghost use Rattle.gq_types.specs.Entries.{EntryOf, entries_view};
-ghost use Rattle.gq_rules.specs.Project.{type_system_of};
-ghost use Rattle.gq_rules.specs.Helping.Places.{mixed_in, mixed_at, marked_mixed_at, each_from};
+ghost use Rattle.gq_types.specs.BuiltIn.{built_in};
+ghost use Rattle.gq_document.specs.Definitions.{entries_of};
+ghost use Rattle.gq_known.specs.MixedFaults.{mixed_in, mixed_at, each_from};
+ghost use Rattle.gq_known.specs.Helping.Marked.{marked_mixed_at};
 
 use gq_document::AsParsed;
 use gq_fault::{Code, Fault};
@@ -149,13 +151,13 @@ fn add_marked<R: AsParsed>(
 }
 
 /// The same as `add_mixed`, of documents of whose type system these are the definitions and extensions: no other document is looked at.
-pub(crate) fn add_mixed_of(
+pub fn add_mixed_of(
     alloc: Global,
     entries: &[Entry],
     readings: &[Arc<Parsed>],
     faults: &mut Vec<Fault>,
 ) -> Result<(), NoMemory>
-    ensures { OnOk result (entries_view entries.now ≡ type_system_of (readings_view readings.now)
+    ensures { OnOk result (entries_view entries.now ≡ built_in ++ entries_of (readings_view readings.now)
         → faults.new.items ≡ faults.old.items ++ each_from mixed_at 0 (readings_view readings.now)) }
 {
     let marks = defining(alloc, entries, readings.len())?;

@@ -1,6 +1,6 @@
 use Rattle.std.proofs.Common.{◌≡◌, ◌<◌, ◌⊎◌, true, false, Contains, drop, length, slice_index_or}
 use Rattle.gq_types.specs.Entries.{EntryOf, entries_view}
-use Rattle.gq_rules.proofs.executable_definitions.defining.Given as goal
+use Rattle.gq_known.proofs.executable_definitions.defining.Given as goal
 
 -- each of the entries is still to come, or its document is marked
 abbrev pub invariant-loop-entry : goal.invariant-loop-entry

@@ -1,7 +1,8 @@
 use Rattle.std.proofs.Common.{◌≡◌, ◌++◌, drop}
 use Rattle.gq_document.specs.ReadBy.{read_by}
-use Rattle.gq_rules.specs.Helping.Places.{marked_mixed_at, each_from}
-use Rattle.gq_rules.proofs.executable_definitions.add_marked.Given as goal
+use Rattle.gq_known.specs.MixedFaults.{each_from}
+use Rattle.gq_known.specs.Helping.Marked.{marked_mixed_at}
+use Rattle.gq_known.proofs.executable_definitions.add_marked.Given as goal
 
 abbrev pub invariant-loop-file : goal.invariant-loop-file
 invariant-loop-file g l =

@@ -1,7 +1,7 @@
 use Rattle.std.proofs.Common.{◌≡◌, ◌++◌, drop}
 use Rattle.gq_document.specs.ReadBy.{read_by}
-use Rattle.gq_rules.specs.Helping.Places.{mixed_at, each_from}
-use Rattle.gq_rules.proofs.executable_definitions.add_mixed.Given as goal
+use Rattle.gq_known.specs.MixedFaults.{mixed_at, each_from}
+use Rattle.gq_known.proofs.executable_definitions.add_mixed.Given as goal
 
 abbrev pub invariant-loop-file : goal.invariant-loop-file
 invariant-loop-file g l = l.faults.items ++ each_from mixed_at l.file (read_by g.R.AsParsed.as_parsed (drop l.file l.readings)) ≡ l.initial.faults.items ++ each_from mixed_at 0 (read_by g.R.AsParsed.as_parsed l.readings)

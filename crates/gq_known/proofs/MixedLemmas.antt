@@ -11,8 +11,9 @@ use Rattle.gq_types.specs.BuiltIn.{built_in}
 use Rattle.gq_types.specs.Entries.{EntryOf}
 use Rattle.gq_types.proofs.Gathered.{first}
 use Rattle.gq_document.specs.Definitions.{entry_in, entries_of}
-use Rattle.gq_rules.specs.ExecutableDefinitions.{is_executable, first_of_type_system}
-use Rattle.gq_rules.specs.Helping.Places.{mixed_fault, mixed_at, marked_mixed_at, each_from}
+use Rattle.gq_known.specs.ExecutableDefinitions.{is_executable, first_of_type_system}
+use Rattle.gq_known.specs.MixedFaults.{mixed_fault, mixed_at, each_from}
+use Rattle.gq_known.specs.Helping.Marked.{marked_mixed_at}
 
 -- the first definition of types is an entry of its document
 entry_of : (file : ℕ) (ds : List (Def Span)) (d : TypeSystemOf Span) → first_of_type_system ds ≡ Some d → (e : EntryOf) × (e.file ≡ file) × Contains (flat_map (entry_in file) ds) e
