@@ -3,3 +3,4 @@ pub mod NumberLemmas
 pub mod OutcomeLemmas
 pub mod PlaceLemmas
 pub mod RowLemmas
+pub mod TokenLemmas

@@ -4,7 +4,6 @@ use Rattle.std.specs.Prelude.{slice_index, if◌then◌else◌, nat_lt, option_m
 use Rattle.std.proofs.lemmas.Bool.{eqb-true, eq-eqb}
 use Rattle.std.proofs.lemmas.Grind.{common_steps}
 use Rattle.json.specs.Json as seen
-use Rattle.json.specs.Find.{as_number}
 use Rattle.fast_float.specs.Text.{Parts, IsInteger, scan, digits_of, minus}
 use Rattle.serde_json.specs.Data.{unsigned, negative, number}
 use Rattle.serde_json.specs.Read.{is_integer, float_of, number_from, number_of, of_json}
@@ -24,29 +23,16 @@ number_is s other i low = by_sign (slice_index s 0 == minus) refl
     by_sign true e = absurd (other (eqb-true (slice_index s 0) minus e))
     by_sign false e = in_digits (scan s) i low
 
-pub natural_seen : (j : seen.Json) (bytes text : List ℕ) (n : ℕ) → Some text ≡ as_number j → bytes ≡ text → (get_or bytes 0 0 ≡ 45 → ⊥) →
-    IsInteger (scan bytes) → digits_of (scan bytes) < 2 ^ 64 → n ≡ digits_of (scan bytes) → n < 2 ^ 63 → IsNatural j n
-natural_seen seen.null bytes text n e same other i low is below = cc
-natural_seen (seen.boolean b) bytes text n e same other i low is below = cc
-natural_seen (seen.number s) bytes text n e same other i low is below =
-    let here : bytes ≡ s = cc in
-    record {
-      is = ap (option_map number) (ap number_of (sym here) ∙ number_is bytes other i low ∙ ap (λ m. Some (unsigned m)) (sym is));
-      low = below;
-    }
-natural_seen (seen.string s) bytes text n e same other i low is below = cc
-natural_seen (seen.array js) bytes text n e same other i low is below = cc
-natural_seen (seen.object ms) bytes text n e same other i low is below = cc
+pub natural_seen : (bytes text : List ℕ) (n : ℕ) → bytes ≡ text → (get_or bytes 0 0 ≡ 45 → ⊥) → IsInteger (scan bytes) → digits_of (scan bytes) < 2 ^ 64 → n ≡ digits_of (scan bytes) → n < 2 ^ 63 →
+    IsNatural (seen.number text) n
+natural_seen bytes text n same other i low is below = record {
+  is = ap (option_map number) (ap number_of (sym same) ∙ number_is bytes other i low ∙ ap (λ m. Some (unsigned m)) (sym is));
+  low = below;
+}
 
 number_below : (s : List ℕ) (z : ℤ) → get_or s 0 0 ≡ 45 → number_from true (scan (drop 1 s)) ≡ Some (negative z) → number_of s ≡ Some (negative z)
 unfolding number_of
 number_below s z first is = ap (λ (b : Bool). if b then number_from true (scan (drop 1 s)) else number_from false (scan s)) (eq-eqb (slice_index s 0) minus first) ∙ is
 
-pub negative_seen : (j : seen.Json) (bytes text : List ℕ) (z : ℤ) → Some text ≡ as_number j → bytes ≡ text → get_or bytes 0 0 ≡ 45 →
-    number_from true (scan (drop 1 bytes)) ≡ Some (negative z) → of_json j ≡ Some (number (negative z))
-negative_seen seen.null bytes text z e same first is = cc
-negative_seen (seen.boolean b) bytes text z e same first is = cc
-negative_seen (seen.number s) bytes text z e same first is = let here : bytes ≡ s = cc in ap (option_map number) (ap number_of (sym here) ∙ number_below bytes z first is)
-negative_seen (seen.string s) bytes text z e same first is = cc
-negative_seen (seen.array js) bytes text z e same first is = cc
-negative_seen (seen.object ms) bytes text z e same first is = cc
+pub negative_seen : (bytes text : List ℕ) (z : ℤ) → bytes ≡ text → get_or bytes 0 0 ≡ 45 → number_from true (scan (drop 1 bytes)) ≡ Some (negative z) → of_json (seen.number text) ≡ Some (number (negative z))
+negative_seen bytes text z same first is = ap (option_map number) (ap number_of (sym same) ∙ number_below bytes z first is)

@@ -1,12 +1,9 @@
 -- Arguments that are put one after another are those that the members are read as.
-use Rattle.std.proofs.Common.{◌≡◌, ◌<◌, ◌+◌, ◌∷◌, [], ℕ, zero, suc, List, map, length, drop, get_or, Option, Some, None, Bor, Global, Ordering, Less, Equal, Greater, refl, sym, ◌∙◌, ap, ap₂, subst}
+use Rattle.std.proofs.Common.{◌≡◌, ◌∷◌, [], ℕ, zero, suc, List, map, Option, Some, None, Ordering, Less, Equal, Greater, refl, sym, ◌∙◌, ap, ap₂, subst}
 use Rattle.std.specs.Prelude.{insert, option_map, option_and_then}
 use Rattle.std.specs.Ordering.{nat_cmp, match_ordering}
 use Rattle.std.specs.Cmp.Lexicographic.{slice_cmp}
-use Rattle.std.proofs.lemmas.List.{drop_more}
 use Rattle.json.specs.Json as seen
-use Rattle.json.specs.Value.{value_view, members_view}
-use Rattle.json.specs.declared.value.Value.{Value as Seen}
 use Rattle.serde_json.specs.Data.{Data, object, Members, no_members, member, put}
 use Rattle.serde_json.specs.Read.{of_json, of_members}
 use Rattle.gq_meaning.specs.Values.{Value}
@@ -15,9 +12,6 @@ use Rattle.gq_table.specs.Views.{entry_view, under}
 use Rattle.gq_table.specs.declared.values.Entry.{Entry}
 use Rattle.gq_table_text.specs.Helping.Places.{place_of, ArePut}
 use Rattle.gq_table_text.specs.Helping.ReadAs.{read_as}
-
-abbrev Member : Type 0
-Member = Bor (List ℕ) × Seen Global
 
 -- ---- one member
 
@@ -68,7 +62,7 @@ module _ (x : Entry) (d : Data) (is : option_map (under x.name) (argument_value 
 
 -- ---- all members
 
-one_put : (all left : seen.Members) (k : List ℕ) (es new : List Entry) (x : Entry) (o : Option Data) (p : Option ℕ) (found : Members) →
+pub one_put : (all left : seen.Members) (k : List ℕ) (es new : List Entry) (x : Entry) (o : Option Data) (p : Option ℕ) (found : Members) →
     of_members all no_members ≡ option_and_then (λ d. of_members left (put k d found)) o → argument_entries found ≡ Some (map entry_view es) →
     option_map (under k) (option_and_then argument_value o) ≡ Some (entry_view x) → place_of x.name es ≡ p → option_map (λ at. insert es at x) p ≡ Some new → ArePut all left (map entry_view new)
 one_put all left k es new x None p found are read is place new_is = absurd cc
@@ -82,16 +76,6 @@ one_put all left k es new x (Some d) (Some at) found are read is place new_is =
       are_put = are ∙ ap (λ (n : List ℕ). of_members left (put n d found)) same;
       are_entries = put_now ∙ ap (λ (fs : List Entry). Some (map entry_view fs)) here;
     }
-
-pub one_more : (all : seen.Members) (ms : List Member) (i : ℕ) (m : Member) (es new : List Entry) (x : Entry) → i < length ms → m ≡ get_or ms i m →
-    ArePut all (members_view (drop i ms)) (map entry_view es) → option_map (under m.0.now) (read_as argument_value (value_view m.1)) ≡ Some (entry_view x) →
-    option_map (λ at. insert es at x) (place_of x.name es) ≡ Some new → ArePut all (members_view (drop (i + 1) ms)) (map entry_view new)
-one_more all ms i m es new x inside is earlier read new_is =
-    let there : members_view (drop i ms) ≡ seen.member m.0.now (value_view m.1) (members_view (drop (i + 1) ms)) =
-    ap members_view (drop_more ms i m inside) ∙ ap (λ (n : Member). seen.member n.0.now (value_view n.1) (members_view (drop (i + 1) ms))) (sym is) in
-    one_put all (members_view (drop (i + 1) ms)) m.0.now es new x (of_json (value_view m.1)) (place_of x.name es) earlier.found
-    (earlier.are_put ∙ ap (λ (ls : seen.Members). of_members ls earlier.found) there)
-    earlier.are_entries read refl new_is
 
 pub all_put : (all left : seen.Members) (es : List Value) → left ≡ seen.no_members → ArePut all left es → option_and_then argument_entries (of_members all no_members) ≡ Some es
 all_put all left es end p = ap (option_and_then argument_entries) (p.are_put ∙ ap (λ (ls : seen.Members). of_members ls p.found) end) ∙ p.are_entries

@@ -1,34 +1,23 @@
 //! Arguments of a row.
-ghost use Rattle.std.specs.Prelude.{◌≡◌, Some, codes, map, IfOk, IfSome, option_and_then};
-ghost use Rattle.std.specs.Option.{option_map};
-ghost use Rattle.json.specs.Json.{array};
-ghost use Rattle.json.specs.Value.{value_view, items_view, members_view};
-ghost use Rattle.serde_json.specs.Data.{string, no_members};
-ghost use Rattle.serde_json.specs.Read.{of_members};
-ghost use Rattle.gq_table.specs.Json.{argument_value, argument_under, argument_entries, arguments_of};
-ghost use Rattle.gq_table.specs.Views.{entry_view, under, value_view as argument_view};
-ghost use Rattle.gq_table_text.specs.Helping.ReadAs.{read_as};
+ghost use Rattle.std.specs.Prelude.{◌≡◌, ◌∷◌, suc, Some, codes, map, IfOk, IfSome};
+ghost use Rattle.json.specs.Reads.{token_of};
+ghost use Rattle.json.specs.Token.{begin_array, begin_object};
+ghost use Rattle.serde_json.specs.Data.{string};
+ghost use Rattle.gq_table.specs.Json.{argument_value, argument_under, arguments_of};
+ghost use Rattle.gq_table.specs.Views.{entry_view, value_view as argument_view};
+ghost use Rattle.gq_table_text.specs.Helping.ReadAs.{argument_named, BeginsWith, BeginWithArguments, IsPlainArgument};
 
 use crate::leaves::leaf;
 use crate::places::put;
+use crate::steps::{leave_object, next_text};
 use gq_table::numbers::is_number;
 use gq_table::{Entry, Leaf, Value as Argument};
 use gq_text::{NoMemory, SmallText};
-use json::Value;
+use json::{Reader, Token};
 use std::alloc::Global;
 
 /// How many arguments may stand beside one another, as each is looked for among those before it.
 const MOST_ARGUMENTS: usize = 64;
-
-/// A boolean, a text or an integer.
-fn plain_argument(alloc: Global, value: &Value<'_>) -> Result<Option<Argument>, NoMemory>
-    ensures { IfOk result (λ o. IfSome o (λ argument. read_as argument_value (value_view value.now) ≡ Some (argument_view argument))) }
-{
-    match leaf(alloc, value)? {
-        Some(leaf) => Ok(Some(Argument::Leaf(leaf))),
-        None => Ok(None),
-    }
-}
 
 /// The number that a text spells.
 #[tactic(auto, using(gq_table::proofs::Trees::values))]
@@ -56,30 +45,44 @@ fn text_under(alloc: Global, word: &str, text: &str) -> Result<Option<Argument>,
     Ok(None)
 }
 
-/// An argument: null, a leaf, the name of an enum value, or a list or an object of arguments.
-#[cycle(argument)]
-fn argument(alloc: Global, value: &Value<'_>) -> Result<Option<Argument>, NoMemory>
-    ensures { IfOk result (λ o. IfSome o (λ argument. read_as argument_value (value_view value.now) ≡ Some (argument_view argument))) }
+/// A boolean, a text or an integer.
+fn plain_argument(alloc: Global, token: Token<'_>) -> Result<Option<Argument>, NoMemory>
+    ensures { IfOk result (λ o. IfSome o (λ argument. IsPlainArgument (token_of token.entry) (argument_view argument))) }
 {
-    match value {
-        Value::Null => Ok(Some(Argument::Null)),
-        Value::Array(items) => list(alloc, items.as_slice()),
-        Value::Object(members) => match members.as_slice() {
-            [member] => tagged_argument(alloc, member.0, &member.1),
-            _ => Ok(None),
-        },
-        _ => plain_argument(alloc, value),
+    match leaf(alloc, token)? {
+        Some(leaf) => Ok(Some(Argument::Leaf(leaf))),
+        None => Ok(None),
     }
 }
 
-/// The list of these arguments.
+/// An argument: null, a leaf, the name of an enum value, or a list or an object of arguments.
 #[cycle(argument)]
-fn list(alloc: Global, values: &[Value<'_>]) -> Result<Option<Argument>, NoMemory>
-    ensures { IfOk result (λ o. IfSome o (λ argument. read_as argument_value (array (items_view values.now)) ≡ Some (argument_view argument))) }
+fn argument(
+    alloc: Global,
+    reader: &mut Reader<'_>,
+    depth: usize,
+) -> Result<Option<Argument>, NoMemory>
+    ensures { IfOk result (λ o. IfSome o (λ argument. BeginsWith argument_value depth reader.old reader.new (argument_view argument))) }
 {
-    let mut items = Vec::with_capacity(alloc, values.len())?;
-    for value in values {
-        match argument(alloc, value)? {
+    let Some(token) = reader.next() else {
+        return Ok(None);
+    };
+    match token {
+        Token::Null => Ok(Some(Argument::Null)),
+        Token::BeginArray if depth > 0 => list(alloc, reader, depth - 1),
+        Token::BeginObject if depth > 0 => tagged_argument(alloc, reader, depth - 1),
+        _ => plain_argument(alloc, token),
+    }
+}
+
+/// A list of arguments, behind its bracket.
+#[cycle(argument)]
+fn list(alloc: Global, reader: &mut Reader<'_>, depth: usize) -> Result<Option<Argument>, NoMemory>
+    ensures { IfOk result (λ o. IfSome o (λ argument. BeginsWith argument_value (suc depth) (begin_array ∷ reader.old) reader.new (argument_view argument))) }
+{
+    let mut items = Vec::new(alloc);
+    while !reader.take_end_array() {
+        match argument(alloc, reader, depth)? {
             Some(item) => items.push(item)?,
             None => return Ok(None),
         }
@@ -87,19 +90,38 @@ fn list(alloc: Global, values: &[Value<'_>]) -> Result<Option<Argument>, NoMemor
     Ok(Some(Argument::List(items)))
 }
 
-/// An argument under the word that says what it is.
+/// An argument under the word that says what it is, behind the brace in front of that word.
 #[cycle(argument)]
 fn tagged_argument(
     alloc: Global,
-    word: &str,
-    value: &Value<'_>,
+    reader: &mut Reader<'_>,
+    depth: usize,
 ) -> Result<Option<Argument>, NoMemory>
-    ensures { IfOk result (λ o. IfSome o (λ argument. read_as (argument_under word.now) (value_view value.now) ≡ Some (argument_view argument))) }
+    ensures { IfOk result (λ o. IfSome o (λ argument. BeginsWith argument_value (suc depth) (begin_object ∷ reader.old) reader.new (argument_view argument))) }
+{
+    let Some(Token::Key(word)) = reader.next() else {
+        return Ok(None);
+    };
+    match argument_under(alloc, word, reader, depth)? {
+        Some(argument) if leave_object(reader) => Ok(Some(argument)),
+        _ => Ok(None),
+    }
+}
+
+/// What stands under a word that says what it is.
+#[cycle(argument)]
+fn argument_under(
+    alloc: Global,
+    word: &str,
+    reader: &mut Reader<'_>,
+    depth: usize,
+) -> Result<Option<Argument>, NoMemory>
+    ensures { IfOk result (λ o. IfSome o (λ argument. BeginsWith (argument_under word.now) depth reader.old reader.new (argument_view argument))) }
 {
     if word == "object" {
-        return object(alloc, value);
+        return object(alloc, reader, depth);
     }
-    match value.as_str() {
+    match next_text(reader) {
         Some(text) => text_under(alloc, word, text),
         None => Ok(None),
     }
@@ -107,10 +129,14 @@ fn tagged_argument(
 
 /// An object of arguments.
 #[cycle(argument)]
-fn object(alloc: Global, value: &Value<'_>) -> Result<Option<Argument>, NoMemory>
-    ensures { IfOk result (λ o. IfSome o (λ argument. read_as (argument_under (codes "object")) (value_view value.now) ≡ Some (argument_view argument))) }
+fn object(
+    alloc: Global,
+    reader: &mut Reader<'_>,
+    depth: usize,
+) -> Result<Option<Argument>, NoMemory>
+    ensures { IfOk result (λ o. IfSome o (λ argument. BeginsWith (argument_under (codes "object")) depth reader.old reader.new (argument_view argument))) }
 {
-    match arguments(alloc, value)? {
+    match arguments(alloc, reader, depth)? {
         Some(entries) => Ok(Some(Argument::Object(entries))),
         None => Ok(None),
     }
@@ -118,10 +144,15 @@ fn object(alloc: Global, value: &Value<'_>) -> Result<Option<Argument>, NoMemory
 
 /// An argument under its name.
 #[cycle(argument)]
-fn named_argument(alloc: Global, name: &str, value: &Value<'_>) -> Result<Option<Entry>, NoMemory>
-    ensures { IfOk result (λ o. IfSome o (λ entry. option_map (under name.now) (read_as argument_value (value_view value.now)) ≡ Some (entry_view entry))) }
+fn named_argument(
+    alloc: Global,
+    name: &str,
+    reader: &mut Reader<'_>,
+    depth: usize,
+) -> Result<Option<Entry>, NoMemory>
+    ensures { IfOk result (λ o. IfSome o (λ entry. BeginsWith (argument_named name.now) depth reader.old reader.new (entry_view entry))) }
 {
-    let Some(value) = argument(alloc, value)? else {
+    let Some(value) = argument(alloc, reader, depth)? else {
         return Ok(None);
     };
     Ok(Some(Entry {
@@ -130,14 +161,24 @@ fn named_argument(alloc: Global, name: &str, value: &Value<'_>) -> Result<Option
     }))
 }
 
-/// The arguments that these members are, where each name is there once.
+/// The arguments up to the brace that closes their object, where each name is there once.
 #[cycle(argument)]
-fn entries_of(alloc: Global, members: &[(&str, Value<'_>)]) -> Result<Option<Vec<Entry>>, NoMemory>
-    ensures { IfOk result (λ o. IfSome o (λ entries. option_and_then argument_entries (of_members (members_view members.now) no_members) ≡ Some (map entry_view entries.items))) }
+fn entries_to_end(
+    alloc: Global,
+    reader: &mut Reader<'_>,
+    depth: usize,
+) -> Result<Option<Vec<Entry>>, NoMemory>
+    ensures { IfOk result (λ o. IfSome o (λ entries. BeginWithArguments depth reader.old reader.new (map entry_view entries.items))) }
 {
-    let mut entries = Vec::with_capacity(alloc, members.len())?;
-    for member in members {
-        let Some(entry) = named_argument(alloc, member.0, &member.1)? else {
+    let mut entries = Vec::new(alloc);
+    while let Ok(key) = reader.next_key() {
+        let Some(name) = key else {
+            return Ok(Some(entries));
+        };
+        if entries.len() == MOST_ARGUMENTS {
+            return Ok(None);
+        }
+        let Some(entry) = named_argument(alloc, name, reader, depth)? else {
             return Ok(None);
         };
         let is_new = put(&mut entries, entry)?;
@@ -145,19 +186,21 @@ fn entries_of(alloc: Global, members: &[(&str, Value<'_>)]) -> Result<Option<Vec
             return Ok(None);
         }
     }
-    Ok(Some(entries))
+    Ok(None)
 }
 
 /// The arguments of a row, or those in an object among them, in the order of their names, where they are few and have
 /// different names.
 #[cycle(argument)]
-pub(crate) fn arguments(alloc: Global, value: &Value<'_>) -> Result<Option<Vec<Entry>>, NoMemory>
-    ensures { IfOk result (λ o. IfSome o (λ entries. read_as arguments_of (value_view value.now) ≡ Some (map entry_view entries.items))) }
+pub(crate) fn arguments(
+    alloc: Global,
+    reader: &mut Reader<'_>,
+    depth: usize,
+) -> Result<Option<Vec<Entry>>, NoMemory>
+    ensures { IfOk result (λ o. IfSome o (λ entries. BeginsWith arguments_of depth reader.old reader.new (map entry_view entries.items))) }
 {
-    match value {
-        Value::Object(members) if members.len() <= MOST_ARGUMENTS => {
-            entries_of(alloc, members.as_slice())
-        }
+    match reader.next() {
+        Some(Token::BeginObject) if depth > 0 => entries_to_end(alloc, reader, depth - 1),
         _ => Ok(None),
     }
 }

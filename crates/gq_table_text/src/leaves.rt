@@ -1,26 +1,27 @@
 //! Numbers and leaves of a row.
 ghost use Rattle.std.specs.Prelude.{◌≡◌, Some, true, decimal, IfOk, IfSome};
 ghost use Rattle.std.specs.Fmt.{signed_decimal};
-ghost use Rattle.json.specs.Value.{value_view};
+ghost use Rattle.json.specs.Json.{number as seen_number};
+ghost use Rattle.json.specs.Reads.{token_of};
 ghost use Rattle.serde_json.specs.Data.{number, negative};
 ghost use Rattle.serde_json.specs.Read.{of_json, number_from};
 ghost use Rattle.gq_meaning.specs.Values.{number as number_leaf};
 ghost use Rattle.gq_table.specs.Json.{argument_value, leaf_of, leaf_value};
 ghost use Rattle.gq_table.specs.Views.{leaf_view};
-ghost use Rattle.gq_table_text.specs.Helping.ReadAs.{read_as, IsNatural};
+ghost use Rattle.gq_table_text.specs.Helping.ReadAs.{read_as, IsNatural, IsPlain};
 
 use fast_float::Numeral;
 use gq_table::Leaf;
 use gq_text::{NoMemory, SmallText};
 use itoa::Buffer;
-use json::Value;
+use json::Token;
 use std::alloc::Global;
 
 /// A natural number below 2^63 in digits alone.
-pub(crate) fn natural(value: &Value<'_>) -> Option<u64>
-    ensures { IfSome result (λ n. IsNatural (value_view value.now) n) }
+pub(crate) fn natural(text: &str) -> Option<u64>
+    ensures { IfSome result (λ n. IsNatural (seen_number text.now) n) }
 {
-    let bytes = value.as_number()?.as_bytes();
+    let bytes = text.as_bytes();
     if bytes.is_empty() || bytes[0] == b'-' {
         return None;
     }
@@ -37,10 +38,10 @@ fn below_zero(digits: &Numeral<'_>) -> Option<i64>
 }
 
 /// A negative integer of 64 bits in digits alone.
-fn negative(value: &Value<'_>) -> Option<i64>
-    ensures { IfSome result (λ z. of_json (value_view value.now) ≡ Some (number (negative z))) }
+fn negative(text: &str) -> Option<i64>
+    ensures { IfSome result (λ z. of_json (seen_number text.now) ≡ Some (number (negative z))) }
 {
-    let bytes = value.as_number()?.as_bytes();
+    let bytes = text.as_bytes();
     if bytes.is_empty() || bytes[0] != b'-' {
         return None;
     }
@@ -65,22 +66,28 @@ fn negative_leaf(alloc: Global, number: i64) -> Result<Leaf, NoMemory>
     Ok(Leaf::Number(SmallText::from_str(alloc, text)?))
 }
 
-/// A boolean, a text or an integer.
-pub(crate) fn leaf(alloc: Global, value: &Value<'_>) -> Result<Option<Leaf>, NoMemory>
-    ensures leaf { IfOk result (λ o. IfSome o (λ leaf. read_as leaf_of (value_view value.now) ≡ Some (leaf_view leaf))) }
-    ensures argument { IfOk result (λ o. IfSome o (λ leaf. read_as argument_value (value_view value.now) ≡ Some (leaf_value (leaf_view leaf)))) }
+/// An integer.
+fn integer(alloc: Global, text: &str) -> Result<Option<Leaf>, NoMemory>
+    ensures leaf { IfOk result (λ o. IfSome o (λ leaf. read_as leaf_of (seen_number text.now) ≡ Some (leaf_view leaf))) }
+    ensures argument { IfOk result (λ o. IfSome o (λ leaf. read_as argument_value (seen_number text.now) ≡ Some (leaf_value (leaf_view leaf)))) }
 {
-    if let Some(b) = value.as_bool() {
-        return Ok(Some(Leaf::Boolean(b)));
-    }
-    if let Some(text) = value.as_str() {
-        return Ok(Some(Leaf::Text(SmallText::from_str(alloc, text)?)));
-    }
-    if let Some(number) = natural(value) {
+    if let Some(number) = natural(text) {
         return Ok(Some(natural_leaf(alloc, number)?));
     }
-    match negative(value) {
+    match negative(text) {
         Some(number) => Ok(Some(negative_leaf(alloc, number)?)),
         None => Ok(None),
+    }
+}
+
+/// A boolean, a text or an integer.
+pub(crate) fn leaf(alloc: Global, token: Token<'_>) -> Result<Option<Leaf>, NoMemory>
+    ensures { IfOk result (λ o. IfSome o (λ leaf. IsPlain (token_of token.entry) (leaf_view leaf))) }
+{
+    match token {
+        Token::Bool(b) => Ok(Some(Leaf::Boolean(b))),
+        Token::String(text) => Ok(Some(Leaf::Text(SmallText::from_str(alloc, text)?))),
+        Token::Number(text) => integer(alloc, text),
+        _ => Ok(None),
     }
 }

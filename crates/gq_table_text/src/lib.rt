@@ -7,5 +7,6 @@ mod outcomes;
 mod places;
 mod row;
 pub mod rows;
+mod steps;
 
 pub use rows::read_in_rows;

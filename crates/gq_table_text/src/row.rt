@@ -1,81 +1,77 @@
 //! A row of a table.
-ghost use Rattle.std.specs.Prelude.{◌≡◌, Some, true, IfOk, IfSome};
-ghost use Rattle.std.specs.Str.{bytes_eq};
-ghost use Rattle.json.specs.Value.{value_view, members_view};
-ghost use Rattle.gq_table.specs.Json.{row_in};
+ghost use Rattle.std.specs.Prelude.{IfOk, IfSome};
 ghost use Rattle.gq_table.specs.Views.{row_view};
-ghost use Rattle.gq_table_text.specs.Helping.ReadAs.{read_as, AreParts};
+ghost use Rattle.gq_table_text.specs.Helping.ReadAs.{BeginsWithHead, BeginsWithRow};
 
 use crate::arguments::arguments;
-use crate::leaves::natural;
 use crate::outcomes::outcome;
+use crate::steps::{enter_member, leave_object, next_natural, next_text};
 use gq_table::Row;
 use gq_text::{NoMemory, SmallText};
-use json::Value;
+use json::{Reader, Token};
 use std::alloc::Global;
 
-/// The value of a member of that name.
-fn named<'v, 'a>(member: &'v (&'a str, Value<'a>), name: &str) -> Option<&'v Value<'a>>
-    ensures { IfSome result (λ v. (bytes_eq member.now.0.now name.now ≡ true) × (v.now ≡ member.now.1)) }
-{
-    if member.0 == name {
-        return Some(&member.1);
-    }
-    None
-}
+/// How deep what stands in a row may nest: JSON nests 127 deep, and a row is an object in an array in an object.
+const PART_DEPTH: usize = 124;
 
-/// What stands in a row.
+/// What stands in a row in front of its arguments.
 #[derive(Clone, Copy)]
-struct Parts<'v, 'a> {
-    type_name: &'v str,
+struct Head<'a> {
+    type_name: &'a str,
     number: u64,
-    field: &'v str,
-    arguments: &'v Value<'a>,
-    result: &'v Value<'a>,
+    field: &'a str,
 }
 
-/// The parts of a row whose members are `type`, `object`, `field`, `args` and `result` in this order.
-fn parts_of<'v, 'a>(members: &'v [(&'a str, Value<'a>)]) -> Option<Parts<'v, 'a>>
-    ensures { IfSome result (λ p. AreParts (members_view members.now) p.type_name.now p.number p.field.now (value_view p.arguments.now) (value_view p.result.now)) }
+/// Goes to the arguments of a row whose first members are `type`, `object`, `field` and `args` in this order.
+fn enter_row<'a>(reader: &mut Reader<'a>) -> Option<Head<'a>>
+    ensures { IfSome result (λ h. BeginsWithHead reader.old reader.new h.type_name.now h.number h.field.now) }
 {
-    let [type_name, number, field, arguments, result] = members else {
+    if !matches!(reader.next(), Some(Token::BeginObject)) || !enter_member(reader, "type") {
         return None;
-    };
-    let type_name = named(type_name, "type")?.as_str()?;
-    let number = natural(named(number, "object")?)?;
-    let field = named(field, "field")?.as_str()?;
-    let arguments = named(arguments, "args")?;
-    let result = named(result, "result")?;
-    Some(Parts {
+    }
+    let type_name = next_text(reader)?;
+    if !enter_member(reader, "object") {
+        return None;
+    }
+    let number = next_natural(reader)?;
+    if !enter_member(reader, "field") {
+        return None;
+    }
+    let field = next_text(reader)?;
+    if !enter_member(reader, "args") {
+        return None;
+    }
+    Some(Head {
         type_name,
         number,
         field,
-        arguments,
-        result,
     })
 }
 
-/// The row that a value is, where its members are `type`, `object`, `field`, `args` and `result` in this order, and its arguments and
-/// its result are as they mostly are. Else nothing, which says nothing of the value.
-pub(crate) fn row(alloc: Global, value: &Value<'_>) -> Result<Option<Row>, NoMemory>
-    ensures { IfOk result (λ o. IfSome o (λ row. read_as row_in (value_view value.now) ≡ Some (row_view row))) }
+/// The next row, where its members are `type`, `object`, `field`, `args` and `result` in this order, and its arguments and its result
+/// are as they mostly are. Else nothing, which says nothing of what stands there.
+pub(crate) fn next_row(alloc: Global, reader: &mut Reader<'_>) -> Result<Option<Row>, NoMemory>
+    ensures { IfOk result (λ o. IfSome o (λ row. BeginsWithRow reader.old reader.new (row_view row))) }
 {
-    let Value::Object(members) = value else {
+    let Some(head) = enter_row(reader) else {
         return Ok(None);
     };
-    let Some(parts) = parts_of(members.as_slice()) else {
+    let Some(arguments) = arguments(alloc, reader, PART_DEPTH)? else {
         return Ok(None);
     };
-    let Some(arguments) = arguments(alloc, parts.arguments)? else {
+    if !enter_member(reader, "result") {
+        return Ok(None);
+    }
+    let Some(result) = outcome(alloc, reader)? else {
         return Ok(None);
     };
-    let Some(result) = outcome(alloc, parts.result)? else {
+    if !leave_object(reader) {
         return Ok(None);
-    };
+    }
     Ok(Some(Row {
-        type_name: SmallText::from_str(alloc, parts.type_name)?,
-        number: parts.number,
-        field: SmallText::from_str(alloc, parts.field)?,
+        type_name: SmallText::from_str(alloc, head.type_name)?,
+        number: head.number,
+        field: SmallText::from_str(alloc, head.field)?,
         arguments,
         result,
     }))

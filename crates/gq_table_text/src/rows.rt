@@ -4,29 +4,15 @@ ghost use Rattle.std.specs.Str.{is_utf8};
 ghost use Rattle.serde_json.specs.Read.{read};
 ghost use Rattle.json.specs.Token.{begin_object, end_object, begin_array, key};
 ghost use Rattle.gq_table.specs.Json.{rows_of_json};
-ghost use Rattle.gq_table.specs.Views.{row_view, rows_view};
-ghost use Rattle.gq_table_text.specs.Helping.ReadAs.{BeginsWithRow, BeginWithRows, AreRowsOf};
+ghost use Rattle.gq_table.specs.Views.{rows_view};
+ghost use Rattle.gq_table_text.specs.Helping.ReadAs.{BeginWithRows, AreRowsOf};
 
-use crate::row::row;
+use crate::row::next_row;
 use gq_table::{Row, Table};
 use gq_text::NoMemory;
-use json::{Error, Reader, Scratch, Token, Value};
+use json::{Reader, Scratch, Token};
 use std::alloc::Global;
 use std::str::from_utf8;
-
-/// How deep a row may nest: JSON nests 127 deep, and rows stand in an array in an object.
-const ROW_DEPTH: usize = 125;
-
-/// The next row, where it is written as rows mostly are.
-fn next_row(alloc: Global, reader: &mut Reader<'_>) -> Result<Option<Row>, NoMemory>
-    ensures { IfOk result (λ o. IfSome o (λ row. BeginsWithRow reader.old reader.new (row_view row))) }
-{
-    match Value::read(alloc, reader, ROW_DEPTH) {
-        Ok(value) => row(alloc, &value),
-        Err(Error::OutOfMemory) => Err(NoMemory),
-        Err(_) => Ok(None),
-    }
-}
 
 /// The rows up to the bracket that closes their array, where each is written as rows mostly are.
 fn rows_to_end(alloc: Global, reader: &mut Reader<'_>) -> Result<Option<Vec<Row>>, NoMemory>

@@ -1,79 +1,96 @@
-use Rattle.std.proofs.Common.{◌≡◌, List, [], Some, map, true, subst, refl, sym, ◌∙◌, ap, arith, rules, append-nil, IfOk}
+use Rattle.std.proofs.Common.{◌≡◌, ◌∷◌, ◌-◌, ◌<◌, ℕ, suc, map, codes, refl, true, rules, subst, sym, ◌∙◌, ap, arith}
 use Rattle.std.specs.Bool.{IsTrue}
-use Rattle.std.specs.Option.{IfSome, option_map, option_and_then}
-use Rattle.std.proofs.lemmas.List.{drop_all}
-use Rattle.json.specs.Json as seen
-use Rattle.json.specs.Value.{value_view, items_view, members_view}
-use Rattle.json.proofs.Trees.{view-Array, view-Object}
-use Rattle.serde_json.specs.Data.{no_members}
-use Rattle.serde_json.specs.Read.{of_items}
-use Rattle.gq_table.specs.Json.{argument_items, argument_value, arguments_of}
-use Rattle.gq_table.specs.Views.{entry_view, under, value_view as argument_view}
-use Rattle.gq_table.proofs.Trees.{view_null as null_argument, view_list, view_object}
-use Rattle.gq_table.specs.declared.values.Entry.{Entry}
-use Rattle.gq_table_text.specs.Helping.ReadAs.{read_as}
-use Rattle.gq_table_text.proofs.OutcomeLemmas.{view_null}
-use Rattle.gq_table_text.proofs.ArgumentLemmas.{list_read, object_under, text_seen, word_seen}
-use Rattle.gq_table_text.proofs.PlaceLemmas.{all_put, object_read, one_more}
+use Rattle.std.specs.Prelude.{Some, None}
+use Rattle.std.specs.Option.{IfSome}
+use Rattle.json.specs.Token.{begin_object, key, null}
+use Rattle.json.specs.Json.{read_key}
+use Rattle.serde_json.specs.Data.{string}
+use Rattle.gq_table.specs.Json.{argument_items, argument_under, argument_value, arguments_of}
+use Rattle.gq_table.specs.Views.{entry_view, value_view as argument_view}
+use Rattle.gq_table.proofs.Trees.{view_null, view_list, view_object}
+use Rattle.gq_table_text.specs.Helping.ReadAs.{argument_named, AreReadBefore, ArePutBefore, BeginsWith, BeginWithArguments}
+use Rattle.gq_table_text.proofs.ArgumentLemmas.{all_read as all_put, arguments_seen, list_seen, none_put, null_seen, object_seen, one_more as one_more_put, text_seen, word_seen}
+use Rattle.gq_table_text.proofs.TokenLemmas.{all_read, found_weaker, map_push, none_read, one_more}
 use Rattle.gq_table_text.proofs.arguments.+argument.Goals as goal
 
 pub argument-returns-in-Null : goal.argument-returns-in-Null
-argument-returns-in-Null t c = ap (read_as argument_value) (ap value_view c.in-Null.is ∙ view_null) ∙ sym (ap Some null_argument)
+argument-returns-in-Null t c =
+    let front : c.args.reader.now ≡ null ∷ c.next.new.self = grind arith in
+    subst (BeginsWith argument_value c.args.depth c.args.reader.now c.next.new.self) (sym view_null) (null_seen c.args.depth c.args.reader.now c.next.new.self front)
 
-pub argument-returns-in-Array : goal.argument-returns-in-Array
-argument-returns-in-Array t c =
-    let there = ap value_view c.in-Array.is ∙ view-Array c.in-Array.items ∙ ap (λ us. seen.array (items_view us)) (sym c.as_slice.ensures.value) in
-    subst (λ r. IfOk c.list.result (λ o. IfSome o (λ v. r ≡ Some (argument_view v)))) (sym (ap (read_as argument_value) there)) c.list.ensures
-
-pub argument-returns-in-len1 : goal.argument-returns-in-len1
-argument-returns-in-len1 t c =
-    let there = ap value_view c.in-Object.is ∙ view-Object c.in-Object.members ∙ ap (λ ms. seen.object (members_view ms)) (sym c.as_slice-in-Object.ensures.value) in
-    subst (λ r. IfOk c.tagged_argument.result (λ o. IfSome o (λ v. r ≡ Some (argument_view v))))
-    (word_seen c.as_slice-in-Object.result.now c.member-item.result c.in-len1.len_at_least c.in-len1.len_below c.member-item.is ∙ sym (ap (read_as argument_value) there)) c.tagged_argument.ensures
+pub list-loop-alloc-preserved : goal.list-loop-alloc-preserved
+list-loop-alloc-preserved t c =
+    let next = c.argument.new.reader in
+    let depth = c.args.depth in
+    let item = c.in-Some.item in
+    let read = subst (λ o. IfSome o (λ a. BeginsWith argument_value depth c.take_end_array.new.self next (argument_view a))) c.in-Some.is c.in_ok-item.ensures in
+    let first = subst (λ ts. BeginsWith argument_value depth ts next (argument_view item)) c.loop-alloc-test.ensures.1 read in
+    let items = c.loop-alloc.items.items in
+    subst (AreReadBefore argument_items depth c.args.reader.now next) (sym (ap (map argument_view) c.in_ok-push-in-Some.ensures.items ∙ map_push argument_view items item))
+    (one_more argument_value argument_items (λ d ds. refl) depth c.args.reader.now c.loop-alloc.reader next (map argument_view items) (argument_view item) c.loop-alloc.invariant c.loop-alloc-test.ensures.0 first)
 
 pub list-returns : goal.list-returns
 list-returns t c =
-    let vs = c.args.values.now in
-    let none = drop_all c.loop-value.value-index vs (omega (arith, c.loop-value-test.false, c.loop-value.auto.value-index-end)) in
-    let all = c.loop-value.invariant [] (ap (λ us. option_and_then argument_items (of_items (items_view us))) none) ∙ ap Some (append-nil (map argument_view c.loop-value.items.items)) in
-    list_read (items_view vs) (map argument_view c.loop-value.items.items) all ∙ sym (ap Some (view_list c.loop-value.items))
+    let vs = map argument_view c.loop-alloc.items.items in
+    let new = c.take_end_array.new.self in
+    let read = all_read argument_items refl c.args.depth c.args.reader.now c.loop-alloc.reader new vs c.loop-alloc.invariant c.loop-alloc-test.ensures in
+    subst (BeginsWith argument_value (suc c.args.depth) _ new) (sym (view_list c.loop-alloc.items)) (list_seen c.args.depth c.args.reader.now new vs read)
 
 pub tagged_argument-returns-in-Some : goal.tagged_argument-returns-in-Some
 tagged_argument-returns-in-Some t c =
-    let is = sym (ap (option_map (λ s. s.now)) c.in-Some.is) ∙ c.as_str.ensures in
-    subst (λ r. IfOk c.text_under.result (λ o. IfSome o (λ v. r ≡ Some (argument_view v)))) (text_seen (value_view c.args.value.now) c.args.word.now c.in-Some.text.now is) c.text_under.ensures
+    let yes : IsTrue true = search rules in
+    let word = c.in-Some-Key.word.now in
+    let mid = c.next.new.self in
+    let after = c.argument_under.new.reader in
+    let front : c.args.reader.now ≡ key word ∷ mid = grind arith in
+    let read = subst (λ o. IfSome o (λ a. BeginsWith (argument_under word) c.args.depth mid after (argument_view a))) c.in-Some.is c.in_ok-argument.ensures in
+    word_seen c.args.depth c.args.reader.now mid after c.leave_object.new.reader word (argument_view c.in-Some.argument) front read (c.if-leave_object.ensures yes)
+
+pub argument_under-returns-in-Some : goal.argument_under-returns-in-Some
+argument_under-returns-in-Some t c =
+    let word = c.args.word.now in
+    let old = c.args.reader.now in
+    let new = c.next_text.new.reader in
+    found_weaker c.text_under.result
+    (λ a. argument_under word (string c.in-Some.text.now) ≡ Some (argument_view a))
+    (λ a. BeginsWith (argument_under word) c.args.depth old new (argument_view a))
+    (λ a e. text_seen c.args.depth old new word c.in-Some.text.now (argument_view a) (grind arith) e) c.text_under.ensures
 
 pub object-returns-in-Some : goal.object-returns-in-Some
 object-returns-in-Some t c =
-    let j = value_view c.args.value.now in
-    let read = subst (λ o. IfSome o (λ es. read_as arguments_of j ≡ Some (map entry_view es.items))) c.in-Some.is c.in_ok-entries.ensures in
-    object_under j (map entry_view c.in-Some.entries.items) read ∙ sym (ap Some (view_object c.in-Some.entries))
+    let old = c.args.reader.now in
+    let new = c.arguments.new.reader in
+    let read = subst (λ o. IfSome o (λ es. BeginsWith arguments_of c.args.depth old new (map entry_view es.items))) c.in-Some.is c.in_ok-entries.ensures in
+    subst (BeginsWith (argument_under (codes "object")) c.args.depth old new) (sym (view_object c.in-Some.entries)) (object_seen c.args.depth old new (map entry_view c.in-Some.entries.items) read)
 
-pub named_argument-returns : goal.named_argument-returns
-named_argument-returns t c =
-    let read = subst (λ o. IfSome o (λ v. read_as argument_value (value_view c.args.value.now) ≡ Some (argument_view v))) c.in-Some.is c.in_ok-value.ensures in
-    rw c.in_ok-from_str.ensures.text (ap (option_map (under c.args.name.now)) read)
+pub arguments-returns-in-Some-BeginObject : goal.arguments-returns-in-Some-BeginObject
+arguments-returns-in-Some-BeginObject t c =
+    let old = c.args.reader.now in
+    let mid = c.next.new.self in
+    let new = c.entries_to_end.new.reader in
+    let front : old ≡ begin_object ∷ mid = grind arith in
+    found_weaker c.entries_to_end.result
+    (λ es. BeginWithArguments (c.args.depth - 1) mid new (map entry_view es.items))
+    (λ es. BeginsWith arguments_of c.args.depth old new (map entry_view es.items))
+    (λ es e. arguments_seen c.args.depth old mid new (map entry_view es.items) c.if-depth-gt0.true front e) c.entries_to_end.ensures
 
-pub entries_of-loop-member-init : goal.entries_of-loop-member-init
-entries_of-loop-member-init t c = record { found = no_members; are_put = refl; are_entries = ap (λ (es : List Entry). Some (map entry_view es)) (sym c.in_ok-entries.ensures.items) }
+pub entries_to_end-loop-key-init : goal.entries_to_end-loop-key-init
+entries_to_end-loop-key-init t c =
+    subst (ArePutBefore c.args.depth c.args.reader.now c.args.reader.now) (sym (ap (map entry_view) c.new-entries.ensures.items)) (none_put c.args.depth c.args.reader.now)
 
-pub entries_of-loop-member-preserved : goal.entries_of-loop-member-preserved
-entries_of-loop-member-preserved t c =
+pub entries_to_end-loop-key-preserved : goal.entries_to_end-loop-key-preserved
+entries_to_end-loop-key-preserved t c =
     let yes : IsTrue true = search rules in
-    let is_new = subst IsTrue (sym c.if-not-is_new.false) yes in
-    let m = c.member-item.result in
-    let read = subst (λ o. IfSome o (λ x. option_map (under m.0.now) (read_as argument_value (value_view m.1)) ≡ Some (entry_view x))) c.in-Some.is c.in_ok-entry.ensures in
-    one_more (members_view c.args.members.now) c.args.members.now c.loop-member.member-index m c.loop-member.entries.items c.put.new.entries.items c.in-Some.entry (omega arith) c.member-item.is
-    c.loop-member.invariant read (c.in_ok-is_new.ensures is_new)
+    let name = c.in-Some.name.now in
+    let now = c.loop-key.reader in
+    let mid = c.next_key.new.self in
+    let next = c.named_argument.new.reader in
+    let first : read_key now ≡ Some (Some name, mid) = grind arith in
+    let read = subst (λ o. IfSome o (λ e. BeginsWith (argument_named name) c.args.depth mid next (entry_view e))) c.in-Some-2.is c.in_ok-entry.ensures in
+    let is_new = c.in_ok-is_new.ensures (subst IsTrue (sym c.if-not-is_new.false) yes) in
+    one_more_put c.args.depth c.args.reader.now now mid next name c.in-Some-2.entry c.loop-key.entries.items c.put.new.entries.items c.loop-key.invariant first read is_new
 
-pub entries_of-returns : goal.entries_of-returns
-entries_of-returns t c =
-    let ms = c.args.members.now in
-    let none = drop_all c.loop-member.member-index ms (omega (arith, c.loop-member-test.false, c.loop-member.auto.member-index-end)) in
-    all_put (members_view ms) _ (map entry_view c.loop-member.entries.items) (ap members_view none) c.loop-member.invariant
-
-pub arguments-returns-in-Object : goal.arguments-returns-in-Object
-arguments-returns-in-Object t c =
-    let there = ap value_view c.in-Object.is ∙ view-Object c.in-Object.members ∙ ap (λ us. seen.object (members_view us)) (sym c.as_slice.ensures.value) in
-    subst (λ r. IfOk c.entries_of.result (λ o. IfSome o (λ es. r ≡ Some (map entry_view es.items))))
-    (object_read (members_view c.as_slice.result.now) ∙ sym (ap (read_as arguments_of) there)) c.entries_of.ensures
+pub entries_to_end-returns-in_default-key : goal.entries_to_end-returns-in_default-key
+entries_to_end-returns-in_default-key t c =
+    let end : read_key c.loop-key.reader ≡ Some (None, c.next_key.new.self) = grind arith in
+    all_put c.args.depth c.args.reader.now c.loop-key.reader c.next_key.new.self (map entry_view c.loop-key.entries.items) c.loop-key.invariant end

@@ -1,6 +1,5 @@
 use Rattle.std.proofs.Common.{◌≡◌, Some, true, drop, sym, ◌∙◌, ap, arith, take_all, length-drop}
-use Rattle.std.specs.Option.{option_map}
-use Rattle.json.specs.Value.{value_view}
+use Rattle.json.specs.Json.{number as seen_number}
 use Rattle.fast_float.specs.Text.{scan}
 use Rattle.serde_json.specs.Data.{number, negative}
 use Rattle.serde_json.specs.Read.{number_from, of_json}
@@ -12,9 +11,8 @@ pub returns : goal.returns
 returns c =
     let s = c.as_bytes-bytes.result.now in
     let parts : c.scan.result ≡ scan (drop 1 s) = c.scan.ensures.parts ∙ ap scan (take_all _ (drop 1 s) (omega (arith, length-drop 1 s))) in
-    let text = sym (ap (option_map (λ s. s.now)) c.in_ok-as_number.was) ∙ c.as_number.ensures in
     if_some_weaker c.below_zero.result
     (λ z. number_from true c.scan.result ≡ Some (negative z))
-    (λ z. of_json (value_view c.args.value.now) ≡ Some (number (negative z)))
-    (λ z e. negative_seen (value_view c.args.value.now) s c.in_ok-as_number.field-0.now z text c.as_bytes-bytes.ensures.value c.if-bytes-ne45.false (ap (number_from true) (sym parts) ∙ e))
+    (λ z. of_json (seen_number c.args.text.now) ≡ Some (number (negative z)))
+    (λ z e. negative_seen s c.args.text.now z c.as_bytes-bytes.ensures.value c.if-bytes-ne45.false (ap (number_from true) (sym parts) ∙ e))
     c.below_zero.ensures

@@ -1,13 +1,12 @@
-use Rattle.std.proofs.Common.{◌≡◌, ◌++◌, List, Some, drop, map}
-use Rattle.std.specs.Option.{option_and_then}
-use Rattle.json.specs.Value.{items_view}
-use Rattle.serde_json.specs.Read.{of_items}
-use Rattle.gq_meaning.specs.Results.{Answer}
+use Rattle.std.proofs.Common.{ℕ, suc, map, length}
 use Rattle.gq_table.specs.Json.{result_items}
 use Rattle.gq_table.specs.Views.{answer_view}
+use Rattle.gq_table_text.specs.Helping.ReadAs.{AreReadBefore}
 use Rattle.gq_table_text.proofs.outcomes.outcomes.Given as goal
 
--- where the others can be read, all can
-abbrev pub invariant-loop-value : goal.invariant-loop-value
-invariant-loop-value l = (others : List Answer) → option_and_then result_items (of_items (items_view (drop l.value-index l.values))) ≡ Some others →
-    option_and_then result_items (of_items (items_view l.values)) ≡ Some (map answer_view l.outcomes.items ++ others)
+-- where the tokens that are left can be read, all can
+abbrev pub invariant-loop-alloc : goal.invariant-loop-alloc
+invariant-loop-alloc l = (depth : ℕ) → AreReadBefore result_items (suc (suc depth)) l.fn.reader l.reader (map answer_view l.outcomes.items)
+
+abbrev pub decreases-loop-alloc : goal.decreases-loop-alloc
+decreases-loop-alloc l = length l.reader
