@@ -30,7 +30,7 @@ pub struct Taken<'a> {
 }
 
 /// The selections in the braces of a field.
-fn selections_below(set: &Option<SelectionSet>) -> &[Selection]
+fn selections_below(set: &Option<Box<SelectionSet>>) -> &[Selection]
     ensures { set_in result.now ≡ set_of (below_of set.now) }
 {
     match set {

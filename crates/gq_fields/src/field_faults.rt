@@ -33,7 +33,7 @@ fn add_faults_of_field(
     file: usize,
     parent: Option<&str>,
     name: &Name,
-    set: &Option<SelectionSet>,
+    set: &Option<Box<SelectionSet>>,
     arguments: &[Argument],
     faults: &mut Vec<Fault>,
 ) -> Result<(), NoMemory>

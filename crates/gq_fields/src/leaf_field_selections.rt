@@ -11,7 +11,7 @@ use gq_text::NoMemory;
 use gq_tree::{Name, SelectionSet};
 use gq_types::Types;
 
-fn has_set(set: &Option<SelectionSet>) -> bool
+fn has_set(set: &Option<Box<SelectionSet>>) -> bool
     ensures { result ≡ is_some (braces_of set.now) }
 {
     match set {
@@ -50,7 +50,7 @@ pub(crate) fn add_wrong_selections(
     file: usize,
     found: Option<SelectedField<'_>>,
     name: &Name,
-    set: &Option<SelectionSet>,
+    set: &Option<Box<SelectionSet>>,
     faults: &mut Vec<Fault>,
 ) -> Result<(), NoMemory>
     ensures { OnOk result (faults.new.items ≡ faults.old.items ++ wrong_of_field (types_view types.now) file (name_of name.now) (is_some (braces_of set.now)) (selected_field_view found.entry)) }

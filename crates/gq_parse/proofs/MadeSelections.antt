@@ -36,7 +36,7 @@ seen_as : {x y : Sel Span} {tokens rest : Tokens} → y ≡ x → IsSel x tokens
 seen_as {tokens = tokens} {rest = rest} e v = subst (λ (z : Sel Span). IsSel z tokens rest) (sym e) v
 
 -- a field
-pub field_of : (x : Option (Box Name Global)) (n : Name) (arguments : Vec Argument Global) (directives : Vec Directive Global) (o : Option SelectionSet) (place : Span) {tokens a b c rest : Tokens} →
+pub field_of : (x : Option (Box Name Global)) (n : Name) (arguments : Vec Argument Global) (directives : Vec Directive Global) (o : Option (Box SelectionSet Global)) (place : Span) {tokens a b c rest : Tokens} →
     IsFieldName (alias_of x) (name_of n) tokens a → IsArguments false (map argument_view arguments.items) a b → IsDirectives false (map directive_view directives.items) b c →
     IsOptionalSet (braces_of o) (below_of o) c rest → place ≡ covered tokens rest →
     IsSel (sel_view (variant.Field (roll-Field (record { alias = x; name = n; arguments = arguments; directives = directives; set = o; span = place })))) tokens rest

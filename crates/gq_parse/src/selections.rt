@@ -47,7 +47,7 @@ fn optional_set(
     alloc: Global,
     tokens: &[Token<'_>],
     at: usize,
-) -> Result<(Option<SelectionSet>, usize), Miss>
+) -> Result<(Option<Box<SelectionSet>>, usize), Miss>
     requires { at ≤ length tokens.now }
     ensures found { IfOk result (λ x. IsOptionalSet (braces_of x.0) (below_of x.0) (from tokens.now at) (from tokens.now x.1)) }
     ensures within { IfOk result (λ x. (at ≤ x.1) × (x.1 ≤ length tokens.now)) }
@@ -56,6 +56,7 @@ fn optional_set(
     match punctuator(Kind::BraceOpen, tokens, at) {
         Some(_) => {
             let (set, end) = selection_set(alloc, tokens, at)?;
+            let set = boxed(alloc, set)?;
             Ok((Some(set), end))
         }
         None => Ok((None, at)),

@@ -129,7 +129,7 @@ of_layer x = field_step (map-Field Selection Field InlineFragment SelectionSet (
     (fold-InlineFragment (Sel Span) (Sel Span) (Sel Span) Braces sel_step field_step inline_step set_step)
     set_view x)
 
-by_set : (alias : Option (Box Name Global)) (name : Name) (arguments : Vec Argument Global) (directives : Vec Directive Global) (o : Option SelectionSet) (place : Span) →
+by_set : (alias : Option (Box Name Global)) (name : Name) (arguments : Vec Argument Global) (directives : Vec Directive Global) (o : Option (Box SelectionSet Global)) (place : Span) →
     of_layer (record { alias = alias; name = name; arguments = arguments; directives = directives; set = o; span = place })
     ≡ record { label = field (alias_of alias) (name_of name) (map argument_view arguments.items) (map directive_view directives.items) (braces_of o) place; below = below_of o }
 by_set alias name arguments directives None place = refl
@@ -138,7 +138,7 @@ by_set alias name arguments directives (Some s) place =
       label = field (alias_of alias) (name_of name) (map argument_view arguments.items) (map directive_view directives.items) (Some b.place) place;
       below = b.sels;
     } in
-    ap made (view_set s)
+    ap made (view_set s.value)
 
 -- a field that is read
 pub view_field : (f : Field) → sel_view (variant.Field f)
@@ -153,7 +153,7 @@ view_field f = ap sel_view (sym (rolls-Field f)) ∙ fold-roll-Selection (Sel Sp
     ∙ by_set (out-Field f).alias (out-Field f).name (out-Field f).arguments (out-Field f).directives (out-Field f).set (out-Field f).span
 
 -- a field that was just made
-pub view_made : (alias : Option (Box Name Global)) (name : Name) (arguments : Vec Argument Global) (directives : Vec Directive Global) (o : Option SelectionSet) (place : Span) →
+pub view_made : (alias : Option (Box Name Global)) (name : Name) (arguments : Vec Argument Global) (directives : Vec Directive Global) (o : Option (Box SelectionSet Global)) (place : Span) →
     sel_view (variant.Field (roll-Field (record { alias = alias; name = name; arguments = arguments; directives = directives; set = o; span = place })))
     ≡ record { label = field (alias_of alias) (name_of name) (map argument_view arguments.items) (map directive_view directives.items) (braces_of o) place; below = below_of o }
 unfolding sel_view

@@ -104,13 +104,13 @@ pub record Braces : Type 0 where
   pub sels : Sels Span
   pub place : Span
 
-abbrev pub place_of : Option Braces → Option Span
+abbrev pub place_of : Option (Box Braces Global) → Option Span
 place_of None = None
-place_of (Some b) = Some b.place
+place_of (Some b) = Some b.value.place
 
-abbrev pub sels_of : Option Braces → Sels Span
+abbrev pub sels_of : Option (Box Braces Global) → Sels Span
 sels_of None = none
-sels_of (Some b) = b.sels
+sels_of (Some b) = b.value.sels
 
 -- one layer of a selection, of a field, of an inline fragment and of a selection set, whose parts are seen already
 abbrev pub sel_step : Selection-F (Sel Span) (Sel Span) (Sel Span) Braces → Sel Span
@@ -139,13 +139,13 @@ abbrev pub sels_view : List Selection → Sels Span
 sels_view ss = row (map sel_view ss)
 
 -- the selections of a selection set, and its place; none where there is no selection set
-abbrev pub below_of : Option SelectionSet → Sels Span
+abbrev pub below_of : Option (Box SelectionSet Global) → Sels Span
 below_of None = none
-below_of (Some s) = sels_view s.items.items
+below_of (Some s) = sels_view s.value.items.items
 
-abbrev pub braces_of : Option SelectionSet → Option Span
+abbrev pub braces_of : Option (Box SelectionSet Global) → Option Span
 braces_of None = None
-braces_of (Some s) = Some s.span
+braces_of (Some s) = Some s.value.span
 
 -- a description, by its spelling
 abbrev pub literal_view : Literal → NameOf Span

@@ -31,7 +31,7 @@ pub struct Field {
     pub name: Name,
     pub arguments: Vec<Argument>,
     pub directives: Vec<Directive>,
-    pub set: Option<SelectionSet>,
+    pub set: Option<Box<SelectionSet>>,
     pub span: Span,
 }
 

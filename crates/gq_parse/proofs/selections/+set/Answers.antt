@@ -27,8 +27,8 @@ optional_set-returns-in_err-set-in-Some-clause-none t c =
     let p = err_from_is_err_and c.from_residual.result c.from_residual.ensures.1 in
     rw (p.1, p.2) (λ e o ss rest h. optional_set_missing c.in-Some.ensures.found (c.in_err-set-in-Some.ensures.none e) h)
 
-pub optional_set-returns-in_ok-set-in-Some-clause-found : goal.optional_set-returns-in_ok-set-in-Some-clause-found
-optional_set-returns-in_ok-set-in-Some-clause-found t c = optional_set_of c.in_ok-set-in-Some.ensures.found c.in_ok-set-in-Some.ensures.place
+pub optional_set-returns-in_ok-set-in-Some-2-clause-found : goal.optional_set-returns-in_ok-set-in-Some-2-clause-found
+optional_set-returns-in_ok-set-in-Some-2-clause-found t c = rw c.in_ok-set-in-Some-2.ensures.ok (optional_set_of c.in_ok-set-in-Some.ensures.found c.in_ok-set-in-Some.ensures.place)
 
 pub optional_set-returns-in-None-clause-found : goal.optional_set-returns-in-None-clause-found
 optional_set-returns-in-None-clause-found t c = no_set c.in-None.ensures.none
