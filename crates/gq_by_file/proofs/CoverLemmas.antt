@@ -1,9 +1,10 @@
 -- Covers of files: what is added to them, what stays, and that each file stands in one.
-use Rattle.std.proofs.Common.{◌≡◌, ◌↔◌, ◌⊎◌, ⊎_elim, inl, inr, ℕ, zero, suc, ◌+◌, ◌<◌, Bool, true, false, List, [], ◌∷◌, ◌++◌, ◌≤◌, All, Contains, slice_index_or, get_or, append-nil, drop, length, map, replicate, refl, sym, ap, ◌∙◌, subst, arith}
+use Rattle.std.proofs.Common.{◌≡◌, ◌↔◌, ◌⊎◌, ⊎_elim, inl, inr, ℕ, zero, suc, ◌+◌, ◌<◌, Bool, true, false, List, [], ◌∷◌, ◌++◌, ◌≤◌, All, Contains, slice_index_or, get_or, append-nil, drop, length, map, replicate, take, refl, sym, ap, ◌∙◌, subst, arith}
 use Rattle.std.specs.Prelude.{◌||◌}
 use Rattle.std.specs.List.{list_any}
 use Rattle.std.specs.declared.vec.Vec.{Vec}
 use Rattle.std.specs.declared.alloc.Global.{Global}
+use Rattle.std.proofs.lemmas.List.{take-append-drop}
 use Rattle.std.proofs.lemmas.List.Elements.{All-contains, All-contains_itself, Contains-append_left, Contains-append_right, Contains-append_cases}
 use Rattle.std.proofs.lemmas.List.Elements.{All-weaker}
 use Rattle.gq_fault.specs.declared.fault.Fault.{Fault}
@@ -101,6 +102,11 @@ module _ (x : ExecutableOf) (rows : List (Vec ℕ Global)) (links : AreLinks x r
 
   pub their_cover : (c : Cover) → c.files.items ≡ files → (given : List ℕ) → given ≡ files → ((f : Fault) → Contains c.faults.items f ↔ IsFaultBySpreads (within given x) f) → IsCover x c
   their_cover c of given is exact = whole_cover c of (λ f. subst (λ (fs : List ℕ). Contains c.faults.items f ↔ IsFaultBySpreads (within fs x) f) is (exact f))
+
+-- the halves, one behind the other
+pub both_halves : (count : ℕ) (all front back : List ℕ) → front ≡ take count all → back ≡ drop count all → all ≡ front ++ back
+both_halves count all front back is_front is_back =
+    sym (take-append-drop count all) ∙ ap (λ (ns : List ℕ). ns ++ drop count all) (sym is_front) ∙ ap (λ (ns : List ℕ). front ++ ns) (sym is_back)
 
 -- an item of a list, and a list that is walked to its end
 pub item_in : (ns : List ℕ) (i : ℕ) → i < length ns → Contains ns (get_or ns i 0)

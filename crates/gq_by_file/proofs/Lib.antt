@@ -9,3 +9,5 @@ pub mod PartLemmas
 pub mod ByNamesLemmas
 pub mod CleanLemmas
 pub mod AloneLemmas
+pub mod OwnLemmas
+pub mod ToldLemmas

@@ -46,7 +46,7 @@ map_at f (y ∷ ys) (suc n) x at = map_at f ys n x at
 row_of : (rows : List (Vec ℕ Global)) (names : List FileNames) → row_items rows ≡ links_among names → (n : ℕ) (one : FileNames) → slice_get names n ≡ Some one → row rows n ≡ linked_in names one
 row_of rows names is n one at = row_is rows n ∙ ap (λ ns. get_or ns n []) is ∙ map_at (linked_in names) names n one at
 
-rows_count : (rows : List (Vec ℕ Global)) (names : List FileNames) → row_items rows ≡ links_among names → length rows ≡ length names
+pub rows_count : (rows : List (Vec ℕ Global)) (names : List FileNames) → row_items rows ≡ links_among names → length rows ≡ length names
 rows_count rows names is = sym (length-map rows (λ v. v.items)) ∙ ap length is ∙ length-map names (linked_in names)
 
 -- the files with fragments of a name

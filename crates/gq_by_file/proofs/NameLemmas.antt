@@ -1,5 +1,5 @@
 -- The names of fragments in each file: one file by its number, one file more, and one replaced.
-use Rattle.std.proofs.Common.{◌≡◌, ℕ, zero, suc, ◌+◌, ◌<◌, ◌≤◌, List, [], ◌∷◌, ◌++◌, Option, Some, None, Bool, true, get_or, slice_get, slice_set, length, take}
+use Rattle.std.proofs.Common.{◌≡◌, ℕ, zero, suc, ◌+◌, ◌<◌, ◌≤◌, List, [], ◌∷◌, ◌++◌, Option, Some, None, Bool, true, get_or, map, slice_get, slice_set, length, take}
 use Rattle.std.proofs.Common.{refl, sym, ap, ◌∙◌, subst, arith}
 use Rattle.std.proofs.lemmas.List.{map-append, take_more}
 use Rattle.std.proofs.lemmas.Option.{none-some, same_Some}
@@ -9,7 +9,7 @@ use Rattle.std.specs.Cmp.Lexicographic.{bytes_decides, pointwise, pointwise_deci
 use Rattle.std.specs.Option.{option_eq}
 use Rattle.std.specs.Str.{bytes_eq}
 use Rattle.gq_types.specs.Entries.{Text}
-use Rattle.gq_tree.specs.Readings.{ParsedOf, SharedParsed, shared_view, readings_view}
+use Rattle.gq_tree.specs.Readings.{ParsedOf}
 use Rattle.gq_by_file.specs.Names.{AreNames, AreNamesIn, none, more}
 use Rattle.gq_by_file.specs.declared.names.FileNames.{FileNames}
 use Rattle.gq_by_file.specs.Helping.SameNames.{AreSameNames}
@@ -37,12 +37,12 @@ pub names_push : (r : ParsedOf) (one : FileNames) {rs : List ParsedOf} {names : 
 names_push r one is none = more is none
 names_push r one is (more h hs) = more h (names_push r one is hs)
 
-pub names_next : (readings : List SharedParsed) (i : ℕ) (reading : SharedParsed) (old new : List FileNames) (one : FileNames) → i < length readings → reading ≡ get_or readings i reading → AreNamesIn (shared_view reading) one →
-    AreNames (readings_view (take i readings)) old → new ≡ old ++ one ∷ [] → AreNames (readings_view (take (i + 1) readings)) new
-names_next readings i reading old new one below at is are more_is =
-    let longer : take (i + 1) readings ≡ take i readings ++ reading ∷ [] = take_more readings i reading below ∙ ap (λ z. take i readings ++ z ∷ []) (sym at) in
-    let same : readings_view (take (i + 1) readings) ≡ readings_view (take i readings) ++ shared_view reading ∷ [] = ap readings_view longer ∙ map-append shared_view (take i readings) (reading ∷ []) in
-    subst (λ (rs : List ParsedOf). AreNames rs new) (sym same) (subst (λ (names : List FileNames). AreNames (readings_view (take i readings) ++ shared_view reading ∷ []) names) (sym more_is) (names_push (shared_view reading) one is are))
+pub names_next : {A : Type 0} (view : A → ParsedOf) (readings : List A) (i : ℕ) (reading : A) (old new : List FileNames) (one : FileNames) → i < length readings → reading ≡ get_or readings i reading → AreNamesIn (view reading) one →
+    AreNames (map view (take i readings)) old → new ≡ old ++ one ∷ [] → AreNames (map view (take (i + 1) readings)) new
+names_next {A} view readings i reading old new one below at is are more_is =
+    let longer : take (i + 1) readings ≡ take i readings ++ reading ∷ [] = take_more readings i reading below ∙ ap (λ (z : A). take i readings ++ z ∷ []) (sym at) in
+    let same : map view (take (i + 1) readings) ≡ map view (take i readings) ++ view reading ∷ [] = ap (λ (xs : List A). map view xs) longer ∙ map-append view (take i readings) (reading ∷ []) in
+    subst (λ (rs : List ParsedOf). AreNames rs new) (sym same) (subst (λ (names : List FileNames). AreNames (map view (take i readings) ++ view reading ∷ []) names) (sym more_is) (names_push (view reading) one is are))
 
 -- the same where the names stay
 pub names_stay : (at : ℕ) (r : ParsedOf) (one : FileNames) {rs : List ParsedOf} {names : List FileNames} → AreNamesIn r one → slice_get names at ≡ Some one → AreNames rs names → AreNames (slice_set rs at r) names

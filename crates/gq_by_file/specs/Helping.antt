@@ -6,3 +6,4 @@ pub mod Learned
 pub mod Links
 pub mod Marks
 pub mod SameNames
+pub mod Told

@@ -1,11 +1,11 @@
 //! What is told of a file by itself, and rests on it and the type system alone.
-ghost use Rattle.std.specs.Prelude.{◌≡◌, ◌↔◌, [], Contains, IfOk, filter};
+ghost use Rattle.std.specs.Prelude.{◌≡◌, ◌↔◌, ◌++◌, [], Contains, IfOk, OnOk, filter, map};
 ghost use Rattle.gq_tree.specs.Readings.{parsed_view};
 ghost use Rattle.gq_types.specs.Look.{types_view};
 ghost use Rattle.gq_fault.specs.declared.fault.Fault.{Fault};
 ghost use Rattle.gq_fault.specs.Adds.{AddsExactly};
 ghost use Rattle.gq_document.specs.Executable.{executable_view};
-ghost use Rattle.gq_rules.specs.Files.{alone, IsLocalFault};
+ghost use Rattle.gq_rules.specs.Files.{alone, in_file, IsLocalFault};
 ghost use Rattle.gq_rules.specs.RestsOnFile.{rests_on_file};
 ghost use Rattle.gq_by_file.specs.Helping.Alone.{IsToldAlone};
 
@@ -60,4 +60,14 @@ pub fn found_alone(alloc: Global, types: &Types, reading: &Parsed) -> Result<Vec
     let faults = told_alone(alloc, &executable)?;
     let own = resting_on_file(alloc, &faults)?;
     Ok(own)
+}
+
+/// Puts faults that are told of the file of that number alone behind others, with its number.
+pub fn put_in_file(file: usize, faults: &[Fault], all: &mut Vec<Fault>) -> Result<(), NoMemory>
+    ensures { OnOk result (all.new.items ≡ all.old.items ++ map (in_file file) faults.now) }
+{
+    for fault in faults {
+        all.push(Fault { file, ..*fault })?;
+    }
+    Ok(())
 }

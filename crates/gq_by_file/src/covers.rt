@@ -37,7 +37,7 @@ fn mark_covers(marks: &mut Vec<bool>, covers: &[Cover])
 }
 
 /// The places without a mark.
-fn unmarked(alloc: Global, marks: &[bool]) -> Result<Vec<usize>, NoMemory>
+pub(crate) fn unmarked(alloc: Global, marks: &[bool]) -> Result<Vec<usize>, NoMemory>
     ensures { IfOk result (λ places. places.items ≡ unmarked_from 0 marks.now) }
 {
     let mut places = Vec::new(alloc);
@@ -140,12 +140,16 @@ fn cover_these(
 
 /// So few files are looked at together, whatever they lead to, and as many more as one of so many parts of all has: each look goes over
 /// the list of all operations and fragments.
-const FEW: usize = 4;
+pub(crate) const FEW: usize = 4;
 
-const PARTS: usize = 256;
+pub(crate) const PARTS: usize = 256;
 
 /// Whether the two halves of these files lead to little that both lead to.
-fn lead_apart(alloc: Global, rows: &[Vec<usize>], rest: &[usize]) -> Result<bool, NoMemory>
+pub(crate) fn lead_apart(
+    alloc: Global,
+    rows: &[Vec<usize>],
+    rest: &[usize],
+) -> Result<bool, NoMemory>
     requires rows { InRange rows.now }
     requires range { All (λ n. n < length rows.now) rest.now }
 {

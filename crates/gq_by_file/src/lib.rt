@@ -4,9 +4,12 @@
 
 pub mod across;
 mod alone;
+mod apart;
 mod by_names;
+pub mod by_threads;
 pub mod closed_sets;
 pub mod covers;
+mod halves;
 pub mod laws;
 pub mod links;
 mod marks;
@@ -14,4 +17,5 @@ pub mod names;
 mod part;
 
 pub use across::Across;
-pub use alone::found_alone;
+pub use alone::{found_alone, put_in_file};
+pub use by_threads::{valid_by_threads, validate_by_threads};

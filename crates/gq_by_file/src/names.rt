@@ -2,16 +2,17 @@
 ghost use Rattle.std.specs.Prelude.{◌≡◌, ◌++◌, ◌↔◌, true, IfOk, OnOk, flat_map, map};
 ghost use Rattle.std.specs.Option.{option_map};
 ghost use Rattle.gq_tree.specs.Names.{names_at, spread_names};
-ghost use Rattle.gq_tree.specs.Readings.{parsed_view, readings_view};
+ghost use Rattle.gq_tree.specs.Readings.{parsed_view};
 ghost use Rattle.gq_tree.specs.Views.{def_view, name_of, sels_view};
+ghost use Rattle.gq_document.specs.ReadBy.{read_by};
 ghost use Rattle.gq_by_file.specs.Closed.Laws.{spreads_in};
 ghost use Rattle.gq_by_file.specs.Names.{AreNames, AreNamesIn, fragment_names_in, operation_names_in, text_of_name, texts_of};
 ghost use Rattle.gq_by_file.specs.Helping.SameNames.{AreSameNames};
 
+use gq_document::AsParsed;
 use gq_text::{NoMemory, SmallText};
 use gq_tree::{Definition, Name, Parsed, Selection, spread_names};
 use std::alloc::Global;
-use std::sync::Arc;
 
 /// The names of the operations that a file defines, of the fragments that are spread in it, and of those that it defines, each
 /// as often as it stands there.
@@ -114,12 +115,12 @@ fn put_texts(alloc: Global, names: &[&Name], texts: &mut Vec<SmallText>) -> Resu
 }
 
 /// The names in each of the documents.
-pub fn names_of_all(alloc: Global, readings: &[Arc<Parsed>]) -> Result<Vec<FileNames>, NoMemory>
-    ensures { IfOk result (λ all. AreNames (readings_view readings.now) all.items) }
+pub fn names_of_all<R: AsParsed>(alloc: Global, readings: &[R]) -> Result<Vec<FileNames>, NoMemory>
+    ensures { IfOk result (λ all. AreNames (read_by R.as_parsed readings.now) all.items) }
 {
     let mut all = Vec::with_capacity(alloc, readings.len())?;
     for reading in readings {
-        all.push(FileNames::of(alloc, reading)?)?;
+        all.push(FileNames::of(alloc, reading.as_parsed())?)?;
     }
     Ok(all)
 }

@@ -13,6 +13,7 @@ use crate::fault::CheckFault;
 use crate::files::{File, read_project};
 use crate::formats::Format;
 use crate::lines::print_all;
+use gq_by_file::valid_by_threads;
 use gq_rules::{Invalid, Valid, Why};
 use std::alloc::Global;
 use std::thread::Threads;
@@ -50,7 +51,7 @@ pub(crate) fn judge_by_threads<R: Threads + Sync>(
     ensures err { IfErr result (IsFaultOr (files_fault files.now)) }
 {
     let project = read_project(alloc, files)?;
-    verdict_on(alloc, format, Valid::new_by_threads(rt, alloc, project))
+    verdict_on(alloc, format, valid_by_threads(rt, alloc, project))
 }
 
 /// What is told of files whose project was judged so. Nothing but want of memory refuses them.

@@ -12,6 +12,7 @@ ghost use Rattle.gq_rename.specs.Rename.{IsRenameAnswer};
 ghost use Rattle.gq_codemod.specs.Renames.{IsRenaming, IsRenamingOf, IsRenamed, offset_at, refusal_line};
 
 use crate::edits::{EditedFile, edit_lines, edited_files};
+use gq_by_file::valid_by_threads;
 use gq_check::files::read_project;
 use gq_check::lines::{print_all, text_of};
 use gq_check::{CheckFault, File, Format};
@@ -68,7 +69,7 @@ pub fn rename_by_threads<R: Threads + Sync>(
     let project = read_project(alloc, files)?;
     rename_judged(
         alloc,
-        Valid::new_by_threads(rt, alloc, project),
+        valid_by_threads(rt, alloc, project),
         file,
         position,
         new_name,

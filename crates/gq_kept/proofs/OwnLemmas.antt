@@ -3,10 +3,11 @@ use Rattle.std.proofs.Common.{◌≡◌, ◌↔◌, ◌⊎◌, ⊎_elim, inl, in
 use Rattle.std.specs.List.{insert, remove}
 use Rattle.gq_tree.specs.Readings.{ParsedOf, SharedParsed, shared_view, readings_view}
 use Rattle.gq_types.specs.Entries.{EntryOf}
-use Rattle.gq_types.proofs.Gathered.{nothing_in, first, later, cases_cons, from_map, to_map}
+use Rattle.gq_types.proofs.Gathered.{nothing_in, first, later, cases_cons}
 use Rattle.gq_fault.specs.declared.fault.Fault.{Fault}
-use Rattle.gq_rules.specs.Files.{alone, in_file, IsLocalFault, IsOfItsFile}
+use Rattle.gq_rules.specs.Files.{alone, in_file, IsOfItsFile}
 use Rattle.gq_by_file.specs.OneFile.Laws.{AreOneTypeSystem, NumbersOfEntriesAreUnseen, NumbersOfFilesAreUnseen}
+use Rattle.gq_by_file.proofs.OwnLemmas.{own_of_file}
 use Rattle.gq_kept.specs.Helping.Own.{AreOwn, AreOwnOf, IsOwn, IsFoundAt, IsFoundOwn, own_in, none, more}
 
 abbrev pub Own : Type 0
@@ -156,33 +157,11 @@ gathered_all es rs n all h g f = (
 )
 
 module _ (unseen : NumbersOfFilesAreUnseen) (es : List EntryOf) (rs : List ParsedOf) (n : ℕ) (r : ParsedOf) (there : slice_get rs n ≡ Some r) (faults : List Fault) (are : AreOwnOf es r faults) where
-  -- the own faults of the next file, by its number
-  own_of_file : (f : Fault) → Contains (map (in_file n) faults) f ↔ ((f.file ≡ n) × IsOfItsFile es rs f)
-  own_of_file f = (forth, back)
-    where
-      forth : Contains (map (in_file n) faults) f → (f.file ≡ n) × IsOfItsFile es rs f
-      forth c =
-          let m = from_map (in_file n) faults f c in
-          let g : Fault = m.0 in
-          let at : f.file ≡ n = sym (ap (λ (z : Fault). z.file) m.2) in
-          let zero_is = (unseen es 0 r g).0 ((are g).0 m.1) in
-          let here : IsLocalFault (alone es n r) (in_file n g) = (unseen es n r (in_file n g)).1 (refl, zero_is.1) in
-          (at, (r, subst (λ k. slice_get rs k ≡ Some r) (sym at) there, subst (λ k. IsLocalFault (alone es k r) f) (sym at) (subst (IsLocalFault (alone es n r)) m.2 here)))
-
-      back : (f.file ≡ n) × IsOfItsFile es rs f → Contains (map (in_file n) faults) f
-      back h =
-          let i = h.1 in
-          let same : i.0 ≡ r = (let e = sym i.1 ∙ ap (slice_get rs) h.0 ∙ there in cc) in
-          let here : IsLocalFault (alone es f.file r) f = subst (λ (z : ParsedOf). IsLocalFault (alone es f.file z) f) same i.2 in
-          let first_is = (unseen es f.file r f).0 here in
-          let c : Contains (map (in_file n) faults) (in_file n f) = to_map (in_file n) faults (in_file 0 f) ((are (in_file 0 f)).1 first_is.1) in
-          subst (λ k. Contains (map (in_file n) faults) (in_file k f)) (sym h.0) c
-
   pub gathered_more : (all : List Fault) → AreGathered es rs n all → AreGathered es rs (n + 1) (all ++ map (in_file n) faults)
   gathered_more all g f = (
     (λ c. ⊎_elim
         (λ l. let h = (g f).0 l in ((let below : f.file < n = h.0 in omega (arith, below)), h.1))
-        (λ d. let h = (own_of_file f).0 d in ((let at : f.file ≡ n = h.0 in omega (arith, at)), h.1))
+        (λ d. let h = (own_of_file unseen es rs n r there faults are f).0 d in ((let at : f.file ≡ n = h.0 in omega (arith, at)), h.1))
         (from_append all (map (in_file n) faults) f c)),
     (λ h. by_number (is_below f.file n h.0) h.1),
   )
@@ -195,7 +174,7 @@ module _ (unseen : NumbersOfFilesAreUnseen) (es : List EntryOf) (rs : List Parse
 
       by_number : (f.file < n) ⊎ (f.file ≡ n) → IsOfItsFile es rs f → Contains (all ++ map (in_file n) faults) f
       by_number (inl below) i = to_append_left all (map (in_file n) faults) f ((g f).1 (below, i))
-      by_number (inr at) i = to_append_right all (map (in_file n) faults) f ((own_of_file f).1 (at, i))
+      by_number (inr at) i = to_append_right all (map (in_file n) faults) f ((own_of_file unseen es rs n r there faults are f).1 (at, i))
 
 -- what is put behind is what is known of the file
 pub gathered_found : (unseen : NumbersOfFilesAreUnseen) (es : List EntryOf) (rs : List ParsedOf) (n : ℕ) (r : ParsedOf) → slice_get rs n ≡ Some r → (one : Option (List Fault)) → IsFoundOwn es r one →

@@ -1,16 +1,16 @@
 //! The faults of each file that rest on it and the type system alone, kept until one of these changes.
-ghost use Rattle.std.specs.Prelude.{◌≡◌, ◌↔◌, ◌++◌, ◌<◌, ◌≤◌, false, Contains, List, Some, IfOk, OnOk, OnErr, length, map, remove, slice_get, slice_set};
+ghost use Rattle.std.specs.Prelude.{◌≡◌, ◌↔◌, ◌++◌, ◌<◌, ◌≤◌, false, Contains, List, Some, IfOk, OnOk, OnErr, length, remove, slice_get, slice_set};
 ghost use Rattle.std.specs.List.{insert};
 ghost use Rattle.gq_tree.specs.Readings.{ParsedOf, shared_view, readings_view};
 ghost use Rattle.gq_types.specs.Entries.{EntryOf};
 ghost use Rattle.gq_types.specs.Look.{types_view};
 ghost use Rattle.gq_fault.specs.declared.fault.Fault.{Fault};
-ghost use Rattle.gq_rules.specs.Files.{in_file, IsOfItsFile};
+ghost use Rattle.gq_rules.specs.Files.{IsOfItsFile};
 ghost use Rattle.gq_by_file.specs.OneFile.Laws.{AreOneTypeSystem};
 ghost use Rattle.gq_kept.specs.Helping.Own.{AreOwn, AreOwnOver, IsFoundAt, IsFoundOwn, IsOwn, own_in};
 
-use gq_by_file::found_alone;
 use gq_by_file::laws::{numbers_of_entries_are_unseen, numbers_of_files_are_unseen};
+use gq_by_file::{found_alone, put_in_file};
 use gq_fault::Fault;
 use gq_text::{Items, NoMemory};
 use gq_tree::Parsed;
@@ -41,19 +41,9 @@ fn put_own(file: usize, own: &Option<Items<Fault>>, all: &mut Vec<Fault>) -> Res
     ensures { OnOk result (all.new.items ≡ all.old.items ++ own_in file own.now) }
 {
     match own {
-        Some(faults) => put_faults(file, faults.as_slice(), all),
+        Some(faults) => put_in_file(file, faults.as_slice(), all),
         None => Ok(()),
     }
-}
-
-/// Puts faults of the file of that number behind the others.
-fn put_faults(file: usize, faults: &[Fault], all: &mut Vec<Fault>) -> Result<(), NoMemory>
-    ensures { OnOk result (all.new.items ≡ all.old.items ++ map (in_file file) faults.now) }
-{
-    for fault in faults {
-        all.push(Fault { file, ..*fault })?;
-    }
-    Ok(())
 }
 
 /// Notes of the file of that number that nothing is known of it, where nothing is noted of it. Of the files before it something

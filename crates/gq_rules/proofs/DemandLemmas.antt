@@ -1,5 +1,5 @@
 -- All faults together are what is demanded.
-use Rattle.std.proofs.Common.{◌≡◌, ◌↔◌, List, [], ◌∷◌, ◌++◌, Contains, refl, sym, subst, ap, ◌∙◌, ⊎_elim}
+use Rattle.std.proofs.Common.{◌≡◌, ◌↔◌, ◌⊎◌, inl, inr, List, [], ◌∷◌, ◌++◌, Contains, refl, sym, subst, ap, ◌∙◌, ⊎_elim}
 use Rattle.std.proofs.lemmas.List.Elements.{Contains-append_left, Contains-append_right, Contains-append_cases}
 use Rattle.gq_names.proofs.RepeatLemmas.{contains_none, contains_first}
 use Rattle.gq_fault.specs.declared.fault.Fault.{Fault}
@@ -11,11 +11,23 @@ use Rattle.gq_document.specs.Definitions.{OperationOf, FragmentOf, operations_of
 use Rattle.gq_document.specs.Executable.{ExecutableOf}
 use Rattle.gq_rules.specs.Project.{type_system_of, executable_of}
 use Rattle.gq_rules.specs.RuleFaults.{IsRuleFault}
+use Rattle.gq_rules.specs.Unread.{IsUnread}
+use Rattle.gq_rules.specs.ExecutableDefinitions.{IsMixed}
 use Rattle.gq_rules.specs.Faults.{IsToldFirst, unread, mixed, type_system, IsFaultOf}
 use Rattle.gq_rules.specs.Faults as demand
 use Rattle.gq_rules.specs.Helping.Places.{unread_at, mixed_at, each_from}
 use Rattle.gq_rules.specs.Helping.Wrongs.{PutsWrong}
 use Rattle.gq_rules.proofs.ItemLemmas.{unread_are, mixed_are}
+
+-- what is told of the texts
+pub of_texts : (readings : List ParsedOf) (fault : Fault) → Contains (each_from unread_at 0 readings ++ each_from mixed_at 0 readings) fault ↔ (IsUnread readings fault ⊎ IsMixed readings fault)
+of_texts readings fault = (
+  (λ c. ⊎_elim (λ u. inl ((unread_are readings fault).0 u)) (λ m. inr ((mixed_are readings fault).0 m)) (Contains-append_cases (each_from unread_at 0 readings) (each_from mixed_at 0 readings) fault c)),
+  (λ h. ⊎_elim
+      (λ u. Contains-append_left (each_from unread_at 0 readings) (each_from mixed_at 0 readings) fault ((unread_are readings fault).1 u))
+      (λ m. Contains-append_right (each_from unread_at 0 readings) (each_from mixed_at 0 readings) fault ((mixed_are readings fault).1 m))
+      h),
+)
 
 module _ (readings : List ParsedOf) (schema : List Fault) (are : (fault : Fault) → Contains schema fault ↔ IsSchemaFault (type_system_of readings) fault) where
   -- what is told whatever else is wrong
@@ -25,18 +37,15 @@ module _ (readings : List ParsedOf) (schema : List Fault) (are : (fault : Fault)
   pub told_first_are : (fault : Fault) → Contains told_first fault ↔ IsToldFirst readings fault
   told_first_are fault = (
     (λ c. ⊎_elim
-        (λ a. ⊎_elim (λ u. unread ((unread_are readings fault).0 u)) (λ m. mixed ((mixed_are readings fault).0 m))
-        (Contains-append_cases (each_from unread_at 0 readings) (each_from mixed_at 0 readings) fault a))
+        (λ a. ⊎_elim unread mixed ((of_texts readings fault).0 a))
         (λ s. type_system ((are fault).0 s))
         (Contains-append_cases (each_from unread_at 0 readings ++ each_from mixed_at 0 readings) schema fault c)),
     back,
   )
     where
       back : IsToldFirst readings fault → Contains told_first fault
-      back (unread u) = Contains-append_left (each_from unread_at 0 readings ++ each_from mixed_at 0 readings) schema fault
-          (Contains-append_left (each_from unread_at 0 readings) (each_from mixed_at 0 readings) fault ((unread_are readings fault).1 u))
-      back (mixed m) = Contains-append_left (each_from unread_at 0 readings ++ each_from mixed_at 0 readings) schema fault
-          (Contains-append_right (each_from unread_at 0 readings) (each_from mixed_at 0 readings) fault ((mixed_are readings fault).1 m))
+      back (unread u) = Contains-append_left (each_from unread_at 0 readings ++ each_from mixed_at 0 readings) schema fault ((of_texts readings fault).1 (inl u))
+      back (mixed m) = Contains-append_left (each_from unread_at 0 readings ++ each_from mixed_at 0 readings) schema fault ((of_texts readings fault).1 (inr m))
       back (type_system s) = Contains-append_right (each_from unread_at 0 readings ++ each_from mixed_at 0 readings) schema fault ((are fault).1 s)
 
   -- where there is something of the first sort, that is all

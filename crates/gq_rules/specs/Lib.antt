@@ -2,6 +2,8 @@ pub mod Project
 pub mod Unread
 pub mod RuleFaults
 pub mod Faults
+pub mod AllFaults
+pub mod WrongOver
 pub mod RestsOnFile
 pub mod Files
 pub mod Validity

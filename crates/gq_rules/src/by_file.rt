@@ -1,18 +1,20 @@
 //! What the rules tell by files: what rests on one file and the type system alone, and what rests on several files.
-ghost use Rattle.std.specs.Prelude.{◌≡◌, ◌↔◌, ◌++◌, [], ◌∷◌, Contains, IfOk, OnOk, filter};
+ghost use Rattle.std.specs.Prelude.{◌≡◌, ◌↔◌, ◌⊎◌, ◌++◌, [], ◌∷◌, Contains, IfOk, OnOk, filter};
 ghost use Rattle.std.specs.Bool.{beq};
-ghost use Rattle.gq_tree.specs.Readings.{parsed_view, readings_view};
+ghost use Rattle.gq_tree.specs.Readings.{parsed_view, readings_view, unshared_view};
 ghost use Rattle.gq_types.specs.Look.{types_view};
 ghost use Rattle.gq_fault.specs.declared.fault.Fault.{Fault};
 ghost use Rattle.gq_document.specs.Executable.{executable_view};
 ghost use Rattle.gq_fault.specs.Adds.{AddsExactly};
 ghost use Rattle.gq_known.specs.Known.{IsKnown};
+ghost use Rattle.gq_rules.specs.ExecutableDefinitions.{IsMixed};
 ghost use Rattle.gq_rules.specs.Faults.{IsToldFirst};
 ghost use Rattle.gq_rules.specs.Files.{alone, IsFaultAcross, IsLocalFault};
 ghost use Rattle.gq_rules.specs.RestsOnFile.{rests_on_file};
+ghost use Rattle.gq_rules.specs.Unread.{IsUnread};
 ghost use Rattle.gq_rules.specs.Helping.RuleGroups.{IsAcrossGroup};
 
-use crate::demands::faults_of_known_texts;
+use crate::demands::{faults_of_known_texts, faults_of_texts};
 use crate::rule_faults::{add_definition_faults, add_reach_faults, rule_faults};
 use gq_document::{Definitions, Executable};
 use gq_fault::{Code, Fault};
@@ -76,6 +78,14 @@ pub fn first_faults(alloc: Global, known: Known<'_>) -> Result<Vec<Fault>, NoMem
         let mut wrong = schema_faults(alloc, known.types)?;
         faults.append(&mut wrong)?;
     }
+    Ok(faults)
+}
+
+/// What is told of documents without a tree, and of those with definitions of both sorts, as they are read.
+pub fn unread_and_mixed(alloc: Global, readings: &[Parsed]) -> Result<Vec<Fault>, NoMemory>
+    ensures { IfOk result (λ faults. (fault : Fault) → Contains faults.items fault ↔ (IsUnread (unshared_view readings.now) fault ⊎ IsMixed (unshared_view readings.now) fault)) }
+{
+    let faults = faults_of_texts(alloc, readings)?;
     Ok(faults)
 }
 

@@ -6,24 +6,21 @@ ghost use Rattle.gq_document.specs.ReadBy.{read_by};
 ghost use Rattle.gq_fault.specs.declared.fault.Fault.{Fault};
 ghost use Rattle.gq_fault.specs.Order.{fault_cmp};
 ghost use Rattle.gq_known.specs.Known.{IsKnown};
-ghost use Rattle.gq_rules.specs.Helping.AllFaults.{AreFaultsOf};
+ghost use Rattle.gq_rules.specs.AllFaults.{AreFaultsOf};
 ghost use Rattle.gq_rules.specs.Faults.{IsFaultOf};
 ghost use Rattle.gq_rules.specs.Helping.Places.{unread_at, mixed_at, each_from};
 
-use crate::giving_back::give_back;
 use crate::unread::add_unread;
 use crate::wrong::add_wrong;
-use crate::wrong_by_threads::add_wrong_by_threads;
 use gq_document::{AsParsed, type_system_entries};
 use gq_fault::{Fault, put_in_order};
 use gq_known::Known;
 use gq_known::executable_definitions::{add_mixed, add_mixed_of};
-use gq_parse::{read, read_by_threads};
+use gq_parse::read;
 use gq_project::Doc;
 use gq_text::NoMemory;
 use gq_tree::Parsed;
 use std::alloc::Global;
-use std::thread::Threads;
 
 /// The faults of what is told of documents, in order, each once.
 pub(crate) fn demanded(alloc: Global, documents: &[Doc]) -> Result<Vec<Fault>, NoMemory>
@@ -34,19 +31,6 @@ pub(crate) fn demanded(alloc: Global, documents: &[Doc]) -> Result<Vec<Fault>, N
     Ok(in_order(faults))
 }
 
-/// The same, by threads.
-pub(crate) fn demanded_by_threads<R: Threads + Sync>(
-    rt: &R,
-    alloc: Global,
-    documents: &[Doc],
-) -> Result<Vec<Fault>, NoMemory>
-    ensures { IfOk result (λ faults. AreFaultsOf documents.now faults.items) }
-{
-    let readings = read_by_threads(rt, alloc, documents)?;
-    let faults = all_faults_by_threads(rt, alloc, readings)?;
-    Ok(in_order(faults))
-}
-
 /// The faults of what is told of documents that are read so, in no order.
 fn all_faults(alloc: Global, readings: Vec<Parsed>) -> Result<Vec<Fault>, NoMemory>
     ensures { IfOk result (λ faults. (fault : Fault) → Contains faults.items fault ↔ IsFaultOf (unshared_view readings.items) fault) }
@@ -54,21 +38,6 @@ fn all_faults(alloc: Global, readings: Vec<Parsed>) -> Result<Vec<Fault>, NoMemo
     let mut faults = faults_of_texts(alloc, &readings)?;
     let entries = type_system_entries(alloc, &readings)?;
     add_wrong(alloc, entries, &readings, &mut faults)?;
-    Ok(faults)
-}
-
-/// The same, by threads.
-fn all_faults_by_threads<R: Threads + Sync>(
-    rt: &R,
-    alloc: Global,
-    readings: Vec<Parsed>,
-) -> Result<Vec<Fault>, NoMemory>
-    ensures { IfOk result (λ faults. (fault : Fault) → Contains faults.items fault ↔ IsFaultOf (unshared_view readings.items) fault) }
-{
-    let mut faults = faults_of_texts(alloc, &readings)?;
-    let entries = type_system_entries(alloc, &readings)?;
-    add_wrong_by_threads(rt, alloc, entries, &readings, &mut faults)?;
-    give_back(rt, readings);
     Ok(faults)
 }
 

@@ -9,7 +9,7 @@ ghost use Rattle.gq_known.specs.Known.{IsKnown};
 ghost use Rattle.gq_rules.specs.Faults.{IsFaultOf};
 ghost use Rattle.gq_rules.specs.Project.{executable_of};
 ghost use Rattle.gq_rules.specs.Validity.{IsReportOf, IsValid, IsInvalid};
-ghost use Rattle.gq_rules.specs.Helping.AllFaults.{AreFaultsOf};
+ghost use Rattle.gq_rules.specs.AllFaults.{AreFaultsOf};
 ghost use Rattle.gq_rules.specs.Helping.Reported.{IsReported};
 ghost use Rattle.gq_rules.specs.Helping.Wrongs.{PutsWrong};
 

@@ -14,7 +14,9 @@ pub mod valid;
 mod wrong;
 mod wrong_by_threads;
 
-pub use by_file::{first_faults, found_across, found_in};
+pub use by_file::{first_faults, found_across, found_in, unread_and_mixed};
+pub use giving_back::give_back;
 pub use known::{validate_known, why_not_known};
-pub use report::{Report, validate, validate_by_threads};
+pub use report::{Report, report_of, validate};
 pub use valid::{Invalid, Valid, Why};
+pub use wrong_by_threads::wrong_over_by_threads;

@@ -1,14 +1,13 @@
 //! What is told of a project.
 ghost use Rattle.std.specs.Prelude.{IfOk};
-ghost use Rattle.gq_rules.specs.Helping.AllFaults.{AreFaultsOf};
+ghost use Rattle.gq_rules.specs.AllFaults.{AreFaultsOf};
 ghost use Rattle.gq_rules.specs.Validity.{IsReportOf};
 
-use crate::demands::{demanded, demanded_by_threads};
+use crate::demands::demanded;
 use gq_fault::{Fault, Found, found_at};
 use gq_project::Project;
 use gq_text::NoMemory;
 use std::alloc::Global;
-use std::thread::Threads;
 
 /// What is told of a project, in the order of keys, places and codes, each place and code once. Of a project without
 /// documents nothing is told, though it has no query root and so is not valid: there is no place.
@@ -27,25 +26,8 @@ pub fn validate(alloc: Global, project: &Project) -> Result<Report, NoMemory>
     Ok(report)
 }
 
-/// The same, looked for by four threads.
-pub fn validate_by_threads<R: Threads + Sync>(
-    rt: &R,
-    alloc: Global,
-    project: &Project,
-) -> Result<Report, NoMemory>
-    ensures { IfOk result (λ report. IsReportOf project.now report.found.items) }
-{
-    let faults = demanded_by_threads(rt, alloc, project.documents())?;
-    let report = report_of(alloc, project, &faults)?;
-    Ok(report)
-}
-
-/// The report on a project, if these faults are what is told of it.
-pub(crate) fn report_of(
-    alloc: Global,
-    project: &Project,
-    faults: &[Fault],
-) -> Result<Report, NoMemory>
+/// The report on a project, if these faults are what is told of it, in order and each once.
+pub fn report_of(alloc: Global, project: &Project, faults: &[Fault]) -> Result<Report, NoMemory>
     ensures { IfOk result (λ report. AreFaultsOf project.now faults.now → IsReportOf project.now report.found.items) }
 {
     let found = found_at(alloc, faults, project.documents())?;

@@ -1,17 +1,16 @@
 //! Projects with which nothing is wrong.
 ghost use Rattle.std.specs.Prelude.{◌≡◌, IfOk, IfErr};
-ghost use Rattle.gq_rules.specs.Helping.AllFaults.{AreFaultsOf};
+ghost use Rattle.gq_rules.specs.AllFaults.{AreFaultsOf};
 ghost use Rattle.gq_rules.specs.Helping.Reported.{IsReported};
 ghost use Rattle.gq_rules.specs.Validity.{IsValid};
 
-use crate::demands::{demanded, demanded_by_threads};
+use crate::demands::demanded;
 use crate::report::{Report, report_of};
 use gq_fault::Fault;
 use gq_project::Project;
 use gq_text::NoMemory;
 use std::alloc::Global;
 use std::marker::Model;
-use std::thread::Threads;
 
 /// A valid project (section 5): all its texts parse, and no rule is broken.
 ///
@@ -59,22 +58,23 @@ impl Valid {
         ensures handed_back { IfErr result (λ invalid. invalid.project ≡ project) }
         ensures why { IfErr result (λ invalid. IsWhy project invalid.why) }
     {
-        let told = why_not(alloc, &project);
-        Valid::judged(project, told)
+        let faults = demanded(alloc, project.documents());
+        Valid::by_faults(alloc, project, faults)
     }
 
-    /// The same, looked at by four threads.
-    pub fn new_by_threads<R: Threads + Sync>(
-        rt: &R,
+    /// The same where its faults, in order and each once, are found by now, or want of memory was.
+    pub fn by_faults(
         alloc: Global,
         project: Project,
+        faults: Result<Vec<Fault>, NoMemory>,
     ) -> Result<Valid, Invalid>
+        requires { IfOk faults (λ faults. AreFaultsOf project faults.items) }
         ensures same { IfOk result (λ valid. valid ≡ project) }
         ensures valid { IfOk result (λ valid. ∥ IsValid valid ∥₁) }
         ensures handed_back { IfErr result (λ invalid. invalid.project ≡ project) }
         ensures why { IfErr result (λ invalid. IsWhy project invalid.why) }
     {
-        let told = why_not_by_threads(rt, alloc, &project);
+        let told = why_not(alloc, &project, faults);
         Valid::judged(project, told)
     }
 
@@ -124,24 +124,16 @@ impl Valid {
     }
 }
 
-/// The report on a project, if something is told of it.
-fn why_not(alloc: Global, project: &Project) -> Result<Option<Report>, NoMemory>
-    ensures { IfOk result (λ report. IsReported project.now report) }
-{
-    let faults = demanded(alloc, project.documents())?;
-    let report = report_if_any(alloc, project, &faults)?;
-    Ok(report)
-}
-
-/// The same, by threads.
-fn why_not_by_threads<R: Threads + Sync>(
-    rt: &R,
+/// The report on a project whose faults were found, if there are any.
+fn why_not(
     alloc: Global,
     project: &Project,
+    faults: Result<Vec<Fault>, NoMemory>,
 ) -> Result<Option<Report>, NoMemory>
+    requires { IfOk faults (λ faults. AreFaultsOf project.now faults.items) }
     ensures { IfOk result (λ report. IsReported project.now report) }
 {
-    let faults = demanded_by_threads(rt, alloc, project.documents())?;
+    let faults = faults?;
     let report = report_if_any(alloc, project, &faults)?;
     Ok(report)
 }

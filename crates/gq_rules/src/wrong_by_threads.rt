@@ -1,25 +1,22 @@
 //! What is wrong with a type system and, where nothing is, with the operations and fragments over it, looked for by threads.
-ghost use Rattle.std.specs.Prelude.{[], IfOk, OnOk};
+ghost use Rattle.std.specs.Prelude.{◌↔◌, [], Contains, IfOk};
 ghost use Rattle.std.specs.Thread.{IsSync};
-ghost use Rattle.gq_tree.specs.Readings.{unshared_view};
 ghost use Rattle.gq_document.specs.Executable.{executable_view};
 ghost use Rattle.gq_fields.specs.FieldFaults.{IsFieldFault};
+ghost use Rattle.gq_fault.specs.declared.fault.Fault.{Fault};
 ghost use Rattle.gq_fault.specs.Adds.{AddsExactly};
 ghost use Rattle.gq_merging.specs.FieldsMerge.{IsMergingFault};
-ghost use Rattle.gq_rules.specs.Project.{defined_in};
+ghost use Rattle.gq_rules.specs.WrongOver.{IsWrongOver};
 ghost use Rattle.gq_rules.specs.Helping.RuleGroups.{IsDefinitionOrMergingFault, IsDefinitionFault, IsReachFault, IsOtherFault};
-ghost use Rattle.gq_rules.specs.Helping.Wrongs.{IsWrong, PutsWrong};
+ghost use Rattle.gq_rules.specs.Helping.Wrongs.{IsWrong};
 
 use crate::fields_by_threads::field_faults_by_threads;
 use crate::rule_faults::{definition_faults, reach_faults};
-use crate::wrong::add_wrong_in;
-use gq_document::{Definitions, Executable};
+use gq_document::Executable;
 use gq_fault::Fault;
 use gq_merging::add_merging_faults_by_threads;
 use gq_text::NoMemory;
-use gq_tree::Parsed;
 use gq_type_system::schema_faults;
-use gq_types::{Entry, Types};
 use std::alloc::Global;
 use std::thread::{Threads, join};
 
@@ -30,54 +27,15 @@ enum Wrong {
     Rules(Vec<Fault>),
 }
 
-/// Puts what is wrong with the type system that is defined and, where nothing is told by then, what the rules tell of the
-/// operations and fragments that documents are read as.
-pub fn add_wrong_by_threads<R: Threads + Sync>(
-    rt: &R,
-    alloc: Global,
-    entries: Vec<Entry>,
-    readings: &[Parsed],
-    faults: &mut Vec<Fault>,
-) -> Result<(), NoMemory>
-    ensures { OnOk result (PutsWrong (defined_in entries.items (unshared_view readings.now)) faults.old.items faults.new.items) }
-{
-    let types = Types::of(alloc, entries)?;
-    let definitions = Definitions::of(alloc, readings)?;
-    let executable = Executable {
-        types: &types,
-        operations: &definitions.operations,
-        fragments: &definitions.fragments,
-    };
-    add_wrong_in_by_threads(rt, alloc, &executable, faults)?;
-    Ok(())
-}
-
-/// The same for the types that are looked up. Only where nothing is told by then is there work for threads.
-fn add_wrong_in_by_threads<R: Threads + Sync>(
-    rt: &R,
-    alloc: Global,
-    executable: &Executable<'_>,
-    faults: &mut Vec<Fault>,
-) -> Result<(), NoMemory>
-    ensures { OnOk result (PutsWrong (executable_view executable.now) faults.old.items faults.new.items) }
-{
-    if faults.is_empty() {
-        let mut wrong = first_wrong(rt, alloc, executable)?;
-        faults.append(&mut wrong)?;
-        return Ok(());
-    }
-    add_wrong_in(alloc, executable, faults)
-}
-
-/// The same where nothing is told by then. It is looked at in four threads from the start: for nothing, but for one of them,
-/// where something is wrong with the type system. Fields each by itself wait for that one, since a literal can cost much where
-/// an input object has a field twice.
-fn first_wrong<R: Threads + Sync>(
+/// What is wrong with a type system or, where nothing is, what the rules tell of the operations and fragments over it. It is
+/// looked at in four threads from the start: for nothing, but for one of them, where something is wrong with the type system.
+/// Fields each by itself wait for that one, since a literal can cost much where an input object has a field twice.
+pub fn wrong_over_by_threads<R: Threads + Sync>(
     rt: &R,
     alloc: Global,
     executable: &Executable<'_>,
 ) -> Result<Vec<Fault>, NoMemory>
-    ensures { IfOk result (λ faults. PutsWrong (executable_view executable.now) [] faults.items) }
+    ensures { IfOk result (λ faults. (fault : Fault) → Contains faults.items fault ↔ IsWrongOver (executable_view executable.now) fault) }
 {
     let of_definitions = || -> Result<Vec<Fault>, NoMemory>
         requires { IsSync R.row }

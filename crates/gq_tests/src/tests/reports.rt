@@ -1,7 +1,7 @@
 //! The report of a project by threads.
 use crate::tests::documents::document;
+use gq_by_file::validate_by_threads;
 use gq_project::Project;
-use gq_rules::validate_by_threads;
 use gq_text::Span;
 use std::alloc::Global;
 use std::test::Fail;

@@ -1,14 +1,9 @@
 -- What stands in one of two halves is covered once both are.
-use Rattle.std.proofs.Common.{◌≡◌, ℕ, List, ◌++◌, Contains, ⊎_elim, ap, drop, sym, take, ◌∙◌, subst}
-use Rattle.std.proofs.lemmas.List.{take-append-drop}
+use Rattle.std.proofs.Common.{◌≡◌, ℕ, List, ◌++◌, Contains, ⊎_elim, subst}
 use Rattle.std.proofs.lemmas.List.Elements.{Contains-append_cases}
 use Rattle.std.proofs.lemmas.Result.{on_ok_weaker}
+use Rattle.gq_by_file.proofs.CoverLemmas.{both_halves}
 use Rattle.gq_by_file.proofs.covers.+cover_by_halves.Goals as goal
-
--- the halves, one behind the other
-both_halves : (count : ℕ) (all front back : List ℕ) → front ≡ take count all → back ≡ drop count all → all ≡ front ++ back
-both_halves count all front back is_front is_back =
-    sym (take-append-drop count all) ∙ ap (λ (ns : List ℕ). ns ++ drop count all) (sym is_front) ∙ ap (λ (ns : List ℕ). front ++ ns) (sym is_back)
 
 pub returns-clause-kept : goal.returns-clause-kept
 returns-clause-kept t c links are = c.cover_by_halves-2.ensures.kept links (c.in_ok-cover_by_halves.ensures.kept links are)

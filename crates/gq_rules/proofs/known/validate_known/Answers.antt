@@ -1,6 +1,6 @@
 use Rattle.std.proofs.Common.{subst, sym}
 use Rattle.gq_known.specs.Known.{IsKnown}
-use Rattle.gq_rules.specs.Helping.AllFaults.{AreFaultsOf}
+use Rattle.gq_rules.specs.AllFaults.{AreFaultsOf}
 use Rattle.gq_rules.proofs.known.validate_known.Goals as goal
 
 pub returns : goal.returns

@@ -1,6 +1,6 @@
 use Rattle.std.proofs.Common.{ap, ◌∙◌}
 use Rattle.gq_fault.specs.Tells.{told}
-use Rattle.gq_rules.specs.Helping.AllFaults.{AreFaultsOf}
+use Rattle.gq_rules.specs.AllFaults.{AreFaultsOf}
 use Rattle.gq_rules.proofs.report.report_of.Goals as goal
 
 pub returns : goal.returns

@@ -1,5 +1,5 @@
 use Rattle.std.proofs.Common.{subst, sym}
-use Rattle.gq_rules.specs.Helping.AllFaults.{AreFaultsOf}
+use Rattle.gq_rules.specs.AllFaults.{AreFaultsOf}
 use Rattle.gq_rules.proofs.report.validate.Goals as goal
 
 pub returns : goal.returns

@@ -1,7 +1,7 @@
 use Rattle.std.proofs.Common.{ap, length, arith}
 use Rattle.std.proofs.lemmas.List.{nil_from_length}
 use Rattle.std.proofs.lemmas.Bool.Decides.{nat_tests}
-use Rattle.gq_rules.specs.Helping.AllFaults.{AreFaultsOf}
+use Rattle.gq_rules.specs.AllFaults.{AreFaultsOf}
 use Rattle.gq_rules.proofs.ValidityLemmas.{valid, invalid}
 use Rattle.gq_rules.proofs.valid.report_if_any.Goals as goal
 

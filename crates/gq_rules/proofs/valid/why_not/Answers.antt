@@ -1,8 +1,8 @@
-use Rattle.std.proofs.Common.{subst, sym}
-use Rattle.gq_rules.specs.Helping.AllFaults.{AreFaultsOf}
+use Rattle.std.proofs.Common.{IfOk, subst, sym}
+use Rattle.gq_rules.specs.AllFaults.{AreFaultsOf}
 use Rattle.gq_rules.proofs.valid.why_not.Goals as goal
 
 pub returns : goal.returns
 returns c =
     c.in_ok-report.ensures
-    (subst (AreFaultsOf c.args.project.now) (sym c.deref.ensures.value) (subst (λ ds. AreFaultsOf ds c.in_ok-faults.faults.items) c.documents.ensures.all c.in_ok-faults.ensures))
+    (subst (AreFaultsOf c.args.project.now) (sym c.deref.ensures.value) (subst (λ r. IfOk r (λ faults. AreFaultsOf c.args.project.now faults.items)) c.in_ok-faults.was c.requires))

@@ -1,6 +1,7 @@
+-- The report is that of the faults.
 use Rattle.std.proofs.Common.{subst, sym}
-use Rattle.gq_rules.specs.Helping.AllFaults.{AreFaultsOf}
-use Rattle.gq_rules.proofs.report.validate_by_threads.Goals as goal
+use Rattle.gq_rules.specs.AllFaults.{AreFaultsOf}
+use Rattle.gq_by_file.proofs.by_threads.validate_by_threads.Goals as goal
 
 pub returns : goal.returns
 returns g c =

@@ -1,4 +1,4 @@
--- What is told of documents, in order and each once, as it is computed.
+-- What is told of documents, in order and each once.
 use Rattle.std.specs.Prelude.{◌↔◌, List, Contains}
 use Rattle.std.specs.List.Sorted.{IsStrictlySortedBy}
 use Rattle.gq_project.specs.declared.document.Doc.{Doc}

@@ -1,0 +1,138 @@
+//! What is told of files by halves of them: those that have nothing to do with each other are looked at apart, each while its tree
+//! is in a processor's caches, and in several threads.
+ghost use Rattle.std.specs.Prelude.{◌≡◌, ◌<◌, ◌∷◌, [], All, IfOk, OnOk, length};
+ghost use Rattle.std.specs.Thread.{IsSync};
+ghost use Rattle.gq_tree.specs.Readings.{unshared_view};
+ghost use Rattle.gq_types.specs.Look.{types_view};
+ghost use Rattle.gq_fault.specs.Adds.{AddsExactly};
+ghost use Rattle.gq_graph.specs.Reach.{InRange};
+ghost use Rattle.gq_document.specs.Executable.{executable_view};
+ghost use Rattle.gq_by_file.specs.Links.{AreLinks};
+ghost use Rattle.gq_by_file.specs.Helping.Told.{AreToldOf, IsOwnOf};
+
+use crate::alone::{found_alone, put_in_file};
+use crate::closed_sets::faults_of_closed_sets_are_faults;
+use crate::covers::{FEW, PARTS, lead_apart};
+use crate::laws::numbers_of_files_are_unseen;
+use crate::part::found_within;
+use gq_document::Executable;
+use gq_fault::Fault;
+use gq_graph::reach_rows;
+use gq_text::NoMemory;
+use gq_tree::Parsed;
+use gq_types::Types;
+use std::alloc::Global;
+use std::thread::{Threads, join};
+
+/// Puts what the file of that number tells alone behind other faults; nothing, where there is no such file.
+fn add_own(
+    alloc: Global,
+    types: &Types,
+    readings: &[Parsed],
+    file: usize,
+    all: &mut Vec<Fault>,
+) -> Result<(), NoMemory>
+    ensures { OnOk result (AddsExactly (IsOwnOf (types_view types.now) (unshared_view readings.now) (file ∷ [])) all.old.items all.new.items) }
+{
+    numbers_of_files_are_unseen();
+    if file >= readings.len() {
+        return Ok(());
+    }
+    let own = found_alone(alloc, types, &readings[file])?;
+    put_in_file(file, &own, all)
+}
+
+/// So of each of these files.
+fn add_own_of_all(
+    alloc: Global,
+    types: &Types,
+    readings: &[Parsed],
+    files: &[usize],
+    all: &mut Vec<Fault>,
+) -> Result<(), NoMemory>
+    ensures { OnOk result (AddsExactly (IsOwnOf (types_view types.now) (unshared_view readings.now) files.now) all.old.items all.new.items) }
+{
+    for file in files {
+        add_own(alloc, types, readings, *file, all)?;
+    }
+    Ok(())
+}
+
+/// What is told of all that these files lead to, which are looked at together, and of each of these alone.
+fn found_together(
+    alloc: Global,
+    executable: &Executable<'_>,
+    readings: &[Parsed],
+    rows: &[Vec<usize>],
+    rest: &[usize],
+) -> Result<Vec<Fault>, NoMemory>
+    requires rows { InRange rows.now }
+    requires range { All (λ n. n < length rows.now) rest.now }
+    ensures { IfOk result (λ faults. AreLinks (executable_view executable.now) rows.now → AreToldOf (executable_view executable.now) (unshared_view readings.now) rest.now faults.items) }
+{
+    faults_of_closed_sets_are_faults();
+    let files = reach_rows(alloc, rows, rest)?;
+    let mut faults = found_within(alloc, executable, rows.len(), &files)?;
+    add_own_of_all(alloc, executable.types, readings, rest, &mut faults)?;
+    Ok(faults)
+}
+
+/// The same by halves, as long as these lead to little that both lead to.
+fn found_by_halves(
+    alloc: Global,
+    executable: &Executable<'_>,
+    readings: &[Parsed],
+    rows: &[Vec<usize>],
+    rest: &[usize],
+) -> Result<Vec<Fault>, NoMemory>
+    requires rows { InRange rows.now }
+    requires range { All (λ n. n < length rows.now) rest.now }
+    ensures { IfOk result (λ faults. AreLinks (executable_view executable.now) rows.now → AreToldOf (executable_view executable.now) (unshared_view readings.now) rest.now faults.items) }
+{
+    if rest.len() <= FEW + rows.len() / PARTS || !lead_apart(alloc, rows, rest)? {
+        return found_together(alloc, executable, readings, rows, rest);
+    }
+    let (front, back) = rest.split_at(rest.len() / 2);
+    let mut faults = found_by_halves(alloc, executable, readings, rows, front)?;
+    let mut others = found_by_halves(alloc, executable, readings, rows, back)?;
+    faults.append(&mut others)?;
+    Ok(faults)
+}
+
+/// The same, where the first halves are looked at in threads: they are halved that often.
+#[cycle(threads)]
+pub(crate) fn found_by_threads<R: Threads + Sync>(
+    rt: &R,
+    alloc: Global,
+    executable: &Executable<'_>,
+    readings: &[Parsed],
+    rows: &[Vec<usize>],
+    rest: &[usize],
+    halvings: usize,
+) -> Result<Vec<Fault>, NoMemory>
+    requires rows { InRange rows.now }
+    requires range { All (λ n. n < length rows.now) rest.now }
+    ensures { IfOk result (λ faults. AreLinks (executable_view executable.now) rows.now → AreToldOf (executable_view executable.now) (unshared_view readings.now) rest.now faults.items) }
+{
+    if halvings == 0 || !lead_apart(alloc, rows, rest)? {
+        return found_by_halves(alloc, executable, readings, rows, rest);
+    }
+    let left = halvings - 1;
+    let (front, back) = rest.split_at(rest.len() / 2);
+    let find_front = || -> Result<Vec<Fault>, NoMemory>
+        requires threads { IsSync R.row }
+        requires rows { InRange rows.now }
+        requires range { All (λ n. n < length rows.now) front.now }
+        ensures { IfOk result (λ faults. AreLinks (executable_view executable.entry.now) rows.entry.now → AreToldOf (executable_view executable.entry.now) (unshared_view readings.entry.now) front.entry.now faults.items) }
+    { found_by_threads(rt, alloc, executable, readings, rows, front, left) };
+    let find_back = || -> Result<Vec<Fault>, NoMemory>
+        requires threads { IsSync R.row }
+        requires rows { InRange rows.now }
+        requires range { All (λ n. n < length rows.now) back.now }
+        ensures { IfOk result (λ faults. AreLinks (executable_view executable.entry.now) rows.entry.now → AreToldOf (executable_view executable.entry.now) (unshared_view readings.entry.now) back.entry.now faults.items) }
+    { found_by_threads(rt, alloc, executable, readings, rows, back, left) };
+    let (front, back) = join(rt, find_front, find_back);
+    let mut faults = front?;
+    faults.append(&mut back?)?;
+    Ok(faults)
+}

@@ -1,8 +1,0 @@
-use Rattle.std.proofs.Common.{subst, sym}
-use Rattle.gq_rules.specs.Helping.AllFaults.{AreFaultsOf}
-use Rattle.gq_rules.proofs.valid.why_not_by_threads.Goals as goal
-
-pub returns : goal.returns
-returns g c =
-    c.in_ok-report.ensures
-    (subst (AreFaultsOf c.args.project.now) (sym c.deref.ensures.value) (subst (λ ds. AreFaultsOf ds c.in_ok-faults.faults.items) c.documents.ensures.all c.in_ok-faults.ensures))
