@@ -13,8 +13,7 @@ use Rattle.gq_spreads.specs.Helping.Rows.{row_items}
 use Rattle.gq_types.proofs.Gathered.{nothing_in, first}
 use Rattle.gq_type_system.specs.SchemaFaults.{IsSchemaFault}
 use Rattle.gq_document.specs.Executable.{ExecutableOf}
-use Rattle.gq_rules.specs.ExecutableDefinitions.{IsMixed}
-use Rattle.gq_rules.specs.Faults.{IsToldFirst, IsFaultOf, unread, mixed}
+use Rattle.gq_rules.specs.Faults.{IsToldFirst, IsFaultOf, IsMixed, unread, mixed}
 use Rattle.gq_rules.specs.Faults as faults
 use Rattle.gq_rules.specs.Files.{together, IsFaultAcross, IsLocalFault, IsOfItsFile}
 use Rattle.gq_rules.specs.Project.{executable_of}

@@ -1,5 +1,7 @@
 //! A check: files in, lines and a status out.
-ghost use Rattle.std.specs.Prelude.{◌≡◌, false, IfOk, IfErr};
+ghost use Rattle.std.specs.Prelude.{◌≡◌, Bool, false, List, IfOk, IfErr};
+ghost use Rattle.gq_check.specs.declared.fault.CheckFault.TheVariants.{NoMemory};
+ghost use Rattle.gq_check.specs.declared.files.File.{File};
 ghost use Rattle.gq_check.specs.declared.formats.Format.{Format};
 ghost use Rattle.gq_check.specs.Checks.{Checks, Refuses};
 ghost use Rattle.gq_check.specs.Faults.{IsFaultOr};
@@ -7,7 +9,7 @@ ghost use Rattle.gq_check.specs.Files.{files_fault};
 ghost use Rattle.gq_check.specs.Helping.Verdicts.{IsVerdict};
 
 use crate::fault::CheckFault;
-use crate::files::File;
+use crate::files::{File, read_project};
 use crate::formats::Format;
 use crate::judging::{Verdict, judge, judge_by_threads};
 use crate::printing::{FAULT_STATUS, print};
@@ -37,23 +39,46 @@ pub fn check<O: Sink, E: Sink>(
     tell_all(alloc, is_verbose, files, judged, out, err)
 }
 
-/// The same, by four threads.
+/// The same, by four threads, of files that are handed over: their bytes are given back before their project is judged.
 pub fn check_by_threads<R: Threads + Sync, O: Sink, E: Sink>(
     rt: &R,
     alloc: Global,
     format: Format,
     is_verbose: bool,
-    files: &[File],
+    files: Vec<File>,
     out: &mut O,
     err: &mut E,
 ) -> u8
     requires out_works { O.failed out.old ≡ false }
     requires err_works { E.failed err.old ≡ false }
-    ensures { Checks format is_verbose files.now (O.held out.old) (record { held = O.held out.new; failed = O.failed out.new })
+    ensures { Checks format is_verbose files.items (O.held out.old) (record { held = O.held out.new; failed = O.failed out.new })
         (E.held err.old) (record { held = E.held err.new; failed = E.failed err.new }) result }
 {
-    let judged = judge_by_threads(rt, alloc, format, files);
-    tell_all(alloc, is_verbose, files, judged, out, err)
+    let project = match read_project(alloc, &files) {
+        Ok(project) => project,
+        Err(fault) => return refuse(alloc, is_verbose, &files, fault, out, err),
+    };
+    drop(files);
+    let judged = judge_by_threads(rt, alloc, format, project);
+    tell_judged(judged, out, err)
+}
+
+/// Tells what a project of files comes to, and answers the status. Nothing but want of memory refuses it.
+fn tell_judged<O: Sink, E: Sink>(
+    judged: Result<Verdict, CheckFault>,
+    out: &mut O,
+    err: &mut E,
+) -> u8
+    requires out_works { O.failed out.old ≡ false }
+    requires err_works { E.failed err.old ≡ false }
+    ensures { (format : Format) (is_verbose : Bool) (files : List File) → IfOk judged (IsVerdict format files) → IfErr judged (λ fault. fault ≡ NoMemory)
+        → Checks format is_verbose files (O.held out.old) (record { held = O.held out.new; failed = O.failed out.new })
+        (E.held err.old) (record { held = E.held err.new; failed = E.failed err.new }) result }
+{
+    match judged {
+        Ok(verdict) => print(&verdict.text, &[], verdict.status, out, err),
+        Err(fault) => print(&[], fault.line().as_bytes(), FAULT_STATUS, out, err),
+    }
 }
 
 /// Tells what files come to, and answers the status.

@@ -14,6 +14,7 @@ use crate::files::{File, read_project};
 use crate::formats::Format;
 use crate::lines::print_all;
 use gq_by_file::valid_by_threads;
+use gq_project::Project;
 use gq_rules::{Invalid, Valid, Why};
 use std::alloc::Global;
 use std::thread::Threads;
@@ -40,17 +41,17 @@ pub(crate) fn judge(alloc: Global, format: Format, files: &[File]) -> Result<Ver
     verdict_on(alloc, format, Valid::new(alloc, project))
 }
 
-/// The same, by threads.
+/// Validates a project of files, by threads. Nothing but want of memory refuses it.
 pub(crate) fn judge_by_threads<R: Threads + Sync>(
     rt: &R,
     alloc: Global,
     format: Format,
-    files: &[File],
+    project: Project,
 ) -> Result<Verdict, CheckFault>
-    ensures ok { IfOk result (IsVerdict format files.now) }
-    ensures err { IfErr result (IsFaultOr (files_fault files.now)) }
+    requires { All (λ doc. length doc.text ≤ 2 ^ 22) project }
+    ensures ok { (files : List File) → files_fault files ≡ None → project ≡ documents_of files → IfOk result (IsVerdict format files) }
+    ensures err { IfErr result (λ fault. fault ≡ NoMemory) }
 {
-    let project = read_project(alloc, files)?;
     verdict_on(alloc, format, valid_by_threads(rt, alloc, project))
 }
 

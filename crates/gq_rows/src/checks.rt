@@ -94,7 +94,7 @@ fn outcome_of(alloc: Global, files: &[File]) -> Outcome {
     }
 }
 
-fn outcome_by_threads<R: Threads + Sync>(threads: &R, alloc: Global, files: &[File]) -> Outcome {
+fn outcome_by_threads<R: Threads + Sync>(threads: &R, alloc: Global, files: Vec<File>) -> Outcome {
     let mut output = Page::new(alloc);
     let mut errors = Page::new(alloc);
     let status = check_by_threads(
@@ -123,7 +123,7 @@ pub fn tell_check<R: Threads + Sync>(
 ) -> Result<(), NoAnswer> {
     let files = files_of(alloc, row)?;
     let one = outcome_of(alloc, &files);
-    let other = outcome_by_threads(threads, alloc, &files);
+    let other = outcome_by_threads(threads, alloc, files);
     one.tell(telling)?;
     if !one.is_same(&other) {
         telling.put(" by threads: ");

@@ -12,8 +12,7 @@ use Rattle.gq_document.specs.Executable.{ExecutableOf}
 use Rattle.gq_rules.specs.Project.{type_system_of, executable_of}
 use Rattle.gq_rules.specs.RuleFaults.{IsRuleFault}
 use Rattle.gq_rules.specs.Unread.{IsUnread}
-use Rattle.gq_rules.specs.ExecutableDefinitions.{IsMixed}
-use Rattle.gq_rules.specs.Faults.{IsToldFirst, unread, mixed, type_system, IsFaultOf}
+use Rattle.gq_rules.specs.Faults.{IsMixed, IsToldFirst, unread, mixed, type_system, IsFaultOf}
 use Rattle.gq_rules.specs.Faults as demand
 use Rattle.gq_rules.specs.Helping.Places.{unread_at, mixed_at, each_from}
 use Rattle.gq_rules.specs.Helping.Wrongs.{PutsWrong}

@@ -189,7 +189,7 @@ fn check<R: Threads + Sync>(threads: &R, rt: &HostRuntime, words: &ArgMatches<'_
         rt.alloc(),
         format_of(words),
         disk.is_verbose,
-        &files,
+        files,
         &mut output,
         &mut errors,
     )

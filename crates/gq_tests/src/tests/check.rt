@@ -85,7 +85,7 @@ fn files(alloc: Global, row: &str) -> Result<Vec<File>, Fail> {
 fn written(
     alloc: Global,
     rt: &(impl Threads + Sync),
-    files: &[File],
+    files: Vec<File>,
     writes: (usize, usize),
 ) -> Result<String, Fail> {
     let mut out = sink_of(alloc, writes.0);
@@ -107,7 +107,7 @@ fn assert_written(
     for row in rows.trim().lines() {
         let (given, want) = row.split_once("=>").unwrap_or((row, "no arrow"));
         let files = files(alloc, given.trim())?;
-        let all = written(alloc, rt, &files, writes)?;
+        let all = written(alloc, rt, files, writes)?;
         let want = want.trim().replace(alloc, "⏎", "\n")?;
         assert_eq!(rt; all.as_str(), want.as_str(), "{row}");
     }

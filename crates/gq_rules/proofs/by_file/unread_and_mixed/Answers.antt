@@ -1,7 +1,7 @@
 use Rattle.std.proofs.Common.{◌↔◌, ◌⊎◌, List, Contains, subst, sym}
 use Rattle.gq_tree.specs.Readings.{unshared_view}
 use Rattle.gq_fault.specs.declared.fault.Fault.{Fault}
-use Rattle.gq_rules.specs.ExecutableDefinitions.{IsMixed}
+use Rattle.gq_rules.specs.Faults.{IsMixed}
 use Rattle.gq_rules.specs.Unread.{IsUnread}
 use Rattle.gq_rules.proofs.DemandLemmas.{of_texts}
 use Rattle.gq_rules.proofs.by_file.unread_and_mixed.Goals as goal
