@@ -1,11 +1,11 @@
 -- Arguments that are put one after another are those that the members are read as.
-use Rattle.std.proofs.Common.{◌≡◌, ◌∷◌, [], ℕ, zero, suc, List, map, Option, Some, None, Ordering, Less, Equal, Greater, refl, sym, ◌∙◌, ap, ap₂, subst}
+use Rattle.std.proofs.Common.{◌≡◌, ◌∷◌, [], ℕ, zero, suc, List, map, Option, Some, None, Ordering, Less, Equal, Greater, refl, ◌∙◌, ap, ap₂, subst}
 use Rattle.std.specs.Prelude.{insert, option_map, option_and_then}
 use Rattle.std.specs.Ordering.{nat_cmp, match_ordering}
 use Rattle.std.specs.Cmp.Lexicographic.{slice_cmp}
 use Rattle.json.specs.Json as seen
 use Rattle.serde_json.specs.Data.{Data, object, Members, no_members, member, put}
-use Rattle.serde_json.specs.Read.{of_json, of_members}
+use Rattle.serde_json.specs.Read.{of_members}
 use Rattle.gq_meaning.specs.Values.{Value}
 use Rattle.gq_table.specs.Json.{argument_entries, argument_value, arguments_of, before}
 use Rattle.gq_table.specs.Views.{entry_view, under}

@@ -1,5 +1,5 @@
 -- Values by their tokens.
-use Rattle.std.proofs.Common.{◌≡◌, ◌<◌, ◌≤◌, ◌-◌, ◌∷◌, ◌++◌, [], ℕ, suc, List, Bool, length, map, Option, Some, None, Result, refl, sym, ◌∙◌, ap, subst, arith, append_assoc, append-nil}
+use Rattle.std.proofs.Common.{◌≡◌, ◌<◌, ◌-◌, ◌∷◌, ◌++◌, [], ℕ, suc, List, Bool, length, map, Option, Some, None, Result, refl, sym, ◌∙◌, ap, subst, arith, append_assoc, append-nil}
 use Rattle.std.specs.Prelude.{Ok, Err, IfOk, option_map, option_and_then}
 use Rattle.std.specs.Option.{IfSome}
 use Rattle.json.specs.Token as token

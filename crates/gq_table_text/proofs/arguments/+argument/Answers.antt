@@ -1,4 +1,4 @@
-use Rattle.std.proofs.Common.{◌≡◌, ◌∷◌, ◌-◌, ◌<◌, ℕ, suc, map, codes, refl, true, rules, subst, sym, ◌∙◌, ap, arith}
+use Rattle.std.proofs.Common.{◌≡◌, ◌∷◌, ◌-◌, suc, map, codes, refl, true, rules, subst, sym, ◌∙◌, ap, arith}
 use Rattle.std.specs.Bool.{IsTrue}
 use Rattle.std.specs.Prelude.{Some, None}
 use Rattle.std.specs.Option.{IfSome}
@@ -10,7 +10,7 @@ use Rattle.gq_table.specs.Views.{entry_view, value_view as argument_view}
 use Rattle.gq_table.proofs.Trees.{view_null, view_list, view_object}
 use Rattle.gq_table_text.specs.Helping.ReadAs.{argument_named, AreReadBefore, ArePutBefore, BeginsWith, BeginWithArguments}
 use Rattle.gq_table_text.proofs.ArgumentLemmas.{all_read as all_put, arguments_seen, list_seen, none_put, null_seen, object_seen, one_more as one_more_put, text_seen, word_seen}
-use Rattle.gq_table_text.proofs.TokenLemmas.{all_read, found_weaker, map_push, none_read, one_more}
+use Rattle.gq_table_text.proofs.TokenLemmas.{all_read, found_weaker, map_push, one_more}
 use Rattle.gq_table_text.proofs.arguments.+argument.Goals as goal
 
 pub argument-returns-in-Null : goal.argument-returns-in-Null

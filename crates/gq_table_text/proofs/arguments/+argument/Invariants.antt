@@ -1,4 +1,4 @@
-use Rattle.std.proofs.Common.{◌+◌, ◌*◌, ℕ, map, length}
+use Rattle.std.proofs.Common.{◌+◌, ◌*◌, map, length}
 use Rattle.gq_table.specs.Json.{argument_items}
 use Rattle.gq_table.specs.Views.{entry_view, value_view as argument_view}
 use Rattle.gq_table_text.specs.Helping.ReadAs.{AreReadBefore, ArePutBefore}
