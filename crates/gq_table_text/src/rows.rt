@@ -60,7 +60,7 @@ fn rows_of(alloc: Global, reader: &mut Reader<'_>) -> Result<Option<Vec<Row>>, N
 /// The table that a text of JSON holds, where its rows are written as they mostly are: the members of each in the order of
 /// `{"type":"Query","object":0,"field":"a","args":{},"result":R}`, with at most 64 arguments, or entries of an object, beside one
 /// another and each name once among them, and with results that are null, leaves but spelled numbers, objects or lists of these. Else
-/// nothing, which says nothing of the text; so it does where two rows are of one call. Each row is let go before the next one is read.
+/// nothing, which says nothing of the text; so it does where two rows are of one call. No tree of JSON is made.
 pub fn read_in_rows(alloc: Global, bytes: &[u8]) -> Result<Option<Table>, NoMemory>
     ensures { IfOk result (λ o. IfSome o (λ table. (is_utf8 bytes.now ≡ true) × (option_and_then rows_of_json (read bytes.now) ≡ Some (rows_view table)))) }
 {
