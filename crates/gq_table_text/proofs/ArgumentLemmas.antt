@@ -29,7 +29,8 @@ null_seen depth old new front = record {
 }
 
 -- a text under a word
-pub text_seen : (depth : ℕ) (old new : List Token) (k text : List ℕ) (v : Value) → old ≡ token.string text ∷ new → argument_under k (string text) ≡ Some v → BeginsWith (argument_under k) depth old new v
+pub text_seen : (depth : ℕ) (old new : List Token) (k text : List ℕ) (v : Value) → old ≡ token.string text ∷ new → argument_under k (string text) ≡ Some v →
+    BeginsWith (argument_under k) depth old new v
 text_seen depth old new k text v front e = record {
   json = seen.string text;
   is_seen = ap (seen.value depth) front ∙ value_is depth (token.string text ∷ new);
@@ -45,7 +46,8 @@ one_member k j = by_read (of_json j)
     by_read None = refl
     by_read (Some d) = refl
 
-pub word_seen : (depth : ℕ) (old mid after new : List Token) (word : List ℕ) (v : Value) → old ≡ token.key word ∷ mid → BeginsWith (argument_under word) depth mid after v → after ≡ token.end_object ∷ new →
+pub word_seen : (depth : ℕ) (old mid after new : List Token) (word : List ℕ) (v : Value) → old ≡ token.key word ∷ mid → BeginsWith (argument_under word) depth mid after v →
+    after ≡ token.end_object ∷ new →
     BeginsWith argument_value (suc depth) (token.begin_object ∷ old) new v
 word_seen depth old mid after new word v front read back = record {
   json = seen.object (seen.member word read.json seen.no_members);
@@ -81,7 +83,8 @@ list_read js vs = by_read (of_items js)
     by_read None e = cc
     by_read (Some ds) e = ap (option_map list_value) e
 
-pub list_seen : (depth : ℕ) (mid new : List Token) (vs : List Value) → BeginWithItems argument_items depth mid new vs → BeginsWith argument_value (suc depth) (token.begin_array ∷ mid) new (list_value vs)
+pub list_seen : (depth : ℕ) (mid new : List Token) (vs : List Value) → BeginWithItems argument_items depth mid new vs →
+    BeginsWith argument_value (suc depth) (token.begin_array ∷ mid) new (list_value vs)
 list_seen depth mid new vs r = record {
   json = seen.array r.items;
   is_seen = array_seen argument_items depth mid new vs r;
@@ -89,7 +92,8 @@ list_seen depth mid new vs r = record {
   shorter = omega (arith, r.shorter);
 }
 
-pub arguments_seen : (depth : ℕ) (old mid new : List Token) (es : List Value) → 0 < depth → old ≡ token.begin_object ∷ mid → BeginWithArguments (depth - 1) mid new es → BeginsWith arguments_of depth old new es
+pub arguments_seen : (depth : ℕ) (old mid new : List Token) (es : List Value) → 0 < depth → old ≡ token.begin_object ∷ mid → BeginWithArguments (depth - 1) mid new es →
+    BeginsWith arguments_of depth old new es
 arguments_seen depth old mid new es some front r = record {
   json = seen.object r.members;
   is_seen = ap (seen.value depth) front ∙ value-begin_object depth mid some ∙ ap (seen.parse_map seen.object) r.are_seen;
@@ -107,7 +111,8 @@ none_put depth ts = record {
   fewer = omega arith;
 }
 
-pub one_more : (depth : ℕ) (old now mid next : List Token) (name : List ℕ) (x : Entry) (es new_es : List Entry) → ArePutBefore depth old now (map entry_view es) → seen.read_key now ≡ Some (Some name, mid) →
+pub one_more : (depth : ℕ) (old now mid next : List Token) (name : List ℕ) (x : Entry) (es new_es : List Entry) → ArePutBefore depth old now (map entry_view es) →
+    seen.read_key now ≡ Some (Some name, mid) →
     BeginsWith (argument_named name) depth mid next (entry_view x) → option_map (λ at. insert es at x) (place_of x.name es) ≡ Some new_es → ArePutBefore depth old next (map entry_view new_es)
 one_more depth old now mid next name x es new_es earlier first read is_new =
     let less = read_key-shorter now (Some name) mid first in
@@ -120,7 +125,8 @@ one_more depth old now mid next name x es new_es earlier first read is_new =
           record {
             members = put.members;
             are_seen = put.are_seen;
-            are_put = one_put put.members left name es new_es x (of_json read.json) (place_of x.name es) put.are_put.found put.are_put.are_put put.are_put.are_entries (by_read (of_json read.json) read.is_read) refl is_new;
+            are_put = one_put put.members left name es new_es x (of_json read.json) (place_of x.name es) put.are_put.found put.are_put.are_put put.are_put.are_entries (by_read
+                (of_json read.json) read.is_read) refl is_new;
           };
       fewer = omega (arith, earlier.fewer, less, read.shorter);
     }

@@ -34,5 +34,6 @@ number_below : (s : List ℕ) (z : ℤ) → get_or s 0 0 ≡ 45 → number_from 
 unfolding number_of
 number_below s z first is = ap (λ (b : Bool). if b then number_from true (scan (drop 1 s)) else number_from false (scan s)) (eq-eqb (slice_index s 0) minus first) ∙ is
 
-pub negative_seen : (bytes text : List ℕ) (z : ℤ) → bytes ≡ text → get_or bytes 0 0 ≡ 45 → number_from true (scan (drop 1 bytes)) ≡ Some (negative z) → of_json (seen.number text) ≡ Some (number (negative z))
+pub negative_seen : (bytes text : List ℕ) (z : ℤ) → bytes ≡ text → get_or bytes 0 0 ≡ 45 → number_from true (scan (drop 1 bytes)) ≡ Some (negative z) →
+    of_json (seen.number text) ≡ Some (number (negative z))
 negative_seen bytes text z same first is = ap (option_map number) (ap number_of (sym same) ∙ number_below bytes z first is)

@@ -37,7 +37,8 @@ object_named j a = by_read (of_json j)
     by_read None e = cc
     by_read (Some d) e = e
 
-pub object_seen : (old mid after new : List Token) (text : List ℕ) (n : ℕ) → old ≡ token.begin_array ∷ token.string text ∷ mid → BeginsWithNatural mid after n → seen.after_end_array after ≡ Some new → (depth : ℕ) →
+pub object_seen : (old mid after new : List Token) (text : List ℕ) (n : ℕ) → old ≡ token.begin_array ∷ token.string text ∷ mid → BeginsWithNatural mid after n →
+    seen.after_end_array after ≡ Some new → (depth : ℕ) →
     BeginsWith (result_under (codes "object")) (suc depth) old new (record { label = result.object text n; below = none })
 object_seen old mid after new text n front b back depth =
     let whole = front ∙ ap (λ ts. token.begin_array ∷ token.string text ∷ ts) (b.are ∙ ap (λ ts. token.number b.text ∷ ts) (closed_array after new back)) in
@@ -103,7 +104,8 @@ null_seen old new front depth = record {
 }
 
 -- a result under its word
-pub word_seen : (depth : ℕ) (old mid after new : List Token) (word : List ℕ) (a : Answer) → old ≡ token.begin_object ∷ token.key word ∷ mid → BeginsWith (result_under word) depth mid after a → after ≡ token.end_object ∷ new →
+pub word_seen : (depth : ℕ) (old mid after new : List Token) (word : List ℕ) (a : Answer) → old ≡ token.begin_object ∷ token.key word ∷ mid →
+    BeginsWith (result_under word) depth mid after a → after ≡ token.end_object ∷ new →
     BeginsWith result_of (suc depth) old new a
 word_seen depth old mid after new word a front read back = record {
   json = seen.object (seen.member word read.json seen.no_members);

@@ -36,7 +36,8 @@ row_read o (Some p) (Some r) type_name field n arguments answer eo low ep er =
 
 abbrev inside : (type_name text field : List ℕ) (left : Option (seen.Members × List Token)) → Option (seen.Json × List Token)
 inside type_name text field left =
-    seen.parse_map seen.object (seen.parse_map (seen.member (codes "type") (seen.string type_name)) (seen.parse_map (seen.member (codes "object") (seen.number text)) (seen.parse_map (seen.member (codes "field") (seen.string field)) left)))
+    seen.parse_map seen.object (seen.parse_map (seen.member (codes "type") (seen.string type_name)) (seen.parse_map (seen.member (codes "object") (seen.number text))
+    (seen.parse_map (seen.member (codes "field") (seen.string field)) left)))
 
 abbrev last_two : ℕ → Option (seen.Json × List Token) → Option (seen.Members × List Token)
 last_two turns read = option_and_then (λ p. seen.parse_map (seen.member (codes "args") p.0) (seen.members (seen.value 124) turns p.1)) read
@@ -60,16 +61,19 @@ unfolding seen.members
 end_seen turns now = refl
 
 pub row_seen : (old rest after mid last new : List Token) (type_name field : List ℕ) (n : ℕ) (entries : List Entry) (answer : Answer) → BeginsWithHead old rest type_name n field →
-    BeginsWith arguments_of 124 rest after entries → after ≡ key (codes "result") ∷ mid → BeginsWith result_of 124 mid last answer → last ≡ end_object ∷ new → BeginsWithRow old new (row_of type_name field n entries answer)
+    BeginsWith arguments_of 124 rest after entries → after ≡ key (codes "result") ∷ mid → BeginsWith result_of 124 mid last answer → last ≡ end_object ∷ new → BeginsWithRow old new
+    (row_of type_name field n entries answer)
 row_seen old rest after mid last new type_name field n entries answer head args middle res end =
     let turns : ℕ = suc (length rest) in
     let around : Option (seen.Members × List Token) → Option (seen.Json × List Token) = λ left. inside type_name head.text field (seen.parse_map (seen.member (codes "args") args.json) left) in
     let back = ap (seen.members (seen.value 124) (suc turns)) end ∙ end_seen turns new in
-    let inner = ap (seen.members (seen.value 124) (suc (suc turns))) middle ∙ result_seen (suc turns) mid ∙ ap (last_one (suc turns)) res.is_seen ∙ ap (seen.parse_map (seen.member (codes "result") res.json)) back in
+    let inner = ap (seen.members (seen.value 124) (suc (suc turns))) middle ∙ result_seen (suc turns) mid ∙ ap (last_one (suc turns)) res.is_seen ∙ ap (seen.parse_map (seen.member
+    (codes "result") res.json)) back in
     record {
       json = seen.object (seen.member (codes "type") (seen.string type_name) (seen.member (codes "object") (seen.number head.text) (seen.member (codes "field") (seen.string field)
           (seen.member (codes "args") args.json (seen.member (codes "result") res.json seen.no_members)))));
-      is_seen = ap (seen.value row_depth) head.are ∙ head_seen type_name head.text field rest ∙ ap (λ r. inside type_name head.text field (last_two (suc (suc turns)) r)) args.is_seen ∙ ap around inner;
+      is_seen = ap (seen.value row_depth) head.are ∙ head_seen type_name head.text field rest ∙ ap (λ r. inside type_name head.text field (last_two (suc
+          (suc turns)) r)) args.is_seen ∙ ap around inner;
       is_read = row_read (of_json (seen.number head.text)) (of_json args.json) (of_json res.json) type_name field n entries answer head.is_natural.is head.is_natural.low args.is_read res.is_read;
       shorter =
           let a : length mid < length after = subst (λ (ts : List Token). length mid < length ts) (sym middle) (omega arith) in
@@ -95,7 +99,8 @@ closing : (now : List Token) → seen.members (seen.value 126) (suc (length now)
 unfolding seen.members
 closing now = refl
 
-pub table_seen : (old now new : List Token) (rows : List RowOf) → old ≡ begin_object ∷ key (codes "rows") ∷ begin_array ∷ now → BeginWithRows now new rows → new ≡ end_object ∷ [] → AreRowsOf old rows
+pub table_seen : (old now new : List Token) (rows : List RowOf) → old ≡ begin_object ∷ key (codes "rows") ∷ begin_array ∷ now → BeginWithRows now new rows → new ≡ end_object ∷ [] →
+    AreRowsOf old rows
 table_seen old now new rows front read back =
     let whole : seen.value 127 old ≡ Some (seen.object (seen.member (codes "rows") (seen.array read.items) seen.no_members), []) =
     ap (seen.value 127) front ∙ outer now ∙ ap (inner now) read.are_seen

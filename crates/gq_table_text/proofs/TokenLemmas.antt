@@ -60,7 +60,11 @@ array_seen g depth mid new xs read = ap (seen.parse_map seen.array) read.are_see
 
 -- two plain items
 pub pair_seen : (depth : ℕ) (s t : List ℕ) (new : List Token) →
-    seen.value (suc depth) (token.begin_array ∷ token.string s ∷ token.number t ∷ token.end_array ∷ new) ≡ Some (seen.array (seen.item (seen.string s) (seen.item (seen.number t) seen.no_items)), new)
+    seen.value (suc depth) (token.begin_array ∷ token.string s ∷ token.number t ∷ token.end_array ∷ new) ≡ Some (
+      seen.array (seen.item (seen.string s) (seen.item
+          (seen.number t) seen.no_items)),
+      new,
+    )
 unfolding seen.value
 pair_seen depth s t new =
     let p = seen.value depth in
@@ -89,7 +93,8 @@ module _ {A : Type 0} (f : Data → Option A) (g : Items → Option (List A)) (m
   both (Some d) None x others e h = cc
   both (Some d) (Some ds) x others e h = more d ds ∙ ap (λ (a : Option A). before a (g ds)) e ∙ ap (before (Some x)) h
 
-  pub one_more : (depth : ℕ) (old now next : List Token) (xs : List A) (x : A) → AreReadBefore g depth old now xs → seen.after_end_array now ≡ None → BeginsWith f depth now next x → AreReadBefore g depth old next (xs ++ x ∷ [])
+  pub one_more : (depth : ℕ) (old now next : List Token) (xs : List A) (x : A) → AreReadBefore g depth old now xs → seen.after_end_array now ≡ None →
+      BeginsWith f depth now next x → AreReadBefore g depth old next (xs ++ x ∷ [])
   one_more depth old now next xs x earlier no_end first = record { turns = earlier.turns - 1; enough = omega (arith, earlier.enough, first.shorter); all = all_read }
     where
       all_read : (js : seen.Items) (new : List Token) (others : List A) → seen.items (seen.value depth) (earlier.turns - 1) next ≡ Some (js, new) → length new < length next →
@@ -100,7 +105,8 @@ module _ {A : Type 0} (f : Data → Option A) (g : Items → Option (List A)) (m
           let here = earlier.all (seen.item first.json js) new (x ∷ others) whole (omega (arith, less, first.shorter)) (both (of_json first.json) (of_items js) x others first.is_read read) in
           subst (BeginWithItems g depth old new) (sym (append_assoc xs (x ∷ []) others)) here
 
-pub all_read : {A : Type 0} (g : Items → Option (List A)) → g no_items ≡ Some [] → (depth : ℕ) (old now new : List Token) (xs : List A) → AreReadBefore g depth old now xs → seen.after_end_array now ≡ Some new → BeginWithItems g depth old new xs
+pub all_read : {A : Type 0} (g : Items → Option (List A)) → g no_items ≡ Some [] → (depth : ℕ) (old now new : List Token) (xs : List A) → AreReadBefore g depth old now xs →
+    seen.after_end_array now ≡ Some new → BeginWithItems g depth old new xs
 all_read g none depth old now new xs earlier end =
     let last = items_end (seen.value depth) earlier.turns now new earlier.enough end in
     subst (BeginWithItems g depth old new) (append-nil xs) (earlier.all seen.no_items new [] last (after_end_array-shorter now new end) none)

@@ -58,7 +58,8 @@ pub record BeginWithItems {A : Type 0} (g : Items → Option (List A)) (depth : 
 pub record AreReadBefore {A : Type 0} (g : Items → Option (List A)) (depth : ℕ) (old now : List Token) (xs : List A) : Type 0 where
   pub turns : ℕ
   pub enough : length now ≤ turns
-  pub all : (js : seen.Items) (new : List Token) (others : List A) → seen.items (seen.value depth) turns now ≡ Some (js, new) → length new < length now → option_and_then g (of_items js) ≡ Some others →
+  pub all : (js : seen.Items) (new : List Token) (others : List A) → seen.items (seen.value depth) turns now ≡ Some (js, new) → length new < length now →
+      option_and_then g (of_items js) ≡ Some others →
       BeginWithItems g depth old new (xs ++ others)
 
 -- an argument under its name

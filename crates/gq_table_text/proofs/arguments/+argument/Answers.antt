@@ -27,7 +27,8 @@ list-loop-alloc-preserved t c =
     let first = subst (λ ts. BeginsWith argument_value depth ts next (argument_view item)) c.loop-alloc-test.ensures.1 read in
     let items = c.loop-alloc.items.items in
     subst (AreReadBefore argument_items depth c.args.reader.now next) (sym (ap (map argument_view) c.in_ok-push-in-Some.ensures.items ∙ map_push argument_view items item))
-    (one_more argument_value argument_items (λ d ds. refl) depth c.args.reader.now c.loop-alloc.reader next (map argument_view items) (argument_view item) c.loop-alloc.invariant c.loop-alloc-test.ensures.0 first)
+    (one_more argument_value argument_items (λ d ds. refl) depth c.args.reader.now c.loop-alloc.reader next (map argument_view items) (argument_view item) c.loop-alloc.invariant
+    c.loop-alloc-test.ensures.0 first)
 
 pub list-returns : goal.list-returns
 list-returns t c =

@@ -17,4 +17,5 @@ returns-in-Some c =
     let answers = map answer_view c.in-Some.outcomes.items in
     let front : old ≡ begin_array ∷ mid = grind arith in
     let read = subst (λ o. IfSome o (λ os. (depth : ℕ) → BeginWithItems result_items (suc (suc depth)) mid new (map answer_view os.items))) c.in-Some.is c.in_ok-outcomes.ensures in
-    subst (λ (a : Answer). (depth : ℕ) → BeginsWith (result_under (codes "list")) (suc (suc (suc depth))) old new a) (sym (view_list_result c.in-Some.outcomes)) (list_seen old mid new answers front read)
+    subst (λ (a : Answer). (depth : ℕ) → BeginsWith (result_under (codes "list")) (suc (suc (suc depth))) old new a) (sym (view_list_result c.in-Some.outcomes))
+    (list_seen old mid new answers front read)

@@ -15,6 +15,7 @@ returns c =
     let front : old ≡ begin_array ∷ c.next.new.self = grind arith in
     let text : c.next.new.self ≡ string c.in-Some.type_name.now ∷ c.next_text.new.reader = c.in-Some.ensures in
     let back : after_end_array c.next_natural.new.reader ≡ Some new = grind arith in
-    let read = object_seen old c.next_text.new.reader c.next_natural.new.reader new c.in-Some.type_name.now c.in-Some-next_natural.number (front ∙ ap (λ ts. begin_array ∷ ts) text) c.in-Some-next_natural.ensures back in
+    let read = object_seen old c.next_text.new.reader c.next_natural.new.reader new c.in-Some.type_name.now c.in-Some-next_natural.number (front ∙ ap (λ ts. begin_array ∷ ts) text)
+    c.in-Some-next_natural.ensures back in
     rw c.in_ok-type_name.ensures.text
     (subst (λ (a : Answer). (depth : ℕ) → BeginsWith (result_under (codes "object")) (suc depth) old new a) (sym (view_object_result c.in-Some.type_name.now c.in-Some-next_natural.number)) read)

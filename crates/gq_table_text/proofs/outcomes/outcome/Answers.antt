@@ -12,7 +12,8 @@ use Rattle.gq_table_text.proofs.outcomes.outcome.Goals as goal
 pub returns-in_default-first : goal.returns-in_default-first
 returns-in_default-first c depth =
     let front : c.args.reader.now ≡ null ∷ c.enter_result.new.reader = grind arith in
-    subst (BeginsWith result_of (suc (suc (suc (suc depth)))) c.args.reader.now c.enter_result.new.reader) (sym view_nothing) (null_seen c.args.reader.now c.enter_result.new.reader front (suc (suc (suc (suc depth)))))
+    subst (BeginsWith result_of (suc (suc (suc (suc depth)))) c.args.reader.now c.enter_result.new.reader) (sym view_nothing) (null_seen c.args.reader.now
+    c.enter_result.new.reader front (suc (suc (suc (suc depth)))))
 
 pub returns-in-Some-2 : goal.returns-in-Some-2
 returns-in-Some-2 c depth =

@@ -15,7 +15,8 @@ loop-alloc-smaller c =
 
 pub loop-alloc-init : goal.loop-alloc-init
 loop-alloc-init c depth =
-    subst (AreReadBefore result_items (suc (suc depth)) c.args.reader.now c.args.reader.now) (sym (ap (map answer_view) c.new-outcomes.ensures.items)) (none_read result_items (suc (suc depth)) c.args.reader.now)
+    subst (AreReadBefore result_items (suc (suc depth)) c.args.reader.now c.args.reader.now) (sym (ap (map answer_view) c.new-outcomes.ensures.items)) (none_read result_items (suc
+    (suc depth)) c.args.reader.now)
 
 pub loop-alloc-preserved : goal.loop-alloc-preserved
 loop-alloc-preserved c depth =
@@ -26,7 +27,9 @@ loop-alloc-preserved c depth =
     let first = subst (λ ts. BeginsWith result_of least ts next (answer_view outcome)) c.loop-alloc-test.ensures.1 (read depth) in
     let rows = c.loop-alloc.outcomes.items in
     subst (AreReadBefore result_items least c.args.reader.now next) (sym (ap (map answer_view) c.in_ok-push-in-Some.ensures.items ∙ map_push answer_view rows outcome))
-    (one_more result_of result_items (λ d ds. refl) least c.args.reader.now c.loop-alloc.reader next (map answer_view rows) (answer_view outcome) (c.loop-alloc.invariant depth) c.loop-alloc-test.ensures.0 first)
+    (one_more result_of result_items (λ d ds. refl) least c.args.reader.now c.loop-alloc.reader next (map answer_view rows) (answer_view outcome) (c.loop-alloc.invariant depth)
+    c.loop-alloc-test.ensures.0 first)
 
 pub returns : goal.returns
-returns c depth = all_read result_items refl (suc (suc depth)) c.args.reader.now c.loop-alloc.reader c.take_end_array.new.self (map answer_view c.loop-alloc.outcomes.items) (c.loop-alloc.invariant depth) c.loop-alloc-test.ensures
+returns c depth = all_read result_items refl (suc (suc depth)) c.args.reader.now c.loop-alloc.reader c.take_end_array.new.self (map answer_view c.loop-alloc.outcomes.items)
+    (c.loop-alloc.invariant depth) c.loop-alloc-test.ensures
