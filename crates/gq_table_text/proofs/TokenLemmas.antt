@@ -59,12 +59,8 @@ unfolding seen.value
 array_seen g depth mid new xs read = ap (seen.parse_map seen.array) read.are_seen
 
 -- two plain items
-pub pair_seen : (depth : ℕ) (s t : List ℕ) (new : List Token) →
-    seen.value (suc depth) (token.begin_array ∷ token.string s ∷ token.number t ∷ token.end_array ∷ new) ≡ Some (
-      seen.array (seen.item (seen.string s) (seen.item
-          (seen.number t) seen.no_items)),
-      new,
-    )
+pub pair_seen : (depth : ℕ) (s t : List ℕ) (new : List Token) → seen.value (suc depth) (token.begin_array ∷ token.string s ∷ token.number t ∷ token.end_array ∷ new)
+    ≡ Some (seen.array (seen.item (seen.string s) (seen.item (seen.number t) seen.no_items)), new)
 unfolding seen.value
 pair_seen depth s t new =
     let p = seen.value depth in
