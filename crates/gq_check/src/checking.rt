@@ -1,6 +1,5 @@
 //! A check: files in, lines and a status out.
 ghost use Rattle.std.specs.Prelude.{◌≡◌, Bool, false, List, IfOk, IfErr};
-ghost use Rattle.gq_check.specs.declared.fault.CheckFault.TheVariants.{NoMemory};
 ghost use Rattle.gq_check.specs.declared.files.File.{File};
 ghost use Rattle.gq_check.specs.declared.formats.Format.{Format};
 ghost use Rattle.gq_check.specs.Checks.{Checks, Refuses};
@@ -71,7 +70,7 @@ fn tell_judged<O: Sink, E: Sink>(
 ) -> u8
     requires out_works { O.failed out.old ≡ false }
     requires err_works { E.failed err.old ≡ false }
-    ensures { (format : Format) (is_verbose : Bool) (files : List File) → IfOk judged (IsVerdict format files) → IfErr judged (λ fault. fault ≡ NoMemory)
+    ensures { (format : Format) (is_verbose : Bool) (files : List File) → IfOk judged (IsVerdict format files) → IfErr judged (λ fault. fault ≡ CheckFault.NoMemory)
         → Checks format is_verbose files (O.held out.old) (record { held = O.held out.new; failed = O.failed out.new })
         (E.held err.old) (record { held = E.held err.new; failed = E.failed err.new }) result }
 {
