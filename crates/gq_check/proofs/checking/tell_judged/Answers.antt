@@ -1,4 +1,4 @@
-use Rattle.std.proofs.Common.{IfOk, IfErr, refl, sym, ap, ◌∙◌, subst}
+use Rattle.std.proofs.Common.{◌≡◌, IfOk, IfErr, refl, sym, ap, ◌∙◌, subst}
 use Rattle.gq_check.specs.declared.fault.CheckFault.TheVariants.{NoMemory}
 use Rattle.gq_check.specs.Faults.{fault_line}
 use Rattle.gq_check.specs.Checks.{refused}
