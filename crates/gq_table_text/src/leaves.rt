@@ -17,15 +17,22 @@ use itoa::Buffer;
 use json::Token;
 use std::alloc::Global;
 
-/// A natural number below 2^63 in digits alone.
+/// A natural number below 2^63 as it is written in decimal.
 pub(crate) fn natural(text: &str) -> Option<u64>
-    ensures { IfSome result (λ n. IsNatural (seen_number text.now) n) }
+    ensures is { IfSome result (λ n. IsNatural (seen_number text.now) n) }
+    ensures spelling { IfSome result (λ n. text.now ≡ decimal n) }
 {
     let bytes = text.as_bytes();
-    if bytes.is_empty() || bytes[0] == b'-' {
+    if bytes.is_empty() || (bytes[0] == b'0' && bytes.len() > 1) {
         return None;
     }
-    let number = Numeral::scan(bytes).to_u64()?;
+    let mut number = 0;
+    for byte in bytes {
+        if !byte.is_ascii_digit() || number >= 1 << 60 {
+            return None;
+        }
+        number = number * 10 + u64::from(*byte - b'0');
+    }
     if number < 1 << 63 { Some(number) } else { None }
 }
 
@@ -48,15 +55,6 @@ fn negative(text: &str) -> Option<i64>
     below_zero(&Numeral::scan(&bytes[1..]))
 }
 
-/// A natural number as a leaf.
-fn natural_leaf(alloc: Global, number: u64) -> Result<Leaf, NoMemory>
-    ensures { IfOk result (λ leaf. leaf_view leaf ≡ number_leaf (decimal number)) }
-{
-    let mut digits = Buffer::new();
-    let text = digits.format(number);
-    Ok(Leaf::Number(SmallText::from_str(alloc, text)?))
-}
-
 /// A negative number as a leaf.
 fn negative_leaf(alloc: Global, number: i64) -> Result<Leaf, NoMemory>
     ensures { IfOk result (λ leaf. leaf_view leaf ≡ number_leaf (signed_decimal number)) }
@@ -71,8 +69,8 @@ fn integer(alloc: Global, text: &str) -> Result<Option<Leaf>, NoMemory>
     ensures leaf { IfOk result (λ o. IfSome o (λ leaf. read_as leaf_of (seen_number text.now) ≡ Some (leaf_view leaf))) }
     ensures argument { IfOk result (λ o. IfSome o (λ leaf. read_as argument_value (seen_number text.now) ≡ Some (leaf_value (leaf_view leaf)))) }
 {
-    if let Some(number) = natural(text) {
-        return Ok(Some(natural_leaf(alloc, number)?));
+    if let Some(_) = natural(text) {
+        return Ok(Some(Leaf::Number(SmallText::from_str(alloc, text)?)));
     }
     match negative(text) {
         Some(number) => Ok(Some(negative_leaf(alloc, number)?)),
