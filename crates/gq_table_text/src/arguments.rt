@@ -87,6 +87,7 @@ fn list(alloc: Global, reader: &mut Reader<'_>, depth: usize) -> Result<Option<A
             None => return Ok(None),
         }
     }
+    items.shrink_to_fit();
     Ok(Some(Argument::List(items)))
 }
 
@@ -136,7 +137,7 @@ fn object(
 ) -> Result<Option<Argument>, NoMemory>
     ensures { IfOk result (λ o. IfSome o (λ argument. BeginsWith (argument_under (codes "object")) depth reader.old reader.new (argument_view argument))) }
 {
-    match arguments(alloc, reader, depth)? {
+    match arguments(alloc, reader, depth, 0)? {
         Some(entries) => Ok(Some(Argument::Object(entries))),
         None => Ok(None),
     }
@@ -161,18 +162,21 @@ fn named_argument(
     }))
 }
 
-/// The arguments up to the brace that closes their object, where each name is there once.
+/// The arguments up to the brace that closes their object, where each name is there once. Room for so many is taken at once, and
+/// what is not used of it is given back.
 #[cycle(argument)]
 fn entries_to_end(
     alloc: Global,
     reader: &mut Reader<'_>,
     depth: usize,
+    room: usize,
 ) -> Result<Option<Vec<Entry>>, NoMemory>
     ensures { IfOk result (λ o. IfSome o (λ entries. BeginWithArguments depth reader.old reader.new (map entry_view entries.items))) }
 {
-    let mut entries = Vec::new(alloc);
+    let mut entries = Vec::with_capacity(alloc, room)?;
     while let Ok(key) = reader.next_key() {
         let Some(name) = key else {
+            entries.shrink_to_fit();
             return Ok(Some(entries));
         };
         if entries.len() == MOST_ARGUMENTS {
@@ -190,17 +194,18 @@ fn entries_to_end(
 }
 
 /// The arguments of a row, or those in an object among them, in the order of their names, where they are few and have
-/// different names.
+/// different names. Room for so many is taken at once, and what is not used of it is given back.
 #[cycle(argument)]
 pub(crate) fn arguments(
     alloc: Global,
     reader: &mut Reader<'_>,
     depth: usize,
+    room: usize,
 ) -> Result<Option<Vec<Entry>>, NoMemory>
     ensures { IfOk result (λ o. IfSome o (λ entries. BeginsWith arguments_of depth reader.old reader.new (map entry_view entries.items))) }
 {
     match reader.next() {
-        Some(Token::BeginObject) if depth > 0 => entries_to_end(alloc, reader, depth - 1),
+        Some(Token::BeginObject) if depth > 0 => entries_to_end(alloc, reader, depth - 1, room),
         _ => Ok(None),
     }
 }

@@ -49,14 +49,18 @@ fn enter_row<'a>(reader: &mut Reader<'a>) -> Option<Head<'a>>
 }
 
 /// The next row, where its members are `type`, `object`, `field`, `args` and `result` in this order, and its arguments and its result
-/// are as they mostly are. Else nothing, which says nothing of what stands there.
-pub(crate) fn next_row(alloc: Global, reader: &mut Reader<'_>) -> Result<Option<Row>, NoMemory>
+/// are as they mostly are. Else nothing, which says nothing of what stands there. Room for so many arguments is taken at once.
+pub(crate) fn next_row(
+    alloc: Global,
+    reader: &mut Reader<'_>,
+    room: usize,
+) -> Result<Option<Row>, NoMemory>
     ensures { IfOk result (λ o. IfSome o (λ row. BeginsWithRow reader.old reader.new (row_view row))) }
 {
     let Some(head) = enter_row(reader) else {
         return Ok(None);
     };
-    let Some(arguments) = arguments(alloc, reader, PART_DEPTH)? else {
+    let Some(arguments) = arguments(alloc, reader, PART_DEPTH, room)? else {
         return Ok(None);
     };
     if !enter_member(reader, "result") {

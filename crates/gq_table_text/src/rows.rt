@@ -14,16 +14,19 @@ use json::{Reader, Scratch, Token};
 use std::alloc::Global;
 use std::str::from_utf8;
 
-/// The rows up to the bracket that closes their array, where each is written as rows mostly are.
+/// The rows up to the bracket that closes their array, where each is written as rows mostly are. In each, room is taken at once
+/// for as many arguments as the row in front of it has.
 fn rows_to_end(alloc: Global, reader: &mut Reader<'_>) -> Result<Option<Vec<Row>>, NoMemory>
     ensures { IfOk result (λ o. IfSome o (λ rows. BeginWithRows reader.old reader.new (rows_view rows.items))) }
 {
     let mut rows = Vec::new(alloc);
+    let mut room = 0;
     while !reader.take_end_array() {
-        match next_row(alloc, reader)? {
-            Some(row) => rows.push(row)?,
-            None => return Ok(None),
-        }
+        let Some(row) = next_row(alloc, reader, room)? else {
+            return Ok(None);
+        };
+        room = row.arguments.len();
+        rows.push(row)?;
     }
     Ok(Some(rows))
 }

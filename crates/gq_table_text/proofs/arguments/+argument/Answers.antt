@@ -5,7 +5,7 @@ use Rattle.std.specs.Option.{IfSome}
 use Rattle.json.specs.Token.{begin_object, key, null}
 use Rattle.json.specs.Json.{read_key}
 use Rattle.serde_json.specs.Data.{string}
-use Rattle.gq_table.specs.Json.{argument_items, argument_under, argument_value, arguments_of}
+use Rattle.gq_table.specs.Json.{argument_items, argument_under, argument_value, arguments_of, list_value}
 use Rattle.gq_table.specs.Views.{entry_view, value_view as argument_view}
 use Rattle.gq_table.proofs.Trees.{view_null, view_list, view_object}
 use Rattle.gq_table_text.specs.Helping.ReadAs.{argument_named, AreReadBefore, ArePutBefore, BeginsWith, BeginWithArguments}
@@ -35,7 +35,8 @@ list-returns t c =
     let vs = map argument_view c.loop-alloc.items.items in
     let new = c.take_end_array.new.self in
     let read = all_read argument_items refl c.args.depth c.args.reader.now c.loop-alloc.reader new vs c.loop-alloc.invariant c.loop-alloc-test.ensures in
-    subst (BeginsWith argument_value (suc c.args.depth) _ new) (sym (view_list c.loop-alloc.items)) (list_seen c.args.depth c.args.reader.now new vs read)
+    let same = view_list c.shrink_to_fit.new.self ∙ ap (λ items. list_value (map argument_view items)) c.shrink_to_fit.ensures.items in
+    subst (BeginsWith argument_value (suc c.args.depth) _ new) (sym same) (list_seen c.args.depth c.args.reader.now new vs read)
 
 pub tagged_argument-returns-in-Some : goal.tagged_argument-returns-in-Some
 tagged_argument-returns-in-Some t c =
@@ -77,7 +78,7 @@ arguments-returns-in-Some-BeginObject t c =
 
 pub entries_to_end-loop-key-init : goal.entries_to_end-loop-key-init
 entries_to_end-loop-key-init t c =
-    subst (ArePutBefore c.args.depth c.args.reader.now c.args.reader.now) (sym (ap (map entry_view) c.new-entries.ensures.items)) (none_put c.args.depth c.args.reader.now)
+    subst (ArePutBefore c.args.depth c.args.reader.now c.args.reader.now) (sym (ap (map entry_view) c.in_ok-entries.ensures.items)) (none_put c.args.depth c.args.reader.now)
 
 pub entries_to_end-loop-key-preserved : goal.entries_to_end-loop-key-preserved
 entries_to_end-loop-key-preserved t c =
@@ -93,5 +94,7 @@ entries_to_end-loop-key-preserved t c =
 
 pub entries_to_end-returns-in_default-key : goal.entries_to_end-returns-in_default-key
 entries_to_end-returns-in_default-key t c =
-    let end : read_key c.loop-key.reader ≡ Some (None, c.next_key.new.self) = grind arith in
-    all_put c.args.depth c.args.reader.now c.loop-key.reader c.next_key.new.self (map entry_view c.loop-key.entries.items) c.loop-key.invariant end
+    let new = c.next_key.new.self in
+    let end : read_key c.loop-key.reader ≡ Some (None, new) = grind arith in
+    subst (BeginWithArguments c.args.depth c.args.reader.now new) (sym (ap (map entry_view) c.shrink_to_fit.ensures.items))
+    (all_put c.args.depth c.args.reader.now c.loop-key.reader new (map entry_view c.loop-key.entries.items) c.loop-key.invariant end)

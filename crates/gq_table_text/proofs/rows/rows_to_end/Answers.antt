@@ -14,7 +14,7 @@ loop-alloc-preserved c =
     let next = c.next_row.new.reader in
     let read = subst (λ o. IfSome o (λ row. BeginsWithRow c.take_end_array.new.self next (row_view row))) c.in-Some.is c.in_ok-row.ensures in
     let first = subst (λ ts. BeginsWithRow ts next (row_view c.in-Some.row)) c.loop-alloc-test.ensures.1 read in
-    subst (AreReadBefore rows_in row_depth c.args.reader.now next) (sym (ap rows_view c.in_ok-push-in-Some.ensures.items ∙ map_push row_view c.loop-alloc.rows.items c.in-Some.row))
+    subst (AreReadBefore rows_in row_depth c.args.reader.now next) (sym (ap rows_view c.in_ok-push.ensures.items ∙ map_push row_view c.loop-alloc.rows.items c.in-Some.row))
     (one_more row_in rows_in (λ d ds. refl) row_depth c.args.reader.now c.loop-alloc.reader next (rows_view c.loop-alloc.rows.items) (row_view c.in-Some.row) c.loop-alloc.invariant
     c.loop-alloc-test.ensures.0 first)
 
