@@ -9,5 +9,6 @@ pub mod PartLemmas
 pub mod ByNamesLemmas
 pub mod CleanLemmas
 pub mod AloneLemmas
+pub mod Crossing
 pub mod OwnLemmas
 pub mod ToldLemmas

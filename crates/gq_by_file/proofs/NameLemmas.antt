@@ -37,12 +37,14 @@ pub names_push : (r : ParsedOf) (one : FileNames) {rs : List ParsedOf} {names : 
 names_push r one is none = more is none
 names_push r one is (more h hs) = more h (names_push r one is hs)
 
-pub names_next : {A : Type 0} (view : A → ParsedOf) (readings : List A) (i : ℕ) (reading : A) (old new : List FileNames) (one : FileNames) → i < length readings → reading ≡ get_or readings i reading → AreNamesIn (view reading) one →
+pub names_next : {A : Type 0} (view : A → ParsedOf) (readings : List A) (i : ℕ) (reading : A) (old new : List FileNames) (one : FileNames) → i < length readings → reading ≡ get_or readings i reading →
+    AreNamesIn (view reading) one →
     AreNames (map view (take i readings)) old → new ≡ old ++ one ∷ [] → AreNames (map view (take (i + 1) readings)) new
 names_next {A} view readings i reading old new one below at is are more_is =
     let longer : take (i + 1) readings ≡ take i readings ++ reading ∷ [] = take_more readings i reading below ∙ ap (λ (z : A). take i readings ++ z ∷ []) (sym at) in
     let same : map view (take (i + 1) readings) ≡ map view (take i readings) ++ view reading ∷ [] = ap (λ (xs : List A). map view xs) longer ∙ map-append view (take i readings) (reading ∷ []) in
-    subst (λ (rs : List ParsedOf). AreNames rs new) (sym same) (subst (λ (names : List FileNames). AreNames (map view (take i readings) ++ view reading ∷ []) names) (sym more_is) (names_push (view reading) one is are))
+    subst (λ (rs : List ParsedOf). AreNames rs new) (sym same)
+    (subst (λ (names : List FileNames). AreNames (map view (take i readings) ++ view reading ∷ []) names) (sym more_is) (names_push (view reading) one is are))
 
 -- the same where the names stay
 pub names_stay : (at : ℕ) (r : ParsedOf) (one : FileNames) {rs : List ParsedOf} {names : List FileNames} → AreNamesIn r one → slice_get names at ≡ Some one → AreNames rs names → AreNames (slice_set rs at r) names

@@ -1,5 +1,6 @@
 -- What a file tells alone, by its number among the files.
-use Rattle.std.proofs.Common.{◌≡◌, ◌↔◌, ◌⊎◌, ⊎_elim, inl, inr, ℕ, ◌<◌, ◌≤◌, List, [], ◌∷◌, ◌++◌, Some, append-nil, Contains, get_or, length, map, slice_get, zero, suc, ◌+◌, refl, sym, ap, ◌∙◌, subst, arith}
+use Rattle.std.proofs.Common.{◌≡◌, ◌↔◌, ◌⊎◌, ⊎_elim, inl, inr, ℕ, zero, suc, ◌+◌, ◌<◌, ◌≤◌, List, [], ◌∷◌, ◌++◌, Some, Contains, get_or, length, map, slice_get}
+use Rattle.std.proofs.Common.{append-nil, refl, sym, ap, ◌∙◌, subst, arith}
 use Rattle.std.proofs.lemmas.List.Elements.{Contains-append_left, Contains-append_right, Contains-append_cases}
 use Rattle.std.proofs.lemmas.Option.{slice_get_within}
 use Rattle.gq_tree.specs.Readings.{ParsedOf}
@@ -12,7 +13,8 @@ use Rattle.gq_rules.specs.Files.{alone, in_file, IsLocalFault, IsOfItsFile}
 use Rattle.gq_by_file.specs.OneFile.Laws.{NumbersOfFilesAreUnseen}
 use Rattle.gq_by_file.specs.Helping.Told.{IsOwnOf}
 
-module _ (unseen : NumbersOfFilesAreUnseen) (es : List EntryOf) (rs : List ParsedOf) (n : ℕ) (r : ParsedOf) (there : slice_get rs n ≡ Some r) (faults : List Fault) (are : (f : Fault) → Contains faults f ↔ IsLocalFault (alone es 0 r) f) where
+module _ (unseen : NumbersOfFilesAreUnseen) (es : List EntryOf) (rs : List ParsedOf) (n : ℕ) (r : ParsedOf) (there : slice_get rs n ≡ Some r)
+    (faults : List Fault) (are : (f : Fault) → Contains faults f ↔ IsLocalFault (alone es 0 r) f) where
   -- the own faults of a file, by its number
   pub own_of_file : (f : Fault) → Contains (map (in_file n) faults) f ↔ ((f.file ≡ n) × IsOfItsFile es rs f)
   own_of_file f = (forth, back)
@@ -54,7 +56,8 @@ module _ (es : List EntryOf) (rs : List ParsedOf) where
   nothing_added old = puts_list (IsOwnOf es rs []) old old [] (sym (append-nil old)) (λ f. ((λ c. nothing_in f c), (λ h. nothing_in f.file h.0)))
 
   -- one file more
-  pub more_added : (files : List ℕ) (n : ℕ) (old middle new : List Fault) → AddsExactly (IsOwnOf es rs files) old middle → AddsExactly (IsOwnOf es rs (n ∷ [])) middle new → AddsExactly (IsOwnOf es rs (files ++ n ∷ [])) old new
+  pub more_added : (files : List ℕ) (n : ℕ) (old middle new : List Fault) → AddsExactly (IsOwnOf es rs files) old middle → AddsExactly (IsOwnOf es rs (n ∷ [])) middle new →
+      AddsExactly (IsOwnOf es rs (files ++ n ∷ [])) old new
   more_added files n old middle new a b = puts_as _ (IsOwnOf es rs (files ++ n ∷ [])) old new
       (λ f. (
         (λ h. ⊎_elim (λ l. (Contains-append_left files (n ∷ []) f.file l.0, l.1)) (λ r. (Contains-append_right files (n ∷ []) f.file r.0, r.1)) h),

@@ -1,5 +1,5 @@
 -- What is told of files by parts of them is all that the rules tell, and with what is told of texts all that is told.
-use Rattle.std.proofs.Common.{◌≡◌, ◌↔◌, ◌⊎◌, ⊎_elim, inl, inr, ℕ, ◌<◌, Bool, true, false, List, [], ◌∷◌, ◌++◌, All, Contains, Some, slice_get, length, replicate, refl, sym, ap, ◌∙◌, subst, arith}
+use Rattle.std.proofs.Common.{◌≡◌, ◌↔◌, ◌⊎◌, ⊎_elim, inl, inr, ℕ, ◌+◌, ◌<◌, Bool, true, false, List, [], ◌∷◌, ◌++◌, All, Contains, Some, slice_get, length, replicate, refl, sym, ap, ◌∙◌, subst, arith}
 use Rattle.std.specs.declared.vec.Vec.{Vec}
 use Rattle.std.specs.declared.alloc.Global.{Global}
 use Rattle.std.proofs.lemmas.List.{length-replicate}
@@ -127,7 +127,7 @@ module _ (parted : FaultsAcrossAreByNamesOrSpreads) (caused : FaultsAreOfClosedS
   rules_told all every named found told by_names are_told both f = (
     (λ c. ⊎_elim
         (λ l. ((by_names f).0 l).1)
-        (λ r. ⊎_elim (λ s. s.1.1) (λ o. (from_file f o).1) (are_told.sound f r))
+        (λ r. ⊎_elim (λ s. s.2) (λ o. (from_file f o).1) (are_told.sound f r))
         (Contains-append_cases named found f (subst (λ (fs : List Fault). Contains fs f) both c))),
     (λ h. by (rests_on_file f.code) refl h),
   )
@@ -152,7 +152,8 @@ module _ (parted : FaultsAcrossAreByNamesOrSpreads) (caused : FaultsAreOfClosedS
           ((parted x f).0 (e, h))
 
 -- where nothing is wrong with the type system, all that is wrong over it are the faults of rules
-pub rules_alone : (x : ExecutableOf) → ((f : Fault) → IsSchemaFault x.entries f → ⊥) → (found : List Fault) → ((f : Fault) → Contains found f ↔ IsRuleFault x f) → (f : Fault) → Contains found f ↔ IsWrongOver x f
+pub rules_alone : (x : ExecutableOf) → ((f : Fault) → IsSchemaFault x.entries f → ⊥) → (found : List Fault) → ((f : Fault) → Contains found f ↔ IsRuleFault x f) →
+    (f : Fault) → Contains found f ↔ IsWrongOver x f
 rules_alone x none found are f = ((λ c. over.rule none ((are f).0 c)), (λ h. back h))
   where
     back : IsWrongOver x f → Contains found f
@@ -160,7 +161,8 @@ rules_alone x none found are f = ((λ c. over.rule none ((are f).0 c)), (λ h. b
     back (over.rule _ r) = (are f).1 r
 
 -- where something is, that is all
-pub schema_alone : (x : ExecutableOf) (wrong : List Fault) → (wrong ≡ [] → ⊥) → ((f : Fault) → Contains wrong f ↔ IsSchemaFault x.entries f) → (f : Fault) → Contains wrong f ↔ IsWrongOver x f
+pub schema_alone : (x : ExecutableOf) (wrong : List Fault) → (wrong ≡ [] → ⊥) → ((f : Fault) → Contains wrong f ↔ IsSchemaFault x.entries f) →
+    (f : Fault) → Contains wrong f ↔ IsWrongOver x f
 schema_alone x [] some are f = absurd (some refl)
 schema_alone x (y ∷ ys) some are f = ((λ c. over.type_system ((are f).0 c)), (λ h. back h))
   where
@@ -169,7 +171,8 @@ schema_alone x (y ∷ ys) some are f = ((λ c. over.type_system ((are f).0 c)), 
     back (over.rule none r) = absurd (none y ((are y).0 (first y y ys refl)))
 
 -- what is put behind what is told of texts is all that is told
-pub all_told : (rs : List ParsedOf) (texts all : List Fault) → ((f : Fault) → Contains texts f ↔ (IsUnread rs f ⊎ IsMixed rs f)) → PutsWrongOver (executable_of rs) texts all → (f : Fault) → Contains all f ↔ IsFaultOf rs f
+pub all_told : (rs : List ParsedOf) (texts all : List Fault) → ((f : Fault) → Contains texts f ↔ (IsUnread rs f ⊎ IsMixed rs f)) → PutsWrongOver (executable_of rs) texts all →
+    (f : Fault) → Contains all f ↔ IsFaultOf rs f
 all_told rs [] all of_texts put f = (
   (λ c. forth ((put.alone refl f).0 (subst (λ (fs : List Fault). Contains fs f) put.is c))),
   (λ h. subst (λ (fs : List Fault). Contains fs f) (sym put.is) ((put.alone refl f).1 (back h))),

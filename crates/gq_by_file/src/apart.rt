@@ -21,7 +21,7 @@ ghost use Rattle.gq_by_file.specs.Helping.Told.{AreLearnedOf, AreToldOf, IsOver}
 use crate::by_names::found_by_names;
 use crate::closed_sets::{faults_across_are_by_names_or_spreads, faults_are_of_closed_sets};
 use crate::covers::{lead_apart, unmarked};
-use crate::halves::found_by_threads;
+use crate::halves::{Files, found_by_threads};
 use crate::laws::local_faults_are_of_their_file;
 use crate::links::{Links, links_of};
 use crate::names::{FileNames, names_of_all};
@@ -157,8 +157,16 @@ fn found_apart<R: Threads + Sync>(
         requires threads { IsSync R.row }
         requires rows { InRange rows.now }
         requires range { All (λ n. n < length rows.now) all.now }
-        ensures { IfOk result (λ faults. AreLinks (executable_view executable.entry.now) rows.entry.now → AreToldOf (executable_view executable.entry.now) (unshared_view readings.entry.now) all.entry.now faults.items) }
-    { found_by_threads(rt, alloc, executable, readings, rows, all, HALVINGS) };
+        ensures { IfOk result (λ faults. AreLinks (executable_view executable.entry.now) rows.entry.now
+            → AreToldOf (executable_view executable.entry.now) (unshared_view readings.entry.now) all.entry.now faults.items) }
+    {
+        let files = Files {
+            executable,
+            readings,
+            rows,
+        };
+        found_by_threads(rt, alloc, files, all, HALVINGS)
+    };
     let (named, found) = join(rt, find_names, find_files);
     let mut faults = named?;
     faults.append(&mut found?)?;

@@ -99,38 +99,47 @@ fn found_by_halves(
     Ok(faults)
 }
 
+/// What is looked at: the operations and fragments in all files, as these are read, and where their spreads lead.
+#[derive(Clone, Copy)]
+pub(crate) struct Files<'a> {
+    pub(crate) executable: &'a Executable<'a>,
+    pub(crate) readings: &'a [Parsed],
+    pub(crate) rows: &'a [Vec<usize>],
+}
+
 /// The same, where the first halves are looked at in threads: they are halved that often.
 #[cycle(threads)]
 pub(crate) fn found_by_threads<R: Threads + Sync>(
     rt: &R,
     alloc: Global,
-    executable: &Executable<'_>,
-    readings: &[Parsed],
-    rows: &[Vec<usize>],
+    files: Files<'_>,
     rest: &[usize],
     halvings: usize,
 ) -> Result<Vec<Fault>, NoMemory>
-    requires rows { InRange rows.now }
-    requires range { All (λ n. n < length rows.now) rest.now }
-    ensures { IfOk result (λ faults. AreLinks (executable_view executable.now) rows.now → AreToldOf (executable_view executable.now) (unshared_view readings.now) rest.now faults.items) }
+    requires rows { InRange files.rows.now }
+    requires range { All (λ n. n < length files.rows.now) rest.now }
+    ensures { IfOk result (λ faults. AreLinks (executable_view files.entry.executable.now) files.entry.rows.now
+        → AreToldOf (executable_view files.entry.executable.now) (unshared_view files.entry.readings.now) rest.now faults.items) }
 {
-    if halvings == 0 || !lead_apart(alloc, rows, rest)? {
-        return found_by_halves(alloc, executable, readings, rows, rest);
+    if halvings == 0 || !lead_apart(alloc, files.rows, rest)? {
+        return found_by_halves(alloc, files.executable, files.readings, files.rows, rest);
     }
     let left = halvings - 1;
     let (front, back) = rest.split_at(rest.len() / 2);
     let find_front = || -> Result<Vec<Fault>, NoMemory>
         requires threads { IsSync R.row }
-        requires rows { InRange rows.now }
-        requires range { All (λ n. n < length rows.now) front.now }
-        ensures { IfOk result (λ faults. AreLinks (executable_view executable.entry.now) rows.entry.now → AreToldOf (executable_view executable.entry.now) (unshared_view readings.entry.now) front.entry.now faults.items) }
-    { found_by_threads(rt, alloc, executable, readings, rows, front, left) };
+        requires rows { InRange files.rows.now }
+        requires range { All (λ n. n < length files.rows.now) front.now }
+        ensures { IfOk result (λ faults. AreLinks (executable_view files.entry.executable.now) files.entry.rows.now
+            → AreToldOf (executable_view files.entry.executable.now) (unshared_view files.entry.readings.now) front.entry.now faults.items) }
+    { found_by_threads(rt, alloc, files, front, left) };
     let find_back = || -> Result<Vec<Fault>, NoMemory>
         requires threads { IsSync R.row }
-        requires rows { InRange rows.now }
-        requires range { All (λ n. n < length rows.now) back.now }
-        ensures { IfOk result (λ faults. AreLinks (executable_view executable.entry.now) rows.entry.now → AreToldOf (executable_view executable.entry.now) (unshared_view readings.entry.now) back.entry.now faults.items) }
-    { found_by_threads(rt, alloc, executable, readings, rows, back, left) };
+        requires rows { InRange files.rows.now }
+        requires range { All (λ n. n < length files.rows.now) back.now }
+        ensures { IfOk result (λ faults. AreLinks (executable_view files.entry.executable.now) files.entry.rows.now
+            → AreToldOf (executable_view files.entry.executable.now) (unshared_view files.entry.readings.now) back.entry.now faults.items) }
+    { found_by_threads(rt, alloc, files, back, left) };
     let (front, back) = join(rt, find_front, find_back);
     let mut faults = front?;
     faults.append(&mut back?)?;

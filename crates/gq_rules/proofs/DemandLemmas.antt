@@ -19,7 +19,8 @@ use Rattle.gq_rules.specs.Helping.Wrongs.{PutsWrong}
 use Rattle.gq_rules.proofs.ItemLemmas.{unread_are, mixed_are}
 
 -- what is told of the texts
-pub of_texts : (readings : List ParsedOf) (fault : Fault) → Contains (each_from unread_at 0 readings ++ each_from mixed_at 0 readings) fault ↔ (IsUnread readings fault ⊎ IsMixed readings fault)
+pub of_texts : (readings : List ParsedOf) (fault : Fault) → Contains (each_from unread_at 0 readings ++ each_from mixed_at 0 readings) fault
+    ↔ (IsUnread readings fault ⊎ IsMixed readings fault)
 of_texts readings fault = (
   (λ c. ⊎_elim (λ u. inl ((unread_are readings fault).0 u)) (λ m. inr ((mixed_are readings fault).0 m)) (Contains-append_cases (each_from unread_at 0 readings) (each_from mixed_at 0 readings) fault c)),
   (λ h. ⊎_elim

@@ -31,7 +31,8 @@ module _ (x : ExecutableOf) where
       subst (λ xs. PutsWrong x xs new) (sym none) (subst (PutsWrong x []) (sym is) wrong)
 
   -- the same, by what is told over them
-  pub schema_over : (schema : List Fault) → ((fault : Fault) → Contains schema fault ↔ IsSchemaFault x.entries fault) → (schema ≡ [] → ⊥) → (fault : Fault) → Contains schema fault ↔ IsWrongOver x fault
+  pub schema_over : (schema : List Fault) → ((fault : Fault) → Contains schema fault ↔ IsSchemaFault x.entries fault) → (schema ≡ [] → ⊥) →
+      (fault : Fault) → Contains schema fault ↔ IsWrongOver x fault
   schema_over [] exact some fault = absurd (some refl)
   schema_over (y ∷ ys) exact some fault = ((λ c. over.type_system ((exact fault).0 c)), (λ h. back h))
     where

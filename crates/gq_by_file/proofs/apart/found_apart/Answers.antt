@@ -3,7 +3,6 @@ use Rattle.std.proofs.Common.{◌↔◌, Contains, IfOk, subst}
 use denote.Param.Send.{sendable}
 use Rattle.std.proofs.Crossing.{crosses}
 use Rattle.gq_tree.specs.Readings.{unshared_view}
-use Rattle.gq_tree.proofs.Crossing.{Parsed-sync}
 use Rattle.gq_fault.specs.declared.fault.Fault.{Fault}
 use Rattle.gq_document.specs.Executable.{executable_view}
 use Rattle.gq_document.proofs.Crossing.{Executable-sync}
@@ -11,11 +10,12 @@ use Rattle.gq_by_file.specs.Closed.RestsOnNames.{IsFaultByNames}
 use Rattle.gq_by_file.specs.Links.{AreLinks}
 use Rattle.gq_by_file.specs.Helping.ByNames.{AreSpreadsOf, all_spreads}
 use Rattle.gq_by_file.specs.Helping.Told.{AreToldOf}
+use Rattle.gq_by_file.proofs.names.FileNames.TheSendSync as FileNames
 use Rattle.gq_by_file.proofs.ToldLemmas.{rules_told, their_links, their_names}
 use Rattle.gq_by_file.proofs.apart.found_apart.Goals as goal
 
 pub join-named-requires-send-F : goal.join-named-requires-send-F
-join-named-requires-send-F g c κs within = search (sendable, crosses, Executable-sync, Parsed-sync) depth 12
+join-named-requires-send-F g c κs within = search (sendable, crosses, Executable-sync, FileNames.the_sync) depth 12
 
 pub returns : goal.returns
 returns g c is are linked every =

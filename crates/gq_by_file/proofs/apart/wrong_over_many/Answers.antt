@@ -5,18 +5,17 @@ use Rattle.std.proofs.Crossing.{crosses}
 use Rattle.std.proofs.lemmas.Bool.Decides.{nat_tests}
 use Rattle.std.proofs.lemmas.List.{nil_from_length}
 use Rattle.gq_tree.specs.Readings.{unshared_view}
-use Rattle.gq_tree.proofs.Crossing.{Parsed-sync}
 use Rattle.gq_types.proofs.Gathered.{nothing_in}
 use Rattle.gq_fault.specs.declared.fault.Fault.{Fault}
 use Rattle.gq_type_system.specs.SchemaFaults.{IsSchemaFault}
 use Rattle.gq_document.specs.Executable.{executable_view}
-use Rattle.gq_document.proofs.Crossing.{Executable-sync}
+use Rattle.gq_document.proofs.Crossing.{Types-sync}
 use Rattle.gq_by_file.specs.Helping.Told.{AreLearnedOf}
 use Rattle.gq_by_file.proofs.ToldLemmas.{schema_alone}
 use Rattle.gq_by_file.proofs.apart.wrong_over_many.Goals as goal
 
 pub join-wrong-requires-send-F : goal.join-wrong-requires-send-F
-join-wrong-requires-send-F g c κs within = search (sendable, crosses, Executable-sync, Parsed-sync) depth 12
+join-wrong-requires-send-F g c κs within = search (sendable, crosses, Types-sync) depth 12
 
 pub returns-then-not-is_empty : goal.returns-then-not-is_empty
 returns-then-not-is_empty g c _ =

@@ -14,8 +14,8 @@ returns-then-is_empty g c is = record {
 
 pub returns : goal.returns
 returns g c is = record {
-  added = c.in_ok-wrong.wrong.items;
-  is = c.in_ok-append.ensures.items;
+  added = c.in_ok-wrong-2.wrong.items;
+  is = c.in_ok-append-2.ensures.items;
   alone = λ none. absurd (let l = ap length none in grind (arith, nat_tests));
-  behind = λ _. c.in_ok-wrong.ensures.exact;
+  behind = λ _. c.in_ok-wrong-2.ensures.exact;
 }

@@ -11,5 +11,6 @@ loop-reading-init g c = rw c.in_ok-all.ensures.items none
 
 pub loop-reading-preserved : goal.loop-reading-preserved
 loop-reading-preserved g c =
-    names_next (λ reading. parsed_view (g.R.AsParsed.as_parsed reading)) c.args.readings.now c.loop-reading.reading-index c.reading-item.result c.loop-reading.all.items c.push.new.self.items c.in_ok-of.field-0
-    c.loop-reading-test.true c.reading-item.is (subst (λ (r : Parsed). AreNamesIn (parsed_view r) c.in_ok-of.field-0) c.as_parsed.ensures c.in_ok-of.ensures) c.loop-reading.invariant c.in_ok-push.ensures.items
+    names_next (λ reading. parsed_view (g.R.AsParsed.as_parsed reading)) c.args.readings.now c.loop-reading.reading-index c.reading-item.result
+    c.loop-reading.all.items c.push.new.self.items c.in_ok-of.field-0 c.loop-reading-test.true c.reading-item.is
+    (subst (λ (r : Parsed). AreNamesIn (parsed_view r) c.in_ok-of.field-0) c.as_parsed.ensures c.in_ok-of.ensures) c.loop-reading.invariant c.in_ok-push.ensures.items
