@@ -1,6 +1,5 @@
 -- Whether a fault rests on names is the same of all files with the same names.
-use Rattle.std.proofs.Common.{◌≡◌, ◌↔◌, ℕ, zero, suc, Bool, true, ◌+◌, ◌<◌, List, [], ◌∷◌, ◌++◌, Option, Some, None, Contains, map, flat_map, slice_get, slice_index_or, length, refl, sym, ap, ap₂, ◌∙◌, subst, arith}
-use Rattle.std.specs.Option.{option_map}
+use Rattle.std.proofs.Common.{◌≡◌, ◌↔◌, ℕ, zero, suc, Bool, true, ◌+◌, List, [], ◌∷◌, ◌++◌, Option, Some, None, Contains, map, flat_map, slice_get, refl, sym, ap, ap₂, ◌∙◌, subst, arith}
 use Rattle.std.specs.List.{enumerate_from}
 use Rattle.std.proofs.lemmas.List.{map-append}
 use Rattle.std.proofs.lemmas.Option.{none-some, same_Some}
@@ -13,7 +12,6 @@ use Rattle.gq_types.specs.Entries.{Text, EntryOf}
 use Rattle.gq_types.proofs.Gathered.{from_map, nothing_in, to_map}
 use Rattle.gq_document.specs.Definitions.{OperationOf, FragmentOf, operation_in, fragment_in}
 use Rattle.gq_document.specs.Executable.{ExecutableOf}
-use Rattle.gq_document.specs.Reaches.{IsSpreadIn}
 use Rattle.gq_fragments.specs.FragmentNameUniqueness.{IsRepeatedFragmentName}
 use Rattle.gq_fragments.specs.LoneAnonymousOperation.{IsNotAlone}
 use Rattle.gq_fragments.specs.OperationNameUniqueness.{IsRepeatedOperationName, OperationName, names_in, operation_names}

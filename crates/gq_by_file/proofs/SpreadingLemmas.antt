@@ -14,7 +14,7 @@ use Rattle.gq_by_file.proofs.OneFile.Numbers.{to_documents}
 use Rattle.gq_by_file.specs.Closed.Closed.{IsClosed}
 use Rattle.gq_by_file.specs.Closed.Laws.{AreNotSpread, spreads_in, spreads_read}
 use Rattle.gq_by_file.specs.declared.names.FileNames.{FileNames}
-use Rattle.gq_by_file.specs.Names.{AreNames, AreNamesIn, fragment_names_in, fragments_read, texts_of}
+use Rattle.gq_by_file.specs.Names.{AreNames, AreNamesIn, fragment_names_in, fragments_read}
 use Rattle.gq_by_file.specs.Helping.Covers.{has_one_of}
 use Rattle.gq_by_file.proofs.CoverLemmas.{any_of}
 use Rattle.gq_by_file.proofs.LinkLemmas.{name_of_fragment, same_bytes, text_in}

@@ -15,7 +15,7 @@ use Rattle.gq_type_system.specs.SchemaFaults.{IsSchemaFault}
 use Rattle.gq_document.specs.Executable.{ExecutableOf}
 use Rattle.gq_rules.specs.Faults.{IsToldFirst, IsFaultOf, IsMixed, unread, mixed}
 use Rattle.gq_rules.specs.Faults as faults
-use Rattle.gq_rules.specs.Files.{together, IsFaultAcross, IsLocalFault, IsOfItsFile}
+use Rattle.gq_rules.specs.Files.{together, IsLocalFault, IsOfItsFile}
 use Rattle.gq_rules.specs.Project.{executable_of}
 use Rattle.gq_rules.specs.RestsOnFile.{rests_on_file}
 use Rattle.gq_rules.specs.RuleFaults.{IsRuleFault}
@@ -32,7 +32,7 @@ use Rattle.gq_by_file.specs.declared.names.FileNames.{FileNames}
 use Rattle.gq_by_file.specs.Helping.ByNames.{AreSpreadsOf, all_spreads}
 use Rattle.gq_by_file.specs.Helping.Covers.{unmarked_from}
 use Rattle.gq_by_file.specs.Helping.Links.{links_among}
-use Rattle.gq_by_file.specs.Helping.Told.{AreToldOf, IsLookedAt, IsOver, IsOwnOf, PutsWrongOver}
+use Rattle.gq_by_file.specs.Helping.Told.{AreToldOf, IsOver, IsOwnOf, PutsWrongOver}
 use Rattle.gq_by_file.proofs.CleanLemmas.{named_exact}
 use Rattle.gq_by_file.proofs.CoverLemmas.{no_mark, reached_closed, unmarked_range, unmarked_there}
 use Rattle.gq_by_file.proofs.LinkLemmas.{are_links, rows_count, starts_reached}

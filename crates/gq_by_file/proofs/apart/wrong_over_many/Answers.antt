@@ -1,5 +1,5 @@
 -- What is wrong with the type system is all, where there is something; else what the rules tell.
-use Rattle.std.proofs.Common.{◌↔◌, List, [], Contains, IfOk, ap, length, subst, sym, arith}
+use Rattle.std.proofs.Common.{◌↔◌, List, Contains, IfOk, ap, length, subst, arith}
 use denote.Param.Send.{sendable}
 use Rattle.std.proofs.Crossing.{crosses}
 use Rattle.std.proofs.lemmas.Bool.Decides.{nat_tests}

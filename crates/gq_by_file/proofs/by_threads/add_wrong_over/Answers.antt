@@ -1,5 +1,5 @@
 -- Where nothing is told by then, all that is wrong is put; else what is wrong with the type system.
-use Rattle.std.proofs.Common.{ap, length, refl, arith}
+use Rattle.std.proofs.Common.{ap, length, arith}
 use Rattle.std.proofs.lemmas.Bool.Decides.{nat_tests}
 use Rattle.std.proofs.lemmas.List.{nil_from_length}
 use Rattle.gq_by_file.proofs.by_threads.add_wrong_over.Goals as goal

@@ -1,5 +1,5 @@
 -- The covers without the file stay, as the fragments in it have the names that they had.
-use Rattle.std.proofs.Common.{◌≡◌, ⊎_elim, inr, List, Some, set, slice_get, sym, ap, ◌∙◌, subst}
+use Rattle.std.proofs.Common.{⊎_elim, inr, List, set, slice_get, sym, ap, ◌∙◌, subst}
 use Rattle.std.proofs.lemmas.Option.{none-some}
 use Rattle.gq_rules.specs.Files.{together}
 use Rattle.gq_by_file.specs.declared.covers.Cover.{Cover}
