@@ -80,12 +80,20 @@ impl Room for Brand {
 }
 
 /// A history with no change, which has no name yet.
-#[derive(Drop)]
 pub struct Opened {
     head: Word<DocChange, u64, HistoryRule>,
     log: ChangeLog,
     ghost empty: { log.log ≡ [] },
     ghost head_is: { head ≡ head_of log.book },
+}
+
+impl Drop for Opened {
+    fn drop(self) {
+        let Opened {
+            head: _head,
+            log: _log,
+        } = self;
+    }
 }
 
 impl Opened {
@@ -116,19 +124,33 @@ impl Opened {
 }
 
 /// The one right to add to the history: the word that is its length.
-#[derive(Drop)]
 pub(crate) struct Head<J: Room> {
     head: Word<DocChange, u64, HistoryRule>,
     of: PhantomData<J>,
     ghost head_is: { head ≡ head_of J.book },
 }
 
+impl<J: Room> Drop for Head<J> {
+    fn drop(self) {
+        let Head { head: _head, of: _ } = self;
+    }
+}
+
 /// A beginning of the history. Contracts see its changes.
-#[derive(Drop)]
 pub(crate) struct History<J: Room> {
     count: u64,
     log: ChangeLog,
     of: PhantomData<J>,
+}
+
+impl<J: Room> Drop for History<J> {
+    fn drop(self) {
+        let History {
+            count: _,
+            log: _log,
+            of: _,
+        } = self;
+    }
 }
 
 impl<J: Room> Model for History<J> {

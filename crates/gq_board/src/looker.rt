@@ -10,9 +10,14 @@ use left_right::reader::{Reader, Reading};
 use std::marker::Model;
 
 /// What had been published when it was told. It takes no memory. Contracts see the changes.
-#[derive(Drop)]
 pub struct Told<J: Room> {
     history: History<J>,
+}
+
+impl<J: Room> Drop for Told<J> {
+    fn drop(self) {
+        let Told { history: _history } = self;
+    }
 }
 
 impl<J: Room> Model for Told<J> {
@@ -49,10 +54,18 @@ impl<J: Room> Told<J> {
 }
 
 /// A looker that is not looking. Contracts see the most changes that it has seen or learnt of.
-#[derive(Drop)]
 pub struct Looker<J: Room> {
     reader: Reader<Shown, (), BoardRule<J>>,
     known: History<J>,
+}
+
+impl<J: Room> Drop for Looker<J> {
+    fn drop(self) {
+        let Looker {
+            reader: _reader,
+            known: _known,
+        } = self;
+    }
 }
 
 impl<J: Room> Model for Looker<J> {

@@ -10,7 +10,6 @@ use std::alloc::{AllocError, Global};
 use std::marker::PhantomData;
 
 /// The project after a beginning of the history, that beginning, and how long it is.
-#[derive(Drop)]
 pub(crate) struct Shown {
     pub alloc: Global,
     pub project: Project,
@@ -18,12 +17,32 @@ pub(crate) struct Shown {
     pub log: ChangeLog,
 }
 
+impl Drop for Shown {
+    fn drop(self) {
+        let Shown {
+            alloc: _,
+            project: _project,
+            count: _,
+            log: _log,
+        } = self;
+    }
+}
+
 /// One more change, with the beginning of the history that ends with it, and how long that is.
-#[derive(Drop)]
 pub(crate) struct Next {
     pub change: DocChange,
     pub count: u64,
     pub log: ChangeLog,
+}
+
+impl Drop for Next {
+    fn drop(self) {
+        let Next {
+            change: _change,
+            count: _,
+            log: _log,
+        } = self;
+    }
 }
 
 impl Shown {

@@ -56,7 +56,11 @@ fn post_once<J: Room, R: Wait>(rt: &R, end: &mut ReaderEnd<J>, event: Event) -> 
     ensures on { reader_on end.new ≡ reader_on end.old }
     ensures posted { PostsOne event result (posted end.old) (posted end.new) }
 {
-    end.post(rt, event).is_ok()
+    let Err(event) = end.post(rt, event) else {
+        return true;
+    };
+    drop(event);
+    false
 }
 
 /// Posts an event, and tries once more where that is refused. Answers whether it was taken.

@@ -87,7 +87,6 @@ fn take_event(
 }
 
 /// A session with its jobs. Contracts see its state, or nothing once it has failed.
-#[derive(Drop)]
 pub struct Desk {
     session: ClientSession,
     /// What is known of the documents, from the last task that was answered here. An answer is the same without.
@@ -97,6 +96,19 @@ pub struct Desk {
     workers: u8,
     jobs: Jobs,
     failed: bool,
+}
+
+impl Drop for Desk {
+    fn drop(self) {
+        let Desk {
+            session: _session,
+            keeping: _keeping,
+            pieces: _pieces,
+            workers: _,
+            jobs: _jobs,
+            failed: _,
+        } = self;
+    }
 }
 
 impl Model for Desk {

@@ -30,7 +30,7 @@ fn refuse_modified(pending: Vec<Job>, outs: &mut Vec<Out>) -> Result<(), NoMemor
     ensures { OnOk result (outs.new.items ≡ outs.old.items ++ refused_each error.ContentModified pending.items) }
 {
     for job in pending {
-        refuse(job.task, ResponseError::ContentModified, outs)?;
+        refuse(job.into_task(), ResponseError::ContentModified, outs)?;
     }
     Ok(())
 }
@@ -41,7 +41,7 @@ fn refuse_at_shutdown(alloc: Global, pending: Vec<Job>, outs: &mut Vec<Out>) -> 
 {
     for job in pending {
         let why = failed(alloc, "shutdown")?;
-        refuse(job.task, why, outs)?;
+        refuse(job.into_task(), why, outs)?;
     }
     Ok(())
 }
@@ -59,7 +59,7 @@ fn refuse_cancelled(
     let mut kept = Vec::new(alloc);
     for job in pending {
         if is_of(id, &job.task) {
-            refuse(job.task, ResponseError::Cancelled, outs)?;
+            refuse(job.into_task(), ResponseError::Cancelled, outs)?;
         } else {
             kept.push(job)?;
         }
@@ -112,7 +112,7 @@ fn finish(
     ensures outs { OnOk result (outs.new.items ≡ outs.old.items ++ spec.verdicts (docs_of documents.now) (effects.Finishes done) pending.old.items) }
 {
     match take_decided(pending, documents, &done) {
-        Some(job) => write_answer(alloc, job.task, done.answer, outs),
+        Some(job) => write_answer(alloc, job.into_task(), done.into_answer(), outs),
         None => Ok(()),
     }
 }
@@ -192,7 +192,7 @@ fn with_pieces(alloc: Global, job: Job, pieces: &Pieces) -> Job
 {
     Job {
         number: job.number,
-        task: job.task,
+        task: job.into_task(),
         pieces: pieces.shared(alloc),
     }
 }
@@ -232,13 +232,23 @@ fn hand_on(
 
 /// The tasks that are pending, in order of arrival, those of them that wait to be handed on, the numbers of the jobs
 /// that are out, and the next number.
-#[derive(Drop)]
 pub struct Jobs {
     pending: Vec<Job>,
     /// Copies of those among them that wait.
     waiting: VecDeque<Job>,
     out: Vec<u64>,
     next: u64,
+}
+
+impl Drop for Jobs {
+    fn drop(self) {
+        let Jobs {
+            pending: _pending,
+            waiting: _waiting,
+            out: _out,
+            next: _,
+        } = self;
+    }
 }
 
 impl Model for Jobs {

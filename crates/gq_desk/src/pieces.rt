@@ -8,9 +8,14 @@ use std::sync::Arc;
 
 /// Pieces of documents as they are: at most one of each, in ascending order of their keys. They decide no answer, so nothing
 /// is stated of them.
-#[derive(Drop)]
 pub(crate) struct Pieces {
     pieces: Vec<Arc<Piece>>,
+}
+
+impl Drop for Pieces {
+    fn drop(self) {
+        let Pieces { pieces: _pieces } = self;
+    }
 }
 
 impl Pieces {

@@ -10,12 +10,11 @@ ghost use Rattle.gq_events.specs.Rules.{answer_to, FitsTaken};
 use crate::documents::SessionDocuments;
 use crate::event::{Answer, Out, Task};
 use crate::keeping::Keeping;
-use crate::refusals::failed;
 use gq_rpc::{Outgoing, ResponseError};
 use gq_text::NoMemory;
 use std::alloc::Global;
 
-fn notify(messages: Vec<Outgoing>, outs: &mut Vec<Out>) -> Result<(), NoMemory>
+pub(crate) fn notify(messages: Vec<Outgoing>, outs: &mut Vec<Out>) -> Result<(), NoMemory>
     ensures { OnOk result (outs.new.items ≡ outs.old.items ++ map out.Notify messages.items) }
 {
     for message in messages {
@@ -28,13 +27,7 @@ fn notify(messages: Vec<Outgoing>, outs: &mut Vec<Out>) -> Result<(), NoMemory>
 pub fn refuse(task: Task, why: ResponseError, outs: &mut Vec<Out>) -> Result<(), NoMemory>
     ensures { OnOk result (outs.new.items ≡ outs.old.items ++ rules.refused_as task why) }
 {
-    match task {
-        Task::Ask(_, id, _) => {
-            outs.push(Out::Reply(Outgoing::Error(Some(id), why)))?;
-            Ok(())
-        }
-        Task::Check(_) => Ok(()),
-    }
+    task.refuse(why, outs)
 }
 
 /// Adds the answer to a task. Nothing is written for a check that is superseded. None such is pending where its answer comes:
@@ -47,18 +40,7 @@ pub fn write_answer(
 ) -> Result<(), NoMemory>
     ensures { OnOk result (outs.new.items ≡ outs.old.items ++ rules.answered task answer) }
 {
-    match answer {
-        Answer::Response(message) => {
-            outs.push(Out::Reply(message))?;
-            Ok(())
-        }
-        Answer::Report(messages) => notify(messages.into_vec(), outs),
-        Answer::NoMemory => {
-            let why = failed(alloc, "12 NoMemory")?;
-            refuse(task, why, outs)
-        }
-        Answer::Superseded => Ok(()),
-    }
+    answer.write(alloc, task, outs)
 }
 
 /// Adds the answer to the task that an event brings, if it brings one. What is kept is brought to the documents first, of

@@ -20,7 +20,6 @@ use std::mem;
 const DOCUMENTS_MAX: usize = 4096;
 
 /// A document that a client has open, or that was loaded.
-#[derive(Drop)]
 pub struct SessionDocument {
     /// What names it: its URI, escaped in one way.
     pub key: OwnedText,
@@ -32,6 +31,18 @@ pub struct SessionDocument {
     pub text: OpenText,
     /// The text is not known: it is too long to be kept, could not be read, or found no memory.
     pub lost: bool,
+}
+
+impl Drop for SessionDocument {
+    fn drop(self) {
+        let SessionDocument {
+            key: _key,
+            uri: _uri,
+            version: _,
+            text: _text,
+            lost: _,
+        } = self;
+    }
 }
 
 /// A document with a text, or a lost one. It takes no memory.
@@ -160,9 +171,16 @@ fn edit_document(
 }
 
 /// Documents in ascending byte order of their keys.
-#[derive(Drop)]
 pub struct SessionDocuments {
     documents: Vec<SessionDocument>,
+}
+
+impl Drop for SessionDocuments {
+    fn drop(self) {
+        let SessionDocuments {
+            documents: _documents,
+        } = self;
+    }
 }
 
 impl Model for SessionDocuments {

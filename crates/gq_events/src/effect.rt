@@ -123,7 +123,11 @@ fn notification_effect(
     }
 }
 
-fn message_effect(phase: Phase, documents: &SessionDocuments, message: Incoming) -> Effect
+pub(crate) fn message_effect(
+    phase: Phase,
+    documents: &SessionDocuments,
+    message: Incoming,
+) -> Effect
     ensures { result ≡ spec.effect_of_message phase documents.now message }
 {
     match message {
@@ -150,7 +154,7 @@ fn loaded_effect(documents: &SessionDocuments, load: Load) -> Effect
     Effect::Changes(Change::Load(load))
 }
 
-fn load_effect(phase: Phase, documents: &SessionDocuments, load: Load) -> Effect
+pub(crate) fn load_effect(phase: Phase, documents: &SessionDocuments, load: Load) -> Effect
     ensures { result ≡ spec.effect_of_load phase documents.now load }
 {
     match phase {
@@ -159,7 +163,7 @@ fn load_effect(phase: Phase, documents: &SessionDocuments, load: Load) -> Effect
     }
 }
 
-fn end_status(end: InputEnd) -> u8
+pub(crate) fn end_status(end: InputEnd) -> u8
     ensures { result ≡ spec.end_status end }
 {
     match end {
@@ -172,11 +176,5 @@ fn end_status(end: InputEnd) -> u8
 pub fn effect_of(phase: Phase, documents: &SessionDocuments, event: Event) -> Effect
     ensures { result ≡ spec.effect_of phase documents.now event }
 {
-    match (phase, event) {
-        (Phase::Stopped, _) => Effect::Nothing,
-        (_, Event::Message(message)) => message_effect(phase, documents, message),
-        (_, Event::Load(load)) => load_effect(phase, documents, load),
-        (_, Event::Done(done)) => Effect::Finishes(done),
-        (_, Event::End(end)) => Effect::Stops(end_status(end)),
-    }
+    event.effect(phase, documents)
 }

@@ -22,11 +22,19 @@ use std::marker::Model;
 /// to be compared with what is kept.
 ///
 /// Contracts see the documents that it was made of, and the keys.
-#[derive(Drop)]
 pub struct Keeping {
     kept: Option<Kept>,
     /// In ascending order, each key once.
     changed: Vec<OwnedText>,
+}
+
+impl Drop for Keeping {
+    fn drop(self) {
+        let Keeping {
+            kept: _kept,
+            changed: _changed,
+        } = self;
+    }
 }
 
 impl Model for Keeping {

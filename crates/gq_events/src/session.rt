@@ -164,7 +164,6 @@ fn take_question(
 }
 
 /// How far a session has come, and its documents.
-#[derive(Drop)]
 pub struct ClientSession {
     phase: Phase,
     /// What the characters of its positions are counted in.
@@ -178,6 +177,20 @@ pub struct ClientSession {
     documents: SessionDocuments,
     /// Those that were loaded, of documents that its client has open.
     behind: SessionDocuments,
+}
+
+impl Drop for ClientSession {
+    fn drop(self) {
+        let ClientSession {
+            phase: _,
+            position_encoding: _,
+            document_changes: _,
+            code_actions: _,
+            diagnostics: _,
+            documents: _documents,
+            behind: _behind,
+        } = self;
+    }
 }
 
 impl Model for ClientSession {
@@ -314,7 +327,7 @@ impl ClientSession {
     {
         match self.documents.edit(alloc, self.position_encoding, &params) {
             Some(at) => show(alloc, workers, &self.documents.as_slice()[at], outs),
-            None => hide(workers, params.key, outs),
+            None => hide(workers, params.into_key(), outs),
         }
     }
 

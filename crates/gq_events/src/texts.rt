@@ -10,7 +10,6 @@ use std::alloc::Global;
 use std::marker::Model;
 
 /// Where a text lies.
-#[derive(Drop)]
 pub(crate) enum Held {
     /// In one piece, as it came.
     Whole(OwnedText),
@@ -18,10 +17,24 @@ pub(crate) enum Held {
     Edited(Text<GapBuffer>),
 }
 
+impl Drop for Held {
+    fn drop(self) {
+        match self {
+            Held::Whole(_text) => {}
+            Held::Edited(_text) => {}
+        }
+    }
+}
+
 /// The text of a document, seen as its bytes: at most 4 MiB. From its first change on it lies in a gap buffer.
-#[derive(Drop)]
 pub struct OpenText {
     held: Held,
+}
+
+impl Drop for OpenText {
+    fn drop(self) {
+        let OpenText { held: _held } = self;
+    }
 }
 
 impl Model for OpenText {

@@ -6,10 +6,18 @@ use gq_edit::WorkspaceEdit;
 use gq_text::{Change, Items, OwnedText, Position, PositionEncoding, Range};
 
 /// What names a request (JSON-RPC 2.0, section 4): `1` and `"1"` differ.
-#[derive(Drop)]
 pub enum Id {
     Number(i64),
     Text(OwnedText),
+}
+
+impl Drop for Id {
+    fn drop(self) {
+        match self {
+            Id::Number(_) => {}
+            Id::Text(_text) => {}
+        }
+    }
 }
 
 /// What the client can do (LSP 3.17, ClientCapabilities), as far as this server looks at it.
@@ -78,7 +86,6 @@ pub struct CodeActionParams {
 }
 
 /// What is asked about an open document (LSP 3.17, "Language Features").
-#[derive(Drop)]
 pub enum Question {
     Completion(TextDocumentPositionParams),
     Definition(TextDocumentPositionParams),
@@ -87,6 +94,20 @@ pub enum Question {
     References(ReferenceParams),
     Rename(RenameParams),
     CodeAction(CodeActionParams),
+}
+
+impl Drop for Question {
+    fn drop(self) {
+        match self {
+            Question::Completion(_params) => {}
+            Question::Definition(_params) => {}
+            Question::Hover(_params) => {}
+            Question::PrepareRename(_params) => {}
+            Question::References(_params) => {}
+            Question::Rename(_params) => {}
+            Question::CodeAction(_params) => {}
+        }
+    }
 }
 
 /// What a request asks for.
@@ -113,12 +134,34 @@ pub struct TextDocumentItem {
 }
 
 /// Changes of a document (LSP 3.17, DidChangeTextDocumentParams). What cannot be read is none.
-#[derive(Drop)]
 pub struct DidChangeParams {
     /// The key of the document.
     pub key: OwnedText,
     pub version: Option<i64>,
     pub changes: Option<Items<Change>>,
+}
+
+impl Drop for DidChangeParams {
+    fn drop(self) {
+        let DidChangeParams {
+            key: _key,
+            version: _,
+            changes: _changes,
+        } = self;
+    }
+}
+
+impl DidChangeParams {
+    pub fn into_key(self) -> OwnedText
+        ensures { result ≡ self.key }
+    {
+        let DidChangeParams {
+            key,
+            version: _,
+            changes: _changes,
+        } = self;
+        key
+    }
 }
 
 /// What a notification tells.
@@ -164,18 +207,34 @@ pub struct ServerCapabilities {
 }
 
 /// What is shown where a pointer rests (LSP 3.17, Hover).
-#[derive(Drop)]
 pub struct Hover {
     /// Plain text.
     pub value: OwnedText,
     pub range: Range,
 }
 
+impl Drop for Hover {
+    fn drop(self) {
+        let Hover {
+            value: _value,
+            range: _,
+        } = self;
+    }
+}
+
 /// A range of a document (LSP 3.17, Location).
-#[derive(Drop)]
 pub struct Location {
     pub uri: OwnedText,
     pub range: Range,
+}
+
+impl Drop for Location {
+    fn drop(self) {
+        let Location {
+            uri: _uri,
+            range: _,
+        } = self;
+    }
 }
 
 /// What a completion item is (LSP 3.17, CompletionItemKind).
@@ -190,17 +249,33 @@ pub enum CompletionItemKind {
 }
 
 /// A name that may be written at a place (LSP 3.17, CompletionItem).
-#[derive(Drop)]
 pub struct CompletionItem {
     pub kind: CompletionItemKind,
     pub label: OwnedText,
 }
 
+impl Drop for CompletionItem {
+    fn drop(self) {
+        let CompletionItem {
+            kind: _,
+            label: _label,
+        } = self;
+    }
+}
+
 /// What a rename would be of (LSP 3.17, "Prepare Rename Request").
-#[derive(Drop)]
 pub struct PrepareRename {
     pub placeholder: OwnedText,
     pub range: Range,
+}
+
+impl Drop for PrepareRename {
+    fn drop(self) {
+        let PrepareRename {
+            placeholder: _placeholder,
+            range: _,
+        } = self;
+    }
 }
 
 /// What a code action does (LSP 3.17, CodeActionKind).
@@ -239,30 +314,55 @@ impl CodeActionKind {
 }
 
 /// An edit that is offered (LSP 3.17, CodeAction).
-#[derive(Drop)]
 pub struct CodeAction {
     pub kind: CodeActionKind,
     pub edit: WorkspaceEdit,
 }
 
+impl Drop for CodeAction {
+    fn drop(self) {
+        let CodeAction {
+            kind: _,
+            edit: _edit,
+        } = self;
+    }
+}
+
 /// What is wrong at a range of a document (LSP 3.17, Diagnostic): an error of this server.
-#[derive(Drop)]
 pub struct Diagnostic {
     pub code: OwnedText,
     pub message: OwnedText,
     pub range: Range,
 }
 
+impl Drop for Diagnostic {
+    fn drop(self) {
+        let Diagnostic {
+            code: _code,
+            message: _message,
+            range: _,
+        } = self;
+    }
+}
+
 /// All that is wrong with a document (LSP 3.17, PublishDiagnosticsParams), without a version where it is closed.
-#[derive(Drop)]
 pub struct PublishDiagnosticsParams {
     pub uri: OwnedText,
     pub version: Option<i64>,
     pub diagnostics: Items<Diagnostic>,
 }
 
+impl Drop for PublishDiagnosticsParams {
+    fn drop(self) {
+        let PublishDiagnosticsParams {
+            uri: _uri,
+            version: _,
+            diagnostics: _diagnostics,
+        } = self;
+    }
+}
+
 /// Why a request is answered with an error (LSP 3.17, ErrorCodes and LSPErrorCodes).
-#[derive(Drop)]
 pub enum ResponseError {
     ParseError,
     InvalidRequest,
@@ -277,8 +377,22 @@ pub enum ResponseError {
     RequestFailed(OwnedText),
 }
 
+impl Drop for ResponseError {
+    fn drop(self) {
+        match self {
+            ResponseError::ParseError => {}
+            ResponseError::InvalidRequest => {}
+            ResponseError::MethodNotFound => {}
+            ResponseError::InvalidParams => {}
+            ResponseError::NotInitialized => {}
+            ResponseError::Cancelled => {}
+            ResponseError::ContentModified => {}
+            ResponseError::RequestFailed(_why) => {}
+        }
+    }
+}
+
 /// A message to the client.
-#[derive(Drop)]
 pub enum Outgoing {
     Initialized(Id, ServerCapabilities),
     ShutDown(Id),
@@ -293,4 +407,21 @@ pub enum Outgoing {
     Error(Option<Id>, ResponseError),
     /// A notification, not an answer.
     Diagnostics(PublishDiagnosticsParams),
+}
+
+impl Drop for Outgoing {
+    fn drop(self) {
+        match self {
+            Outgoing::Initialized(_id, _) => {}
+            Outgoing::ShutDown(_id) => {}
+            Outgoing::Completions(_id, _found) => {}
+            Outgoing::Hover(_id, _found) => {}
+            Outgoing::Locations(_id, _found) => {}
+            Outgoing::Prepared(_id, _found) => {}
+            Outgoing::Renamed(_id, _edit) => {}
+            Outgoing::CodeActions(_id, _found) => {}
+            Outgoing::Error(_id, _error) => {}
+            Outgoing::Diagnostics(_params) => {}
+        }
+    }
 }

@@ -35,10 +35,18 @@ pub struct Collected<J: Room> {
 }
 
 /// A worker's end. Contracts see the orders of which it has handed on what was made.
-#[derive(Drop)]
 pub struct Outbox<J: Room> {
     pub(crate) sender: RuledSender<Delivery<J>, Post, InOrder>,
     pub(crate) pass: Pass<Delivery<J>, Post>,
+}
+
+impl<J: Room> Drop for Outbox<J> {
+    fn drop(self) {
+        let Outbox {
+            sender: _sender,
+            pass: _pass,
+        } = self;
+    }
 }
 
 impl<J: Room> Model for Outbox<J> {

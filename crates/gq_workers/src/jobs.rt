@@ -80,11 +80,20 @@ impl Split<Hand> for Newcomer {
 }
 
 /// The channel before its ends are handed out. Contracts see the orders that were put by it.
-#[derive(Drop)]
 pub struct Jobs<J: Room> {
     sender: RuledSender<Order<J>, Hand, EachOnce>,
     receiver: RuledReceiver<Order<J>, Hand, EachOnce>,
     pass: Pass<Order<J>, Hand>,
+}
+
+impl<J: Room> Drop for Jobs<J> {
+    fn drop(self) {
+        let Jobs {
+            sender: _sender,
+            receiver: _receiver,
+            pass: _pass,
+        } = self;
+    }
 }
 
 impl<J: Room> Model for Jobs<J> {
@@ -101,10 +110,18 @@ impl<J: Room> Model for Jobs<J> {
 }
 
 /// The end that puts jobs. Contracts see the orders that it has put.
-#[derive(Drop)]
 pub struct JobsOut<J: Room> {
     sender: RuledSender<Order<J>, Hand, EachOnce>,
     pass: Pass<Order<J>, Hand>,
+}
+
+impl<J: Room> Drop for JobsOut<J> {
+    fn drop(self) {
+        let JobsOut {
+            sender: _sender,
+            pass: _pass,
+        } = self;
+    }
 }
 
 impl<J: Room> Model for JobsOut<J> {
@@ -121,10 +138,18 @@ impl<J: Room> Model for JobsOut<J> {
 }
 
 /// A worker's end, which takes jobs. Contracts see the orders that it has taken.
-#[derive(Drop)]
 pub struct JobsIn<J: Room> {
     receiver: RuledReceiver<Order<J>, Hand, EachOnce>,
     pass: Pass<Order<J>, Hand>,
+}
+
+impl<J: Room> Drop for JobsIn<J> {
+    fn drop(self) {
+        let JobsIn {
+            receiver: _receiver,
+            pass: _pass,
+        } = self;
+    }
 }
 
 impl<J: Room> Model for JobsIn<J> {
@@ -174,7 +199,7 @@ impl<J: Room> Jobs<J> {
     {
         let Jobs {
             sender,
-            receiver: _,
+            receiver: _receiver,
             pass,
         } = self;
         JobsOut { sender, pass }

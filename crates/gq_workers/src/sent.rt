@@ -19,7 +19,6 @@ use std::alloc::Global;
 use std::sync::Arc;
 
 /// What was made of an order, with what had been published as its worker saw it. `attend` alone makes one.
-#[derive(Drop)]
 #[non_exhaustive]
 pub struct Sent<J: Room> {
     pub order: Order<J>,
@@ -35,14 +34,24 @@ pub struct Sent<J: Room> {
     pub ghost behind: { is_superseded done.answer ≡ is_behind done.task order.told seen },
 }
 
+impl<J: Room> Drop for Sent<J> {
+    fn drop(self) {
+        let Sent {
+            order: _order,
+            seen: _seen,
+            done: _done,
+        } = self;
+    }
+}
+
 impl<J: Room> Sent<J> {
     /// What was made.
     pub fn into_done(self) -> Done
         ensures { result ≡ self.done }
     {
         let Sent {
-            order: _,
-            seen: _,
+            order: _order,
+            seen: _seen,
             done,
         } = self;
         done

@@ -9,8 +9,8 @@ returns-in-Ok-clause-documents c = rw (c.replace.ensures.after, c.self.view_is) 
 pub invariant_of-self : goal.invariant_of-self
 invariant_of-self c = rw (returns-in-Ok-clause-documents c, ← c.self.view_is) (IsInOrder-with_document _ c.args.document c.self.invariant)
 
-pub invariant_of-self-after-insert-4 : goal.invariant_of-self-after-insert-4
-invariant_of-self-after-insert-4 c =
+pub invariant_of-self-after-insert-2 : goal.invariant_of-self-after-insert-2
+invariant_of-self-after-insert-2 c =
     elim c.match-insert.branch [
       | in-Ok-insert w ↦ rw (w.in-Ok-insert.ensures.items, c.self.view_is, insert_with_document _ _ _ c.args.document c.in-Err.ensures.absent c.as_str.ensures, ← c.self.view_is) (IsInOrder-with_document _ c.args.document c.self.invariant)
       | in-Err-insert w ↦ rw w.in-Err-insert.ensures.items c.self.invariant
