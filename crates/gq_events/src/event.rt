@@ -77,6 +77,7 @@ impl Model for Job {
 }
 
 impl Job {
+    /// The task itself, which is answered or refused; the pieces that went with it are let go. It takes no memory.
     pub fn into_task(self) -> Task
         ensures { result ≡ self.task }
     {
@@ -174,6 +175,7 @@ impl Model for Done {
 }
 
 impl Done {
+    /// The answer itself; the task, the texts and the pieces that came with it are let go. It takes no memory.
     pub fn into_answer(self) -> Answer
         ensures { result ≡ self.answer }
     {

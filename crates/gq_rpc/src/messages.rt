@@ -152,6 +152,7 @@ impl Drop for DidChangeParams {
 }
 
 impl DidChangeParams {
+    /// The key of the document itself; the changes are let go. It takes no memory.
     pub fn into_key(self) -> OwnedText
         ensures { result ≡ self.key }
     {
