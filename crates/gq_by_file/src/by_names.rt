@@ -65,7 +65,7 @@ pub(crate) fn put_names(names: &[SmallText], all: &mut NameList) -> Result<(), N
     ensures { OnOk result (all.new ≡ all.old ++ names.now) }
 {
     for name in names {
-        let _ = all.push(name.as_str())?;
+        all.add(name.as_str())?;
     }
     Ok(())
 }

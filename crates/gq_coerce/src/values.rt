@@ -63,7 +63,7 @@ pub(crate) fn entry_names(alloc: Global, entries: &[Entry]) -> Result<NameList, 
 {
     let mut names = NameList::new(alloc);
     for entry in entries {
-        let _ = names.push(entry.name.as_str())?;
+        names.add(entry.name.as_str())?;
     }
     Ok(names)
 }

@@ -43,7 +43,7 @@ fn fragment_names(alloc: Global, all: &[FragmentEntry<'_>]) -> Result<NameList, 
 {
     let mut names = NameList::new(alloc);
     for fragment in all {
-        let _ = names.push(fragment.definition.name.text.as_str())?;
+        names.add(fragment.definition.name.text.as_str())?;
     }
     Ok(names)
 }

@@ -47,6 +47,17 @@ impl NameList {
         }
     }
 
+    /// A list of no names, with room for so many.
+    pub fn with_capacity(alloc: Global, count: usize) -> Result<NameList, NoMemory>
+        ensures { IfOk result (λ names. names ≡ []) }
+    {
+        Ok(NameList {
+            alloc,
+            names: Vec::with_capacity(alloc, count)?,
+            first_places: FirstPlaces::new(alloc),
+        })
+    }
+
     /// How many names were put, each as often as it was.
     pub fn len(&self) -> usize
         ensures { result ≡ length self.now }
@@ -65,9 +76,19 @@ impl NameList {
         Ok(is_first)
     }
 
-    /// Puts the name, which is the first of its text or not, behind the others. An error leaves the list as it was.
+    /// Puts the name behind the others. An error leaves the list as it was.
+    pub fn add(&mut self, name: &str) -> Result<(), NoMemory>
+        ensures ok { OnOk result (self.new ≡ self.old ++ name.now ∷ []) }
+        ensures err { OnErr result (self.new ≡ self.old) }
+    {
+        let is_first = self.len() >= FEW && !self.contains(name);
+        self.put(name, is_first)
+    }
+
+    /// Puts the name, which is the first of its text or not, behind the others; where these are few, that is not looked at. An error
+    /// leaves the list as it was.
     pub(crate) fn put(&mut self, name: &str, is_first: bool) -> Result<(), NoMemory>
-        requires { is_first ≡ not (list_any (bytes_eq name.now) self.now) }
+        requires { 16 ≤ length self.now → is_first ≡ not (list_any (bytes_eq name.now) self.now) }
         ensures ok { OnOk result (self.new ≡ self.old ++ name.now ∷ []) }
         ensures err { OnErr result (self.new ≡ self.old) }
     {

@@ -266,7 +266,7 @@ impl FirstPlaces {
         is_first: bool,
     ) -> Result<(), NoMemory>
         requires places { 16 < length names.now → FindFirstPlaces self.now names.now }
-        requires first { is_first ≡ not (list_any (bytes_eq name.now) names.now) }
+        requires first { 16 ≤ length names.now → is_first ≡ not (list_any (bytes_eq name.now) names.now) }
         ensures ok { OnOk result (16 ≤ length names.now → FindFirstPlaces self.new (names.now ++ name.now ∷ [])) }
         ensures err { OnErr result (16 < length names.now → FindFirstPlaces self.new names.now) }
     {

@@ -81,7 +81,7 @@ fn put_names(names: &[&Name], spread: &mut NameList) -> Result<(), NoMemory>
     ensures { OnOk result (spread.new ≡ spread.old ++ map (λ n. n.text) (names_at names.now)) }
 {
     for name in names {
-        let _ = spread.push(name.text.as_str())?;
+        spread.add(name.text.as_str())?;
     }
     Ok(())
 }

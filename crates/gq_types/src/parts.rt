@@ -154,7 +154,7 @@ fn add_values(list: &mut NameList, values: &[EnumValueDefinition]) -> Result<(),
     ensures { OnOk result (list.new ≡ list.old ++ map (λ v. v.name.text) values.now) }
 {
     for value in values {
-        let _ = list.push(value.name.text.as_str())?;
+        list.add(value.name.text.as_str())?;
     }
     Ok(())
 }
@@ -163,7 +163,7 @@ fn add_names(list: &mut NameList, names: &[Name]) -> Result<(), NoMemory>
     ensures { OnOk result (list.new ≡ list.old ++ map (λ n. n.text) names.now) }
 {
     for name in names {
-        let _ = list.push(name.text.as_str())?;
+        list.add(name.text.as_str())?;
     }
     Ok(())
 }

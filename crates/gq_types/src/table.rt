@@ -31,8 +31,7 @@ impl<T: Copy + Drop> Table<T> {
         ensures values { OnOk result (self.new.values.items ≡ self.old.values.items ++ value ∷ []) }
     {
         self.values.push(value)?;
-        let _ = self.names.push(name)?;
-        Ok(())
+        self.names.add(name)
     }
 
     /// The value under the name. It takes no memory.

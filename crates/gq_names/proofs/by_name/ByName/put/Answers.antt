@@ -11,7 +11,7 @@ abbrev listed : {T Z : Type 0} → List (Vec T Z) → List (List T)
 listed vs = map (λ v. v.items) vs
 
 pub put-requires : goal.put-requires
-put-requires g c =
+put-requires g c = λ many.
     ap not (sym (sym (is_some_position (bytes_eq c.args.name.now) c.self.inside.names) ∙ ap is_some (sym c.place.ensures ∙ c.in-None.is)))
 
 pub returns-in_err-push-in-Some-clause-err : goal.returns-in_err-push-in-Some-clause-err
