@@ -1,8 +1,10 @@
 //! Types without parts, and parts that stand twice.
-ghost use Rattle.std.specs.Prelude.{◌≡◌, ◌++◌, ◌<◌, OnOk, flat_map, map, length};
+ghost use Rattle.std.specs.Prelude.{◌≡◌, ◌++◌, ◌<◌, [], true, OnOk, flat_map, map, length};
 ghost use Rattle.std.specs.Arc.{arc_value};
+ghost use Rattle.std.specs.List.{list_any};
+ghost use Rattle.std.specs.Str.{bytes_eq};
 ghost use Rattle.gq_tree.specs.Views.{type_system_view, input_view, field_definition_view};
-ghost use Rattle.gq_type_system.specs.Helping.EmptyOrRepeatedPlaces.{empty_type, empty_types, repeated_faults, repeated_part, repeated_parts_of, repeated_parts, repeated_arguments_in, repeated_arguments_of, repeated_arguments, empty_or_repeated};
+ghost use Rattle.gq_type_system.specs.Helping.EmptyOrRepeatedPlaces.{empty_type, empty_types, repeated_faults, texts_of, repeated_part, repeated_parts_of, repeated_parts, repeated_arguments_in, repeated_arguments_of, repeated_arguments, empty_or_repeated};
 ghost use Rattle.gq_type_system.specs.Helping.Groups.{names_in};
 ghost use Rattle.gq_types.specs.Look.{types_view};
 
@@ -58,6 +60,37 @@ fn add_empty_types(alloc: Global, types: &Types, faults: &mut Vec<Fault>) -> Res
     Ok(())
 }
 
+/// The most names that are compared each with each. For so few that takes less time than to make a list of them.
+const FEW: usize = 16;
+
+/// Whether one of these names has that text.
+fn is_among(names: &[NameIn<'_>], text: &str) -> bool
+    ensures { result ≡ list_any (bytes_eq text.now) (texts_of (names_in names.now)) }
+{
+    for one in names {
+        if text == one.name.text.as_str() {
+            return true;
+        }
+    }
+    false
+}
+
+/// Whether these are few names, of which none stands twice.
+fn are_few_and_distinct(names: &[NameIn<'_>]) -> bool
+    ensures { result ≡ true → repeated_faults (names_in names.now) ≡ [] }
+{
+    if names.len() > FEW {
+        return false;
+    }
+    for at in 0..names.len() {
+        let name = names[at].name;
+        if is_among(&names[..at], name.text.as_str()) {
+            return false;
+        }
+    }
+    true
+}
+
 /// The faults of the names that stand earlier among these names.
 #[tactic(auto, using(gq_tree::proofs::Trees::gathers))]
 fn add_repeated_names(
@@ -67,6 +100,9 @@ fn add_repeated_names(
 ) -> Result<(), NoMemory>
     ensures { OnOk result (faults.new.items ≡ faults.old.items ++ repeated_faults (names_in names.now)) }
 {
+    if are_few_and_distinct(names) {
+        return Ok(());
+    }
     let mut seen = NameList::new(alloc);
     for one in names {
         if !seen.push(one.name.text.as_str())? {

@@ -43,6 +43,10 @@ repeated_faults_after before names = map repeated_fault (repeated_after (λ name
 abbrev pub repeated_faults : List (In (NameOf Span)) → List Fault
 repeated_faults names = repeated_faults_after [] names
 
+-- the texts of names
+abbrev pub texts_of : List (In (NameOf Span)) → List Text
+texts_of names = map (λ name. name.it.text) names
+
 abbrev pub all_parts : List Part
 all_parts = Fields ∷ Interfaces ∷ Members ∷ Values ∷ InputFields ∷ []
 
