@@ -242,12 +242,12 @@ pub(crate) fn groups_below(
     ensures settled { IfOk result (λ found. IfSome found (λ groups.
         AreSettled (types_view tables.entry.types.now) (rows_view tables.entry.rows.now) (groups_view groups.items) (members_view members.now))) }
 {
-    let table = if members.len() > FEW {
-        Some(NameList::new(tables.alloc))
+    let room = members.len();
+    let table = if room > FEW {
+        Some(NameList::with_capacity(tables.alloc, room)?)
     } else {
         None
     };
-    let room = members.len().min(FEW);
     let mut classes = Classes {
         table,
         firsts: Vec::with_capacity(tables.alloc, room)?,
