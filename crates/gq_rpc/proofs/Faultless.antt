@@ -1,62 +1,57 @@
--- The tokens of the notification that a document has no diagnostics, and their text.
-use Rattle.std.proofs.Common.{◌≡◌, ℕ, codes, List, [], ◌∷◌, ◌++◌, map, sym, ap, ◌∙◌, append_assoc}
+-- The text of the notification that a document has no diagnostics.
+use Rattle.std.proofs.Common.{◌≡◌, ℕ, ℤ, pos, negsuc, codes, true, List, [], ◌∷◌, ◌++◌, Some, refl, sym, ap, ◌∙◌, append_assoc, append-nil}
+use Rattle.std.specs.Fmt.{signed_decimal}
 use Rattle.json.specs.Token.{Token}
-use Rattle.json.specs.Token as token
-use Rattle.json.specs.Print.{print}
-use Rattle.json.specs.Tree.{json_tokens, members_tokens}
-use Rattle.serde_json.specs.Data.{Data, string, array, object, Members, member}
-use Rattle.serde_json.specs.View.{items_of}
-use Rattle.serde_json.specs.Written.{outline, members_outline, compact_text}
-use Rattle.serde_json.proofs.Texts.{print-outline}
+use Rattle.json.specs.Print.{escape_byte, quoted, token_text, print, print_from}
+use Rattle.serde_json.specs.Find.{of_integer}
+use Rattle.serde_json.specs.Written.{number_text, compact_text, members_text}
 use Rattle.gq_rpc.specs.declared.messages.Diagnostic.{Diagnostic}
 use Rattle.gq_rpc.specs.declared.messages.PublishDiagnosticsParams.{PublishDiagnosticsParams}
-use Rattle.gq_rpc.specs.Encoding.{diagnostic_value, version_members, diagnostics_value, told}
+use Rattle.gq_rpc.specs.Encoding.{version_members, diagnostics_value, told}
 
--- what stands after two writes
-pub both : (a b c xs ys : List Token) → b ≡ a ++ xs → c ≡ b ++ ys → c ≡ a ++ (xs ++ ys)
-both a b c xs ys first second = second ∙ ap (λ t. t ++ ys) first ∙ append_assoc a xs ys
+-- what is written where one token is written behind bytes
+pub one_printed : (t : Token) (bytes before start : List ℕ) (old written : List Token)
+    → bytes ≡ before ++ print written → before ≡ start → old ≡ [] → written ≡ old ++ t ∷ [] → bytes ≡ start ++ token_text t
+unfolding print_from
+one_printed t bytes before start old written items same none one =
+    items ∙ ap (λ b. b ++ print written) same ∙ ap (λ ts. start ++ print ts) (one ∙ ap (λ o. o ++ t ∷ []) none)
+    ∙ ap (λ b. start ++ b) (append-nil (token_text t))
 
--- the tokens of the parameters, with these diagnostics and this URI
-abbrev parameter_tokens : List Diagnostic → List ℕ → Members → List Token
-parameter_tokens diagnostics uri last =
-    json_tokens (outline (object (member (codes "diagnostics") (array (items_of (map diagnostic_value diagnostics))) (member (codes "uri") (string uri) last))))
+digits : (z : ℤ) → signed_decimal z ≡ number_text (of_integer z)
+digits (pos n) = refl
+digits (negsuc n) = refl
 
--- where there are no diagnostics, these writes are the parameters
-pub faultless_tokens : (p : PublishDiagnosticsParams) (uri : List ℕ) (t0 t1 t2 t3 t4 t5 t6 t7 : List Token)
-    → t1 ≡ t0 ++ token.begin_object ∷ []
-    → t2 ≡ t1 ++ token.key (codes "diagnostics") ∷ []
-    → t3 ≡ t2 ++ token.begin_array ∷ []
-    → t4 ≡ t3 ++ token.end_array ∷ []
-    → t5 ≡ t4 ++ token.key (codes "uri") ∷ []
-    → t6 ≡ t5 ++ token.string uri ∷ []
-    → t7 ≡ t6 ++ members_tokens (members_outline (version_members p.version))
-    → uri ≡ p.uri
-    → p.diagnostics ≡ []
-    → t7 ≡ t0 ++ json_tokens (outline (diagnostics_value p))
-faultless_tokens p uri t0 t1 t2 t3 t4 t5 t6 t7 e1 e2 e3 e4 e5 e6 e7 same none =
-    both t0 t6 t7 _ _ (both t0 t5 t6 _ _ (both t0 t4 t5 _ _ (both t0 t3 t4 _ _ (both t0 t2 t3 _ _ (both t0 t1 t2 _ _ e1 e2) e3) e4) e5) e6) e7
-    ∙ ap (λ u. t0 ++ parameter_tokens [] u (version_members p.version)) same
-    ∙ ap (λ ds. t0 ++ parameter_tokens ds p.uri (version_members p.version)) (sym none)
+abbrev version_key : List ℕ
+version_key = 44 ∷ codes "\"version\":"
 
--- these writes are a notification
-pub told_tokens : (method : List ℕ) (d : Data) (t0 t1 t2 t3 t4 t5 t6 t7 t8 : List Token)
-    → t1 ≡ t0 ++ token.begin_object ∷ []
-    → t2 ≡ t1 ++ token.key (codes "jsonrpc") ∷ []
-    → t3 ≡ t2 ++ token.string (codes "2.0") ∷ []
-    → t4 ≡ t3 ++ token.key (codes "method") ∷ []
-    → t5 ≡ t4 ++ token.string method ∷ []
-    → t6 ≡ t5 ++ token.key (codes "params") ∷ []
-    → t7 ≡ t6 ++ json_tokens (outline d)
-    → t8 ≡ t7 ++ token.end_object ∷ []
-    → t8 ≡ t0 ++ json_tokens (outline (told method d))
-told_tokens method d t0 t1 t2 t3 t4 t5 t6 t7 t8 e1 e2 e3 e4 e5 e6 e7 e8 =
-    both t0 t7 t8 _ _ (both t0 t6 t7 _ _ (both t0 t5 t6 _ _ (both t0 t4 t5 _ _ (both t0 t3 t4 _ _ (both t0 t2 t3 _ _ (both t0 t1 t2 _ _ e1 e2) e3) e4) e5) e6) e7) e8
+-- the last member of an object, and its end
+pub last_member : (version : ℤ) (start front back all : List ℕ)
+    → front ≡ start ++ version_key → back ≡ front ++ signed_decimal version → all ≡ back ++ 125 ∷ []
+    → all ≡ start ++ members_text true (version_members (Some version))
+unfolding escape_byte
+last_member version start front back all key number end =
+    end ∙ ap (λ b. b ++ 125 ∷ []) (number ∙ ap (λ b. b ++ signed_decimal version) key)
+    ∙ append_assoc (start ++ version_key) (signed_decimal version) (125 ∷ []) ∙ append_assoc start version_key (signed_decimal version ++ 125 ∷ [])
+    ∙ ap (λ d. start ++ (version_key ++ (d ++ 125 ∷ []))) (digits version)
 
--- the text of a value's tokens, written into an empty buffer
-pub printed : (d : Data) (bytes before : List ℕ) (old tokens : List Token)
-    → bytes ≡ before ++ print tokens → before ≡ [] → old ≡ [] → tokens ≡ old ++ json_tokens (outline d)
-    → bytes ≡ compact_text d
-printed d bytes before old tokens items empty none written =
-    items ∙ ap (λ b. b ++ print tokens) empty
-    ∙ ap print (written ∙ ap (λ o. o ++ json_tokens (outline d)) none)
-    ∙ print-outline d
+abbrev before_uri : List ℕ
+before_uri = codes "{\"jsonrpc\":\"2.0\",\"method\":\"textDocument/publishDiagnostics\",\"params\":{\"diagnostics\":[],\"uri\":"
+
+-- the text of the notification with these diagnostics and this URI
+abbrev told_text : List Diagnostic → List ℕ → PublishDiagnosticsParams → List ℕ
+told_text diagnostics uri p = compact_text (told (codes "textDocument/publishDiagnostics") (diagnostics_value (record p { diagnostics = diagnostics; uri = uri })))
+
+faultless : (uri : List ℕ) (p : PublishDiagnosticsParams) → ((before_uri ++ quoted uri) ++ members_text true (version_members p.version)) ++ 125 ∷ [] ≡ told_text [] uri p
+unfolding escape_byte
+faultless uri p = refl
+
+-- where there are no diagnostics, these writes are the notification
+pub faultless_text : (p : PublishDiagnosticsParams) (uri none front named ended all : List ℕ)
+    → front ≡ none ++ before_uri → none ≡ [] → named ≡ front ++ quoted uri → ended ≡ named ++ members_text true (version_members p.version) → all ≡ ended ++ 125 ∷ []
+    → uri ≡ p.uri → p.diagnostics ≡ []
+    → all ≡ compact_text (told (codes "textDocument/publishDiagnostics") (diagnostics_value p))
+faultless_text p uri none front named ended all e1 e2 e3 e4 e5 same empty =
+    e5 ∙ ap (λ b. b ++ 125 ∷ []) (e4 ∙ ap (λ b. b ++ members_text true (version_members p.version)) (e3 ∙ ap (λ b. b ++ quoted uri) (e1 ∙ ap (λ b. b ++ before_uri) e2)))
+    ∙ faultless uri p
+    ∙ ap (λ u. told_text [] u p) same
+    ∙ ap (λ ds. told_text ds p.uri p) (sym empty)

@@ -1,9 +1,10 @@
 //! Messages written: from a message to the bytes of its frame.
-ghost use Rattle.std.specs.Prelude.{◌≡◌, ◌++◌, List, [], ℕ, codes, IfOk, OnOk};
-ghost use Rattle.json.specs.Tree.{json_tokens, members_tokens};
+ghost use Rattle.std.specs.Prelude.{◌≡◌, ◌++◌, [], true, codes, IfOk};
+ghost use Rattle.std.specs.Fmt.{signed_decimal};
+ghost use Rattle.json.specs.Print.{quoted};
 ghost use Rattle.serde_json.specs.Data.{Data};
 ghost use Rattle.serde_json.specs.View.{view};
-ghost use Rattle.serde_json.specs.Written.{outline, members_outline, compact_text};
+ghost use Rattle.serde_json.specs.Written.{compact_text, members_text};
 ghost use Rattle.gq_rpc.specs.Encoding.{id_value, id_or_null, response, error_response, code_of, words_of, version_members, diagnostics_value, told, value_of, frame_of};
 
 use crate::capabilities::write_initialize_result;
@@ -133,60 +134,52 @@ fn write_value(alloc: Global, message: &Outgoing) -> Result<Value, AllocError>
     }
 }
 
-/// Ends an object with a version, where there is one.
-fn put_version(out: &mut Writer, version: Option<i64>) -> Result<(), AllocError>
-    ensures before { OnOk result (out.new.before ≡ out.old.before) }
-    ensures tokens { OnOk result (out.new.tokens ≡ out.old.tokens ++ members_tokens (members_outline (version_members version))) }
+/// Puts a text behind bytes, as a JSON string.
+fn quoted_behind(bytes: Vec<u8>, text: &str) -> Result<Vec<u8>, AllocError>
+    ensures { IfOk result (λ all. all.items ≡ bytes.items ++ quoted text.now) }
+{
+    let mut out = Writer::new(bytes);
+    out.string(text)?;
+    Ok(out.into_inner())
+}
+
+/// Puts a number behind bytes.
+fn number_behind(bytes: Vec<u8>, number: i64) -> Result<Vec<u8>, AllocError>
+    ensures { IfOk result (λ all. all.items ≡ bytes.items ++ signed_decimal number) }
+{
+    let mut out = Writer::new(bytes);
+    out.i64(number)?;
+    Ok(out.into_inner())
+}
+
+/// Puts a version behind a member, as the last member of an object, where there is one, and ends the object.
+fn version_behind(mut bytes: Vec<u8>, version: Option<i64>) -> Result<Vec<u8>, AllocError>
+    ensures { IfOk result (λ all. all.items ≡ bytes.items ++ members_text true (version_members version)) }
 {
     if let Some(version) = version {
-        out.key("version")?;
-        out.i64(version)?;
-        return out.end_object();
+        bytes.extend_from_slice(b",\"version\":")?;
+        bytes = number_behind(bytes, version)?;
     }
-    out.end_object()
+    bytes.extend_from_slice(b"}")?;
+    Ok(bytes)
 }
 
-/// Writes the parameters that say that a document has no diagnostics.
-fn put_faultless(out: &mut Writer, params: &PublishDiagnosticsParams) -> Result<(), AllocError>
-    ensures before { OnOk result (out.new.before ≡ out.old.before) }
-    ensures tokens { OnOk result (params.now.diagnostics ≡ [] → out.new.tokens ≡ out.old.tokens ++ json_tokens (outline (diagnostics_value params.now))) }
-{
-    out.begin_object()?;
-    out.key("diagnostics")?;
-    out.begin_array()?;
-    out.end_array()?;
-    out.key("uri")?;
-    out.string(params.uri.as_str())?;
-    put_version(out, params.version)
-}
-
-/// Writes the notification that a document has no diagnostics.
-fn put_told_faultless(out: &mut Writer, params: &PublishDiagnosticsParams) -> Result<(), AllocError>
-    ensures before { OnOk result (out.new.before ≡ out.old.before) }
-    ensures tokens { OnOk result (params.now.diagnostics ≡ []
-        → out.new.tokens ≡ out.old.tokens ++ json_tokens (outline (told (codes "textDocument/publishDiagnostics") (diagnostics_value params.now)))) }
-{
-    out.begin_object()?;
-    out.key("jsonrpc")?;
-    out.string("2.0")?;
-    out.key("method")?;
-    out.string("textDocument/publishDiagnostics")?;
-    out.key("params")?;
-    put_faultless(out, params)?;
-    out.end_object()
-}
-
-/// The compact JSON text of that notification. Nearly every open document gets one after each change,
-/// so no `Value` is made for it.
+/// The compact JSON text of the notification that a document has no diagnostics. Nearly every open document gets one after each change,
+/// so no `Value` is made for it, and what is the same in all of them is put there whole.
 fn write_faultless(alloc: Global, params: &PublishDiagnosticsParams) -> Result<Vec<u8>, AllocError>
     ensures { IfOk result (λ bytes. params.now.diagnostics ≡ []
         → bytes.items ≡ compact_text (told (codes "textDocument/publishDiagnostics") (diagnostics_value params.now))) }
 {
     // The rest is at most 128 bytes.
     let room = params.uri.as_str().len().saturating_add(144);
-    let mut out = Writer::new(Vec::with_capacity(alloc, room)?);
-    put_told_faultless(&mut out, params)?;
-    Ok(out.into_inner())
+    let mut bytes = Vec::with_capacity(alloc, room)?;
+    bytes.extend_from_slice(
+        b"{\"jsonrpc\":\"2.0\",\"method\":\"textDocument/publishDiagnostics\",\"params\":{\"diagnostics\":[],\"uri\":",
+    )?;
+    let bytes = quoted_behind(bytes, params.uri.as_str())?;
+    let mut bytes = version_behind(bytes, params.version)?;
+    bytes.extend_from_slice(b"}")?;
+    Ok(bytes)
 }
 
 /// The compact JSON text of a message.
