@@ -82,24 +82,14 @@ const VERSION: &str = "0.1.0";
 /// How many workers there are where the command line does not say.
 const WORKERS: &str = "2";
 
-/// The command `serve`, with the number of workers, and with the folder of the project.
-fn serve_command<'a>(alloc: Global) -> Result<Command<'a>, AllocError> {
-    let workers = Arg::new(alloc, "workers")
+/// The number of workers.
+fn workers_argument<'a>(alloc: Global) -> Arg<'a> {
+    Arg::new(alloc, "workers")
         .long("workers")
         .value_name("N")
         .help("How many threads answer beside the one that reads, 0 to 8; with 0 that one answers")
         .value_parser(value_parser!(u8).range(0..=8))
-        .default_value(WORKERS);
-    let stdio = Arg::new(alloc, "stdio")
-        .long("stdio")
-        .help("Serves on the standard streams, as it does without this word")
-        .action(ArgAction::SetTrue);
-    Command::new(alloc, "serve")
-        .about("Serves the language server protocol on the standard streams")
-        .after_help(SERVE_EXAMPLE)
-        .arg(workers)?
-        .arg(root_argument(alloc))?
-        .arg(stdio)
+        .default_value(WORKERS)
 }
 
 /// The folder of the project.
@@ -109,28 +99,32 @@ fn root_argument<'a>(alloc: Global) -> Arg<'a> {
     )
 }
 
-/// The command `check`, with the names of files, or with the folder that they lie in.
-fn check_command<'a>(alloc: Global) -> Result<Command<'a>, AllocError> {
-    let files = Arg::new(alloc, "files")
-        .value_name("FILE")
-        .help("The files of the project, schema and queries in any order")
-        .action(ArgAction::Append)
-        .num_args(1..)
-        .required_unless_present("root")?
-        .conflicts_with("root")?;
-    let format = Arg::new(alloc, "format")
+/// That the standard streams are served, as they are anyway.
+fn stdio_argument<'a>(alloc: Global) -> Arg<'a> {
+    Arg::new(alloc, "stdio")
+        .long("stdio")
+        .help("Serves on the standard streams, as it does without this word")
+        .action(ArgAction::SetTrue)
+}
+
+/// The command `serve`, with the number of workers, and with the folder of the project.
+fn serve_command<'a>(alloc: Global) -> Result<Command<'a>, AllocError> {
+    Command::new(alloc, "serve")
+        .about("Serves the language server protocol on the standard streams")
+        .after_help(SERVE_EXAMPLE)
+        .arg(workers_argument(alloc))?
+        .arg(root_argument(alloc))?
+        .arg(stdio_argument(alloc))
+}
+
+/// In which form faults are printed.
+fn format_argument<'a>(alloc: Global) -> Arg<'a> {
+    Arg::new(alloc, "format")
         .long("format")
         .value_name("FORMAT")
         .help("In which form faults are printed")
         .value_parser(ValueParser::Names(FORMATS))
-        .default_value("text");
-    Command::new(alloc, "check")
-        .about("Checks files as one project, and prints what is wrong with it")
-        .after_help(CHECK_EXAMPLE)
-        .arg(format)?
-        .arg(verbose_argument(alloc))?
-        .arg(root_argument(alloc))?
-        .arg(files)
+        .default_value("text")
 }
 
 /// Whether standard error says why a file cannot be read.
@@ -141,67 +135,105 @@ fn verbose_argument<'a>(alloc: Global) -> Arg<'a> {
         .action(ArgAction::SetTrue)
 }
 
-/// The command `rename`, with a place, a name, and the names of files or the folder that they lie in.
-fn rename_command<'a>(alloc: Global) -> Result<Command<'a>, AllocError> {
-    let place = Arg::new(alloc, "place")
-        .value_name("FILE:LINE:COLUMN")
-        .help("Where the name of a fragment or a variable is")
-        .required(true);
-    let name = Arg::new(alloc, "name")
-        .value_name("NAME")
-        .help("The new name, without `$`")
-        .required(true);
-    let files = Arg::new(alloc, "files")
+/// The names of files, any number of them.
+fn names_argument<'a>(alloc: Global) -> Arg<'a> {
+    Arg::new(alloc, "files")
         .value_name("FILE")
         .help("The files of the project, schema and queries in any order")
         .action(ArgAction::Append)
         .num_args(1..)
+}
+
+/// The names of files, where the folder that they lie in is not given.
+fn files_argument<'a>(alloc: Global) -> Result<Arg<'a>, AllocError> {
+    names_argument(alloc)
         .required_unless_present("root")?
-        .conflicts_with("root")?;
-    let write = Arg::new(alloc, "write")
+        .conflicts_with("root")
+}
+
+/// The command `check`, with the names of files, or with the folder that they lie in.
+fn check_command<'a>(alloc: Global) -> Result<Command<'a>, AllocError> {
+    Command::new(alloc, "check")
+        .about("Checks files as one project, and prints what is wrong with it")
+        .after_help(CHECK_EXAMPLE)
+        .arg(format_argument(alloc))?
+        .arg(verbose_argument(alloc))?
+        .arg(root_argument(alloc))?
+        .arg(files_argument(alloc)?)
+}
+
+/// Whether the edited files are written.
+fn write_argument<'a>(alloc: Global) -> Arg<'a> {
+    Arg::new(alloc, "write")
         .long("write")
         .help("Writes the edited files")
-        .action(ArgAction::SetTrue);
+        .action(ArgAction::SetTrue)
+}
+
+/// The place of what is renamed.
+fn place_argument<'a>(alloc: Global) -> Arg<'a> {
+    Arg::new(alloc, "place")
+        .value_name("FILE:LINE:COLUMN")
+        .help("Where the name of a fragment or a variable is")
+        .required(true)
+}
+
+/// The new name.
+fn name_argument<'a>(alloc: Global) -> Arg<'a> {
+    Arg::new(alloc, "name")
+        .value_name("NAME")
+        .help("The new name, without `$`")
+        .required(true)
+}
+
+/// The command `rename`, with a place, a name, and the names of files or the folder that they lie in.
+fn rename_command<'a>(alloc: Global) -> Result<Command<'a>, AllocError> {
     Command::new(alloc, "rename")
         .about("Renames a fragment or a variable in all files of a project")
         .after_help(RENAME_EXAMPLE)
-        .arg(write)?
+        .arg(write_argument(alloc))?
         .arg(verbose_argument(alloc))?
         .arg(root_argument(alloc))?
-        .arg(place)?
-        .arg(name)?
-        .arg(files)
+        .arg(place_argument(alloc))?
+        .arg(name_argument(alloc))?
+        .arg(files_argument(alloc)?)
+}
+
+/// Which operation is executed.
+fn operation_argument<'a>(alloc: Global) -> Arg<'a> {
+    Arg::new(alloc, "op")
+        .long("op")
+        .value_name("NAME")
+        .help("The operation, where the files have more than one")
+}
+
+/// What resolvers answer.
+fn table_argument<'a>(alloc: Global) -> Arg<'a> {
+    Arg::new(alloc, "table")
+        .long("table")
+        .value_name("FILE")
+        .help("What resolvers answer, as JSON")
+        .required(true)
+}
+
+/// The values of variables.
+fn variables_argument<'a>(alloc: Global) -> Arg<'a> {
+    Arg::new(alloc, "vars")
+        .long("vars")
+        .value_name("FILE")
+        .help("Values for the operation's variables, as a JSON object")
 }
 
 /// The command `exec`, with what is executed, over which table and with which variables.
 fn exec_command<'a>(alloc: Global) -> Result<Command<'a>, AllocError> {
-    let name = Arg::new(alloc, "op")
-        .long("op")
-        .value_name("NAME")
-        .help("The operation, where the files have more than one");
-    let table = Arg::new(alloc, "table")
-        .long("table")
-        .value_name("FILE")
-        .help("What resolvers answer, as JSON")
-        .required(true);
-    let variables = Arg::new(alloc, "vars")
-        .long("vars")
-        .value_name("FILE")
-        .help("Values for the operation's variables, as a JSON object");
-    let files = Arg::new(alloc, "files")
-        .value_name("FILE")
-        .help("The files of the project, schema and queries in any order")
-        .action(ArgAction::Append)
-        .num_args(1..)
-        .required(true);
     Command::new(alloc, "exec")
         .about("Executes an operation of files over a table, and prints the response")
         .after_help(EXEC_EXAMPLE)
         .arg(verbose_argument(alloc))?
-        .arg(name)?
-        .arg(table)?
-        .arg(variables)?
-        .arg(files)
+        .arg(operation_argument(alloc))?
+        .arg(table_argument(alloc))?
+        .arg(variables_argument(alloc))?
+        .arg(names_argument(alloc).required(true))
 }
 
 /// The program, with its commands.
