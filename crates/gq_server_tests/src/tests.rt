@@ -1,9 +1,3 @@
-mod boards;
-mod desk_events;
-mod driving;
-mod event_lists;
 mod loads;
 mod runs;
-mod superseded;
-mod taker;
 mod worker_runs;

@@ -7,7 +7,7 @@ use Rattle.gq_desk.specs.declared.driving.DriveFault.{DriveFault}
 use Rattle.gq_desk.specs.Standing.{StandsFor}
 use Rattle.gq_desk.specs.Driving.{Drives, Fails, events_max}
 use Rattle.gq_desk.specs.Laws.{NumbersStayLow}
-use Rattle.gq_server_tests.proofs.tests.driving.drive_both.Goals as goal
+use Rattle.gq_desk_tests.proofs.tests.driving.drive_both.Goals as goal
 
 few : (desk : Option State) (turns : List Turn) → IfSome desk (λ s. s.jobs.next ≤ length turns + 1) → length turns ≤ events_max → IfSome desk (λ s. s.jobs.next ≤ 2 ^ 61)
 few None turns h within = tt
