@@ -1,16 +1,17 @@
 #!/usr/bin/env python3
 """Refuses each growth of memory of each row, case and session in turn, by a child process made at it.
 
-    python3 scripts/refused_each.py PROGRAM [--minutes N] [--jobs N] [TEXT]      PROGRAM as crates/gqls/out/gqls
+    python3 scripts/refused_each.py PROGRAM [--minutes N] [--most N] [--jobs N] [TEXT..]      PROGRAM as crates/gqls/out/gqls
 
 What is run, what a growth is and what may come of one that is refused are those of refused_memory.py, which runs the program anew for each
 growth, and so tries some sixty of a long session. Here a case runs once. At each growth it makes a child, in which that growth is refused,
 and then one in which all behind it are, too; once the child has ended, what it wrote is taken back, and the case goes on as with ample
-memory. A session in which rows follow each other, each with documents of its own, is cut into one for each row. What makes threads cannot
-be tried so: of that each growth is refused in a run of its own.
+memory. A session in which rows follow each other, each with documents of its own, is cut into one for each row. A fork copies one thread
+alone, so no other can be made: what would run by threads runs on one.
 
-A table counts what the children came to, by the file of their case; with `--minutes` no case begins that much later, and cases that were
-left out are told. The status is 1 where one differed."""
+A table counts what the children came to, by the file of their case. Of cases with one of the words TEXT in their names the longest begin
+first; with `--minutes` none begins that much later, with `--most` one of more growths is passed over, and those that were left out are told.
+The status is 1 where one differed."""
 import argparse
 import multiprocessing
 import os
@@ -21,11 +22,10 @@ import tempfile
 import time
 
 from refused_memory import WRONG, Judge, Table
-from trials import Case, Ran, Runner, commands, compiled, contents, environment, new_counts, numbers_in, parts_of, programs_of_rows, sessions, sessions_over_folders, stream_of
+from trials import ALL, Case, Ran, Runner, commands, compiled, contents, environment, new_counts, numbers_in, parts_of, programs_of_rows, sessions, sessions_over_folders, stream_of
 
 RECORD = struct.Struct("7qQ")
 COVER = "file:///cover"
-HAS_THREADS = 98
 
 
 def opened_after(body, opened):
@@ -38,12 +38,15 @@ def opened_after(body, opened):
 
 
 def by_rows(case):
-    """A session for each row of a case, where between two rows the cover is open alone; else the case."""
+    """A session for each row of a case of rows, where the same is open between two of them: the cover, or nothing; else the case."""
+    if ".rows" not in case.name or len(case.bodies) < 2:
+        return [case]
+    between = opened_after(case.bodies[1], frozenset()) & {COVER}
     opened, front, part, found = frozenset(), None, [], []
     for body in case.bodies:
         part.append(body)
         opened = opened_after(body, opened)
-        if opened == {COVER}:
+        if opened == between:
             if front is None:
                 front = part
             else:
@@ -54,12 +57,18 @@ def by_rows(case):
     return [Case(f"{case.name}-{number}", case.words, bodies, case.rest, case.steps) for number, bodies in enumerate(found)]
 
 
+def size_of(case):
+    """How many bytes a case is given."""
+    given = [rest[1] for word, rest in case.steps if word == "bytes"]
+    return sum(map(len, (*case.bodies, case.rest, *given)))
+
+
 class Forker(Runner):
     """Runs a case once, and a child at each growth."""
 
     def children(self, case):
-        """What each child came to: the growth, whether all behind it were refused, a number for what it came to, and that the first time. None
-        where the case makes threads."""
+        """The run with ample memory, and what each child came to: the growth, whether all behind it were refused, a number for what it came to,
+        and that the first time."""
         with tempfile.TemporaryDirectory() as outer:
             folder, log = os.path.join(os.path.realpath(outer), "w"), os.path.join(outer, "log")
             os.mkdir(folder)
@@ -77,8 +86,6 @@ class Forker(Runner):
                     stdout=output,
                     stderr=errors,
                 )
-            if ran.returncode == HAS_THREADS:
-                return None
             ample = Ran(contents(names[1], b""), contents(names[2], b""), ran.returncode, numbers_in(counts), folder)
             return ample, read_log(contents(log, b""), contents(names[1], b""), folder)
 
@@ -111,29 +118,16 @@ def came_of_children(judge, children):
     return came, wrong
 
 
-def came_of_runs(judge):
-    """The same of a run for each growth."""
-    came, wrong = {}, []
-    for growth in range(1, judge.ample.growths + 1):
-        for goes_on in (0, 1):
-            outcome, why = judge.judged(growth, goes_on)
-            came[outcome] = came.get(outcome, 0) + 1
-            if why:
-                wrong.append(f"{judge.case.name}, growth {growth}{' and all behind it' if goes_on else ''}: {why}")
-    return came, wrong
-
-
 def tried(task):
     """The growths of a case, what came of each, and what differs; None where it was left out."""
-    forker, case, deadline = task
+    forker, case, deadline, most = task
     if time.time() >= deadline:
         return case.name, 0, None, []
     try:
         judge = Judge(forker, case)
-        found = forker.children(case)
-        if found is None:
-            return case.name, judge.ample.growths, *came_of_runs(judge)
-        ample, children = found
+        if judge.ample.growths > most:
+            return case.name, 0, None, []
+        ample, children = forker.children(case)
         if not ample.is_as(judge.ample) or len(children) != 2 * ample.growths:
             raise ValueError("a run with children differs from one without")
         return case.name, ample.growths, *came_of_children(judge, children)
@@ -144,16 +138,19 @@ def tried(task):
 def main():
     parser = argparse.ArgumentParser(description=__doc__, formatter_class=argparse.RawDescriptionHelpFormatter)
     parser.add_argument("program")
-    parser.add_argument("text", nargs="?", default="")
+    parser.add_argument("texts", nargs="*", default=[""], metavar="TEXT")
     parser.add_argument("--minutes", type=float, default=600)
+    parser.add_argument("--most", type=int, default=ALL)
     parser.add_argument("--jobs", type=int, default=os.cpu_count())
     asked = parser.parse_intermixed_args()
-    whole = [case for case in (*sessions(), *sessions_over_folders(), *commands(), *programs_of_rows()) if asked.text in case.name]
-    cases = [row for case in whole for row in (by_rows(case) if case.serves else [case])]
+    whole = [
+        case for case in (*sessions(), *sessions_over_folders(), *commands(), *programs_of_rows()) if any(text in case.name for text in asked.texts)
+    ]
+    cases = sorted((row for case in whole for row in (by_rows(case) if case.serves else [case])), key=size_of, reverse=True)
     deadline, table, missed = time.time() + 60 * asked.minutes, Table(), []
     with tempfile.TemporaryDirectory() as folder, multiprocessing.Pool(asked.jobs) as pool:
         forker = Forker(os.path.abspath(asked.program), compiled(folder))
-        for name, growths, came, wrong in pool.imap_unordered(tried, [(forker, case, deadline) for case in cases]):
+        for name, growths, came, wrong in pool.imap_unordered(tried, [(forker, case, deadline, asked.most) for case in cases]):
             if came is None:
                 missed.append(name)
                 continue

@@ -34,16 +34,18 @@ SOURCE = r"""
 #include <unistd.h>
 extern void *__libc_malloc(size_t);
 extern void *__libc_realloc(void *, size_t);
+extern void __libc_free(void *);
 enum { GROWTHS, READS, WRITES, KINDS, THREADS = KINDS, REFUSALS, REFUSED_THREAD, GROWTHS_OF, THREADS_MOST = 16, NUMBERS = GROWTHS_OF + THREADS_MOST };
 static uintptr_t from, to;
 static atomic_long unshared[NUMBERS], *counts = unshared;
 static long first, all, of_thread, no_thread, files, at[KINDS], error[KINDS], most[KINDS];
 static _Thread_local long thread __attribute__((tls_model("initial-exec")));
-/* Each growth of a process with one thread is refused in turn, in a child made at it: the growth alone, then it and all behind it. What the
-   child wrote is put into a log, where that comes for the first time, and is taken back from the files of the outputs. */
+/* Each growth is refused in turn, in a child made at it: the growth alone, then it and all behind it. What the child wrote is put into a log,
+   where that comes for the first time, and is taken back from the files of the outputs. A fork copies one thread alone, so no other can be made. */
 enum { SEEN = 1 << 20, STANDARD = 3 };
 static long forking;
 static int is_child, log_file = -1;
+static uintptr_t heap_end;
 static unsigned long seen[SEEN];
 static unsigned long sum(unsigned long start, const unsigned char *bytes, long count) {
     for (long i = 0; i < count; i++) start = (start ^ bytes[i]) * 1099511628211ul;
@@ -78,7 +80,6 @@ static void note(long number, long goes_on, long status, const off_t *old) {
     if (is_new) put(bytes[1], sizes[1]), put(bytes[2], sizes[2]);
 }
 static int is_refused_in_child(long number) {
-    if (atomic_load(&counts[THREADS])) _exit(98);
     for (long goes_on = 0; goes_on < 2; goes_on++) {
         off_t old[STANDARD];
         int status;
@@ -87,7 +88,7 @@ static int is_refused_in_child(long number) {
         if (child < 0) _exit(97);
         if (!child) {
             memcpy(unshared, counts, sizeof unshared);
-            is_child = 1, counts = unshared, first = number, all = goes_on;
+            is_child = 1, counts = unshared, first = number, all = goes_on, heap_end = (uintptr_t)sbrk(0);
             alarm(100);
             return 1;
         }
@@ -146,6 +147,10 @@ void *realloc(void *place, size_t size) {
     if (refused(__builtin_return_address(0))) { errno = ENOMEM; return 0; }
     return __libc_realloc(place, size);
 }
+/* A child gives back nothing that it has from its parent: each page that it wrote to would be copied. */
+void free(void *place) {
+    if (!is_child || (uintptr_t)place >= heap_end) __libc_free(place);
+}
 static struct beginning { void *(*run)(void *); void *with; long number; } beginnings[THREADS_MOST];
 static void *begin(void *place) {
     struct beginning *one = place;
@@ -155,7 +160,7 @@ static void *begin(void *place) {
 int pthread_create(pthread_t *made, const pthread_attr_t *how, void *(*run)(void *), void *with) {
     int (*create)(pthread_t *, const pthread_attr_t *, void *(*)(void *), void *) = dlsym(RTLD_NEXT, "pthread_create");
     long number = atomic_fetch_add(&counts[THREADS], 1) + 2;
-    if (number - 1 == no_thread) return EAGAIN;
+    if (forking || number - 1 == no_thread) return EAGAIN;
     if (number >= THREADS_MOST) return create(made, how, run, with);
     beginnings[number] = (struct beginning){run, with, number};
     return create(made, how, begin, &beginnings[number]);

@@ -1,4 +1,3 @@
-use Rattle.std.proofs.Common.{refl}
 use Rattle.gq_rpc.proofs.Faultless.{faultless_text}
 use Rattle.gq_rpc.proofs.writes.write_faultless.Goals as goal
 
