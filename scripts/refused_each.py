@@ -7,7 +7,8 @@ What is run, what a growth is and what may come of one that is refused are those
 growth, and so tries some sixty of a long session. Here a case runs once. At each growth it makes a child, in which that growth is refused,
 and then one in which all behind it are, too; once the child has ended, what it wrote is taken back, and the case goes on as with ample
 memory. A session in which rows follow each other, each with documents of its own, is cut into one for each row. A fork copies one thread
-alone, so no other can be made: what would run by threads runs on one.
+alone, so no other can be made: what would run by threads runs on one. Of what writes files each growth is refused in a run of its own, and
+each file has to be as it was, or as with ample memory, and no other may be left.
 
 A table counts what the children came to, by the file of their case. Of cases with one of the words TEXT in their names the longest begin
 first; with `--minutes` none begins that much later, with `--most` one of more growths is passed over, and those that were left out are told.
@@ -118,6 +119,30 @@ def came_of_children(judge, children):
     return came, wrong
 
 
+def files_differ(case, ample, ran):
+    """Whether a file is neither as it was nor as with ample memory, or as it was though the run says that all is written."""
+    before = {rest[0]: rest[1] for word, rest in case.steps if word == "bytes"}
+    if ran.files.keys() != before.keys():
+        return True
+    same = ran.is_as(ample)
+    return any(data != ample.files[name] and (same or data != before[name]) for name, data in ran.files.items())
+
+
+def came_of_runs(judge):
+    """What came of a run for each growth, and what differs."""
+    came, wrong = {}, []
+    for growth in range(1, judge.ample.growths + 1):
+        for goes_on in (0, 1):
+            ran = judge.runner.run(judge.case, {"REFUSE_AT": growth, "REFUSE_ALL": goes_on})
+            outcome, why = judge.came_of(ran, goes_on)
+            if files_differ(judge.case, judge.ample, ran):
+                outcome, why = WRONG, why or f"its files are {ran.files}"
+            came[outcome] = came.get(outcome, 0) + 1
+            if why:
+                wrong.append(f"{judge.case.name}, growth {growth}{' and all behind it' if goes_on else ''}: {why}")
+    return came, wrong
+
+
 def tried(task):
     """The growths of a case, what came of each, and what differs; None where it was left out."""
     forker, case, deadline, most = task
@@ -127,6 +152,8 @@ def tried(task):
         judge = Judge(forker, case)
         if judge.ample.growths > most:
             return case.name, 0, None, []
+        if case.writes:
+            return case.name, judge.ample.growths, *came_of_runs(judge)
         ample, children = forker.children(case)
         if not ample.is_as(judge.ample) or len(children) != 2 * ample.growths:
             raise ValueError("a run with children differs from one without")
@@ -144,7 +171,7 @@ def main():
     parser.add_argument("--jobs", type=int, default=os.cpu_count())
     asked = parser.parse_intermixed_args()
     whole = [
-        case for case in (*sessions(), *sessions_over_folders(), *commands(), *programs_of_rows()) if any(text in case.name for text in asked.texts)
+        case for case in (*sessions(), *sessions_over_folders(), *commands(), *commands(True), *programs_of_rows()) if any(text in case.name for text in asked.texts)
     ]
     cases = sorted((row for case in whole for row in (by_rows(case) if case.serves else [case])), key=size_of, reverse=True)
     deadline, table, missed = time.time() + 60 * asked.minutes, Table(), []

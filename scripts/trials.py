@@ -235,6 +235,10 @@ class Case:
     def serves(self):
         return self.program is None and self.words[0] == "serve"
 
+    @property
+    def writes(self):
+        return "--write" in self.words
+
     def lay(self, folder):
         """Makes what lies in the folder."""
         for word, rest in self.steps:
@@ -274,16 +278,23 @@ def environment(library, counts, settings):
     return {name: str(number) for name, number in settings.items()} | {"TRIAL_COUNTS": counts, "LD_PRELOAD": library}
 
 
-class Ran:
-    """What a run wrote, how it ended, and how many growths, reads and writes it asked for."""
+def files_in(folder):
+    """The bytes of the files in a folder, by their paths in it."""
+    paths = [path for path in glob.glob(os.path.join(folder, "**"), recursive=True) if os.path.isfile(path)]
+    return {os.path.relpath(path, folder): contents(path, b"") for path in paths}
 
-    def __init__(self, output, errors, status, counts, folder):
+
+class Ran:
+    """What a run wrote, how it ended, how many growths, reads and writes it asked for, and the files that it left in its folder."""
+
+    def __init__(self, output, errors, status, counts, folder, files=None):
         name = os.fsencode(folder)
         self.output = output.replace(name, b"/w")
         self.front = without_start_of(name, self.output)
         self.errors = errors.replace(name, b"/w")
         self.status = status
         self.growths, self.reads, self.writes = counts[:3]
+        self.files = files
         self.messages = [read_message(one.partition(b"\r\n\r\n")[2].replace(name, b"/w")) for one in frames(output)]
 
     def is_as(self, other):
@@ -326,8 +337,8 @@ class Runner:
                     capture_output=True,
                     timeout=SECONDS,
                 )
-            numbers = numbers_in(counts)
-        return Ran(ran.stdout, ran.stderr, ran.returncode, numbers, folder)
+            numbers, files = numbers_in(counts), files_in(folder) if case.writes else None
+        return Ran(ran.stdout, ran.stderr, ran.returncode, numbers, folder, files)
 
     def groups(self, case, lost=frozenset()):
         """The messages that belong to each body, where these changes cannot be read, and behind them those of the rest."""
@@ -428,8 +439,8 @@ def sessions_over_folders():
                 yield Case(f"{os.path.basename(path)}:{session.line}", SERVE + more, bodies, b"", session.steps[:first])
 
 
-def commands():
-    """The rows of commands, but for those that write files."""
+def commands(writing=False):
+    """The rows of commands: those that write files, or the others."""
     for path in sorted(glob.glob(os.path.join(CRATE, "commands", "*.rows"))):
         for row in read_rows(path):
             words, names, steps = [os.path.basename(path).split(".")[0]], [], []
@@ -449,8 +460,9 @@ def commands():
                         names.append(name)
                     if entry.bytes is not None:
                         steps.append(("bytes", (name, entry.bytes)))
-            if "--write" not in words:
-                yield Case(f"{os.path.basename(path)}:{row.line}", words + ([] if "--root" in words else names), steps=steps)
+            case = Case(f"{os.path.basename(path)}:{row.line}", words + ([] if "--root" in words else names), steps=steps)
+            if case.writes == writing:
+                yield case
 
 
 def programs_of_rows():
