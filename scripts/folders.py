@@ -105,9 +105,9 @@ CHANGES = {
 class Server:
     """A server that runs, with all that it has written so far. One that does not end in so many seconds is ended."""
 
-    def __init__(self, command, seconds=SECONDS):
+    def __init__(self, command, seconds=SECONDS, environment=None):
         pipes = {"stdin": subprocess.PIPE, "stdout": subprocess.PIPE, "stderr": subprocess.PIPE}
-        self.process = subprocess.Popen(command, **pipes)
+        self.process = subprocess.Popen(command, env=environment, **pipes)
         self.output, self.errors = bytearray(), bytearray()
         self.growth, self.has_ended = threading.Condition(), False
         errors = threading.Thread(target=lambda: self.errors.extend(self.process.stderr.read()), daemon=True)

@@ -7,8 +7,8 @@ What is run, what a growth is and what may come of one that is refused are those
 growth, and so tries some sixty of a long session. Here a case runs once. At each growth it makes a child, in which that growth is refused,
 and then one in which all behind it are, too; once the child has ended, what it wrote is taken back, and the case goes on as with ample
 memory. A session in which rows follow each other, each with documents of its own, is cut into one for each row. A fork copies one thread
-alone, so no other can be made: what would run by threads runs on one. Of what writes files each growth is refused in a run of its own, and
-each file has to be as it was, or as with ample memory, and no other may be left.
+alone, so no other can be made: what would run by threads runs on one. Where files change between two messages, or are written, each growth is
+refused in a run of its own. Of what writes files each has to be as it was, or as with ample memory, and no other may be left.
 
 A table counts what the children came to, by the file of their case. Of cases with one of the words TEXT in their names the longest begin
 first; with `--minutes` none begins that much later, with `--most` one of more growths is passed over, and those that were left out are told.
@@ -129,13 +129,13 @@ def files_differ(case, ample, ran):
 
 
 def came_of_runs(judge):
-    """What came of a run for each growth, and what differs."""
+    """What came of runs for each growth, and what differs."""
     came, wrong = {}, []
     for growth in range(1, judge.ample.growths + 1):
         for goes_on in (0, 1):
             ran = judge.runner.run(judge.case, {"REFUSE_AT": growth, "REFUSE_ALL": goes_on})
             outcome, why = judge.came_of(ran, goes_on)
-            if files_differ(judge.case, judge.ample, ran):
+            if judge.case.writes and files_differ(judge.case, judge.ample, ran):
                 outcome, why = WRONG, why or f"its files are {ran.files}"
             came[outcome] = came.get(outcome, 0) + 1
             if why:
@@ -152,7 +152,7 @@ def tried(task):
         judge = Judge(forker, case)
         if judge.ample.growths > most:
             return case.name, 0, None, []
-        if case.writes:
+        if case.writes or case.changes:
             return case.name, judge.ample.growths, *came_of_runs(judge)
         ample, children = forker.children(case)
         if not ample.is_as(judge.ample) or len(children) != 2 * ample.growths:
@@ -170,9 +170,9 @@ def main():
     parser.add_argument("--most", type=int, default=ALL)
     parser.add_argument("--jobs", type=int, default=os.cpu_count())
     asked = parser.parse_intermixed_args()
-    whole = [
-        case for case in (*sessions(), *sessions_over_folders(), *commands(), *commands(True), *programs_of_rows()) if any(text in case.name for text in asked.texts)
-    ]
+    folders = *sessions_over_folders(), *sessions_over_folders(changing=True), *sessions_over_folders(many=True)
+    known = *sessions(), *folders, *commands(), *commands(writing=True), *programs_of_rows()
+    whole = [case for case in known if any(text in case.name for text in asked.texts)]
     cases = sorted((row for case in whole for row in (by_rows(case) if case.serves else [case])), key=size_of, reverse=True)
     deadline, table, missed = time.time() + 60 * asked.minutes, Table(), []
     with tempfile.TemporaryDirectory() as folder, multiprocessing.Pool(asked.jobs) as pool:

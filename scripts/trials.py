@@ -14,7 +14,7 @@ import subprocess
 import tempfile
 
 from cases import CRATE, SERVE, contents, frames
-from folders import CHANGES, FOLDER, read_sessions
+from folders import CHANGES, FOLDER, Server, read_sessions
 from rows import read_rows
 
 SOURCE = r"""
@@ -236,6 +236,10 @@ class Case:
         return self.program is None and self.words[0] == "serve"
 
     @property
+    def changes(self):
+        return any(isinstance(body, Change) for body in self.bodies)
+
+    @property
     def writes(self):
         return "--write" in self.words
 
@@ -321,6 +325,8 @@ class Runner:
 
     def run(self, case, settings=None, count=None):
         """A run of a case, or over so many bytes of its input alone, with these settings of the library."""
+        if case.changes:
+            return self.run_in_steps(case, settings)
         with tempfile.TemporaryDirectory() as outer:
             folder = os.path.join(os.path.realpath(outer), "w")
             os.mkdir(folder)
@@ -339,6 +345,27 @@ class Runner:
                 )
             numbers, files = numbers_in(counts), files_in(folder) if case.writes else None
         return Ran(ran.stdout, ran.stderr, ran.returncode, numbers, folder, files)
+
+    def run_in_steps(self, case, settings):
+        """A run in which the folder changes between two messages: once a request behind the first that no server knows is answered, or the run
+        has ended. These answers are left out."""
+        with tempfile.TemporaryDirectory() as outer:
+            folder = os.path.join(os.path.realpath(outer), "w")
+            os.mkdir(folder)
+            case.lay(folder)
+            counts = new_counts(outer)
+            words = [self.program, *(word.replace("DIR", folder) for word in case.words)]
+            server = Server(words, SECONDS, os.environ | environment(self.library, counts, settings or {}))
+            for number, body in enumerate(case.bodies):
+                if isinstance(body, Change):
+                    server.write(framed(mark(f"step {number}")))
+                    server.await_that(lambda output: name_of_mark(f"step {number}").encode() in output, SECONDS)
+                    CHANGES[body.step[0]](folder, body.step[1])
+                else:
+                    server.write(framed(body.replace(FOLDER, b"file://" + os.fsencode(folder))))
+            status = server.end()
+            told = b"".join(one for one in frames(bytes(server.output)) if name_of_mark("step ").encode() not in one)
+            return Ran(told, bytes(server.errors), status, numbers_in(counts), folder)
 
     def groups(self, case, lost=frozenset()):
         """The messages that belong to each body, where these changes cannot be read, and behind them those of the rest."""
@@ -427,14 +454,25 @@ def sessions():
                 yield Case(os.path.basename(path), SERVE + more, *cut_frames(contents(path, b"")))
 
 
-def sessions_over_folders():
-    """The sessions over folders in which nothing is changed once messages come."""
+class Change(bytes):
+    """A change of a folder between two messages. It stands among the bodies of a case, as one that is empty."""
+
+    def __new__(cls, step):
+        made = super().__new__(cls)
+        made.step = step
+        return made
+
+
+def sessions_over_folders(changing=False, many=False):
+    """The sessions over folders: those in which something changes once messages come, or the others; those with files by the thousand, or the
+    others."""
     for path in sorted(glob.glob(os.path.join(CRATE, "folders", "*.sessions"))):
         for session in read_sessions(path):
             words = [word for word, _ in session.steps]
             first = next((at for at, word in enumerate(words) if word not in CHANGES), len(words))
-            if not any(word in CHANGES for word in words[first:]) and "files" not in words:
-                bodies = [rest.encode() for word, rest in session.steps if word == "->"]
+            if ("files" in words) == many and any(word in CHANGES for word in words[first:]) == changing:
+                steps = [step for step in session.steps[first:] if step[0] != "<-"]
+                bodies = [rest.encode() if word == "->" else Change((word, rest)) for word, rest in steps]
                 more = ["--root", session.root.replace("{}", "DIR")]
                 yield Case(f"{os.path.basename(path)}:{session.line}", SERVE + more, bodies, b"", session.steps[:first])
 
