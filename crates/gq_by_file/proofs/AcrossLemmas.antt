@@ -15,7 +15,7 @@ use Rattle.gq_types.proofs.Gathered.{nothing_in, first, from_filter, from_flat, 
 use Rattle.gq_document.specs.Definitions.{OperationOf, FragmentOf}
 use Rattle.gq_document.specs.Executable.{ExecutableOf}
 use Rattle.gq_rules.specs.Files.{together, IsFaultAcross}
-use Rattle.gq_by_file.specs.OneFile.Laws.{AreOneTypeSystem, NumbersOfEntriesAreUnseen}
+use Rattle.gq_by_file.specs.OneFile.Laws.{AreAlikeToRules}
 use Rattle.gq_by_file.specs.Closed.Closed.{within}
 use Rattle.gq_by_file.specs.Closed.RestsOnNames.{IsFaultByNames, IsFaultBySpreads}
 use Rattle.gq_by_file.specs.Closed.Laws.{AreBefore, AreNotSpread, ClosedSetsStay, ClosedSetsStayBefore, LaterFilesAreUnseen, OtherFilesAreUnseen}
@@ -54,14 +54,14 @@ module _ (parted : FaultsAcrossAreByNamesOrSpreads) (caused : FaultsAreOfClosedS
     (λ h. ⊎_elim (λ n. Contains-append_left named told f ((by_names f).1 n)) (λ s. Contains-append_right named told f (in_covers f s)) ((parted x f).0 h)),
   )
 
--- the files in which the type system is defined are unseen
-module _ (unseen : NumbersOfEntriesAreUnseen) (es us : List EntryOf) (one : AreOneTypeSystem es us) (rs : List ParsedOf) where
+-- no rule tells the type systems apart
+module _ (es us : List EntryOf) (alike : AreAlikeToRules es us) (rs : List ParsedOf) where
   cover_over : (c : Cover) → IsCover (together es rs) c → IsCover (together us rs) c
   cover_over c is = record {
     closed = record { of_operations = is.closed.of_operations; of_fragments = is.closed.of_fragments };
     exact = λ f.
         let w = within c.files.items (together es rs) in
-        let u = unseen es us one w.operations w.fragments f in (
+        let u = alike w.operations w.fragments f in (
           (λ h. let t = (is.exact f).0 h in (t.0, t.1, u.0 t.2)),
           (λ h. (is.exact f).1 (h.0, h.1, u.1 h.2)),
         );
@@ -149,8 +149,8 @@ across_cleared es us rs a b same clean links none are = record {
   covers = subst (λ (cs : List Cover). AreCovers (together us rs) cs) (sym none) (λ c s. nothing_in c s);
 }
 
-pub across_over : (unseen : NumbersOfEntriesAreUnseen) (es us : List EntryOf) → AreOneTypeSystem es us → (rs : List ParsedOf) (a : Across) → AreAcross es rs a → AreAcross us rs a
-across_over unseen es us one rs a are = record { names = are.names; clean = are.clean; links = are.links; covers = covers_over unseen es us one rs a.covers.items are.covers }
+pub across_over : (es us : List EntryOf) → AreAlikeToRules es us → (rs : List ParsedOf) (a : Across) → AreAcross es rs a → AreAcross us rs a
+across_over es us alike rs a are = record { names = are.names; clean = are.clean; links = are.links; covers = covers_over es us alike rs a.covers.items are.covers }
 
 pub none_told : (faults : List Fault) → length faults ≡ 0 → faults ≡ []
 none_told [] none = refl

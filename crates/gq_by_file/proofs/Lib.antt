@@ -11,4 +11,5 @@ pub mod CleanLemmas
 pub mod AloneLemmas
 pub mod Crossing
 pub mod OwnLemmas
+pub mod KnownOwnLemmas
 pub mod ToldLemmas

@@ -7,13 +7,14 @@ ghost use Rattle.gq_types.specs.Entries.{EntryOf};
 ghost use Rattle.gq_types.specs.Look.{types_view};
 ghost use Rattle.gq_document.specs.Executable.{executable_view};
 ghost use Rattle.gq_rules.specs.Files.{together, IsFaultAcross};
-ghost use Rattle.gq_by_file.specs.OneFile.Laws.{AreOneTypeSystem};
+ghost use Rattle.gq_by_file.specs.OneFile.Laws.{AreAlikeToRules};
 ghost use Rattle.gq_by_file.specs.Closed.RestsOnNames.{IsFaultByNames};
 ghost use Rattle.gq_by_file.specs.Across.{AreAcross, AreClean, AreLinksOf};
 ghost use Rattle.gq_by_file.specs.Names.{AreNames, AreNamesIn};
 ghost use Rattle.gq_by_file.specs.declared.names.FileNames.{FileNames};
 ghost use Rattle.gq_by_file.specs.Helping.Covers.{has_one_of};
 ghost use Rattle.gq_by_file.specs.Helping.Learned.{AreLearned};
+ghost use Rattle.gq_by_file.specs.Helping.Own.{AreOwnOver};
 
 use crate::by_names::{found_by_names, put_names};
 use crate::closed_sets::{
@@ -21,14 +22,15 @@ use crate::closed_sets::{
     faults_are_of_closed_sets, faults_of_closed_sets_are_faults, later_files_are_unseen,
     other_files_are_unseen,
 };
-use crate::covers::{Cover, cover_rest, keep_before, keep_unmarked, keep_without, put_faults};
-use crate::laws::numbers_of_entries_are_unseen;
+use crate::covers::{
+    Cover, SharedFiles, cover_rest, keep_before, keep_unmarked, keep_without, put_faults,
+};
 use crate::links::{Links, links_of};
 use crate::names::{FileNames, names_of_all};
 use gq_document::{Definitions, Executable};
 use gq_fault::Fault;
 use gq_names::NameList;
-use gq_text::{NoMemory, SmallText};
+use gq_text::{Items, NoMemory, SmallText};
 use gq_tree::Parsed;
 use gq_types::Types;
 use std::alloc::Global;
@@ -126,20 +128,23 @@ impl Across {
     }
 
     /// What the rules tell of operations and fragments, over a type system, that does not rest on one document alone. What is
-    /// known is not looked for, and what is found is known from then on.
+    /// known is not looked for, and what is found is known from then on. `own` is what each document tells alone, as far as it is known: of
+    /// those that are looked at it is found on the way, where something is noted of all before them.
     pub fn found(
         &mut self,
         alloc: Global,
         types: &Types,
         readings: &[Arc<Parsed>],
+        own: &mut Vec<Option<Items<Fault>>>,
     ) -> Result<Vec<Fault>, NoMemory>
         ensures kept { AreAcross (types_view types.now) (readings_view readings.now) self.old → AreAcross (types_view types.now) (readings_view readings.now) self.new }
         ensures faults { IfOk result (λ faults. AreAcross (types_view types.now) (readings_view readings.now) self.old
             → (fault : Fault) → Contains faults.items fault ↔ IsFaultAcross (together (types_view types.now) (readings_view readings.now)) fault) }
+        ensures own { AreOwnOver types.now readings.now own.old.items → AreOwnOver types.now readings.now own.new.items }
     {
         self.learn_names(alloc, readings)?;
         self.learn_links(alloc)?;
-        self.found_in_readings(alloc, types, readings)
+        self.found_in_readings(alloc, types, readings, own)
     }
 
     /// The names in all files are known.
@@ -175,10 +180,12 @@ impl Across {
         alloc: Global,
         types: &Types,
         readings: &[Arc<Parsed>],
+        own: &mut Vec<Option<Items<Fault>>>,
     ) -> Result<Vec<Fault>, NoMemory>
         ensures kept { AreLearned (types_view types.now) (readings_view readings.now) self.old → AreAcross (types_view types.now) (readings_view readings.now) self.new }
         ensures faults { IfOk result (λ faults. AreLearned (types_view types.now) (readings_view readings.now) self.old
             → (fault : Fault) → Contains faults.items fault ↔ IsFaultAcross (together (types_view types.now) (readings_view readings.now)) fault) }
+        ensures own { AreOwnOver types.now readings.now own.old.items → AreOwnOver types.now readings.now own.new.items }
     {
         let definitions = Definitions::of(alloc, readings)?;
         let executable = Executable {
@@ -186,25 +193,33 @@ impl Across {
             operations: &definitions.operations,
             fragments: &definitions.fragments,
         };
-        let faults = self.found_over(alloc, &executable)?;
+        let faults = self.found_over(alloc, &executable, readings, own)?;
         Ok(faults)
     }
 
     /// The same of operations and fragments as they are given.
-    fn found_over(
+    fn found_over<'a>(
         &mut self,
         alloc: Global,
-        executable: &Executable<'_>,
+        executable: &'a Executable<'a>,
+        readings: &'a [Arc<Parsed>],
+        own: &mut Vec<Option<Items<Fault>>>,
     ) -> Result<Vec<Fault>, NoMemory>
         ensures kept { (es : List EntryOf) (rs : List ParsedOf) → executable_view executable.now ≡ together es rs → AreLearned es rs self.old → AreAcross es rs self.new }
         ensures faults { IfOk result (λ faults. (es : List EntryOf) (rs : List ParsedOf) → executable_view executable.now ≡ together es rs → AreLearned es rs self.old
             → (fault : Fault) → Contains faults.items fault ↔ IsFaultAcross (together es rs) fault) }
+        ensures own { AreOwnOver executable.now.types.now readings.now own.old.items → AreOwnOver executable.now.types.now readings.now own.new.items }
     {
         faults_across_are_by_names_or_spreads();
         faults_are_of_closed_sets();
         faults_of_closed_sets_are_faults();
         let links = &self.links;
-        cover_rest(alloc, executable, &links.rows, &mut self.covers)?;
+        let files = SharedFiles {
+            executable,
+            readings,
+            rows: &links.rows,
+        };
+        cover_rest(alloc, files, &mut self.covers, own)?;
         let mut faults = found_named(alloc, executable, &self.names, &mut self.is_clean)?;
         put_faults(&self.covers, &mut faults)?;
         Ok(faults)
@@ -223,11 +238,10 @@ impl Across {
     /// What is known stays where the file at that place is replaced, but of the closed sets with this file, and of those in which
     /// a fragment of the new one is spread; where that changes the type system, of no closed set.
     pub fn replace(&mut self, alloc: Global, at: usize, reading: &Parsed, changes_types: bool)
-        ensures { (es us : List EntryOf) (rs : List ParsedOf) → (changes_types ≡ false → AreOneTypeSystem es us)
+        ensures { (es us : List EntryOf) (rs : List ParsedOf) → (changes_types ≡ false → AreAlikeToRules es us)
             → AreAcross es rs self.old → AreAcross us (slice_set rs at (parsed_view reading.now)) self.new }
     {
-        numbers_of_entries_are_unseen();
-        if changes_types {
+            if changes_types {
             self.covers.clear();
         }
         match FileNames::of(alloc, reading) {
@@ -283,11 +297,10 @@ impl Across {
     /// What is known stays where a file is put in at that place, but of the closed sets with a file at it or behind, whose numbers change,
     /// and of those in which a fragment of the new one is spread; where that changes the type system, of no closed set.
     pub fn make_room(&mut self, alloc: Global, at: usize, reading: &Parsed, changes_types: bool)
-        ensures { (es us : List EntryOf) (rs : List ParsedOf) → (changes_types ≡ false → AreOneTypeSystem es us)
+        ensures { (es us : List EntryOf) (rs : List ParsedOf) → (changes_types ≡ false → AreAlikeToRules es us)
             → AreAcross es rs self.old → AreAcross us (insert rs at (parsed_view reading.now)) self.new }
     {
-        numbers_of_entries_are_unseen();
-        if self.names.is_empty() {
+            if self.names.is_empty() {
             self.forget();
             return;
         }

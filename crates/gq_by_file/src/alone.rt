@@ -27,7 +27,7 @@ fn told_alone(alloc: Global, executable: &Executable<'_>) -> Result<Vec<Fault>, 
 {
     let mut faults = Vec::new(alloc);
     add_operation_faults(alloc, executable, &mut faults)?;
-    add_condition_faults(alloc, executable, &mut faults)?;
+    add_condition_faults(executable, &mut faults)?;
     add_field_faults(alloc, executable, &mut faults)?;
     add_variable_definition_faults(alloc, executable, &mut faults)?;
     Ok(faults)

@@ -7,16 +7,20 @@ ghost use Rattle.gq_document.specs.Executable.{ExecutableOf, executable_view};
 ghost use Rattle.gq_by_file.specs.Closed.Closed.{is_among};
 ghost use Rattle.gq_by_file.specs.Across.{AreCovers};
 ghost use Rattle.gq_by_file.specs.Helping.Covers.{AreFaulty, IsCovered, LeadsInto, unmarked_from};
+ghost use Rattle.gq_by_file.specs.Helping.Own.{AreOwnOver};
 ghost use Rattle.gq_by_file.specs.Links.{AreLinks};
 
 use crate::closed_sets::{faults_of_closed_sets_are_faults, faults_stay_in_larger_sets};
 use crate::marks::{has_behind_or_marked, has_file, has_marked, is_marked, mark, marked};
+use crate::own::find_own_of;
 use crate::part::found_within;
 use gq_document::Executable;
 use gq_fault::Fault;
 use gq_graph::reach_rows;
-use gq_text::NoMemory;
+use gq_text::{Items, NoMemory};
+use gq_tree::Parsed;
 use std::alloc::Global;
+use std::sync::Arc;
 
 /// A set of files that no spread leads out of, and all that is told of these by themselves and rests on spreads.
 #[derive(Drop)]
@@ -139,8 +143,8 @@ fn cover_these(
 }
 
 /// So few files are looked at together, whatever they lead to, and as many more as one of so many parts of all has: each look goes over
-/// the list of all operations and fragments.
-pub(crate) const FEW: usize = 4;
+/// the list of all operations and fragments, and the tree of one file is about as large as a processor's nearest cache but one.
+pub(crate) const FEW: usize = 1;
 
 pub(crate) const PARTS: usize = 256;
 
@@ -159,48 +163,64 @@ pub(crate) fn lead_apart(
     Ok(halves <= whole + rest.len() / 8)
 }
 
+/// What is looked at: the operations and fragments in all files, as these are read, and where their spreads lead.
+#[derive(Clone, Copy)]
+pub(crate) struct SharedFiles<'a, 'r> {
+    pub(crate) executable: &'a Executable<'a>,
+    pub(crate) readings: &'a [Arc<Parsed>],
+    pub(crate) rows: &'r [Vec<usize>],
+}
+
 /// The same by halves, as long as these lead to little that both lead to: files that have nothing to do with each other are not
-/// looked at together, since their trees do not fit into a processor's caches.
+/// looked at together, since their trees do not fit into a processor's caches. What each of the files tells alone is found on the way.
 fn cover_by_halves(
     alloc: Global,
-    executable: &Executable<'_>,
-    rows: &[Vec<usize>],
+    files: SharedFiles<'_, '_>,
     rest: &[usize],
     marks: &mut Vec<bool>,
     covers: &mut Vec<Cover>,
+    own: &mut Vec<Option<Items<Fault>>>,
 ) -> Result<(), NoMemory>
-    requires rows { InRange rows.now }
-    requires range { All (λ n. n < length rows.now) rest.now }
-    ensures kept { AreLinks (executable_view executable.now) rows.now → AreCovers (executable_view executable.now) covers.old.items → AreCovers (executable_view executable.now) covers.new.items }
+    requires rows { InRange files.rows.now }
+    requires range { All (λ n. n < length files.rows.now) rest.now }
+    ensures kept { AreLinks (executable_view files.entry.executable.now) files.entry.rows.now
+        → AreCovers (executable_view files.entry.executable.now) covers.old.items → AreCovers (executable_view files.entry.executable.now) covers.new.items }
     ensures old { (n : ℕ) → IsCovered covers.old.items n → IsCovered covers.new.items n }
     ensures rest { OnOk result ((n : ℕ) → Contains rest.now n → IsCovered covers.new.items n) }
+    ensures own { AreOwnOver files.entry.executable.now.types.now files.entry.readings.now own.old.items
+        → AreOwnOver files.entry.executable.now.types.now files.entry.readings.now own.new.items }
 {
+    let rows = files.rows;
     if rest.len() <= FEW + rows.len() / PARTS || !lead_apart(alloc, rows, rest)? {
-        return cover_these(alloc, executable, rows, rest, marks, covers);
+        find_own_of(alloc, files.executable.types, files.readings, rest, own)?;
+        return cover_these(alloc, files.executable, rows, rest, marks, covers);
     }
     let (front, back) = rest.split_at(rest.len() / 2);
-    cover_by_halves(alloc, executable, rows, front, marks, covers)?;
-    cover_by_halves(alloc, executable, rows, back, marks, covers)
+    cover_by_halves(alloc, files, front, marks, covers, own)?;
+    cover_by_halves(alloc, files, back, marks, covers, own)
 }
 
-/// Adds covers until each file stands in one.
+/// Adds covers until each file stands in one. What each of the files in none tells alone is found on the way.
 pub(crate) fn cover_rest(
     alloc: Global,
-    executable: &Executable<'_>,
-    rows: &[Vec<usize>],
+    files: SharedFiles<'_, '_>,
     covers: &mut Vec<Cover>,
+    own: &mut Vec<Option<Items<Fault>>>,
 ) -> Result<(), NoMemory>
-    requires rows { InRange rows.now }
-    ensures kept { AreLinks (executable_view executable.now) rows.now → AreCovers (executable_view executable.now) covers.old.items → AreCovers (executable_view executable.now) covers.new.items }
-    ensures all { OnOk result ((n : ℕ) → n < length rows.now → IsCovered covers.new.items n) }
+    requires rows { InRange files.rows.now }
+    ensures kept { AreLinks (executable_view files.entry.executable.now) files.entry.rows.now
+        → AreCovers (executable_view files.entry.executable.now) covers.old.items → AreCovers (executable_view files.entry.executable.now) covers.new.items }
+    ensures all { OnOk result ((n : ℕ) → n < length files.entry.rows.now → IsCovered covers.new.items n) }
+    ensures own { AreOwnOver files.entry.executable.now.types.now files.entry.readings.now own.old.items
+        → AreOwnOver files.entry.executable.now.types.now files.entry.readings.now own.new.items }
 {
-    let mut marks = vec![in alloc; false; rows.len()]?;
+    let mut marks = vec![in alloc; false; files.rows.len()]?;
     mark_covers(&mut marks, covers);
     let rest = unmarked(alloc, &marks)?;
     if rest.is_empty() {
         return Ok(());
     }
-    cover_by_halves(alloc, executable, rows, &rest, &mut marks, covers)
+    cover_by_halves(alloc, files, &rest, &mut marks, covers, own)
 }
 
 /// Puts what is told of the covers behind the others.

@@ -5,6 +5,7 @@
 pub mod across;
 mod alone;
 mod apart;
+pub mod by_file;
 mod by_names;
 pub mod by_threads;
 pub mod closed_sets;
@@ -14,8 +15,10 @@ pub mod laws;
 pub mod links;
 mod marks;
 pub mod names;
+mod own;
 mod part;
 
 pub use across::Across;
 pub use alone::{found_alone, put_in_file};
+pub use by_file::ByFile;
 pub use by_threads::{valid_by_threads, validate_by_threads};

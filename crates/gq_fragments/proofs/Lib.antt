@@ -6,3 +6,4 @@ pub mod SpreadLemmas
 pub mod ConditionLemmas
 pub mod TypeConditionLemmas
 pub mod FragmentLemmas
+pub mod InlineConditionLemmas

@@ -4,17 +4,15 @@ ghost use Rattle.gq_document.specs.Executable.{executable_view};
 ghost use Rattle.gq_fault.specs.Adds.{AddsExactly};
 ghost use Rattle.gq_fragments.specs.ConditionFaults.{IsConditionFault};
 
-use crate::selections::fragment_selections_of;
-use crate::type_conditions::{add_conditions_of_fragments, add_conditions_of_selections};
+use crate::inline_conditions::{add_conditions_in_fragments, add_conditions_in_operations};
+use crate::type_conditions::add_conditions_of_fragments;
 use gq_document::Executable;
 use gq_fault::Fault;
 use gq_text::NoMemory;
-use std::alloc::Global;
 
 /// Adds each fault of a type condition, of fragments and of inline fragments: one that names no type (section 5.5.1.2) or no
 /// composite type (section 5.5.1.3). A fault stands at the name of the type.
 pub fn add_condition_faults(
-    alloc: Global,
     executable: &Executable<'_>,
     faults: &mut Vec<Fault>,
 ) -> Result<(), NoMemory>
@@ -22,6 +20,6 @@ pub fn add_condition_faults(
 {
     let types = executable.types;
     add_conditions_of_fragments(types, executable.fragments, faults)?;
-    let all = fragment_selections_of(alloc, executable)?;
-    add_conditions_of_selections(types, &all, faults)
+    add_conditions_in_operations(types, executable.operations, faults)?;
+    add_conditions_in_fragments(types, executable.fragments, faults)
 }

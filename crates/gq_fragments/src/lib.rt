@@ -6,6 +6,7 @@ mod conditions_by_name;
 pub mod fragment_faults;
 mod fragment_name_uniqueness;
 mod fragment_spread_is_possible;
+mod inline_conditions;
 mod lone_anonymous_operation;
 pub mod operation_faults;
 mod operation_name_uniqueness;

@@ -13,7 +13,7 @@ use gq_tree::{Name, Selection};
 use gq_types::Types;
 
 /// The fault of a type condition, if it names no type, or no composite type.
-fn add_condition(
+pub(crate) fn add_condition(
     types: &Types,
     file: usize,
     name: &Name,

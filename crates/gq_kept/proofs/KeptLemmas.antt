@@ -14,16 +14,16 @@ use Rattle.gq_types.specs.BuiltIn.{built_in}
 use Rattle.gq_types.specs.Entries.{EntryOf}
 use Rattle.gq_types.specs.Look.{types_view}
 use Rattle.gq_document.specs.Definitions.{entries_of}
-use Rattle.gq_by_file.specs.OneFile.Laws.{AreOneTypeSystem}
+use Rattle.gq_by_file.specs.OneFile.Laws.{AreAlikeToRules, NumbersOfEntriesAreUnseen}
 use Rattle.gq_index.specs.declared.index.Index.{Index}
 use Rattle.gq_index.specs.Indexed.{IsIndexOfProject}
 use Rattle.gq_known.specs.Known.{AreKnown}
 use Rattle.gq_rules.specs.Validity.{IsReportOf, IsValid}
-use Rattle.gq_kept.specs.declared.by_file.ByFile.{ByFile}
+use Rattle.gq_by_file.specs.declared.by_file.ByFile.{ByFile}
 use Rattle.gq_kept.specs.declared.typed.Typed.{Typed}
 use Rattle.gq_kept.specs.Helping.Facts.{AreKept}
-use Rattle.gq_kept.specs.Helping.ByFile.{AreByFile}
-use Rattle.gq_kept.specs.Helping.TypesOf.{AreTypesOf, IsOneTypeSystem, types_defined}
+use Rattle.gq_by_file.specs.Helping.ByFile.{AreByFile}
+use Rattle.gq_kept.specs.Helping.TypesOf.{AreTypesOf, DefineAlike, types_defined}
 use Rattle.gq_kept.specs.Helping.Unindexed.{AddNothing}
 use Rattle.gq_parse.proofs.OneReading.{OneTree}
 use Rattle.gq_index.proofs.Parallel.{as_many}
@@ -56,9 +56,9 @@ pub both_known : {A B C : Type 0} → ∥ A ∥₁ → ∥ B ∥₁ → (A → B
 both_known a b f = ∥∥₁_elim a ∥∥₁_prop (λ x. ∥∥₁_map b (λ y. f x y))
 
 -- the type systems before and after
-systems : (before after : List ParsedOf) (old made : Typed) (changes : Bool) → AreTypesOf before old → AreTypesOf after made → (changes ≡ false → IsOneTypeSystem before after) → changes ≡ false → AreOneTypeSystem (types_view old.types) (types_view made.types)
+systems : (before after : List ParsedOf) (old made : Typed) (changes : Bool) → AreTypesOf before old → AreTypesOf after made → (changes ≡ false → DefineAlike before after) → changes ≡ false → AreAlikeToRules (types_view old.types) (types_view made.types)
 systems before after old made changes was is stays e =
-    let D : List EntryOf → List EntryOf → Type 0 = λ es us. AreOneTypeSystem es us in
+    let D : List EntryOf → List EntryOf → Type 0 = λ es us. AreAlikeToRules es us in
     subst (λ (es : List EntryOf). D es (types_view made.types)) (sym was.is_type_system) (subst (λ (us : List EntryOf). D (built_in ++ entries_of before) us) (sym is.is_type_system) (stays e))
 
 module _ (documents : List Doc) (readings : List SharedParsed) (typed : Typed) (found : ByFile) (index : Option Index) (kept : AreKept documents readings typed found index) where
@@ -87,43 +87,45 @@ module _ (documents : List Doc) (readings : List SharedParsed) (typed : Typed) (
 
     pub kept_replaced : (at : ℕ) (doc : Doc) (reading : SharedParsed) (made : Typed) (left : ByFile) (changes : Bool) → IsPlaceOf (λ d. d.key) doc.key told at → ∥ IsParsed doc.text (shared_view reading) ∥₁
         → (AreTypesOf (readings_view given) typed → AreTypesOf (set (readings_view given) at (shared_view reading)) made)
-        → (changes ≡ false → IsOneTypeSystem (readings_view given) (set (readings_view given) at (shared_view reading)))
-        → ((es us : List EntryOf) (rs : List ParsedOf) → (changes ≡ false → AreOneTypeSystem es us) → AreByFile es rs found → AreByFile us (set rs at (shared_view reading)) left)
+        → (changes ≡ false → AreParsed told (readings_view given) → IsParsed doc.text (shared_view reading) → DefineAlike (readings_view given) (set (readings_view given) at (shared_view reading)))
+        → ((es us : List EntryOf) (rs : List ParsedOf) → (changes ≡ false → AreAlikeToRules es us) → AreByFile es rs found → AreByFile us (set rs at (shared_view reading)) left)
         → OneTree → (keeps : Bool) → (keeps ≡ true → AddNothing (get_or (map definitions_read (readings_view readings)) at []) × AddNothing (definitions_read (shared_view reading)))
         → AreKept (with_doc documents doc) (set readings at reading) made left (if keeps then index else None)
     kept_replaced at doc reading made left changes place merely types stays forgets one_tree keeps silent =
         kept_with _ _ _ left (if keeps then index else None) (∥∥₁_elim merely ∥∥₁_prop (λ (parsed : IsParsed doc.text (shared_view reading)). both_known kept.known kept.owned (λ known owned.
         let was : AreTypesOf (readings_view given) typed = rw is_given (types_known documents readings typed known) in
         let are : AreTypesOf (set (readings_view given) at (shared_view reading)) made = types was in
-        let one = systems (readings_view given) (set (readings_view given) at (shared_view reading)) typed made changes was are stays in
+        let read : AreParsed told (readings_view given) =
+        subst (λ (ds : List Doc). AreParsed ds (readings_view given)) is_told (subst (λ (gs : List SharedParsed). AreParsed documents (readings_view gs)) (sym is_given) known.are_readings) in
+        let one = systems (readings_view given) (set (readings_view given) at (shared_view reading)) typed made changes was are (λ e. stays e read parsed) in
         let there : AreByFile (types_view made.types) (set (readings_view readings) at (shared_view reading)) left = forgets (types_view typed.types) (types_view made.types) (readings_view readings) one owned in
         (replaced documents readings typed known at doc reading made (rw is_told place) parsed (rw (← is_given) are), rw map-set there))))
         (∥∥₁_elim merely ∥∥₁_prop (λ (parsed : IsParsed doc.text (shared_view reading)). both_known kept.known kept.indexed (λ known indexed.
         settled one_tree documents (readings_view readings) index at doc (shared_view reading) keeps known.are_readings indexed (rw is_told place) parsed silent)))
 
-    pub kept_inserted : (at : ℕ) (doc : Doc) (reading : SharedParsed) (made : Typed) (left : ByFile) (changes : Bool) → IsGapFor (λ d. d.key) doc.key told at → ∥ IsParsed doc.text (shared_view reading) ∥₁
+    pub kept_inserted : NumbersOfEntriesAreUnseen → (at : ℕ) (doc : Doc) (reading : SharedParsed) (made : Typed) (left : ByFile) (changes : Bool) → IsGapFor (λ d. d.key) doc.key told at → ∥ IsParsed doc.text (shared_view reading) ∥₁
         → (AreTypesOf (readings_view given) typed → AreTypesOf (insert (readings_view given) at (shared_view reading)) made)
         → (changes ≡ false → types_defined (shared_view reading) ≡ [])
-        → ((es us : List EntryOf) (rs : List ParsedOf) → (changes ≡ false → AreOneTypeSystem es us) → AreByFile es rs found → AreByFile us (insert rs at (shared_view reading)) left)
+        → ((es us : List EntryOf) (rs : List ParsedOf) → (changes ≡ false → AreAlikeToRules es us) → AreByFile es rs found → AreByFile us (insert rs at (shared_view reading)) left)
         → AreKept (with_doc documents doc) (insert readings at reading) made left None
-    kept_inserted at doc reading made left changes gap merely types defines opens =
+    kept_inserted unseen at doc reading made left changes gap merely types defines opens =
         kept_by _ _ _ left (∥∥₁_elim merely ∥∥₁_prop (λ (parsed : IsParsed doc.text (shared_view reading)). both_known kept.known kept.owned (λ known owned.
         let was : AreTypesOf (readings_view given) typed = rw is_given (types_known documents readings typed known) in
         let are : AreTypesOf (insert (readings_view given) at (shared_view reading)) made = types was in
-        let one = systems (readings_view given) (insert (readings_view given) at (shared_view reading)) typed made changes was are (λ e. system_inserted (readings_view given) at (shared_view reading) (defines e)) in
+        let one = systems (readings_view given) (insert (readings_view given) at (shared_view reading)) typed made changes was are (λ e. unseen _ _ (system_inserted (readings_view given) at (shared_view reading) (defines e))) in
         let there : AreByFile (types_view made.types) (insert (readings_view readings) at (shared_view reading)) left = opens (types_view typed.types) (types_view made.types) (readings_view readings) one owned in
         let same : readings_view (insert readings at reading) ≡ insert (readings_view readings) at (shared_view reading) = simp (map-append, take-map, drop-map) in
         (inserted documents readings typed known at doc reading made (rw is_told gap) parsed (rw (← is_given) are), rw same there))))
 
-    pub kept_removed : (at : ℕ) (key : List ℕ) (made : Typed) (left : ByFile) (changes : Bool) → IsPlaceOf (λ d. d.key) key told at
+    pub kept_removed : NumbersOfEntriesAreUnseen → (at : ℕ) (key : List ℕ) (made : Typed) (left : ByFile) (changes : Bool) → IsPlaceOf (λ d. d.key) key told at
         → AreTypesOf (remove (readings_view given) at) made
         → (changes ≡ false → get_or (map types_defined (readings_view given)) at [] ≡ [])
-        → ((es us : List EntryOf) (rs : List ParsedOf) → (changes ≡ false → AreOneTypeSystem es us) → AreByFile es rs found → AreByFile us (remove rs at) left)
+        → ((es us : List EntryOf) (rs : List ParsedOf) → (changes ≡ false → AreAlikeToRules es us) → AreByFile es rs found → AreByFile us (remove rs at) left)
         → AreKept (without documents key) (remove readings at) made left None
-    kept_removed at key made left changes place are defines closes =
+    kept_removed unseen at key made left changes place are defines closes =
         kept_by _ _ _ left (both_known kept.known kept.owned (λ known owned.
         let was : AreTypesOf (readings_view given) typed = rw is_given (types_known documents readings typed known) in
-        let one = systems (readings_view given) (remove (readings_view given) at) typed made changes was are (λ e. system_removed (readings_view given) at (defines e)) in
+        let one = systems (readings_view given) (remove (readings_view given) at) typed made changes was are (λ e. unseen _ _ (system_removed (readings_view given) at (defines e))) in
         let there : AreByFile (types_view made.types) (remove (readings_view readings) at) left = closes (types_view typed.types) (types_view made.types) (readings_view readings) one owned in
         let same : readings_view (remove readings at) ≡ remove (readings_view readings) at = simp (map-append, take-map, drop-map) in
         (removed documents readings typed known at key made (rw is_told place) (rw (← is_given) are), rw same there)))

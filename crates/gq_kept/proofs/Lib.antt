@@ -1,7 +1,7 @@
+pub mod AlikeLemmas
 pub mod Brought
 pub mod IndexLemmas
 pub mod JudgingLemmas
 pub mod KeptLemmas
 pub mod KnownLemmas
-pub mod OwnLemmas
 pub mod TypesLemmas

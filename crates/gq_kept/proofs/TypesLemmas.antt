@@ -1,5 +1,5 @@
 -- What documents define of the type system, document by document.
-use Rattle.std.proofs.Common.{◌≡◌, ◌<◌, ◌≤◌, ℕ, zero, suc, ◌+◌, ◌-◌, List, [], ◌∷◌, ◌++◌, All, drop, get_or, length, set, take, refl, sym, ◌∙◌, ap, subst, arith}
+use Rattle.std.proofs.Common.{◌≡◌, ◌<◌, ◌≤◌, ℕ, zero, suc, ◌+◌, ◌-◌, List, [], ◌∷◌, ◌++◌, All, Some, drop, get_or, length, set, slice_get, take, refl, sym, ◌∙◌, ap, subst, arith}
 use Rattle.std.specs.Prelude.{map, flat_map}
 use Rattle.std.specs.List.{enumerate_from, insert, remove}
 use Rattle.std.proofs.lemmas.List.{drop-map, length-drop, map-append, take-map}
@@ -7,12 +7,14 @@ use Rattle.std.proofs.lemmas.List.Elements.{All-head, All-tail}
 use Rattle.std.proofs.Math.ListN.{get_or-map}
 use Rattle.std.proofs.Math.Seq.{take-length}
 use Rattle.gq_text.specs.declared.place.Span.{Span}
-use Rattle.gq_tree.specs.Plain.{Def, TypeSystemOf, operation, fragment, type_system}
+use Rattle.gq_tree.specs.Plain.{Def, TypeSystemOf, operation, fragment, type_system, erase_document, no_place, place_type_system}
 use Rattle.gq_tree.specs.Readings.{ParsedOf, SharedParsed, definitions_read, in_document, shared_view, readings_view}
 use Rattle.gq_types.specs.BuiltIn.{built_in}
 use Rattle.gq_types.specs.Entries.{EntryOf}
 use Rattle.gq_types.specs.Look.{types_view}
 use Rattle.gq_document.specs.Definitions.{entry_in, entries_of}
+use Rattle.gq_laws.specs.Placing.Tokens.{erased_types, types_in}
+use Rattle.gq_laws.specs.Placing.Types.{erase_entry}
 use Rattle.gq_index.proofs.Parallel.{map_insert, map_remove}
 use Rattle.gq_kept.specs.declared.typed.Typed.{Typed}
 use Rattle.gq_kept.specs.Helping.TypesOf.{AreTypesOf, IsOneTypeSystem, types_defined}
@@ -138,21 +140,35 @@ types_stay rs at r typed none before are =
 
 -- ---- one type system, whatever the numbers of its documents are
 
+-- what is not told by the number of a document
+module _ {X : Type 0} (what : EntryOf → X) (unseen : (n : ℕ) (e : EntryOf) → what (entry_at n e) ≡ what e) where
+  same_what : (n : ℕ) (es : List EntryOf) → map what (map (entry_at n) es) ≡ map what es
+  same_what n [] = refl
+  same_what n (e ∷ es) = ap (λ (x : X). x ∷ map what (map (entry_at n) es)) (unseen n e) ∙ ap (λ (xs : List X). what e ∷ xs) (same_what n es)
+
+  what_gathered : (n : ℕ) (ess : List (List EntryOf)) → map what (gathered n ess) ≡ flat_map (map what) ess
+  unfolding gathered
+  what_gathered n [] = refl
+  what_gathered n (es ∷ ess) =
+      map-append what (map (entry_at n) es) (gathered (n + 1) ess)
+      ∙ ap (λ (xs : List X). xs ++ map what (gathered (n + 1) ess)) (same_what n es)
+      ∙ ap (λ (xs : List X). map what es ++ xs) (what_gathered (n + 1) ess)
+
+  what_of : (rs : List ParsedOf) → map what (built_in ++ entries_of rs) ≡ map what built_in ++ flat_map (map what) (map types_defined rs)
+  what_of rs =
+      map-append what built_in (entries_of rs)
+      ∙ ap (λ (es : List EntryOf). map what built_in ++ map what es) (entries_from 0 rs)
+      ∙ ap (λ (xs : List X). map what built_in ++ xs) (what_gathered 0 (map types_defined rs))
+
+  one_what : (rs ss : List ParsedOf) → flat_map (map what) (map types_defined rs) ≡ flat_map (map what) (map types_defined ss) → map what (built_in ++ entries_of rs) ≡ map what (built_in ++ entries_of ss)
+  one_what rs ss e = what_of rs ∙ ap (λ (xs : List X). map what built_in ++ xs) e ∙ sym (what_of ss)
+
 definition_in : EntryOf → TypeSystemOf Span
 definition_in e = e.definition
 
-same_definitions : (n : ℕ) (es : List EntryOf) → map definition_in (map (entry_at n) es) ≡ map definition_in es
+definition_kept : (n : ℕ) (e : EntryOf) → definition_in (entry_at n e) ≡ definition_in e
 unfolding entry_at definition_in
-same_definitions n [] = refl
-same_definitions n (e ∷ es) = ap (λ (ds : List (TypeSystemOf Span)). e.definition ∷ ds) (same_definitions n es)
-
-definitions_gathered : (n : ℕ) (ess : List (List EntryOf)) → map definition_in (gathered n ess) ≡ flat_map (map definition_in) ess
-unfolding gathered
-definitions_gathered n [] = refl
-definitions_gathered n (es ∷ ess) =
-    map-append definition_in (map (entry_at n) es) (gathered (n + 1) ess)
-    ∙ ap (λ (ds : List (TypeSystemOf Span)). ds ++ map definition_in (gathered (n + 1) ess)) (same_definitions n es)
-    ∙ ap (λ (ds : List (TypeSystemOf Span)). map definition_in es ++ ds) (definitions_gathered (n + 1) ess)
+definition_kept n e = refl
 
 flat_insert : {X Y : Type 0} (f : List X → List Y) → f [] ≡ [] → (xss : List (List X)) (at : ℕ) → flat_map f (insert xss at []) ≡ flat_map f xss
 flat_insert {X} {Y} f e [] zero = ap (λ (ys : List Y). ys ++ []) e
@@ -166,15 +182,9 @@ flat_remove f e [] (suc at) h = refl
 flat_remove {X} {Y} f e (xs ∷ xss) zero h = sym (ap (λ (ys : List Y). ys ++ flat_map f xss) (ap f h ∙ e))
 flat_remove {X} {Y} f e (xs ∷ xss) (suc at) h = ap (λ (ys : List Y). f xs ++ ys) (flat_remove f e xss at h)
 
-system_of : (rs : List ParsedOf) → map definition_in (built_in ++ entries_of rs) ≡ map definition_in built_in ++ flat_map (map definition_in) (map types_defined rs)
-system_of rs =
-    map-append definition_in built_in (entries_of rs)
-    ∙ ap (λ (es : List EntryOf). map definition_in built_in ++ map definition_in es) (entries_from 0 rs)
-    ∙ ap (λ (ds : List (TypeSystemOf Span)). map definition_in built_in ++ ds) (definitions_gathered 0 (map types_defined rs))
-
 one_system : (rs ss : List ParsedOf) → flat_map (map definition_in) (map types_defined rs) ≡ flat_map (map definition_in) (map types_defined ss) → IsOneTypeSystem rs ss
 unfolding definition_in
-one_system rs ss e = system_of rs ∙ ap (λ (ds : List (TypeSystemOf Span)). map definition_in built_in ++ ds) e ∙ sym (system_of ss)
+one_system rs ss e = one_what definition_in definition_kept rs ss e
 
 -- a document that defines nothing is put in, or taken out
 pub system_inserted : (rs : List ParsedOf) (at : ℕ) (r : ParsedOf) → types_defined r ≡ [] → IsOneTypeSystem rs (insert rs at r)
@@ -199,3 +209,31 @@ system_replaced readings at old new is none none_new =
     let same : types_defined (get_or (readings_view readings) at (shared_view old)) ≡ types_defined (shared_view new) = ap types_defined there ∙ none ∙ sym none_new in
     one_system (readings_view readings) (set (readings_view readings) at (shared_view new))
     (ap (flat_map (map definition_in)) (sym (same_map types_defined (readings_view readings) at (shared_view new) (shared_view old) same)))
+
+-- ---- a document defines what it did, places forgotten
+
+erased_kept : (n : ℕ) (e : EntryOf) → erase_entry (entry_at n e) ≡ erase_entry e
+unfolding entry_at
+erased_kept n e = refl
+
+erased_in : (ds : List (Def Span)) → map erase_entry (flat_map (entry_in 0) ds) ≡ flat_map types_in (erase_document ds)
+erased_in [] = refl
+erased_in (operation kind name variables directives set braces place ∷ ds) = erased_in ds
+erased_in (fragment name on directives set braces place ∷ ds) = erased_in ds
+erased_in (type_system d ∷ ds) = ap (λ (l : List (TypeSystemOf (Unit {0}))). place_type_system no_place d ∷ l) (erased_in ds)
+
+flat_set : {X Y : Type 0} (f : X → List Y) (xs : List X) (i : ℕ) (x was : X) → slice_get xs i ≡ Some was → f was ≡ f x → flat_map f (set xs i x) ≡ flat_map f xs
+flat_set f [] i x was there e = refl
+flat_set {X} {Y} f (y ∷ xs) zero x was there e = let same : y ≡ was = cc in ap (λ (ys : List Y). ys ++ flat_map f xs) (sym e ∙ ap f (sym same))
+flat_set {X} {Y} f (y ∷ xs) (suc i) x was there e = ap (λ (ys : List Y). f y ++ ys) (flat_set f xs i x was there e)
+
+flat_of_map : {X Y Z : Type 0} (f : Y → List Z) (g : X → Y) (xs : List X) → flat_map f (map g xs) ≡ flat_map (λ x. f (g x)) xs
+flat_of_map f g [] = refl
+flat_of_map {X} {Y} {Z} f g (x ∷ xs) = ap (λ (zs : List Z). f (g x) ++ zs) (flat_of_map f g xs)
+
+pub erased_replaced : (rs : List ParsedOf) (at : ℕ) (r was : ParsedOf) → slice_get rs at ≡ Some was → erased_types was ≡ erased_types r → map erase_entry (built_in ++ entries_of rs) ≡ map erase_entry (built_in ++ entries_of (set rs at r))
+erased_replaced rs at r was there alike =
+    let f : ParsedOf → List (TypeSystemOf (Unit {0})) = λ one. map erase_entry (types_defined one) in
+    let same : f was ≡ f r = erased_in (definitions_read was) ∙ alike ∙ sym (erased_in (definitions_read r)) in
+    one_what erase_entry erased_kept rs (set rs at r)
+    (flat_of_map (map erase_entry) types_defined rs ∙ sym (flat_set f rs at r was there same) ∙ sym (flat_of_map (map erase_entry) types_defined (set rs at r)))

@@ -1,8 +1,6 @@
 -- What only helps to prove that the code does what the definitions say. No contract of a public call is about it.
-pub mod ByFile
 pub mod Facts
 pub mod Gone
 pub mod Judgements
-pub mod Own
 pub mod TypesOf
 pub mod Unindexed

@@ -11,15 +11,20 @@ ghost use Rattle.gq_known.specs.Known.{IsKnown};
 ghost use Rattle.gq_rules.specs.Validity.{IsInvalid, IsReportOf, IsValid};
 ghost use Rattle.gq_kept.specs.Helping.Gone.{AreGone, AreDropped, IsPut, ArePut};
 
-use crate::by_file::ByFile;
+use crate::alike::changes_types;
 use crate::indexed::{forget_unless, stays_indexed};
 use crate::judged::Judged;
 use crate::judging::report_if_any;
 use crate::pieces::{reading_among, reading_by};
 use crate::places::place_or_gap;
 use crate::typed::{Typed, defines_types_at, has_types, retype, typed_less, typed_more};
+use gq_by_file::ByFile;
+use gq_by_file::laws::numbers_of_entries_are_unseen;
 use gq_index::Index;
 use gq_known::{Known, Learned};
+use gq_laws::places::{
+    places_of_types_do_not_matter_to_rules, same_tokens_define_alike, types_look_alike,
+};
 use gq_parse::Piece;
 use gq_parse::laws::one_tree;
 use gq_project::{Doc, Project};
@@ -175,10 +180,16 @@ impl Kept {
         ensures err { OnErr result (self.new ≡ self.old) }
     {
         one_tree();
+        numbers_of_entries_are_unseen();
+        same_tokens_define_alike();
+        types_look_alike();
+        places_of_types_do_not_matter_to_rules();
         let stays = stays_indexed(&self.readings, at, &reading);
         let typed = retype(alloc, &self.readings, at, &reading, &mut self.typed)?;
+        let documents = self.judged.project().documents();
+        let changes = changes_types(alloc, documents, at, doc.text.as_str(), typed.is_some());
         self.judged.put(alloc, doc)?;
-        self.found.replace(alloc, at, &reading, typed.is_some());
+        self.found.replace(alloc, at, &reading, changes);
         let reading = Some(write_over(&mut self.readings, at, reading));
         self.past = Past { typed, reading };
         forget_unless(stays, &mut self.index);
@@ -208,6 +219,7 @@ impl Kept {
         ensures ok { OnOk result (self.new.documents ≡ with_doc self.old.documents doc) }
         ensures err { OnErr result (self.new ≡ self.old) }
     {
+        numbers_of_entries_are_unseen();
         let changes_types = has_types(&reading);
         let made = typed_more(alloc, &self.readings, at, &reading, &self.typed)?;
         let shared = Arc::try_clone(&reading)?;
@@ -247,6 +259,7 @@ impl Kept {
         ensures ok { OnOk result (self.new.documents ≡ without self.old.documents key.now) }
         ensures err { OnErr result (self.new ≡ self.old) }
     {
+        numbers_of_entries_are_unseen();
         let changes_types = defines_types_at(&self.readings, at);
         let made = typed_less(alloc, &self.readings, at)?;
         self.judged.take(alloc, key);

@@ -36,3 +36,4 @@ pub mod OtherNamesUses
 pub mod OtherNamesVariables
 pub mod OtherNamesMerging
 pub mod OtherNamesRead
+pub mod SameTokens

@@ -1,5 +1,6 @@
 -- What is wrong with definitions that are equal but for their places, or for names that a rename changes.
 pub mod Places
 pub mod Types
+pub mod Tokens
 pub mod Names
 pub mod Merging

@@ -7,6 +7,7 @@ ghost use Rattle.gq_fragments.specs.OperationFaults.{IsOperationFault};
 ghost use Rattle.gq_laws.specs.Placing.Merging.{DifferingIsSymmetric, FieldsThatAreKeptMerge, MeetingIsSymmetric};
 ghost use Rattle.gq_laws.specs.Placing.Names.{FragmentRenamesKeepFaultless, NamesDoNotMatter, RenamedAreSameButNames, RenamesKeepFaultless, VariableRenamesKeepFaultless};
 ghost use Rattle.gq_laws.specs.Placing.Places.{DocumentsAreSameButPlaces, PlacesDoNotMatter};
+ghost use Rattle.gq_laws.specs.Placing.Tokens.{SameTokensDefineAlike};
 ghost use Rattle.gq_laws.specs.Placing.Types.{NoPlacesMatter, PlacesOfTypesDoNotMatter, ProjectsAreSameButPlaces, TreesSayWhatIsFaultless, TypesLookAlike};
 ghost use Rattle.gq_merging.specs.FieldsMerge.{IsMergingFault};
 ghost use Rattle.gq_rules.specs.RuleFaults.{IsRuleFault};
@@ -71,9 +72,21 @@ pub fn places_of_types_do_not_matter()
     ensures merging { PlacesOfTypesDoNotMatter IsMergingFault }
 {}
 
+/// So it is of all rules of executable definitions.
+pub fn places_of_types_do_not_matter_to_rules()
+    ensures { PlacesOfTypesDoNotMatter IsRuleFault }
+{
+    places_of_types_do_not_matter();
+}
+
 /// In type systems that are equal but for their places each look-up finds the same but for its places.
 pub fn types_look_alike()
     ensures { TypesLookAlike }
+{}
+
+/// Documents whose texts have the same tokens define types that are equal but for their places.
+pub fn same_tokens_define_alike()
+    ensures { SameTokensDefineAlike }
 {}
 
 /// Places in executable definitions and in the type system do not matter.

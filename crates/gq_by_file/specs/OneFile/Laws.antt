@@ -25,10 +25,14 @@ NumbersOfFilesAreUnseen = (es : List EntryOf) (n : ℕ) (r : ParsedOf) (f : Faul
 abbrev pub AreOneTypeSystem : (es us : List EntryOf) → Type 0
 AreOneTypeSystem es us = map (λ e. e.definition) es ≡ map (λ e. e.definition) us
 
+-- no rule of operations and fragments tells the one type system from the other
+abbrev pub AreAlikeToRules : (es us : List EntryOf) → Type 0
+AreAlikeToRules es us = (os : List OperationOf) (gs : List FragmentOf) (f : Fault) →
+    IsRuleFault (record { entries = es; operations = os; fragments = gs }) f ↔ IsRuleFault (record { entries = us; operations = os; fragments = gs }) f
+
 -- The files in which the type system is defined are unseen by every rule.
 abbrev pub NumbersOfEntriesAreUnseen : Type 0
-NumbersOfEntriesAreUnseen = (es us : List EntryOf) → AreOneTypeSystem es us → (os : List OperationOf) (gs : List FragmentOf) (f : Fault) →
-    IsRuleFault (record { entries = es; operations = os; fragments = gs }) f ↔ IsRuleFault (record { entries = us; operations = os; fragments = gs }) f
+NumbersOfEntriesAreUnseen = (es us : List EntryOf) → AreOneTypeSystem es us → AreAlikeToRules es us
 
 -- A file stands in both, with the same definitions.
 pub record IsKept (before after : List ParsedOf) (old new : ℕ) : Type 0 where

@@ -3,6 +3,7 @@ use Rattle.std.specs.Prelude.{ℕ, Bool, true, false, List, [], ◌∷◌, ◌++
 use Rattle.std.specs.List.{list_any}
 use Rattle.std.specs.Str.{bytes_eq}
 use Rattle.gq_text.specs.declared.place.Span.{Span}
+use Rattle.gq_tree.specs.Forest.{labels}
 use Rattle.gq_tree.specs.Plain.{NameOf, Head, field, spread, inline}
 use Rattle.gq_names.specs.Repeats.{repeated_after}
 use Rattle.gq_fault.specs.declared.code.Code.TheVariants.{FragmentNameNotUnique, UnknownTypeCondition, ConditionNotComposite, SpreadNotPossible}
@@ -13,7 +14,7 @@ use Rattle.gq_types.specs.Kinds.{is_composite}
 use Rattle.gq_types.specs.Joined.{kind_named}
 use Rattle.gq_types.specs.Helping.PossiblePlaces.{possible_texts}
 use Rattle.gq_types.specs.SubtypesTests.{is_possible}
-use Rattle.gq_document.specs.Definitions.{FragmentOf}
+use Rattle.gq_document.specs.Definitions.{OperationOf, FragmentOf}
 use Rattle.gq_document.specs.Selections.{SelectedOf, operation_selections, fragment_selections}
 use Rattle.gq_document.specs.Executable.{ExecutableOf}
 use Rattle.gq_fault.specs.FaultPlaces.{fault_over, fault_at, first_bytes}
@@ -35,6 +36,13 @@ conditions_in es file (field alias name arguments directives braces place) = []
 conditions_in es file (spread name directives place) = []
 conditions_in es file (inline None directives braces place) = []
 conditions_in es file (inline (Some condition) directives braces place) = condition_faults es file condition
+
+-- those that stand in an operation, and in a fragment without its own
+abbrev pub conditions_in_operation : List EntryOf → OperationOf → List Fault
+conditions_in_operation es o = flat_map (conditions_in es o.file) (labels o.set)
+
+abbrev pub conditions_in_fragment : List EntryOf → FragmentOf → List Fault
+conditions_in_fragment es f = flat_map (conditions_in es f.file) (labels f.set)
 
 abbrev pub condition_of_selected : List EntryOf → SelectedOf → List Fault
 condition_of_selected es s = conditions_in es s.file s.selection.label

@@ -6,7 +6,7 @@ use Rattle.gq_types.specs.Entries.{EntryOf}
 use Rattle.gq_types.specs.Look.{types_view}
 use Rattle.gq_document.specs.Definitions.{entry_in, entries_of}
 use Rattle.gq_schema.specs.SchemaOf.{HasNoFault}
-use Rattle.gq_by_file.specs.OneFile.Laws.{AreOneTypeSystem}
+use Rattle.gq_by_file.specs.OneFile.Laws.{AreAlikeToRules, AreOneTypeSystem}
 use Rattle.gq_kept.specs.declared.typed.Typed.{Typed}
 
 -- what one document defines, as if it were the first one
@@ -22,3 +22,7 @@ pub record AreTypesOf (readings : List ParsedOf) (made : Typed) : Type 0 where
 -- both define the same of the type system, whatever the numbers of their documents are
 abbrev pub IsOneTypeSystem : List ParsedOf → List ParsedOf → Type 0
 IsOneTypeSystem readings others = AreOneTypeSystem (built_in ++ entries_of readings) (built_in ++ entries_of others)
+
+-- no rule of operations and fragments tells what the ones define of the type system from what the others do
+abbrev pub DefineAlike : List ParsedOf → List ParsedOf → Type 0
+DefineAlike readings others = AreAlikeToRules (built_in ++ entries_of readings) (built_in ++ entries_of others)

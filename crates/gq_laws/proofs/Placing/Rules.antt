@@ -8,7 +8,7 @@ use Rattle.gq_merging.specs.FieldsMerge.{IsMergingFault}
 use Rattle.gq_rules.specs.Files.{together}
 use Rattle.gq_rules.specs.RuleFaults.{IsRuleFault, of_operations, of_fields, of_fragments, of_spreads, of_variables, of_merging}
 use Rattle.gq_renamed.specs.Renamings.{fragment_called}
-use Rattle.gq_laws.specs.Placing.Types.{NoPlacesMatter}
+use Rattle.gq_laws.specs.Placing.Types.{NoPlacesMatter, PlacesOfTypesDoNotMatter}
 use Rattle.gq_laws.specs.Placing.Names.{RenamesKeepFaultless, FragmentRenamesKeepFaultless}
 
 pub by_group : NoPlacesMatter IsOperationFault → NoPlacesMatter IsFieldFault → NoPlacesMatter IsFragmentFault →
@@ -19,6 +19,16 @@ by_group operations fields fragments spreads variables merging x y s f (of_fragm
 by_group operations fields fragments spreads variables merging x y s f (of_spreads h) = let like = spreads x y s f h in (like.0, of_spreads like.1, like.2, like.3)
 by_group operations fields fragments spreads variables merging x y s f (of_variables h) = let like = variables x y s f h in (like.0, of_variables like.1, like.2, like.3)
 by_group operations fields fragments spreads variables merging x y s f (of_merging h) = let like = merging x y s f h in (like.0, of_merging like.1, like.2, like.3)
+
+-- the same of places in the type system alone
+pub types_by_group : PlacesOfTypesDoNotMatter IsOperationFault → PlacesOfTypesDoNotMatter IsFieldFault → PlacesOfTypesDoNotMatter IsFragmentFault →
+    PlacesOfTypesDoNotMatter IsSpreadFault → PlacesOfTypesDoNotMatter IsVariableFault → PlacesOfTypesDoNotMatter IsMergingFault → PlacesOfTypesDoNotMatter IsRuleFault
+types_by_group operations fields fragments spreads variables merging es us same os gs f (of_operations h) = of_operations (operations es us same os gs f h)
+types_by_group operations fields fragments spreads variables merging es us same os gs f (of_fields h) = of_fields (fields es us same os gs f h)
+types_by_group operations fields fragments spreads variables merging es us same os gs f (of_fragments h) = of_fragments (fragments es us same os gs f h)
+types_by_group operations fields fragments spreads variables merging es us same os gs f (of_spreads h) = of_spreads (spreads es us same os gs f h)
+types_by_group operations fields fragments spreads variables merging es us same os gs f (of_variables h) = of_variables (variables es us same os gs f h)
+types_by_group operations fields fragments spreads variables merging es us same os gs f (of_merging h) = of_merging (merging es us same os gs f h)
 
 -- the same of the rename of a fragment
 pub fragment_renames : RenamesKeepFaultless IsOperationFault → RenamesKeepFaultless IsFieldFault → FragmentRenamesKeepFaultless IsFragmentFault →

@@ -17,3 +17,6 @@ returns-clause-rest t c =
     (λ added n h. ⊎_elim (λ f. c.cover_by_halves-2.ensures.old n (c.in_ok-cover_by_halves.ensures.rest n f)) (λ b. added n b)
     (Contains-append_cases front back n (subst (λ (ns : List ℕ). Contains ns n) whole h)))
     c.cover_by_halves-2.ensures.rest
+
+pub returns-clause-own : goal.returns-clause-own
+returns-clause-own t c are = c.cover_by_halves-2.ensures.own (c.in_ok-cover_by_halves.ensures.own are)

@@ -14,10 +14,10 @@ use Rattle.gq_by_file.proofs.covers.cover_rest.Goals as goal
 
 pub returns-then-is_empty-clause-all : goal.returns-then-is_empty-clause-all
 returns-then-is_empty-clause-all c n h =
-    let none : c.in_ok-marks.marks.items ≡ replicate (length c.args.rows.now) false = search rules in
+    let none : c.in_ok-marks.marks.items ≡ replicate (length c.args.files.rows.now) false = search rules in
     let marks : List Bool = c.mark_covers.new.marks.items in
-    let count : length marks ≡ length c.args.rows.now = c.mark_covers.ensures.count ∙ ap length none ∙ length-replicate (length c.args.rows.now) false in
-    let are = marked_alone (length c.args.rows.now) c.in_ok-marks.marks.items marks c.args.covers.now.items none c.mark_covers.ensures.count
+    let count : length marks ≡ length c.args.files.rows.now = c.mark_covers.ensures.count ∙ ap length none ∙ length-replicate (length c.args.files.rows.now) false in
+    let are = marked_alone (length c.args.files.rows.now) c.in_ok-marks.marks.items marks c.args.covers.now.items none c.mark_covers.ensures.count
     (subst (λ (cs : List Cover). (k : ℕ) → k < length c.in_ok-marks.marks.items → slice_index_or marks k false ≡ (slice_index_or c.in_ok-marks.marks.items k false || list_any (λ (d : Cover). is_among d.files.items k) cs)) c.deref.ensures.value c.mark_covers.ensures.marked) in
     let there : c.in_ok-rest.rest.items ≡ unmarked_from 0 marks = c.in_ok-rest.ensures ∙ ap (unmarked_from 0) c.deref-2.ensures.value in
     let empty : unmarked_from 0 marks ≡ [] = sym there ∙ nil_from_length _ (grind (arith, nat_tests)) in
@@ -25,18 +25,18 @@ returns-then-is_empty-clause-all c n h =
 
 pub cover_by_halves-requires-clause-range : goal.cover_by_halves-requires-clause-range
 cover_by_halves-requires-clause-range c =
-    let none : c.in_ok-marks.marks.items ≡ replicate (length c.args.rows.now) false = search rules in
+    let none : c.in_ok-marks.marks.items ≡ replicate (length c.args.files.rows.now) false = search rules in
     let marks : List Bool = c.mark_covers.new.marks.items in
-    let count : length marks ≡ length c.args.rows.now = c.mark_covers.ensures.count ∙ ap length none ∙ length-replicate (length c.args.rows.now) false in
+    let count : length marks ≡ length c.args.files.rows.now = c.mark_covers.ensures.count ∙ ap length none ∙ length-replicate (length c.args.files.rows.now) false in
     let there : c.in_ok-rest.rest.items ≡ unmarked_from 0 marks = c.in_ok-rest.ensures ∙ ap (unmarked_from 0) c.deref-2.ensures.value in
-    subst (λ (ns : List ℕ). All (λ k. k < length c.args.rows.now) ns) (sym (c.deref-3.ensures.value ∙ there)) (unmarked_range marks (length c.args.rows.now) count)
+    subst (λ (ns : List ℕ). All (λ k. k < length c.args.files.rows.now) ns) (sym (c.deref-3.ensures.value ∙ there)) (unmarked_range marks (length c.args.files.rows.now) count)
 
 pub returns-clause-all : goal.returns-clause-all
 returns-clause-all c =
-    let none : c.in_ok-marks.marks.items ≡ replicate (length c.args.rows.now) false = search rules in
+    let none : c.in_ok-marks.marks.items ≡ replicate (length c.args.files.rows.now) false = search rules in
     let marks : List Bool = c.mark_covers.new.marks.items in
-    let count : length marks ≡ length c.args.rows.now = c.mark_covers.ensures.count ∙ ap length none ∙ length-replicate (length c.args.rows.now) false in
-    let are = marked_alone (length c.args.rows.now) c.in_ok-marks.marks.items marks c.args.covers.now.items none c.mark_covers.ensures.count
+    let count : length marks ≡ length c.args.files.rows.now = c.mark_covers.ensures.count ∙ ap length none ∙ length-replicate (length c.args.files.rows.now) false in
+    let are = marked_alone (length c.args.files.rows.now) c.in_ok-marks.marks.items marks c.args.covers.now.items none c.mark_covers.ensures.count
     (subst (λ (cs : List Cover). (k : ℕ) → k < length c.in_ok-marks.marks.items → slice_index_or marks k false ≡ (slice_index_or c.in_ok-marks.marks.items k false || list_any (λ (d : Cover). is_among d.files.items k) cs)) c.deref.ensures.value c.mark_covers.ensures.marked) in
     let there : c.in_ok-rest.rest.items ≡ unmarked_from 0 marks = c.in_ok-rest.ensures ∙ ap (unmarked_from 0) c.deref-2.ensures.value in
     on_ok_weaker c.cover_by_halves.result

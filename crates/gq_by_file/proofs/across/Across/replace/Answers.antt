@@ -1,4 +1,4 @@
--- The covers stay over another type system of the same definitions, and where names cannot be had nothing is known.
+-- The covers stay over another type system that no rule tells from it, and where names cannot be had nothing is known.
 use Rattle.std.proofs.Common.{refl, set, subst, sym}
 use Rattle.gq_tree.specs.Readings.{parsed_view}
 use Rattle.gq_by_file.specs.declared.across.Across.{Across}
@@ -12,7 +12,7 @@ returns-in-Ok c es us rs one are =
     let before : AreAcross us rs c.if-changes_types.self =
     elim c.if-changes_types.branch [
       | then-changes_types w ↦ subst (λ (a : Across). AreAcross us rs a) (sym w.self-is) (across_cleared es us rs c.args.self.now _ refl refl refl w.clear.ensures.items are)
-      | else-changes_types w ↦ subst (λ (a : Across). AreAcross us rs a) (sym w.self-is) (across_over c.numbers_of_entries_are_unseen.ensures es us (one w.if-changes_types.false) rs c.args.self.now are)
+      | else-changes_types w ↦ subst (λ (a : Across). AreAcross us rs a) (sym w.self-is) (across_over es us (one w.if-changes_types.false) rs c.args.self.now are)
     ] in
     c.replace_names.ensures us rs (parsed_view c.args.reading.now) c.in-Ok.ensures before
 

@@ -24,5 +24,5 @@ invariant_of-self c =
     let same = ap (λ (k : KeptOf). k.documents) c.self.view_is in
     rw (ap (λ (j : JudgedOf). j.documents) c.take.ensures, c.take_out.ensures, c.settle.ensures, c.forget.ensures)
     (kept_removed _ _ _ _ _ c.self.invariant c.args.self.now.documents c.deref-2.result.now same c.deref-2.ensures.value
-    c.args.at c.args.key.now c.in_ok-made.made c.close_room.new.self c.defines_types_at-changes_types.result
+    c.numbers_of_entries_are_unseen.ensures c.args.at c.args.key.now c.in_ok-made.made c.close_room.new.self c.defines_types_at-changes_types.result
     c.requires c.in_ok-made.ensures (rw (c.deref-2.ensures.value, ← c.deref.ensures.value) c.defines_types_at-changes_types.ensures) c.close_room.ensures)

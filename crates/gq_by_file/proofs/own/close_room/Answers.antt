@@ -1,0 +1,17 @@
+-- What is known of the other files stays, where the type system does.
+use Rattle.std.proofs.Common.{◌≤◌, length, arith}
+use Rattle.std.proofs.lemmas.Bool.Decides.{nat_tests}
+use Rattle.gq_by_file.specs.Helping.Own.{none}
+use Rattle.gq_by_file.proofs.KnownOwnLemmas.{own_other, own_remove, own_remove_beyond}
+use Rattle.gq_by_file.proofs.own.close_room.Goals as goal
+
+pub returns-then-changes_types : goal.returns-then-changes_types
+returns-then-changes_types c es us rs one are = rw c.clear.ensures.items none
+
+pub returns-then-at-len : goal.returns-then-at-len
+returns-then-at-len c es us rs one are = rw c.remove.ensures.items (own_remove us c.args.at (own_other es us (one c.if-changes_types.false) are))
+
+pub returns-else-at-len : goal.returns-else-at-len
+returns-else-at-len c es us rs one are =
+    let beyond : length c.args.own.now.items ≤ c.args.at = (let t = c.if-at-len.false in let l = c.len.ensures in grind (arith, nat_tests)) in
+    own_remove_beyond us c.args.at beyond (own_other es us (one c.if-changes_types.false) are)
