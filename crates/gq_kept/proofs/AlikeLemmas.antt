@@ -14,14 +14,14 @@ use Rattle.gq_kept.specs.Helping.TypesOf.{DefineAlike, IsOneTypeSystem}
 use Rattle.gq_kept.proofs.TypesLemmas.{erased_replaced}
 
 -- a document among those that are read, and what it is read as
-record ReadAt (documents : List Doc) (rs : List ParsedOf) (at : ℕ) : Type 0 where
-  document : Doc
-  stands : slice_get documents at ≡ Some document
-  reading : ParsedOf
-  there : slice_get rs at ≡ Some reading
-  parsed : IsParsed document.text reading
+pub record ReadAt (documents : List Doc) (rs : List ParsedOf) (at : ℕ) : Type 0 where
+  pub document : Doc
+  pub stands : slice_get documents at ≡ Some document
+  pub reading : ParsedOf
+  pub there : slice_get rs at ≡ Some reading
+  pub parsed : IsParsed document.text reading
 
-read_at : (documents : List Doc) (rs : List ParsedOf) (at : ℕ) → at < length documents → AreParsed documents rs → ReadAt documents rs at
+pub read_at : (documents : List Doc) (rs : List ParsedOf) (at : ℕ) → at < length documents → AreParsed documents rs → ReadAt documents rs at
 read_at [] rs at h p = absurd (omega (arith, h))
 read_at (d ∷ ds) [] at h p = elim p [ ]
 read_at (d ∷ ds) (r ∷ rs) zero h (more q qs) = record { document = d; stands = refl; reading = r; there = refl; parsed = q }

@@ -4,4 +4,5 @@ pub mod IndexLemmas
 pub mod JudgingLemmas
 pub mod KeptLemmas
 pub mod KnownLemmas
+pub mod RemadeLemmas
 pub mod TypesLemmas

@@ -2,8 +2,8 @@
 ghost use Rattle.std.specs.Prelude.{◌≡◌, ◌<◌, ◌≤◌, true, false, Some, None, IfOk, IfSome, IfNone, OnOk, OnErr, find, length, remove, slice_set};
 ghost use Rattle.std.specs.List.{insert};
 ghost use Rattle.std.specs.Option.{unwrap_or};
-ghost use Rattle.gq_tree.specs.Readings.{shared_view};
-ghost use Rattle.gq_parse.specs.Parsed.{IsParsed};
+ghost use Rattle.gq_tree.specs.Readings.{readings_view, shared_view};
+ghost use Rattle.gq_parse.specs.Parsed.{AreParsed, IsParsed};
 ghost use Rattle.gq_project.specs.Documents.{IsInOrder, has_key, with_doc, without};
 ghost use Rattle.gq_project.specs.Helping.Places.{IsPlaceOf, IsGapFor};
 ghost use Rattle.gq_index.specs.Indexed.{IsIndexOfProject};
@@ -16,8 +16,10 @@ use crate::indexed::{forget_unless, stays_indexed};
 use crate::judged::Judged;
 use crate::judging::report_if_any;
 use crate::pieces::{reading_among, reading_by};
-use crate::places::place_or_gap;
-use crate::typed::{Typed, defines_types_at, has_types, retype, typed_less, typed_more};
+use crate::places::{come_before, place_or_gap};
+use crate::typed::{
+    Typed, defines_types_at, has_types, last_of_types, made_of, retype, typed_less, typed_more,
+};
 use gq_by_file::ByFile;
 use gq_by_file::laws::numbers_of_entries_are_unseen;
 use gq_index::Index;
@@ -36,6 +38,9 @@ use std::alloc::Global;
 use std::marker::Model;
 use std::mem;
 use std::sync::Arc;
+
+/// So many documents come or go one by one, each with a type system that is made anew.
+const FEW: usize = 4;
 
 /// A project, what its documents read as, and their type system; its index and its validity too, once they were asked for.
 ///
@@ -283,11 +288,88 @@ impl Kept {
     ) -> Result<(), NoMemory>
         ensures { OnOk result (self.new.documents ≡ project.now) }
     {
+        if self.shifted_by(project) > FEW {
+            return self.remake(alloc, project, pieces, parsed);
+        }
         let gone = gone(alloc, self.project().documents(), project)?;
         self.drop_all(alloc, &gone)?;
         self.put_all(alloc, project.documents(), pieces, parsed)?;
         let _in_order = self.project().documents();
         Ok(())
+    }
+
+    /// How many of the documents that come or go stand before one that defines types, so that its number changes with each.
+    fn shifted_by(&self, project: &Project) -> usize {
+        let documents = self.judged.project().documents();
+        let last = last_of_types(&self.typed.types);
+        let come = come_before(documents, project.documents(), last);
+        come.saturating_add(come_before(project.documents(), documents, last))
+    }
+
+    /// Makes the project that of these documents at once: one type system is made, what is the same is not read again, and of faults
+    /// nothing is known then. Want of memory leaves all as it was.
+    fn remake(
+        &mut self,
+        alloc: Global,
+        project: &Project,
+        pieces: &[Arc<Piece>],
+        parsed: &mut Vec<Arc<Piece>>,
+    ) -> Result<(), NoMemory>
+        ensures ok { OnOk result (self.new.documents ≡ project.now) }
+        ensures err { OnErr result (self.new ≡ self.old) }
+    {
+        let readings = self.readings_of(alloc, project.documents(), pieces, parsed)?;
+        let typed = made_of(alloc, &readings)?;
+        let copy = project.copied(alloc)?;
+        *self = Kept {
+            judged: Judged::unjudged(copy),
+            readings,
+            typed,
+            found: ByFile::new(alloc),
+            index: None,
+            past: Past {
+                typed: None,
+                reading: None,
+            },
+        };
+        Ok(())
+    }
+
+    /// What these documents read as, one for each, in their order.
+    fn readings_of(
+        &self,
+        alloc: Global,
+        documents: &[Doc],
+        pieces: &[Arc<Piece>],
+        parsed: &mut Vec<Arc<Piece>>,
+    ) -> Result<Vec<Arc<Parsed>>, NoMemory>
+        ensures { IfOk result (λ readings. ∥ AreParsed documents.now (readings_view readings.items) ∥₁) }
+    {
+        let mut readings = Vec::with_capacity(alloc, documents.len())?;
+        for doc in documents {
+            readings.push(self.reading_of(alloc, doc, pieces, parsed)?)?;
+        }
+        Ok(readings)
+    }
+
+    /// What the document reads as: as it did, where it is the same; else its text is read, or the piece of it is taken.
+    fn reading_of(
+        &self,
+        alloc: Global,
+        doc: &Doc,
+        pieces: &[Arc<Piece>],
+        parsed: &mut Vec<Arc<Piece>>,
+    ) -> Result<Arc<Parsed>, NoMemory>
+        ensures { IfOk result (λ reading. ∥ IsParsed doc.now.text (shared_view reading) ∥₁) }
+    {
+        let documents = self.judged.project().documents();
+        let readings = self.readings.as_slice();
+        if let Ok(at) = place_or_gap(documents, doc.key.as_str()) {
+            if documents[at].text == doc.text {
+                return Ok(Arc::try_clone(&readings[at])?);
+            }
+        }
+        reading_among(alloc, doc, pieces, parsed)
     }
 
     /// Takes out the documents of these keys.

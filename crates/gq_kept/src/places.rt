@@ -13,3 +13,18 @@ pub(crate) fn place_or_gap(documents: &[Doc], key: &str) -> Result<usize, usize>
 {
     documents.binary_search_by(|doc| doc.key.as_str().cmp(&key))
 }
+
+/// How many of the others have keys that none of the documents has, and would stand at that place among them or before it.
+pub(crate) fn come_before(documents: &[Doc], others: &[Doc], last: usize) -> usize
+    requires { IsInOrder documents.now }
+{
+    let mut count: usize = 0;
+    for other in others {
+        if let Err(at) = place_or_gap(documents, other.key.as_str()) {
+            if at <= last {
+                count = count.saturating_add(1);
+            }
+        }
+    }
+    count
+}

@@ -23,7 +23,7 @@ pub(crate) struct Typed {
 }
 
 /// The type system of documents that are read so.
-fn made_of(alloc: Global, readings: &[Arc<Parsed>]) -> Result<Typed, NoMemory>
+pub(crate) fn made_of(alloc: Global, readings: &[Arc<Parsed>]) -> Result<Typed, NoMemory>
     ensures { IfOk result (AreTypesOf (readings_view readings.now)) }
 {
     let types = type_system(alloc, readings)?;
@@ -143,6 +143,15 @@ pub(crate) fn typed_less(
     add_shared(&readings[at + 1..], &mut all)?;
     let made = made_of(alloc, &all)?;
     Ok(made)
+}
+
+/// The number of the last document that defines types, or 0.
+pub(crate) fn last_of_types(types: &Types) -> usize {
+    let mut last = 0;
+    for entry in types.entries() {
+        last = entry.file.max(last);
+    }
+    last
 }
 
 /// Whether the document at that place defines types.
