@@ -9,19 +9,20 @@ use Rattle.gq_kept.proofs.KeptLemmas.{given_in_range}
 use Rattle.gq_kept.proofs.RemadeLemmas.{as_before}
 use Rattle.gq_kept.proofs.kept.Kept.reading_of.Goals as goal
 
-pub index-readings-at-requires : goal.index-readings-at-requires
-index-readings-at-requires c =
-    rw c.as_slice-readings.ensures (given_in_range _ _ _ _ _ c.self.invariant c.documents-documents.result.now c.as_slice-readings.result.now (sym (c.documents-documents.ensures.all ∙ c.project.ensures)) c.as_slice-readings.ensures c.in-Ok.at c.as_str.result.now c.in-Ok.ensures.found)
+pub bounds-readings-at : goal.bounds-readings-at
+bounds-readings-at c =
+    rw c.as_slice-readings.ensures.value
+    (given_in_range _ _ _ _ _ c.self.invariant c.documents-documents.result.now c.as_slice-readings.result.now (sym (c.documents-documents.ensures.all ∙ c.project.ensures)) c.as_slice-readings.ensures.value c.in-Ok.at c.as_str.result.now c.in-Ok.ensures.found)
 
 pub returns-then-eq : goal.returns-then-eq
 returns-then-eq c =
     let told : List Doc = c.documents-documents.result.now in
     let given : List SharedParsed = c.as_slice-readings.result.now in
     let is_told : c.self.inside.judged.documents ≡ told = sym (c.documents-documents.ensures.all ∙ c.project.ensures) in
-    let is_given : c.self.inside.readings.items ≡ given = sym c.as_slice-readings.ensures in
+    let is_given : c.self.inside.readings.items ≡ given = sym c.as_slice-readings.ensures.value in
     let same : c.index-documents-at.result.text ≡ c.args.doc.now.text = ap (λ (d : Doc). d.text) c.index-documents-at.is ∙ (bytes_decides _ _).0 (sym c.if-eq.ensures) in
     ∥∥₁_map c.self.invariant.known
     (λ known. as_before told given c.in-Ok.at c.index-documents-at.result c.args.doc.now.text c.index-readings-at.result c.in_ok-try_clone.field-0 c.in-Ok.ensures.found.in_range
-    (rw c.as_slice-readings.ensures (given_in_range _ _ _ _ _ c.self.invariant told given is_told c.as_slice-readings.ensures c.in-Ok.at c.as_str.result.now c.in-Ok.ensures.found))
+    (rw c.as_slice-readings.ensures.value (given_in_range _ _ _ _ _ c.self.invariant told given is_told c.as_slice-readings.ensures.value c.in-Ok.at c.as_str.result.now c.in-Ok.ensures.found))
     c.index-documents-at.is c.index-readings-at.is same (ap parsed_view c.in_ok-try_clone.ensures)
     (subst (λ (ds : List Doc). AreParsed ds (readings_view given)) is_told (subst (λ (rs : List SharedParsed). AreParsed c.self.inside.judged.documents (readings_view rs)) is_given known.are_readings)))
