@@ -241,7 +241,7 @@ impl Across {
         ensures { (es us : List EntryOf) (rs : List ParsedOf) → (changes_types ≡ false → AreAlikeToRules es us)
             → AreAcross es rs self.old → AreAcross us (slice_set rs at (parsed_view reading.now)) self.new }
     {
-            if changes_types {
+        if changes_types {
             self.covers.clear();
         }
         match FileNames::of(alloc, reading) {
@@ -300,7 +300,7 @@ impl Across {
         ensures { (es us : List EntryOf) (rs : List ParsedOf) → (changes_types ≡ false → AreAlikeToRules es us)
             → AreAcross es rs self.old → AreAcross us (insert rs at (parsed_view reading.now)) self.new }
     {
-            if self.names.is_empty() {
+        if self.names.is_empty() {
             self.forget();
             return;
         }

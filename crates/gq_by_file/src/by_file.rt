@@ -59,9 +59,7 @@ impl ByFile {
             → (fault : Fault) → Contains faults.items fault ↔ (IsOfItsFile (types_view types.now) (readings_view readings.now) fault
             ⊎ IsFaultAcross (together (types_view types.now) (readings_view readings.now)) fault)) }
     {
-        let mut across = self
-            .across
-            .found(alloc, types, readings, &mut self.own)?;
+        let mut across = self.across.found(alloc, types, readings, &mut self.own)?;
         let mut all = own_faults(alloc, types, readings, &mut self.own)?;
         all.append(&mut across)?;
         Ok(all)
@@ -69,13 +67,7 @@ impl ByFile {
 
     /// What is known of the other files stays where the file at that place is replaced; where that changes the type system,
     /// nothing is known any more.
-    pub fn replace(
-        &mut self,
-        alloc: Global,
-        at: usize,
-        reading: &Arc<Parsed>,
-        changes_types: bool,
-    )
+    pub fn replace(&mut self, alloc: Global, at: usize, reading: &Arc<Parsed>, changes_types: bool)
         ensures { (es us : List EntryOf) (rs : List ParsedOf) → (changes_types ≡ false → AreAlikeToRules es us)
             → AreByFile es rs self.old → AreByFile us (slice_set rs at (shared_view reading.now)) self.new }
     {

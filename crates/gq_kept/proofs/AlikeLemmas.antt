@@ -2,12 +2,12 @@
 use Rattle.std.proofs.Common.{◌≡◌, ◌⊎◌, ⊎_elim, ℕ, zero, suc, ◌<◌, Bool, false, List, [], ◌∷◌, ◌++◌, Some, length, set, slice_get, refl, sym, subst, arith}
 use Rattle.gq_project.specs.declared.document.Doc.{Doc}
 use Rattle.gq_tree.specs.Readings.{ParsedOf}
-use Rattle.gq_parse.specs.Parsed.{IsParsed, AreParsed, none, more}
+use Rattle.gq_parse.specs.Parsed.{IsParsed, AreParsed, more}
 use Rattle.gq_types.specs.BuiltIn.{built_in}
 use Rattle.gq_types.specs.Entries.{EntryOf}
 use Rattle.gq_document.specs.Definitions.{entries_of}
 use Rattle.gq_rules.specs.RuleFaults.{IsRuleFault}
-use Rattle.gq_by_file.specs.OneFile.Laws.{AreAlikeToRules, NumbersOfEntriesAreUnseen}
+use Rattle.gq_by_file.specs.OneFile.Laws.{NumbersOfEntriesAreUnseen}
 use Rattle.gq_laws.specs.Placing.Tokens.{ReadAlike, SameTokensDefineAlike}
 use Rattle.gq_laws.specs.Placing.Types.{PlacesOfTypesDoNotMatter, TypesLookAlike}
 use Rattle.gq_kept.specs.Helping.TypesOf.{DefineAlike, IsOneTypeSystem}

@@ -73,9 +73,7 @@ fn ends_in_comment(text: &[u8]) -> bool {
 
 /// Whether all bytes stand between tokens: white space, line ends and commas.
 fn are_between(bytes: &[u8]) -> bool {
-    bytes
-        .iter()
-        .all(|byte| matches!(*byte, b' ' | b'\t' | b'\n' | b'\r' | b','))
+    bytes.iter().all(|byte| matches!(*byte, b' ' | b'\t' | b'\n' | b'\r' | b','))
 }
 
 /// Whether it is worth while to compare the tokens: what differs, from the first byte that does to the last one, stands between tokens, or

@@ -1,5 +1,5 @@
 -- Texts with the same tokens have the same definitions of types, their places forgotten.
-use Rattle.std.proofs.Common.{◌≡◌, ℕ, ◌+◌, ◌≤◌, ◌^◌, List, [], ◌∷◌, ◌++◌, Bool, true, false, cond, append-nil, length, map, take, refl, sym, ap, subst, ◌∙◌, arith}
+use Rattle.std.proofs.Common.{◌≡◌, ℕ, ◌+◌, ◌≤◌, ◌^◌, List, [], ◌∷◌, ◌++◌, Bool, true, false, cond, append-nil, length, map, take, refl, sym, ap, subst, ◌∙◌}
 use Rattle.std.specs.Prelude.{flat_map, fold, if◌then◌else◌}
 use Rattle.std.proofs.lemmas.List.{length-map, take-map}
 use Rattle.gq_text.specs.declared.place.Span.{Span}
@@ -9,12 +9,10 @@ use Rattle.gq_lex.proofs.Readings.{one_reading}
 use Rattle.gq_tree.specs.Forest.{labels}
 use Rattle.gq_tree.specs.Plain.{NameOf, Head, Def, field, spread, inline, operation, fragment, type_system, erase_document}
 use Rattle.gq_tree.specs.Readings as reading
-use Rattle.gq_tree.specs.Readings.{ParsedOf}
 use Rattle.gq_parse.specs.Grammar.{Tokens}
 use Rattle.gq_parse.specs.Derives.{Derives}
 use Rattle.gq_parse.specs.Documents.{IsDocument}
 use Rattle.gq_parse.specs.Limits.{opens, closes, opened, closed, IsNestedWithin}
-use Rattle.gq_parse.specs.Parsed.{IsParsed}
 use Rattle.gq_parse.proofs.UniqueDocuments.{same_document}
 use Rattle.gq_renamed.specs.Changed.{changed_name, changed_in_directives, changed_in_head, changed_in_selections, changed_in_def, changed_in_document}
 use Rattle.gq_renamed.specs.Renamed.{next_number, rename_document}
@@ -22,7 +20,7 @@ use Rattle.gq_renamed.specs.Renamings.{nothing_renamed}
 use Rattle.gq_renamed.proofs.DocumentAgain.{document_again}
 use Rattle.gq_renamed.proofs.Regrammar.{name_in, marked_names, nothing_in, nothing_in_arguments, nothing_in_directives, no_change}
 use Rattle.gq_renamed.proofs.Retelling.{Marked, Retold, text_by, tokens_of}
-use Rattle.gq_laws.specs.Placing.Tokens.{Spelling, spelling_of, ReadAlike, SameTokensDefineAlike, erased_types, types_in}
+use Rattle.gq_laws.specs.Placing.Tokens.{Spelling, spelling_of, ReadAlike, SameTokensDefineAlike, types_in}
 
 -- ---- where nothing is renamed, no token is marked
 
@@ -123,16 +121,17 @@ derived text other ds w d =
     let one : d.tokens ≡ w.tokens = one_reading text d.tokens w.tokens d.reads w.reads in
     let same : map spelling_of d.tokens ≡ map spelling_of w.others = ap (map spelling_of) one ∙ w.same in
     let again = reread ds d.tokens w.others d.derived same in
-    let count : length d.tokens ≡ length w.others = sym (length-map d.tokens spelling_of) ∙ ap length same ∙ length-map w.others spelling_of in
-    (again.tree,
-     record {
-       tokens = w.others;
-       reads = w.reads_others;
-       few = subst (λ (k : ℕ). k ≤ 2 ^ 20) count d.few;
-       nested = nested_alike d.tokens w.others same d.nested;
-       derived = again.is_document;
-     },
-     again.alike)
+    let count : length d.tokens ≡ length w.others = sym (length-map d.tokens spelling_of) ∙ ap length same ∙ length-map w.others spelling_of in (
+      again.tree,
+      record {
+        tokens = w.others;
+        reads = w.reads_others;
+        few = subst (λ (k : ℕ). k ≤ 2 ^ 20) count d.few;
+        nested = nested_alike d.tokens w.others same d.nested;
+        derived = again.is_document;
+      },
+      again.alike,
+    )
 
 one_tree_of : (text : List ℕ) (ds es : List (Def Span)) → Derives text ds → Derives text es → ds ≡ es
 one_tree_of text ds es x y = same_document x.derived (one_reading text x.tokens y.tokens x.reads y.reads) y.derived
