@@ -27,6 +27,7 @@ NOTHING_WRONG = b'"diagnostics":[]'
 OPERATIONS, SCHEMA = "q0.graphql", "s.graphql"
 CHECK, CHECK_MEMORY, MEMORY = "check", "memory of the check", "memory of the server, at the end"
 ASKED = 3  # how often a question is asked in a round
+FIELD = "zz:Int "  # a field more, which no file uses, so that the type system is another one
 CAPABILITIES = {
     "workspace": {"workspaceEdit": {"documentChanges": True}},
     "textDocument": {
@@ -210,11 +211,11 @@ class Project:
         self.note(program, CHECK, spent)
         self.note(program, CHECK_MEMORY, memory)
 
-    def type(self, program, client, name, what, offset):
-        """A space is typed, and taken away again."""
+    def type(self, program, client, name, what, offset, typed=" "):
+        """A space, or what is given, is typed, and taken away again."""
         there, behind = (position(self.files[name], offset) for _ in range(2))
-        behind["character"] += 1
-        for start, end, new in ((there, there, " "), (there, behind, "")):
+        behind["character"] += len(typed)
+        for start, end, new in ((there, there, typed), (there, behind, "")):
             spent, wrong = timed(lambda: client.edit(self.uri[name], start, end, new))
             self.note(program, what, spent)
             if wrong:
@@ -238,7 +239,8 @@ class Project:
         brace = text.index("{", text.index("fragment F0_0"))
         for _ in range(100 if is_last else ASKED):
             self.type(program, client, OPERATIONS, "a keystroke in a file of operations", brace)
-        self.type(program, client, SCHEMA, "a keystroke in the schema", schema.index("{"))
+        self.type(program, client, SCHEMA, "a space in the schema", schema.index("{"))
+        self.type(program, client, SCHEMA, "a field in the schema, or none", schema.index("{") + 1, FIELD)
         if is_last:
             for _ in range(20):
                 client.ask(method, params)

@@ -20,7 +20,7 @@ import sys
 import tempfile
 import time
 
-from latency import BYTES_EACH, CAPABILITIES, TYPES_A_FILE, Client, position
+from latency import BYTES_EACH, CAPABILITIES, FIELD, TYPES_A_FILE, Client, position
 from projects import large
 
 OPEN = "q0.graphql", "s.graphql"
@@ -48,11 +48,12 @@ class Editor(Client):
                 sys.exit("the project is not valid")
 
     def type(self, uri, is_there):
-        """A space is typed behind the first brace, or taken away again."""
+        """A space is typed behind the first brace, in the schema a field, or taken away again."""
+        typed = FIELD if uri == self.schema else " "
         start = position(self.texts[uri], self.texts[uri].index("{") + 1)
-        end = {**start, "character": start["character"] + is_there}
+        end = {**start, "character": start["character"] + is_there * len(typed)}
         self.versions[uri] += 1
-        change = {"range": {"start": start, "end": end}, "text": "" if is_there else " "}
+        change = {"range": {"start": start, "end": end}, "text": "" if is_there else typed}
         self.tell("textDocument/didChange", {"textDocument": {"uri": uri, "version": self.versions[uri]}, "contentChanges": [change]})
 
     def diagnosed_last(self, uri):
