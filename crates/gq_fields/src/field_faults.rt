@@ -1,11 +1,15 @@
 //! All that is wrong with the fields, arguments, directives and default values of operations and fragments.
-ghost use Rattle.std.specs.Prelude.{◌≡◌, ◌++◌, OnOk, map};
+ghost use Rattle.std.specs.Prelude.{◌≡◌, ◌++◌, IfOk, OnOk, map};
+ghost use Rattle.std.specs.Option.{option_map};
+ghost use Rattle.gq_tree.specs.NamedTypes.{base_name};
 ghost use Rattle.gq_fault.specs.Adds.{AddsExactly};
-ghost use Rattle.gq_tree.specs.Views.{name_of, braces_of, argument_view, variable_view};
+ghost use Rattle.gq_tree.specs.Views.{name_of, braces_of, argument_view, sel_view, sels_view, variable_view};
 ghost use Rattle.gq_types.specs.Look.{types_view, text_of};
 ghost use Rattle.gq_document.specs.Definitions.{operation_view, fragment_view, operations_view, fragments_view};
 ghost use Rattle.gq_document.specs.Executable.{executable_view};
-ghost use Rattle.gq_document.specs.Views.{selected_view, selections_view};
+ghost use Rattle.gq_document.specs.Helping.Trees.{selected_in};
+ghost use Rattle.gq_document.specs.Selections.{parent_below, selected_among, selected_field};
+ghost use Rattle.gq_document.specs.Views.{selected_field_view, selected_view};
 ghost use Rattle.gq_fields.specs.FieldFaults.{IsFieldFault};
 ghost use Rattle.gq_fields.specs.Helping.FieldFaultsPlaces.{faults_of_field, faults_of_named, selection_faults, selections_faults, variable_faults, variables_faults, operation_faults, fragment_faults, operations_faults, fragments_faults, field_faults};
 
@@ -17,8 +21,7 @@ use crate::field_selections::add_unknown_field;
 use crate::leaf_field_selections::add_wrong_selections;
 use crate::values::add_wrong_default;
 use gq_document::{
-    Executable, FragmentEntry, OperationEntry, Selected, fragment_selections, operation_selections,
-    selected_field,
+    Executable, FragmentEntry, OperationEntry, Selected, SelectedField, selected_field,
 };
 use gq_fault::Fault;
 use gq_text::NoMemory;
@@ -26,35 +29,49 @@ use gq_tree::{Argument, DirectiveLocation, Name, Selection, SelectionSet, Variab
 use gq_types::Types;
 use std::alloc::Global;
 
-/// Puts what is wrong with the field that a selection names, which is looked up once.
-fn add_faults_of_field(
+/// The name of the type of that field, without lists and non-null.
+fn name_below<'a>(found: Option<SelectedField<'a>>) -> Option<&'a str>
+    ensures { text_of result ≡ option_map (λ f. base_name f.type_ref) (selected_field_view found.entry) }
+{
+    match found {
+        Some(field) => Some(field.base_name()),
+        None => None,
+    }
+}
+
+/// Puts what is wrong with the field that a selection names, which is looked up once, and answers the name of its type.
+fn add_faults_of_field<'a>(
     alloc: Global,
-    types: &Types,
+    types: &'a Types,
     file: usize,
     parent: Option<&str>,
     name: &Name,
     set: &Option<Box<SelectionSet>>,
     arguments: &[Argument],
     faults: &mut Vec<Fault>,
-) -> Result<(), NoMemory>
-    ensures { OnOk result (faults.new.items ≡ faults.old.items ++ faults_of_field (types_view types.now) file (text_of parent.entry)
+) -> Result<Option<&'a str>, NoMemory>
+    ensures faults { OnOk result (faults.new.items ≡ faults.old.items ++ faults_of_field (types_view types.now) file (text_of parent.entry)
         (name_of name.now) (braces_of set.now) (map argument_view arguments.now)) }
+    ensures below { IfOk result (λ below. text_of below ≡ option_map (λ f. base_name f.type_ref) (selected_field (types_view types.now) (text_of parent.entry) name.now.text)) }
 {
     let found = selected_field(types, parent, name.text.as_str());
     add_unknown_field(types, file, parent, found, name, faults)?;
     add_wrong_selections(types, file, found, name, set, faults)?;
-    add_wrong_arguments(alloc, types, file, found, name, arguments, faults)
+    add_wrong_arguments(alloc, types, file, found, name, arguments, faults)?;
+    Ok(name_below(found))
 }
 
-/// Puts what is wrong with the field that a selection names, if it is one.
+/// Puts what is wrong with the field that a selection names, if it is one, and answers the name of the type of the parent of the
+/// selections in its braces.
 #[tactic(auto, using(gq_tree::proofs::Trees::gathers))]
-fn add_faults_of_named(
+fn add_faults_of_named<'a>(
     alloc: Global,
-    types: &Types,
-    selected: &Selected<'_>,
+    types: &'a Types,
+    selected: Selected<'a>,
     faults: &mut Vec<Fault>,
-) -> Result<(), NoMemory>
-    ensures { OnOk result (faults.new.items ≡ faults.old.items ++ faults_of_named (types_view types.now) (selected_view selected.now)) }
+) -> Result<Option<&'a str>, NoMemory>
+    ensures faults { OnOk result (faults.new.items ≡ faults.old.items ++ faults_of_named (types_view types.now) (selected_view selected.entry)) }
+    ensures below { IfOk result (λ below. text_of below ≡ parent_below (types_view types.now) (selected_view selected.entry).parent (selected_view selected.entry).selection.label) }
 {
     let (file, parent) = (selected.file, selected.parent);
     match selected.selection {
@@ -62,33 +79,73 @@ fn add_faults_of_named(
             let (name, set, arguments) = (&field.name, &field.set, &field.arguments);
             add_faults_of_field(alloc, types, file, parent, name, set, arguments, faults)
         }
-        Selection::Spread(_) => Ok(()),
-        Selection::Inline(_) => Ok(()),
+        Selection::Spread(_) => Ok(parent),
+        Selection::Inline(inline) => match &inline.on {
+            Some(name) => Ok(Some(name.text.as_str())),
+            None => Ok(parent),
+        },
     }
 }
 
-fn add_faults_of_selection(
+/// Puts what is wrong at a selection by itself, and answers the same.
+fn add_faults_at<'a>(
     alloc: Global,
-    types: &Types,
-    selected: &Selected<'_>,
+    types: &'a Types,
+    selected: Selected<'a>,
     faults: &mut Vec<Fault>,
-) -> Result<(), NoMemory>
-    ensures { OnOk result (faults.new.items ≡ faults.old.items ++ selection_faults (types_view types.now) (selected_view selected.now)) }
+) -> Result<Option<&'a str>, NoMemory>
+    ensures faults { OnOk result (faults.new.items ≡ faults.old.items ++ selection_faults (types_view types.now) (selected_view selected.entry)) }
+    ensures below { IfOk result (λ below. text_of below ≡ parent_below (types_view types.now) (selected_view selected.entry).parent (selected_view selected.entry).selection.label) }
 {
-    add_faults_of_named(alloc, types, selected, faults)?;
-    add_wrong_directives_of_selection(alloc, types, selected, faults)
+    let below = add_faults_of_named(alloc, types, selected, faults)?;
+    add_wrong_directives_of_selection(alloc, types, &selected, faults)?;
+    Ok(below)
 }
 
-fn add_faults_of_selections(
+#[cycle(selections)]
+#[tactic(auto, using(gq_tree::proofs::Trees::gathers))]
+fn add_faults_in<'a>(
     alloc: Global,
-    types: &Types,
-    selections: &[Selected<'_>],
+    types: &'a Types,
+    file: usize,
+    parent: Option<&'a str>,
+    selection: &'a Selection,
     faults: &mut Vec<Fault>,
 ) -> Result<(), NoMemory>
-    ensures { OnOk result (faults.new.items ≡ faults.old.items ++ selections_faults (types_view types.now) (selections_view selections.now)) }
+    ensures { OnOk result (faults.new.items ≡ faults.old.items ++ selections_faults (types_view types.now) (selected_in (types_view types.now) file (text_of parent.entry) (sel_view selection.now))) }
 {
-    for selected in selections {
-        add_faults_of_selection(alloc, types, selected, faults)?;
+    let selected = Selected {
+        file,
+        parent,
+        selection,
+    };
+    let below = add_faults_at(alloc, types, selected, faults)?;
+    match selection {
+        Selection::Field(field) => match &field.set {
+            Some(set) => add_faults_among(alloc, types, file, below, &set.items, faults),
+            None => Ok(()),
+        },
+        Selection::Spread(_) => Ok(()),
+        Selection::Inline(inline) => {
+            add_faults_among(alloc, types, file, below, &inline.set.items, faults)
+        }
+    }
+}
+
+#[cycle(selections)]
+#[tactic(auto, using(gq_tree::proofs::Trees::gathers))]
+fn add_faults_among<'a>(
+    alloc: Global,
+    types: &'a Types,
+    file: usize,
+    parent: Option<&'a str>,
+    all: &'a [Selection],
+    faults: &mut Vec<Fault>,
+) -> Result<(), NoMemory>
+    ensures { OnOk result (faults.new.items ≡ faults.old.items ++ selections_faults (types_view types.now) (selected_among (types_view types.now) file (text_of parent.entry) (sels_view all.now))) }
+{
+    for selection in all {
+        add_faults_in(alloc, types, file, parent, selection, faults)?;
     }
     Ok(())
 }
@@ -122,10 +179,10 @@ fn add_faults_of_variables(
     Ok(())
 }
 
-fn add_faults_of_operation(
+fn add_faults_of_operation<'a>(
     alloc: Global,
-    types: &Types,
-    operation: &OperationEntry<'_>,
+    types: &'a Types,
+    operation: &OperationEntry<'a>,
     faults: &mut Vec<Fault>,
 ) -> Result<(), NoMemory>
     ensures { OnOk result (faults.new.items ≡ faults.old.items ++ operation_faults (types_view types.now) (operation_view operation.now)) }
@@ -134,14 +191,14 @@ fn add_faults_of_operation(
     let location = operation_location(definition.kind);
     add_wrong_directives(alloc, types, file, location, &definition.directives, faults)?;
     add_faults_of_variables(alloc, types, file, &definition.variables, faults)?;
-    let selections = operation_selections(alloc, types, operation)?;
-    add_faults_of_selections(alloc, types, &selections, faults)
+    let (parent, all) = (types.root(definition.kind), &definition.set.items);
+    add_faults_among(alloc, types, file, parent, all, faults)
 }
 
-fn add_faults_of_fragment(
+fn add_faults_of_fragment<'a>(
     alloc: Global,
-    types: &Types,
-    fragment: &FragmentEntry<'_>,
+    types: &'a Types,
+    fragment: &FragmentEntry<'a>,
     faults: &mut Vec<Fault>,
 ) -> Result<(), NoMemory>
     ensures { OnOk result (faults.new.items ≡ faults.old.items ++ fragment_faults (types_view types.now) (fragment_view fragment.now)) }
@@ -149,14 +206,15 @@ fn add_faults_of_fragment(
     let (file, directives) = (fragment.file, &fragment.definition.directives);
     let location = DirectiveLocation::FragmentDefinition;
     add_wrong_directives(alloc, types, file, location, directives, faults)?;
-    let selections = fragment_selections(alloc, types, fragment)?;
-    add_faults_of_selections(alloc, types, &selections, faults)
+    let parent = Some(fragment.definition.on.text.as_str());
+    let all = &fragment.definition.set.items;
+    add_faults_among(alloc, types, file, parent, all, faults)
 }
 
-fn add_faults_of_operations(
+fn add_faults_of_operations<'a>(
     alloc: Global,
-    types: &Types,
-    operations: &[OperationEntry<'_>],
+    types: &'a Types,
+    operations: &[OperationEntry<'a>],
     faults: &mut Vec<Fault>,
 ) -> Result<(), NoMemory>
     ensures { OnOk result (faults.new.items ≡ faults.old.items ++ operations_faults (types_view types.now) (operations_view operations.now)) }
@@ -167,10 +225,10 @@ fn add_faults_of_operations(
     Ok(())
 }
 
-fn add_faults_of_fragments(
+fn add_faults_of_fragments<'a>(
     alloc: Global,
-    types: &Types,
-    fragments: &[FragmentEntry<'_>],
+    types: &'a Types,
+    fragments: &[FragmentEntry<'a>],
     faults: &mut Vec<Fault>,
 ) -> Result<(), NoMemory>
     ensures { OnOk result (faults.new.items ≡ faults.old.items ++ fragments_faults (types_view types.now) (fragments_view fragments.now)) }
