@@ -11,7 +11,7 @@ use Rattle.gq_types.specs.Entries.{Text, EntryOf}
 use Rattle.gq_types.specs.Roots.{root_of}
 use Rattle.gq_document.specs.Definitions.{OperationOf, FragmentOf}
 use Rattle.gq_document.specs.Executable.{ExecutableOf}
-use Rattle.gq_document.specs.Selections.{SelectedOf, parent_below, selected_among, operation_selections, fragment_selections}
+use Rattle.gq_document.specs.Selections.{parent_below, selected_among, operation_selections, fragment_selections}
 use Rattle.gq_fragments.specs.Helping.FragmentPlaces.{conditions_in, conditions_in_fragment, conditions_in_operation, condition_of_selected, conditions_of_selections, selections}
 
 inline_among : (es : List EntryOf) (file : ℕ) (parent : Option Text) (ss : Sels Span) → flat_map (conditions_in es file) (labels ss) ≡ conditions_of_selections es (selected_among es file parent ss)

@@ -1,76 +1,140 @@
 //! The selections of operations and fragments that are no fields.
 ghost use Rattle.std.specs.Prelude.{◌≡◌, ◌++◌, IfOk, OnOk, flat_map};
-ghost use Rattle.gq_tree.specs.Views.{sel_view};
-ghost use Rattle.gq_types.specs.Look.{types_view};
-ghost use Rattle.gq_document.specs.Definitions.{operations_view, fragments_view};
-ghost use Rattle.gq_document.specs.Selections.{operation_selections, fragment_selections};
+ghost use Rattle.std.specs.Option.{option_map};
+ghost use Rattle.gq_tree.specs.NamedTypes.{base_name};
+ghost use Rattle.gq_tree.specs.Views.{sel_view, sels_view};
+ghost use Rattle.gq_types.specs.Look.{types_view, text_of};
+ghost use Rattle.gq_document.specs.Definitions.{operation_view, operations_view, fragment_view, fragments_view};
+ghost use Rattle.gq_document.specs.Selections.{operation_selections, fragment_selections, selected_among, selected_field};
 ghost use Rattle.gq_document.specs.Executable.{executable_view};
+ghost use Rattle.gq_document.specs.Helping.Trees.{selected_in};
 ghost use Rattle.gq_document.specs.Views.{selections_view};
-ghost use Rattle.gq_fragments.specs.Helping.FragmentPlaces.{is_of_fragment, of_fragments, selections};
+ghost use Rattle.gq_fragments.specs.Helping.FragmentPlaces.{of_fragments, selections};
 
-use gq_document::{
-    Executable, FragmentEntry, OperationEntry, Selected, fragment_selections, operation_selections,
-};
+use gq_document::{Executable, FragmentEntry, OperationEntry, Selected, selected_field};
 use gq_text::NoMemory;
 use gq_tree::Selection;
 use gq_types::Types;
 use std::alloc::Global;
 
-/// Whether it is no field.
-#[tactic(auto, using(gq_tree::proofs::Trees::gathers))]
-fn is_of_fragment(selection: &Selection) -> bool
-    ensures { result ≡ is_of_fragment (sel_view selection.now).label }
+/// The name of the type of the field of that name, without lists and non-null, where the type of its parent is known and has it.
+fn type_below<'a>(types: &'a Types, parent: Option<&str>, name: &str) -> Option<&'a str>
+    ensures { text_of result ≡ option_map (λ f. base_name f.type_ref) (selected_field (types_view types.now) (text_of parent.entry) name.now) }
 {
-    match selection {
-        Selection::Field(_) => false,
-        Selection::Spread(_) => true,
-        Selection::Inline(_) => true,
+    match selected_field(types, parent, name) {
+        Some(field) => Some(field.base_name()),
+        None => None,
     }
 }
 
-/// Puts those of these selections that are no fields behind the others.
-fn put_of_fragments_among<'a>(
-    selections: &[Selected<'a>],
+/// Puts a selection that is no field, and those below a selection, behind the others.
+#[cycle(selections)]
+#[tactic(auto, using(gq_tree::proofs::Trees::gathers))]
+fn put_of_fragments_in<'a>(
+    types: &'a Types,
+    file: usize,
+    parent: Option<&'a str>,
+    selection: &'a Selection,
     all: &mut Vec<Selected<'a>>,
 ) -> Result<(), NoMemory>
-    ensures { OnOk result (selections_view all.new.items ≡ selections_view all.old.items ++ of_fragments (selections_view selections.now)) }
+    ensures { OnOk result (selections_view all.new.items ≡ selections_view all.old.items ++ of_fragments (selected_in (types_view types.now) file (text_of parent.entry) (sel_view selection.now))) }
 {
-    for selected in selections {
-        if is_of_fragment(selected.selection) {
-            all.push(*selected)?;
+    let selected = Selected {
+        file,
+        parent,
+        selection,
+    };
+    match selection {
+        Selection::Field(field) => match &field.set {
+            Some(set) => {
+                let below = type_below(types, parent, field.name.text.as_str());
+                put_of_fragments_among(types, file, below, &set.items, all)
+            }
+            None => Ok(()),
+        },
+        Selection::Spread(_) => {
+            all.push(selected)?;
+            Ok(())
         }
+        Selection::Inline(inline) => {
+            all.push(selected)?;
+            match &inline.on {
+                Some(name) => {
+                    let below = Some(name.text.as_str());
+                    put_of_fragments_among(types, file, below, &inline.set.items, all)
+                }
+                None => put_of_fragments_among(types, file, parent, &inline.set.items, all),
+            }
+        }
+    }
+}
+
+/// So of selections in a row.
+#[cycle(selections)]
+#[tactic(auto, using(gq_tree::proofs::Trees::gathers))]
+fn put_of_fragments_among<'a>(
+    types: &'a Types,
+    file: usize,
+    parent: Option<&'a str>,
+    selections: &'a [Selection],
+    all: &mut Vec<Selected<'a>>,
+) -> Result<(), NoMemory>
+    ensures { OnOk result (selections_view all.new.items ≡ selections_view all.old.items ++ of_fragments (selected_among (types_view types.now) file (text_of parent.entry) (sels_view selections.now))) }
+{
+    for selection in selections {
+        put_of_fragments_in(types, file, parent, selection, all)?;
     }
     Ok(())
 }
 
+fn put_of_operation<'a>(
+    types: &'a Types,
+    operation: &OperationEntry<'a>,
+    all: &mut Vec<Selected<'a>>,
+) -> Result<(), NoMemory>
+    ensures { OnOk result (selections_view all.new.items ≡ selections_view all.old.items ++ of_fragments (operation_selections (types_view types.now) (operation_view operation.now))) }
+{
+    let parent = types.root(operation.definition.kind);
+    let selections = &operation.definition.set.items;
+    put_of_fragments_among(types, operation.file, parent, selections, all)
+}
+
+fn put_of_fragment<'a>(
+    types: &'a Types,
+    fragment: &FragmentEntry<'a>,
+    all: &mut Vec<Selected<'a>>,
+) -> Result<(), NoMemory>
+    ensures { OnOk result (selections_view all.new.items ≡ selections_view all.old.items ++ of_fragments (fragment_selections (types_view types.now) (fragment_view fragment.now))) }
+{
+    let parent = Some(fragment.definition.on.text.as_str());
+    let selections = &fragment.definition.set.items;
+    put_of_fragments_among(types, fragment.file, parent, selections, all)
+}
+
 /// Puts the selections of all operations that are no fields behind the others.
 fn put_of_operations<'a>(
-    alloc: Global,
     types: &'a Types,
-    operations: &'a [OperationEntry<'a>],
+    operations: &[OperationEntry<'a>],
     all: &mut Vec<Selected<'a>>,
 ) -> Result<(), NoMemory>
     ensures { OnOk result (selections_view all.new.items ≡ selections_view all.old.items ++ of_fragments (flat_map (operation_selections (types_view types.now)) (operations_view operations.now))) }
 {
     for operation in operations {
-        let selections = operation_selections(alloc, types, operation)?;
-        put_of_fragments_among(&selections, all)?;
+        put_of_operation(types, operation, all)?;
     }
     Ok(())
 }
 
 /// Puts the selections of all fragments that are no fields behind the others.
 fn put_of_fragments<'a>(
-    alloc: Global,
     types: &'a Types,
-    fragments: &'a [FragmentEntry<'a>],
+    fragments: &[FragmentEntry<'a>],
     all: &mut Vec<Selected<'a>>,
 ) -> Result<(), NoMemory>
     ensures { OnOk result (selections_view all.new.items ≡ selections_view all.old.items ++ of_fragments (flat_map (fragment_selections (types_view types.now)) (fragments_view fragments.now))) }
 {
     for fragment in fragments {
-        let selections = fragment_selections(alloc, types, fragment)?;
-        put_of_fragments_among(&selections, all)?;
+        put_of_fragment(types, fragment, all)?;
     }
     Ok(())
 }
@@ -83,7 +147,7 @@ pub(crate) fn fragment_selections_of<'a>(
     ensures { IfOk result (λ all. selections_view all.items ≡ of_fragments (selections (executable_view executable.now))) }
 {
     let mut all = Vec::new(alloc);
-    put_of_operations(alloc, executable.types, executable.operations, &mut all)?;
-    put_of_fragments(alloc, executable.types, executable.fragments, &mut all)?;
+    put_of_operations(executable.types, executable.operations, &mut all)?;
+    put_of_fragments(executable.types, executable.fragments, &mut all)?;
     Ok(all)
 }

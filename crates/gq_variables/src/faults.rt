@@ -83,7 +83,7 @@ fn add_faults_of_operation<'a>(
     let mut repeated = Vec::new(alloc);
     let variables = Variables::of(alloc, all, &mut repeated)?;
     let mut uses = Vec::new(alloc);
-    put_uses_of_operation(alloc, types, operation, &mut uses)?;
+    put_uses_of_operation(types, operation, &mut uses)?;
     put_all(own, &mut uses)?;
     add_definition_faults(types, file, all, &repeated, faults)?;
     add_not_used(alloc, file, all, &uses, &behind.names, faults)?;

@@ -1,9 +1,13 @@
 //! The uses of variables in selections, operations and fragments.
 ghost use Rattle.std.specs.Prelude.{◌≡◌, ◌++◌, IfOk, OnOk, map};
-ghost use Rattle.gq_tree.specs.Views.{argument_view, variable_view};
+ghost use Rattle.std.specs.Option.{option_map};
+ghost use Rattle.gq_tree.specs.NamedTypes.{base_name};
+ghost use Rattle.gq_tree.specs.Views.{argument_view, sel_view, sels_view, variable_view};
 ghost use Rattle.gq_types.specs.Look.{types_view, text_of};
 ghost use Rattle.gq_document.specs.Definitions.{operation_view, fragment_view};
-ghost use Rattle.gq_document.specs.Views.{selected_view, selections_view};
+ghost use Rattle.gq_document.specs.Helping.Trees.{selected_in};
+ghost use Rattle.gq_document.specs.Selections.{selected_among, selected_field};
+ghost use Rattle.gq_document.specs.Views.{selected_view};
 ghost use Rattle.gq_values.specs.ArgumentPlaces.{definitions_view};
 ghost use Rattle.gq_variables.specs.Uses.{field_arguments};
 ghost use Rattle.gq_variables.specs.Helping.UsesPlaces.{argument_uses, uses_of_selection, selection_uses, variable_uses, operation_uses, fragment_uses};
@@ -11,10 +15,7 @@ ghost use Rattle.gq_variables.specs.Helping.Views.{uses_view};
 
 use crate::uses::Use;
 use crate::values::{put_uses_of_arguments, put_uses_of_directives};
-use gq_document::{
-    FragmentEntry, OperationEntry, Selected, fragment_selections, operation_selections,
-    selected_field,
-};
+use gq_document::{FragmentEntry, OperationEntry, Selected, selected_field};
 use gq_text::NoMemory;
 use gq_tree::{Argument, Selection, VariableDefinition};
 use gq_types::{Arguments, Types};
@@ -74,16 +75,67 @@ fn put_uses_of_selection<'a>(
     }
 }
 
+/// The name of the type of the field of that name, without lists and non-null, where the type of its parent is known and has it.
+fn type_below<'a>(types: &'a Types, parent: Option<&str>, name: &str) -> Option<&'a str>
+    ensures { text_of result ≡ option_map (λ f. base_name f.type_ref) (selected_field (types_view types.now) (text_of parent.entry) name.now) }
+{
+    match selected_field(types, parent, name) {
+        Some(field) => Some(field.base_name()),
+        None => None,
+    }
+}
+
+/// Puts the uses in a selection, at any depth, behind the others.
+#[cycle(selections)]
 #[tactic(auto, using(gq_tree::proofs::Trees::gathers))]
-fn put_uses_of_selections<'a>(
+fn put_uses_in<'a>(
     types: &'a Types,
-    selections: &[Selected<'a>],
+    file: usize,
+    parent: Option<&'a str>,
+    selection: &'a Selection,
     uses: &mut Vec<Use<'a>>,
 ) -> Result<(), NoMemory>
-    ensures { OnOk result (uses_view uses.new.items ≡ uses_view uses.old.items ++ selection_uses (types_view types.now) (selections_view selections.now)) }
+    ensures { OnOk result (uses_view uses.new.items ≡ uses_view uses.old.items ++ selection_uses (types_view types.now) (selected_in (types_view types.now) file (text_of parent.entry) (sel_view selection.now))) }
 {
-    for selected in selections {
-        put_uses_of_selection(types, *selected, uses)?;
+    let selected = Selected {
+        file,
+        parent,
+        selection,
+    };
+    put_uses_of_selection(types, selected, uses)?;
+    match selection {
+        Selection::Field(field) => match &field.set {
+            Some(set) => {
+                let below = type_below(types, parent, field.name.text.as_str());
+                put_uses_among(types, file, below, &set.items, uses)
+            }
+            None => Ok(()),
+        },
+        Selection::Spread(_) => Ok(()),
+        Selection::Inline(inline) => match &inline.on {
+            Some(name) => {
+                let below = Some(name.text.as_str());
+                put_uses_among(types, file, below, &inline.set.items, uses)
+            }
+            None => put_uses_among(types, file, parent, &inline.set.items, uses),
+        },
+    }
+}
+
+/// So of selections in a row.
+#[cycle(selections)]
+#[tactic(auto, using(gq_tree::proofs::Trees::gathers))]
+fn put_uses_among<'a>(
+    types: &'a Types,
+    file: usize,
+    parent: Option<&'a str>,
+    all: &'a [Selection],
+    uses: &mut Vec<Use<'a>>,
+) -> Result<(), NoMemory>
+    ensures { OnOk result (uses_view uses.new.items ≡ uses_view uses.old.items ++ selection_uses (types_view types.now) (selected_among (types_view types.now) file (text_of parent.entry) (sels_view all.now))) }
+{
+    for selection in all {
+        put_uses_in(types, file, parent, selection, uses)?;
     }
     Ok(())
 }
@@ -106,7 +158,6 @@ fn put_uses_of_variables<'a>(
 /// Puts the uses that stand in an operation behind the others, in its selections, its directives and those of its variables.
 #[tactic(auto, using(gq_tree::proofs::Trees::gathers))]
 pub(crate) fn put_uses_of_operation<'a>(
-    alloc: Global,
     types: &'a Types,
     operation: &'a OperationEntry<'a>,
     uses: &mut Vec<Use<'a>>,
@@ -114,8 +165,8 @@ pub(crate) fn put_uses_of_operation<'a>(
     ensures { OnOk result (uses_view uses.new.items ≡ uses_view uses.old.items ++ operation_uses (types_view types.now) (operation_view operation.now)) }
 {
     let (file, definition) = (operation.file, &operation.definition);
-    let selections = operation_selections(alloc, types, operation)?;
-    put_uses_of_selections(types, &selections, uses)?;
+    let (parent, all) = (types.root(definition.kind), &definition.set.items);
+    put_uses_among(types, file, parent, all, uses)?;
     put_uses_of_directives(types, file, &definition.directives, uses)?;
     put_uses_of_variables(types, file, &definition.variables, uses)
 }
@@ -130,8 +181,9 @@ pub(crate) fn fragment_uses<'a>(
     ensures { IfOk result (λ uses. uses_view uses.items ≡ fragment_uses (types_view types.now) (fragment_view fragment.now)) }
 {
     let mut uses = Vec::new(alloc);
-    let selections = fragment_selections(alloc, types, fragment)?;
-    put_uses_of_selections(types, &selections, &mut uses)?;
+    let parent = Some(fragment.definition.on.text.as_str());
+    let all = &fragment.definition.set.items;
+    put_uses_among(types, fragment.file, parent, all, &mut uses)?;
     let directives = &fragment.definition.directives;
     put_uses_of_directives(types, fragment.file, directives, &mut uses)?;
     Ok(uses)

@@ -1,5 +1,5 @@
 -- What is told of all selections is told of those with a type condition.
-use Rattle.std.proofs.Common.{◌≡◌, ◌++◌, List, append_assoc, ap, ◌∙◌}
+use Rattle.std.proofs.Common.{◌++◌, List, append_assoc, ap, ◌∙◌}
 use Rattle.std.specs.Prelude.{flat_map}
 use Rattle.std.proofs.lemmas.Result.{on_ok_weaker}
 use Rattle.gq_fault.specs.declared.fault.Fault.{Fault}
