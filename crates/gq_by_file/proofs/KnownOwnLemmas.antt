@@ -8,7 +8,7 @@ use Rattle.gq_fault.specs.declared.fault.Fault.{Fault}
 use Rattle.gq_rules.specs.Files.{alone, in_file, IsOfItsFile}
 use Rattle.gq_by_file.specs.OneFile.Laws.{AreAlikeToRules, NumbersOfFilesAreUnseen}
 use Rattle.gq_by_file.proofs.OwnLemmas.{own_of_file}
-use Rattle.gq_by_file.specs.Helping.Own.{AreOwn, AreOwnOf, IsOwn, IsFoundAt, IsFoundOwn, own_in, none, more}
+use Rattle.gq_by_file.specs.Own.{AreOwn, AreOwnOf, IsOwn, IsFoundAt, IsFoundOwn, own_in, none, more}
 
 abbrev pub Own : Type 0
 Own = List (Option (List Fault))

@@ -14,7 +14,7 @@ ghost use Rattle.gq_by_file.specs.Names.{AreNames, AreNamesIn};
 ghost use Rattle.gq_by_file.specs.declared.names.FileNames.{FileNames};
 ghost use Rattle.gq_by_file.specs.Helping.Covers.{has_one_of};
 ghost use Rattle.gq_by_file.specs.Helping.Learned.{AreLearned};
-ghost use Rattle.gq_by_file.specs.Helping.Own.{AreOwnOver};
+ghost use Rattle.gq_by_file.specs.Own.{AreOwnOver};
 
 use crate::by_names::{found_by_names, put_names};
 use crate::closed_sets::{

@@ -7,7 +7,7 @@ ghost use Rattle.gq_types.specs.Look.{types_view};
 ghost use Rattle.gq_fault.specs.declared.fault.Fault.{Fault};
 ghost use Rattle.gq_rules.specs.Files.{together, IsFaultAcross, IsOfItsFile};
 ghost use Rattle.gq_by_file.specs.OneFile.Laws.{AreAlikeToRules};
-ghost use Rattle.gq_by_file.specs.Helping.ByFile.{AreByFile, AreByFileOver};
+ghost use Rattle.gq_by_file.specs.ByFile.{AreByFile, AreByFileOver};
 
 use crate::across::Across;
 use crate::own::{close_room, forget_at, make_room, own_faults};

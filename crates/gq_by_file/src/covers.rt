@@ -7,7 +7,7 @@ ghost use Rattle.gq_document.specs.Executable.{ExecutableOf, executable_view};
 ghost use Rattle.gq_by_file.specs.Closed.Closed.{is_among};
 ghost use Rattle.gq_by_file.specs.Across.{AreCovers};
 ghost use Rattle.gq_by_file.specs.Helping.Covers.{AreFaulty, IsCovered, LeadsInto, unmarked_from};
-ghost use Rattle.gq_by_file.specs.Helping.Own.{AreOwnOver};
+ghost use Rattle.gq_by_file.specs.Own.{AreOwnOver};
 ghost use Rattle.gq_by_file.specs.Links.{AreLinks};
 
 use crate::closed_sets::{faults_of_closed_sets_are_faults, faults_stay_in_larger_sets};

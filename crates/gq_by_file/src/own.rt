@@ -7,7 +7,7 @@ ghost use Rattle.gq_types.specs.Look.{types_view};
 ghost use Rattle.gq_fault.specs.declared.fault.Fault.{Fault};
 ghost use Rattle.gq_rules.specs.Files.{IsOfItsFile};
 ghost use Rattle.gq_by_file.specs.OneFile.Laws.{AreAlikeToRules};
-ghost use Rattle.gq_by_file.specs.Helping.Own.{AreOwn, AreOwnOver, IsFoundAt, IsFoundOwn, IsOwn, own_in};
+ghost use Rattle.gq_by_file.specs.Own.{AreOwn, AreOwnOver, IsFoundAt, IsFoundOwn, IsOwn, own_in};
 
 use crate::alone::{found_alone, put_in_file};
 use crate::laws::numbers_of_files_are_unseen;

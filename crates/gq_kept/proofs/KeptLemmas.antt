@@ -22,7 +22,7 @@ use Rattle.gq_rules.specs.Validity.{IsReportOf, IsValid}
 use Rattle.gq_by_file.specs.declared.by_file.ByFile.{ByFile}
 use Rattle.gq_kept.specs.declared.typed.Typed.{Typed}
 use Rattle.gq_kept.specs.Helping.Facts.{AreKept}
-use Rattle.gq_by_file.specs.Helping.ByFile.{AreByFile}
+use Rattle.gq_by_file.specs.ByFile.{AreByFile}
 use Rattle.gq_kept.specs.Helping.TypesOf.{AreTypesOf, DefineAlike, types_defined}
 use Rattle.gq_kept.specs.Helping.Unindexed.{AddNothing}
 use Rattle.gq_parse.proofs.OneReading.{OneTree}

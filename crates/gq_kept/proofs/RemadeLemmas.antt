@@ -9,7 +9,7 @@ use Rattle.gq_parse.proofs.ReadingLemmas.{one_more}
 use Rattle.gq_types.specs.Entries.{EntryOf}
 use Rattle.gq_types.specs.Look.{types_view}
 use Rattle.gq_by_file.specs.declared.by_file.ByFile.{ByFile}
-use Rattle.gq_by_file.specs.Helping.ByFile.{AreByFile}
+use Rattle.gq_by_file.specs.ByFile.{AreByFile}
 use Rattle.gq_by_file.proofs.KnownOwnLemmas.{get_some, reading_there}
 use Rattle.gq_kept.specs.declared.typed.Typed.{Typed}
 use Rattle.gq_kept.specs.Helping.Facts.{AreKept}

@@ -5,7 +5,7 @@ ghost use Rattle.gq_fault.specs.declared.fault.Fault.{Fault};
 ghost use Rattle.gq_known.specs.Known.{IsKnown};
 ghost use Rattle.gq_rules.specs.Faults.{IsFaultOf, IsToldFirst};
 ghost use Rattle.gq_rules.specs.Validity.{IsInvalid, IsReportOf, IsValid};
-ghost use Rattle.gq_by_file.specs.Helping.ByFile.{AreByFileOver};
+ghost use Rattle.gq_by_file.specs.ByFile.{AreByFileOver};
 
 use gq_by_file::ByFile;
 use gq_by_file::laws::faults_are_told_by_files;

@@ -8,7 +8,7 @@ use Rattle.gq_index.specs.Indexed.{IsIndexOfProject}
 use Rattle.gq_known.specs.Known.{AreKnown}
 use Rattle.gq_by_file.specs.declared.by_file.ByFile.{ByFile}
 use Rattle.gq_kept.specs.declared.typed.Typed.{Typed}
-use Rattle.gq_by_file.specs.Helping.ByFile.{AreByFile}
+use Rattle.gq_by_file.specs.ByFile.{AreByFile}
 
 pub record AreKept (documents : List Doc) (readings : List SharedParsed) (typed : Typed) (found : ByFile) (index : Option Index) : Type 0 where
   pub known : ∥ AreKnown documents readings (types_view typed.types) typed.has_schema ∥₁

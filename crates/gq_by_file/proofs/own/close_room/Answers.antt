@@ -1,7 +1,7 @@
 -- What is known of the other files stays, where the type system does.
 use Rattle.std.proofs.Common.{◌≤◌, length, arith}
 use Rattle.std.proofs.lemmas.Bool.Decides.{nat_tests}
-use Rattle.gq_by_file.specs.Helping.Own.{none}
+use Rattle.gq_by_file.specs.Own.{none}
 use Rattle.gq_by_file.proofs.KnownOwnLemmas.{own_other, own_remove, own_remove_beyond}
 use Rattle.gq_by_file.proofs.own.close_room.Goals as goal
 

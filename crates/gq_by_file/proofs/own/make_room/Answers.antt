@@ -1,7 +1,7 @@
 -- What is known of the other files stays, where the type system does; where memory is refused, that of the files before.
 use Rattle.std.proofs.Common.{◌≡◌, ◌<◌, ◌≤◌, true, false, length, is_ok, arith, rules}
 use Rattle.std.proofs.lemmas.Bool.Decides.{nat_tests}
-use Rattle.gq_by_file.specs.Helping.Own.{none}
+use Rattle.gq_by_file.specs.Own.{none}
 use Rattle.gq_by_file.proofs.KnownOwnLemmas.{own_other, own_insert, own_insert_beyond, own_insert_cut}
 use Rattle.gq_by_file.proofs.own.make_room.Goals as goal
 

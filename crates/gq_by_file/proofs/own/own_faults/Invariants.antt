@@ -2,7 +2,7 @@
 use Rattle.std.proofs.Common.{◌≤◌, length}
 use Rattle.gq_tree.specs.Readings.{readings_view}
 use Rattle.gq_types.specs.Look.{types_view}
-use Rattle.gq_by_file.specs.Helping.Own.{AreOwn}
+use Rattle.gq_by_file.specs.Own.{AreOwn}
 use Rattle.gq_by_file.proofs.KnownOwnLemmas.{AreGathered}
 use Rattle.gq_by_file.proofs.own.own_faults.Given as goal
 

@@ -1,5 +1,5 @@
 -- Nothing is known.
-use Rattle.gq_by_file.specs.Helping.Own.{none}
+use Rattle.gq_by_file.specs.Own.{none}
 use Rattle.gq_by_file.proofs.by_file.ByFile.new.Goals as goal
 
 pub returns : goal.returns

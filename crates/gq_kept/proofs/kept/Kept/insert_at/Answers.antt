@@ -6,7 +6,7 @@ use Rattle.gq_tree.specs.declared.parsed.Parsed.{Parsed}
 use Rattle.gq_tree.specs.Readings.{parsed_view}
 use Rattle.gq_project.specs.Documents.{with_doc}
 use Rattle.gq_kept.specs.KeptOf.{KeptOf, JudgedOf}
-use Rattle.gq_by_file.specs.Helping.ByFile.{AreByFile}
+use Rattle.gq_by_file.specs.ByFile.{AreByFile}
 use Rattle.gq_kept.proofs.KeptLemmas.{gap_in_range, kept_inserted}
 use Rattle.gq_kept.proofs.kept.Kept.insert_at.Goals as goal
 

@@ -6,7 +6,7 @@ use Rattle.gq_types.specs.Look.{types_view}
 use Rattle.gq_types.specs.declared.entry.Entry.{Entry}
 use Rattle.gq_by_file.specs.Across.{AreAcross}
 use Rattle.gq_by_file.specs.declared.by_file.ByFile.{ByFile}
-use Rattle.gq_by_file.specs.Helping.Own.{AreOwn}
+use Rattle.gq_by_file.specs.Own.{AreOwn}
 
 -- of files that are read so, over a type system
 pub record AreByFile (es : List EntryOf) (rs : List ParsedOf) (b : ByFile) : Type 0 where
