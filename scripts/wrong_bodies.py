@@ -143,14 +143,33 @@ def edited(lines, folder):
     return texts, places
 
 
-def function_at(text, place):
-    """The name of the innermost function that a place of a text is in."""
+def owner_at(found, place):
+    """What stands before the names of functions in the block of methods that a place is in, as a check prints it: a type, and behind it the
+    trait that it implements; None where it is in none."""
+    for at, token in enumerate(found):
+        if token[0] != "impl":
+            continue
+        depth, words = 0, []
+        body = next(n for n in range(at, len(found)) if found[n][0] == "{")
+        for text, *_ in found[at + 1 : body]:
+            depth += (text == "<") - (text == ">")
+            if depth == 0 and re.match(r"\w+$", text):
+                words.append(text)
+        if found[body][1] <= place < found[closing(found, body)][2]:
+            own = words[words.index("for") + 1] + words[words.index("for") - 1] if "for" in words else words[-1]
+            return own
+    return None
+
+
+def function_at(path, text, place):
+    """The name of the innermost function that a place of a text is in, behind its type or its module."""
     found, names = tokens(text), []
     for at in range(len(found)):
         body = body_of(found, at) if is_function(found, at) else None
         if body is not None and found[at][1] <= place < found[closing(found, body)][2]:
             names.append(found[at + 1][0])
-    return names[-1] if names else None
+    owner = owner_at(found, place) or os.path.splitext(os.path.basename(path))[0]
+    return f"{owner}::{names[-1]}" if names else None
 
 
 def check(name, room, work, functions):
@@ -179,7 +198,7 @@ def try_one(name, room, work, edit):
     crate = f"{room}/crates/{name}"
     with open(f"{ROOT}/crates/{name}/wrong-bodies/{edit}", encoding="utf-8") as lines:
         texts, places = edited(lines, crate)
-    functions = sorted({function_at(texts[path], place) for path, place in places} - {None})
+    functions = sorted({function_at(path, texts[path], place) for path, place in places} - {None})
     for path, text in texts.items():
         with open(f"{crate}/{path}", "w", encoding="utf-8") as file:
             file.write(text)
@@ -195,7 +214,7 @@ def functions_of_edits(name, edits):
     for edit in edits:
         with open(f"{folder}/wrong-bodies/{edit}", encoding="utf-8") as lines:
             texts, places = edited(lines, folder)
-        names |= {function_at(texts[path], place) for path, place in places}
+        names |= {function_at(path, texts[path], place) for path, place in places}
     return sorted(names - {None})
 
 

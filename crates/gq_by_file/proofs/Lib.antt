@@ -6,6 +6,7 @@ pub mod CoverLemmas
 pub mod AcrossLemmas
 pub mod SpreadingLemmas
 pub mod PartLemmas
+pub mod HeldLemmas
 pub mod ByNamesLemmas
 pub mod CleanLemmas
 pub mod AloneLemmas

@@ -216,6 +216,7 @@ impl Across {
         let links = &self.links;
         let files = SharedFiles {
             executable,
+            part: executable,
             readings,
             rows: &links.rows,
         };

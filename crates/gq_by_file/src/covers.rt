@@ -6,14 +6,14 @@ ghost use Rattle.gq_graph.specs.Reach.{InRange};
 ghost use Rattle.gq_document.specs.Executable.{ExecutableOf, executable_view};
 ghost use Rattle.gq_by_file.specs.Closed.Closed.{is_among};
 ghost use Rattle.gq_by_file.specs.Across.{AreCovers};
-ghost use Rattle.gq_by_file.specs.Helping.Covers.{AreFaulty, IsCovered, LeadsInto, unmarked_from};
+ghost use Rattle.gq_by_file.specs.Helping.Covers.{AreFaulty, HoldsAll, IsCovered, LeadsInto, unmarked_from};
 ghost use Rattle.gq_by_file.specs.Own.{AreOwnOver};
 ghost use Rattle.gq_by_file.specs.Links.{AreLinks};
 
 use crate::closed_sets::{faults_of_closed_sets_are_faults, faults_stay_in_larger_sets};
 use crate::marks::{has_behind_or_marked, has_file, has_marked, is_marked, mark, marked};
 use crate::own::find_own_of;
-use crate::part::found_within;
+use crate::part::{found_within, fragments_in, operations_in};
 use gq_document::Executable;
 use gq_fault::Fault;
 use gq_graph::reach_rows;
@@ -117,33 +117,8 @@ fn cover_clean(
     Ok(())
 }
 
-/// Adds covers of the files that stand in none, which are these: one of all that they lead to, and one of each of them where
-/// nothing is told.
-fn cover_these(
-    alloc: Global,
-    executable: &Executable<'_>,
-    rows: &[Vec<usize>],
-    rest: &[usize],
-    marks: &mut Vec<bool>,
-    covers: &mut Vec<Cover>,
-) -> Result<(), NoMemory>
-    requires rows { InRange rows.now }
-    requires range { All (λ n. n < length rows.now) rest.now }
-    ensures kept { AreLinks (executable_view executable.now) rows.now → AreCovers (executable_view executable.now) covers.old.items → AreCovers (executable_view executable.now) covers.new.items }
-    ensures old { (n : ℕ) → IsCovered covers.old.items n → IsCovered covers.new.items n }
-    ensures rest { OnOk result ((n : ℕ) → Contains rest.now n → IsCovered covers.new.items n) }
-{
-    faults_of_closed_sets_are_faults();
-    let files = reach_rows(alloc, rows, rest)?;
-    let faults = found_within(alloc, executable, rows.len(), &files)?;
-    let faulty = faulty_files(alloc, rows.len(), &faults)?;
-    cover_clean(alloc, rows, rest, &faulty, marks, covers)?;
-    covers.push(Cover { files, faults })?;
-    Ok(())
-}
-
-/// So few files are looked at together, whatever they lead to, and as many more as one of so many parts of all has: each look goes over
-/// the list of all operations and fragments, and the tree of one file is about as large as a processor's nearest cache but one.
+/// So few files are looked at together, whatever they lead to, and as many more as one of so many parts of all has: each look has a mark for
+/// each file, and the tree of one file is about as large as a processor's nearest cache but one.
 pub(crate) const FEW: usize = 1;
 
 pub(crate) const PARTS: usize = 256;
@@ -165,17 +140,47 @@ pub(crate) fn lead_apart(
 
 /// What is looked at: the operations and fragments in all files, as these are read, and where their spreads lead.
 #[derive(Clone, Copy)]
-pub(crate) struct SharedFiles<'a, 'r> {
+pub(crate) struct SharedFiles<'a, 'p, 'r> {
     pub(crate) executable: &'a Executable<'a>,
+    /// Those of the operations and fragments that are left to look at.
+    pub(crate) part: &'p Executable<'p>,
     pub(crate) readings: &'a [Arc<Parsed>],
     pub(crate) rows: &'r [Vec<usize>],
 }
 
+/// Adds covers of the files that stand in none, which are these: one of all that they lead to, and one of each of them where
+/// nothing is told.
+fn cover_these(
+    alloc: Global,
+    files: SharedFiles<'_, '_, '_>,
+    rest: &[usize],
+    marks: &mut Vec<bool>,
+    covers: &mut Vec<Cover>,
+) -> Result<(), NoMemory>
+    requires rows { InRange files.rows.now }
+    requires range { All (λ n. n < length files.rows.now) rest.now }
+    ensures kept { HoldsAll (executable_view files.entry.executable.now) (executable_view files.entry.part.now) files.entry.rows.now rest.now
+        → AreLinks (executable_view files.entry.executable.now) files.entry.rows.now
+        → AreCovers (executable_view files.entry.executable.now) covers.old.items → AreCovers (executable_view files.entry.executable.now) covers.new.items }
+    ensures old { (n : ℕ) → IsCovered covers.old.items n → IsCovered covers.new.items n }
+    ensures rest { OnOk result ((n : ℕ) → Contains rest.now n → IsCovered covers.new.items n) }
+{
+    faults_of_closed_sets_are_faults();
+    let rows = files.rows;
+    let led = reach_rows(alloc, rows, rest)?;
+    let faults = found_within(alloc, files.part, rows.len(), &led)?;
+    let faulty = faulty_files(alloc, rows.len(), &faults)?;
+    cover_clean(alloc, rows, rest, &faulty, marks, covers)?;
+    covers.push(Cover { files: led, faults })?;
+    Ok(())
+}
+
 /// The same by halves, as long as these lead to little that both lead to: files that have nothing to do with each other are not
 /// looked at together, since their trees do not fit into a processor's caches. What each of the files tells alone is found on the way.
+#[cycle(halves)]
 fn cover_by_halves(
     alloc: Global,
-    files: SharedFiles<'_, '_>,
+    files: SharedFiles<'_, '_, '_>,
     rest: &[usize],
     marks: &mut Vec<bool>,
     covers: &mut Vec<Cover>,
@@ -183,7 +188,8 @@ fn cover_by_halves(
 ) -> Result<(), NoMemory>
     requires rows { InRange files.rows.now }
     requires range { All (λ n. n < length files.rows.now) rest.now }
-    ensures kept { AreLinks (executable_view files.entry.executable.now) files.entry.rows.now
+    ensures kept { HoldsAll (executable_view files.entry.executable.now) (executable_view files.entry.part.now) files.entry.rows.now rest.now
+        → AreLinks (executable_view files.entry.executable.now) files.entry.rows.now
         → AreCovers (executable_view files.entry.executable.now) covers.old.items → AreCovers (executable_view files.entry.executable.now) covers.new.items }
     ensures old { (n : ℕ) → IsCovered covers.old.items n → IsCovered covers.new.items n }
     ensures rest { OnOk result ((n : ℕ) → Contains rest.now n → IsCovered covers.new.items n) }
@@ -193,21 +199,60 @@ fn cover_by_halves(
     let rows = files.rows;
     if rest.len() <= FEW + rows.len() / PARTS || !lead_apart(alloc, rows, rest)? {
         find_own_of(alloc, files.executable.types, files.readings, rest, own)?;
-        return cover_these(alloc, files.executable, rows, rest, marks, covers);
+        return cover_these(alloc, files, rest, marks, covers);
     }
     let (front, back) = rest.split_at(rest.len() / 2);
-    cover_by_halves(alloc, files, front, marks, covers, own)?;
-    cover_by_halves(alloc, files, back, marks, covers, own)
+    cover_half(alloc, files, front, marks, covers, own)?;
+    cover_half(alloc, files, back, marks, covers, own)
+}
+
+/// The same of a half, for which those operations and fragments alone are left that stand in files to which it leads.
+#[cycle(halves)]
+fn cover_half(
+    alloc: Global,
+    files: SharedFiles<'_, '_, '_>,
+    half: &[usize],
+    marks: &mut Vec<bool>,
+    covers: &mut Vec<Cover>,
+    own: &mut Vec<Option<Items<Fault>>>,
+) -> Result<(), NoMemory>
+    requires rows { InRange files.rows.now }
+    requires range { All (λ n. n < length files.rows.now) half.now }
+    ensures kept { HoldsAll (executable_view files.entry.executable.now) (executable_view files.entry.part.now) files.entry.rows.now half.now
+        → AreLinks (executable_view files.entry.executable.now) files.entry.rows.now
+        → AreCovers (executable_view files.entry.executable.now) covers.old.items → AreCovers (executable_view files.entry.executable.now) covers.new.items }
+    ensures old { (n : ℕ) → IsCovered covers.old.items n → IsCovered covers.new.items n }
+    ensures rest { OnOk result ((n : ℕ) → Contains half.now n → IsCovered covers.new.items n) }
+    ensures own { AreOwnOver files.entry.executable.now.types.now files.entry.readings.now own.old.items
+        → AreOwnOver files.entry.executable.now.types.now files.entry.readings.now own.new.items }
+{
+    let led = reach_rows(alloc, files.rows, half)?;
+    let led = marked(alloc, files.rows.len(), &led)?;
+    let operations = operations_in(alloc, files.part.operations, &led)?;
+    let fragments = fragments_in(alloc, files.part.fragments, &led)?;
+    let part = Executable {
+        types: files.part.types,
+        operations: &operations,
+        fragments: &fragments,
+    };
+    let files = SharedFiles {
+        executable: files.executable,
+        part: &part,
+        readings: files.readings,
+        rows: files.rows,
+    };
+    cover_by_halves(alloc, files, half, marks, covers, own)
 }
 
 /// Adds covers until each file stands in one. What each of the files in none tells alone is found on the way.
 pub(crate) fn cover_rest(
     alloc: Global,
-    files: SharedFiles<'_, '_>,
+    files: SharedFiles<'_, '_, '_>,
     covers: &mut Vec<Cover>,
     own: &mut Vec<Option<Items<Fault>>>,
 ) -> Result<(), NoMemory>
     requires rows { InRange files.rows.now }
+    requires part { executable_view files.part.now ≡ executable_view files.executable.now }
     ensures kept { AreLinks (executable_view files.entry.executable.now) files.entry.rows.now
         → AreCovers (executable_view files.entry.executable.now) covers.old.items → AreCovers (executable_view files.entry.executable.now) covers.new.items }
     ensures all { OnOk result ((n : ℕ) → n < length files.entry.rows.now → IsCovered covers.new.items n) }

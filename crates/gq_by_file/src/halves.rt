@@ -8,13 +8,15 @@ ghost use Rattle.gq_fault.specs.Adds.{AddsExactly};
 ghost use Rattle.gq_graph.specs.Reach.{InRange};
 ghost use Rattle.gq_document.specs.Executable.{executable_view};
 ghost use Rattle.gq_by_file.specs.Links.{AreLinks};
+ghost use Rattle.gq_by_file.specs.Helping.Covers.{HoldsAll};
 ghost use Rattle.gq_by_file.specs.Helping.Told.{AreToldOf, IsOwnOf};
 
 use crate::alone::{found_alone, put_in_file};
 use crate::closed_sets::faults_of_closed_sets_are_faults;
 use crate::covers::{FEW, PARTS, lead_apart};
 use crate::laws::numbers_of_files_are_unseen;
-use crate::part::found_within;
+use crate::marks::marked;
+use crate::part::{found_within, fragments_in, operations_in};
 use gq_document::Executable;
 use gq_fault::Fault;
 use gq_graph::reach_rows;
@@ -58,53 +60,85 @@ fn add_own_of_all(
     Ok(())
 }
 
-/// What is told of all that these files lead to, which are looked at together, and of each of these alone.
-fn found_together(
-    alloc: Global,
-    executable: &Executable<'_>,
-    readings: &[Parsed],
-    rows: &[Vec<usize>],
-    rest: &[usize],
-) -> Result<Vec<Fault>, NoMemory>
-    requires rows { InRange rows.now }
-    requires range { All (λ n. n < length rows.now) rest.now }
-    ensures { IfOk result (λ faults. AreLinks (executable_view executable.now) rows.now → AreToldOf (executable_view executable.now) (unshared_view readings.now) rest.now faults.items) }
-{
-    faults_of_closed_sets_are_faults();
-    let files = reach_rows(alloc, rows, rest)?;
-    let mut faults = found_within(alloc, executable, rows.len(), &files)?;
-    add_own_of_all(alloc, executable.types, readings, rest, &mut faults)?;
-    Ok(faults)
-}
-
-/// The same by halves, as long as these lead to little that both lead to.
-fn found_by_halves(
-    alloc: Global,
-    executable: &Executable<'_>,
-    readings: &[Parsed],
-    rows: &[Vec<usize>],
-    rest: &[usize],
-) -> Result<Vec<Fault>, NoMemory>
-    requires rows { InRange rows.now }
-    requires range { All (λ n. n < length rows.now) rest.now }
-    ensures { IfOk result (λ faults. AreLinks (executable_view executable.now) rows.now → AreToldOf (executable_view executable.now) (unshared_view readings.now) rest.now faults.items) }
-{
-    if rest.len() <= FEW + rows.len() / PARTS || !lead_apart(alloc, rows, rest)? {
-        return found_together(alloc, executable, readings, rows, rest);
-    }
-    let (front, back) = rest.split_at(rest.len() / 2);
-    let mut faults = found_by_halves(alloc, executable, readings, rows, front)?;
-    let mut others = found_by_halves(alloc, executable, readings, rows, back)?;
-    faults.append(&mut others)?;
-    Ok(faults)
-}
-
 /// What is looked at: the operations and fragments in all files, as these are read, and where their spreads lead.
 #[derive(Clone, Copy)]
 pub(crate) struct Files<'a> {
     pub(crate) executable: &'a Executable<'a>,
     pub(crate) readings: &'a [Parsed],
     pub(crate) rows: &'a [Vec<usize>],
+}
+
+/// What is told of all that these files lead to, which are looked at together, and of each of these alone. Of the operations and fragments a
+/// part is left that has all that is looked at.
+fn found_together(
+    alloc: Global,
+    files: Files<'_>,
+    part: &Executable<'_>,
+    rest: &[usize],
+) -> Result<Vec<Fault>, NoMemory>
+    requires rows { InRange files.rows.now }
+    requires range { All (λ n. n < length files.rows.now) rest.now }
+    ensures { IfOk result (λ faults. HoldsAll (executable_view files.entry.executable.now) (executable_view part.now) files.entry.rows.now rest.now
+        → AreLinks (executable_view files.entry.executable.now) files.entry.rows.now
+        → AreToldOf (executable_view files.entry.executable.now) (unshared_view files.entry.readings.now) rest.now faults.items) }
+{
+    faults_of_closed_sets_are_faults();
+    let led = reach_rows(alloc, files.rows, rest)?;
+    let mut faults = found_within(alloc, part, files.rows.len(), &led)?;
+    let types = files.executable.types;
+    add_own_of_all(alloc, types, files.readings, rest, &mut faults)?;
+    Ok(faults)
+}
+
+/// The same by halves, as long as these lead to little that both lead to.
+#[cycle(halves)]
+fn found_by_halves(
+    alloc: Global,
+    files: Files<'_>,
+    part: &Executable<'_>,
+    rest: &[usize],
+) -> Result<Vec<Fault>, NoMemory>
+    requires rows { InRange files.rows.now }
+    requires range { All (λ n. n < length files.rows.now) rest.now }
+    ensures { IfOk result (λ faults. HoldsAll (executable_view files.entry.executable.now) (executable_view part.now) files.entry.rows.now rest.now
+        → AreLinks (executable_view files.entry.executable.now) files.entry.rows.now
+        → AreToldOf (executable_view files.entry.executable.now) (unshared_view files.entry.readings.now) rest.now faults.items) }
+{
+    let rows = files.rows;
+    if rest.len() <= FEW + rows.len() / PARTS || !lead_apart(alloc, rows, rest)? {
+        return found_together(alloc, files, part, rest);
+    }
+    let (front, back) = rest.split_at(rest.len() / 2);
+    let mut faults = found_of_half(alloc, files, part, front)?;
+    let mut others = found_of_half(alloc, files, part, back)?;
+    faults.append(&mut others)?;
+    Ok(faults)
+}
+
+/// The same of a half, for which those operations and fragments alone are left that stand in files to which it leads.
+#[cycle(halves)]
+fn found_of_half(
+    alloc: Global,
+    files: Files<'_>,
+    part: &Executable<'_>,
+    half: &[usize],
+) -> Result<Vec<Fault>, NoMemory>
+    requires rows { InRange files.rows.now }
+    requires range { All (λ n. n < length files.rows.now) half.now }
+    ensures { IfOk result (λ faults. HoldsAll (executable_view files.entry.executable.now) (executable_view part.now) files.entry.rows.now half.now
+        → AreLinks (executable_view files.entry.executable.now) files.entry.rows.now
+        → AreToldOf (executable_view files.entry.executable.now) (unshared_view files.entry.readings.now) half.now faults.items) }
+{
+    let led = reach_rows(alloc, files.rows, half)?;
+    let led = marked(alloc, files.rows.len(), &led)?;
+    let operations = operations_in(alloc, part.operations, &led)?;
+    let fragments = fragments_in(alloc, part.fragments, &led)?;
+    let part = Executable {
+        types: part.types,
+        operations: &operations,
+        fragments: &fragments,
+    };
+    found_by_halves(alloc, files, &part, half)
 }
 
 /// The same, where the first halves are looked at in threads: they are halved that often.
@@ -122,7 +156,7 @@ pub(crate) fn found_by_threads<R: Threads + Sync>(
         → AreToldOf (executable_view files.entry.executable.now) (unshared_view files.entry.readings.now) rest.now faults.items) }
 {
     if halvings == 0 || !lead_apart(alloc, files.rows, rest)? {
-        return found_by_halves(alloc, files.executable, files.readings, files.rows, rest);
+        return found_by_halves(alloc, files, files.executable, rest);
     }
     let left = halvings - 1;
     let (front, back) = rest.split_at(rest.len() / 2);

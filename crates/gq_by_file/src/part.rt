@@ -1,9 +1,13 @@
 //! What is told of some of the files by themselves, as far as it rests on spreads.
-ghost use Rattle.std.specs.Prelude.{◌≡◌, ◌↔◌, ◌<◌, ℕ, false, Contains, IfOk, filter, slice_index_or};
+ghost use Rattle.std.specs.Prelude.{◌≡◌, ◌↔◌, ◌<◌, ℕ, false, All, Contains, IfOk, List, filter, slice_index_or};
 ghost use Rattle.std.specs.Bool.{beq};
 ghost use Rattle.gq_fault.specs.declared.fault.Fault.{Fault};
 ghost use Rattle.gq_document.specs.Definitions.{fragments_view, operations_view};
-ghost use Rattle.gq_document.specs.Executable.{executable_view};
+ghost use Rattle.std.specs.declared.alloc.Global.{Global};
+ghost use Rattle.std.specs.declared.vec.Vec.{Vec};
+ghost use Rattle.gq_document.specs.Executable.{ExecutableOf, executable_view};
+ghost use Rattle.gq_graph.specs.Reach.{Reach, row};
+ghost use Rattle.gq_by_file.specs.Helping.Covers.{HoldsAll};
 ghost use Rattle.gq_by_file.specs.Closed.Closed.{StandsInFile, within};
 ghost use Rattle.gq_by_file.specs.Closed.RestsOnNames.{IsFaultBySpreads, rests_on_names};
 
@@ -15,7 +19,7 @@ use gq_text::NoMemory;
 use std::alloc::Global;
 
 /// The operations in marked files.
-fn operations_in<'a>(
+pub(crate) fn operations_in<'a>(
     alloc: Global,
     operations: &[OperationEntry<'a>],
     marks: &[bool],
@@ -32,7 +36,7 @@ fn operations_in<'a>(
 }
 
 /// The fragments in marked files.
-fn fragments_in<'a>(
+pub(crate) fn fragments_in<'a>(
     alloc: Global,
     fragments: &[FragmentEntry<'a>],
     marks: &[bool],
@@ -87,24 +91,26 @@ fn found_by_spreads(alloc: Global, executable: &Executable<'_>) -> Result<Vec<Fa
     Ok(some)
 }
 
-/// The same of those in these files, where no file has that number or a higher one.
+/// The same of those in these files, where no file has that number or a higher one, and a part is given of all operations and fragments that
+/// has those in these files.
 pub(crate) fn found_within(
     alloc: Global,
-    executable: &Executable<'_>,
+    part: &Executable<'_>,
     count: usize,
     files: &[usize],
 ) -> Result<Vec<Fault>, NoMemory>
-    ensures { IfOk result (λ faults. ((n : ℕ) → StandsInFile (executable_view executable.now) n → n < count)
-        → (fault : Fault) → Contains faults.items fault ↔ IsFaultBySpreads (within files.now (executable_view executable.now)) fault) }
+    ensures { IfOk result (λ faults. (x : ExecutableOf) (rows : List (Vec ℕ Global)) (starts : List ℕ) → HoldsAll x (executable_view part.now) rows starts
+        → ((n : ℕ) → StandsInFile x n → n < count) → All (λ n. Reach starts (row rows) n) files.now
+        → (fault : Fault) → Contains faults.items fault ↔ IsFaultBySpreads (within files.now x) fault) }
 {
     let marks = marked(alloc, count, files)?;
-    let operations = operations_in(alloc, executable.operations, &marks)?;
-    let fragments = fragments_in(alloc, executable.fragments, &marks)?;
-    let part = Executable {
-        types: executable.types,
+    let operations = operations_in(alloc, part.operations, &marks)?;
+    let fragments = fragments_in(alloc, part.fragments, &marks)?;
+    let these = Executable {
+        types: part.types,
         operations: &operations,
         fragments: &fragments,
     };
-    let faults = found_by_spreads(alloc, &part)?;
+    let faults = found_by_spreads(alloc, &these)?;
     Ok(faults)
 }

@@ -119,6 +119,7 @@ pub fn drive_side<J: Room, R: Wait, K: Sink>(
         rt,
         front,
         jobs: jobs.into_out(),
+        others: workers.saturating_sub(1),
         closed: false,
     };
     let mut desk = Desk::new(alloc, workers);

@@ -2,5 +2,6 @@ mod boards;
 mod desk_events;
 mod driving;
 mod event_lists;
+mod news;
 mod superseded;
 mod taker;

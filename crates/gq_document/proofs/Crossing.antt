@@ -12,6 +12,7 @@ use Rattle.gq_document.specs.contracts.definitions.FragmentEntry as FragmentEntr
 use Rattle.gq_types.specs.contracts.entry.Entry as Entry
 use Rattle.gq_types.specs.contracts.definitions.Definitions as Definitions
 use Rattle.gq_types.specs.contracts.types.Types as Types
+use Rattle.gq_types.proofs.entry.TypeKind.TheSendSync as TypeKind
 use Rattle.gq_types.proofs.table.Table.TheSendSync as Table
 use Rattle.gq_types.proofs.uses.Uses.TheSendSync as Uses
 use Rattle.gq_types.proofs.parts.Parts.TheSendSync as Parts
@@ -24,7 +25,7 @@ Entry-sync : IsSync Entry.the_row
 Entry-sync = search (sendable, crosses, Entry-field_sync) depth 12
 
 Definitions-field_sync : IsSync (Definitions.the_field).row
-Definitions-field_sync = search (sendable, crosses, Entry-sync, Table.the_field_sync) depth 12
+Definitions-field_sync = search (sendable, crosses, Entry-sync, Table.the_field_sync, TypeKind.the_sync, TypeKind.the_field_sync) depth 20
 
 TypeRef-field_sync : IsSync (TypeRef.the_field).row
 TypeRef-field_sync = search (sendable, crosses, sync-TypeRef, Name.the_field_sync) depth 12

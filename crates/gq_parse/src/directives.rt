@@ -5,7 +5,7 @@ ghost use Rattle.gq_parse.specs.Grammar.{IsDirectives};
 ghost use Rattle.gq_parse.specs.Helping.From.{from};
 ghost use Rattle.gq_parse.specs.Helping.Phrases.{Lacks, IsDirective};
 
-use crate::phrases::{Miss, covered, name, punctuator};
+use crate::phrases::{Miss, covered, exact, name, punctuator};
 use crate::values::arguments;
 use gq_lex::{Kind, Token};
 use gq_tree::Directive;
@@ -30,7 +30,7 @@ pub(crate) fn directives(
         put_directive(&mut directives, one)?;
         at = behind;
     }
-    directives.shrink_to_fit();
+    let directives = exact(alloc, directives)?;
     Ok((directives, at))
 }
 

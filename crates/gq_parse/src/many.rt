@@ -4,7 +4,7 @@ ghost use Rattle.gq_parse.specs.Grammar.{Tokens, ManyUntil, OptionalMany};
 ghost use Rattle.gq_parse.specs.Helping.From.{from};
 ghost use Rattle.gq_parse.specs.Helping.Phrases.{Lacks, Unique, NeverBegins};
 
-use crate::phrases::{Miss, punctuator};
+use crate::phrases::{Miss, exact, punctuator};
 use gq_lex::{Kind, Token};
 use std::alloc::Global;
 
@@ -81,7 +81,7 @@ fn many_until<P: Phrase>(
     let mut at = start;
     loop {
         if let Some(end) = punctuator(closing, tokens, at) {
-            items.shrink_to_fit();
+            let items = exact(alloc, items)?;
             return Ok((items, end));
         }
         let (one, behind) = phrase.parse(alloc, tokens, at)?;

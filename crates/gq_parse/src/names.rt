@@ -7,7 +7,7 @@ ghost use Rattle.gq_parse.specs.TypeSystem.{Separated, Delimited, IsImplements, 
 ghost use Rattle.gq_parse.specs.Helping.From.{from};
 ghost use Rattle.gq_parse.specs.Helping.Phrases.{Lacks};
 
-use crate::phrases::{Miss, keyword, name, punctuator};
+use crate::phrases::{Miss, exact, keyword, name, punctuator};
 use gq_lex::{Kind, Token};
 use gq_tree::Name;
 use std::alloc::Global;
@@ -83,7 +83,7 @@ fn separated_names(
         match punctuator(between, tokens, end) {
             Some(behind) => at = behind,
             None => {
-                names.shrink_to_fit();
+                let names = exact(alloc, names)?;
                 return Ok((names, end));
             }
         }

@@ -220,3 +220,25 @@ pub(crate) fn covered(tokens: &[Token<'_>], at: usize, end: usize) -> Span
         end: tokens[end - 1].span.end,
     }
 }
+
+/// The most items that are moved to a list of their own.
+const FEW: usize = 64;
+
+/// The same items in a list that has no room to spare. What a few stood in is given back whole, and the next list grows in it: a list that
+/// shrinks leaves a hole behind it. Many stay where they are, since a copy of them would take as much memory once more.
+pub(crate) fn exact<T: Drop>(alloc: Global, mut items: Vec<T>) -> Result<Vec<T>, Miss>
+    ensures ok { IfOk result (λ x. x.items ≡ items.items) }
+    ensures err { IfErr result (λ e. e ≡ Miss.NoMemory) }
+{
+    if items.len() > FEW {
+        items.shrink_to_fit();
+        return Ok(items);
+    }
+    let Ok(mut exact) = Vec::with_capacity(alloc, items.len()) else {
+        return Err(Miss::NoMemory);
+    };
+    match exact.append(&mut items) {
+        Ok(()) => Ok(exact),
+        Err(_) => Err(Miss::NoMemory),
+    }
+}

@@ -10,7 +10,7 @@ ghost use Rattle.gq_parse.specs.Helping.Phrases.{Lacks, IsSel};
 
 use crate::directives::directives;
 use crate::phrases::{
-    Miss, boxed, covered, fragment_name, keyword, name, optional_condition, punctuator,
+    Miss, boxed, covered, exact, fragment_name, keyword, name, optional_condition, punctuator,
 };
 use crate::values::arguments;
 use gq_lex::{Kind, Token};
@@ -79,7 +79,7 @@ fn selections(
     let mut at = start;
     loop {
         if let Some(end) = punctuator(Kind::BraceClose, tokens, at) {
-            items.shrink_to_fit();
+            let items = exact(alloc, items)?;
             return Ok((items, end));
         }
         let (one, behind) = selection(alloc, tokens, at)?;

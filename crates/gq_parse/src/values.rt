@@ -9,7 +9,7 @@ ghost use Rattle.gq_parse.specs.Helping.From.{from};
 ghost use Rattle.gq_parse.specs.Helping.Phrases.{Begins, Lacks, IsVariable, IsLoneValue};
 
 use crate::many::{Phrase, optional_many};
-use crate::phrases::{Miss, covered, keyword, name, punctuator, spelled, token_at};
+use crate::phrases::{Miss, covered, exact, keyword, name, punctuator, spelled, token_at};
 use gq_lex::{Kind, Token};
 use gq_tree::{Argument, Name, ObjectField, Value, Variable};
 use std::alloc::Global;
@@ -193,7 +193,7 @@ fn values(
     let mut at = start;
     loop {
         if let Some(end) = punctuator(Kind::BracketClose, tokens, at) {
-            items.shrink_to_fit();
+            let items = exact(alloc, items)?;
             return Ok((items, end));
         }
         let (one, behind) = value(alloc, constant, tokens, at)?;
@@ -253,7 +253,7 @@ fn object_fields(
     let mut at = start;
     loop {
         if let Some(end) = punctuator(Kind::BraceClose, tokens, at) {
-            fields.shrink_to_fit();
+            let fields = exact(alloc, fields)?;
             return Ok((fields, end));
         }
         let (name, value, behind) = named_value(alloc, constant, tokens, at)?;

@@ -11,7 +11,7 @@ use Rattle.gq_types.specs.BuiltIn.{defines_built_in}
 use Rattle.gq_types.specs.Joined.{is_type_named, is_directive_named, is_schema, judged}
 use Rattle.gq_fault.specs.FaultPlaces.{fault_over}
 use Rattle.gq_type_system.specs.DefinedTwice.{Defined, a_type, a_directive, the_schema, defined_by, definition_place, IsDefinedTwice}
-use Rattle.gq_type_system.specs.DefinedTwicePlaces.{is_before, is_defined_before, defined_twice_at, all_defined_twice}
+use Rattle.gq_type_system.specs.Helping.DefinedTwicePlaces.{is_before, is_defined_before, defined_twice_at, all_defined_twice}
 use Rattle.gq_type_system.proofs.NumberLemmas.{from_before, to_before, stands_at_number}
 use Rattle.gq_types.proofs.Gathered.{from_flat, to_flat, from_filter, from_if as from_test, to_if as to_test}
 

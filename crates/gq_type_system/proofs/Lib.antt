@@ -25,3 +25,4 @@ pub mod DefaultWays
 pub mod SchemaFaultLemmas
 pub mod ImplementationLemmas
 pub mod DirectivesAndDefaultsLemmas
+pub mod EachEntryLemmas

@@ -8,7 +8,7 @@ use Rattle.std.proofs.lemmas.List.Sums.{fails_before_first}
 use Rattle.gq_names.specs.Repeats.{StandsAt}
 use Rattle.gq_names.proofs.RepeatLemmas.{contains_none, contains_later, contains_first, contains_cases}
 use Rattle.gq_types.specs.Entries.{EntryOf, Numbered, numbered_from, numbered}
-use Rattle.gq_type_system.specs.DefinedTwicePlaces.{is_before}
+use Rattle.gq_type_system.specs.Helping.DefinedTwicePlaces.{is_before}
 
 -- a numbered entry stands at its number
 pub from_numbered : (k : ℕ) (es : List EntryOf) (n : Numbered) → Contains (numbered_from k es) n → (i : ℕ) × StandsAt es i n.entry × (n.number ≡ i + k)

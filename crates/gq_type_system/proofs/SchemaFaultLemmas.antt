@@ -4,7 +4,7 @@ use Rattle.std.proofs.lemmas.List.Elements.{Contains-append_left, Contains-appen
 use Rattle.gq_fault.specs.declared.fault.Fault.{Fault}
 use Rattle.gq_types.specs.Entries.{EntryOf}
 use Rattle.gq_fault.specs.Adds.{AddsExactly}
-use Rattle.gq_type_system.specs.DefinedTwicePlaces.{all_defined_twice}
+use Rattle.gq_type_system.specs.Helping.DefinedTwicePlaces.{all_defined_twice}
 use Rattle.gq_type_system.specs.Helping.BadExtensionPlaces.{bad_extensions}
 use Rattle.gq_type_system.specs.Helping.ReservedNamePlaces.{reserved_names}
 use Rattle.gq_type_system.specs.Helping.UnknownTypePlaces.{unknown_types}

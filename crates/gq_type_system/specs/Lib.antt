@@ -12,5 +12,4 @@ pub mod EndlessInputs
 pub mod SchemaFaults
 pub mod Implementations
 pub mod DirectivesAndDefaults
-pub mod DefinedTwicePlaces
 pub mod Helping

@@ -2,17 +2,20 @@
 ghost use Rattle.std.specs.Prelude.{◌≡◌, ◌++◌, OnOk};
 ghost use Rattle.std.specs.Arc.{arc_value};
 ghost use Rattle.gq_tree.specs.Views.{type_system_view};
-ghost use Rattle.gq_type_system.specs.Helping.BadExtensionPlaces.{bad_extension, bad_extensions};
+ghost use Rattle.gq_type_system.specs.Helping.BadExtensionPlaces.{bad_extension};
 ghost use Rattle.gq_types.specs.Look.{types_view};
 
-use crate::judged::is_judged;
 use gq_fault::{Code, Fault};
 use gq_text::NoMemory;
 use gq_tree::TypeSystemDefinition;
 use gq_types::{Entry, TypeKind, Types};
 
-/// The fault of the entry, if it extends a type where no type of its kind has that name.
-fn add_bad_extension(types: &Types, entry: &Entry, faults: &mut Vec<Fault>) -> Result<(), NoMemory>
+/// The fault of the entry, if it extends a type where no type of its kind has that name (section 3.4.3).
+pub(crate) fn add_bad_extension(
+    types: &Types,
+    entry: &Entry,
+    faults: &mut Vec<Fault>,
+) -> Result<(), NoMemory>
     ensures { OnOk result (faults.new.items ≡ faults.old.items ++ bad_extension (types_view types.now) entry.now.file (type_system_view (arc_value entry.now.definition))) }
 {
     let TypeSystemDefinition::Type(one) = &*entry.definition else {
@@ -25,19 +28,6 @@ fn add_bad_extension(types: &Types, entry: &Entry, faults: &mut Vec<Fault>) -> R
             code: Code::BadExtension,
             end: one.name.span.end,
         })?;
-    }
-    Ok(())
-}
-
-/// Each extension of a type where no type of its kind has that name (section 3.4.3).
-pub fn add_bad_extensions(types: &Types, faults: &mut Vec<Fault>) -> Result<(), NoMemory>
-    ensures { OnOk result (faults.new.items ≡ faults.old.items ++ bad_extensions (types_view types.now)) }
-{
-    let entries = types.entries();
-    for number in 0..entries.len() {
-        if is_judged(&entries[number].definition) {
-            add_bad_extension(types, &entries[number], faults)?;
-        }
     }
     Ok(())
 }

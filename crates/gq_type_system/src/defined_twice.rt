@@ -2,11 +2,10 @@
 ghost use Rattle.std.specs.Prelude.{◌≡◌, ◌++◌, OnOk};
 ghost use Rattle.gq_tree.specs.Views.{type_system_view};
 ghost use Rattle.gq_type_system.specs.DefinedTwice.{definition_place};
-ghost use Rattle.gq_type_system.specs.DefinedTwicePlaces.{is_before, is_defined_before, defined_twice, all_defined_twice};
+ghost use Rattle.gq_type_system.specs.Helping.DefinedTwicePlaces.{is_before, is_defined_before, defined_twice};
 ghost use Rattle.gq_types.specs.Entries.{entry_view};
 ghost use Rattle.gq_types.specs.Look.{types_view};
 
-use crate::judged::is_judged;
 use gq_fault::{Code, Fault};
 use gq_text::{NoMemory, Span};
 use gq_tree::TypeSystemDefinition;
@@ -55,8 +54,8 @@ pub fn definition_place(definition: &TypeSystemDefinition) -> Span
     }
 }
 
-/// The fault of the entry with that number, if an earlier entry defines the same.
-fn add_if_defined_twice(
+/// The fault of the entry with that number, if an earlier entry defines the same (section 3.3).
+pub(crate) fn add_if_defined_twice(
     types: &Types,
     number: usize,
     entry: &Entry,
@@ -72,19 +71,6 @@ fn add_if_defined_twice(
             code: Code::DefinedTwice,
             end: place.end,
         })?;
-    }
-    Ok(())
-}
-
-/// Each definition of a type, a directive or a schema that an earlier entry defines (section 3.3).
-pub fn add_defined_twice(types: &Types, faults: &mut Vec<Fault>) -> Result<(), NoMemory>
-    ensures { OnOk result (faults.new.items ≡ faults.old.items ++ all_defined_twice (types_view types.now)) }
-{
-    let entries = types.entries();
-    for number in 0..entries.len() {
-        if is_judged(&entries[number].definition) {
-            add_if_defined_twice(types, number, &entries[number], faults)?;
-        }
     }
     Ok(())
 }

@@ -7,7 +7,7 @@ ghost use Rattle.gq_types.specs.Look.{types_view};
 ghost use Rattle.gq_values.specs.DirectivePlaces.{directive_texts};
 ghost use Rattle.gq_type_system.specs.Helping.Groups.{at_number};
 ghost use Rattle.gq_type_system.specs.DirectivesAndDefaults.{sites_in, own_names, all_inputs, told};
-ghost use Rattle.gq_type_system.specs.Helping.DirectivesAndDefaultsPlaces.{site_view, sites_view, inputs_view, group_view, site_fault, site_faults, default_fault, default_faults, inner_faults, own_faults, group_faults, itself, group_of, group_faults_of, outer_faults, all_faults, bad_directives_and_defaults};
+ghost use Rattle.gq_type_system.specs.Helping.DirectivesAndDefaultsPlaces.{site_view, sites_view, inputs_view, group_view, site_fault, site_faults, default_fault, default_faults, own_faults, group_faults, itself, group_of, group_faults_of, outer_faults};
 
 use crate::directive_sites::{DirectiveSite, own_site, put_inputs, put_sites};
 use crate::judged::is_judged;
@@ -90,12 +90,14 @@ fn add_default_faults(
     Ok(())
 }
 
-/// The faults of the directives in an entry, and of its default values.
+/// The faults of the directives in an entry, and of its default values. Both lists are emptied first.
 #[tactic(auto, using(gq_tree::proofs::Trees::gathers))]
-fn add_inner_faults_of(
+pub(crate) fn add_inner_faults_of<'a>(
     alloc: Global,
     types: &Types,
-    entry: &Entry,
+    entry: &'a Entry,
+    sites: &mut Vec<DirectiveSite<'a>>,
+    inputs: &mut Vec<&'a InputValueDefinition>,
     faults: &mut Vec<Fault>,
 ) -> Result<(), NoMemory>
     ensures { OnOk result
@@ -103,24 +105,12 @@ fn add_inner_faults_of(
         (site_faults (types_view types.now) entry.now.file (sites_in (type_system_view (arc_value entry.now.definition))) ++ default_faults
         (types_view types.now) entry.now.file (all_inputs (type_system_view (arc_value entry.now.definition))))) }
 {
-    let mut sites = Vec::new(alloc);
-    put_sites(&entry.definition, &mut sites)?;
-    add_site_faults(alloc, types, entry.file, &sites, faults)?;
-    let mut inputs = Vec::new(alloc);
-    put_inputs(&entry.definition, &mut inputs)?;
-    add_default_faults(alloc, types, entry.file, &inputs, faults)
-}
-
-fn add_inner_faults(alloc: Global, types: &Types, faults: &mut Vec<Fault>) -> Result<(), NoMemory>
-    ensures { OnOk result (faults.new.items ≡ faults.old.items ++ inner_faults (types_view types.now)) }
-{
-    let entries = types.entries();
-    for number in 0..entries.len() {
-        if is_judged(&entries[number].definition) {
-            add_inner_faults_of(alloc, types, &entries[number], faults)?;
-        }
-    }
-    Ok(())
+    sites.clear();
+    put_sites(&entry.definition, sites)?;
+    add_site_faults(alloc, types, entry.file, sites, faults)?;
+    inputs.clear();
+    put_inputs(&entry.definition, inputs)?;
+    add_default_faults(alloc, types, entry.file, inputs, faults)
 }
 
 fn put_names(directives: &[Directive], names: &mut NameList) -> Result<(), NoMemory>
@@ -253,18 +243,17 @@ fn put_told(found: &[Fault], faults: &mut Vec<Fault>) -> Result<(), NoMemory>
     Ok(())
 }
 
-/// Each fault of the directives in a type system and of the default values of arguments and input fields
-/// (sections 3.3 to 3.13, 5.4, 5.6 and 5.7).
+/// Each fault of the directives in a type system and of the default values of arguments and input fields (sections 3.3 to 3.13, 5.4, 5.6 and
+/// 5.7), where those in entries are given, and taken.
 #[tactic(auto, using(gq_tree::proofs::Trees::gathers))]
-pub fn add_bad_directives_and_defaults(
+pub(crate) fn add_bad_directives_and_defaults(
     alloc: Global,
     types: &Types,
+    inner: &mut Vec<Fault>,
     faults: &mut Vec<Fault>,
 ) -> Result<(), NoMemory>
-    ensures { OnOk result (faults.new.items ≡ faults.old.items ++ bad_directives_and_defaults (types_view types.now)) }
+    ensures { OnOk result (faults.new.items ≡ faults.old.items ++ map told (inner.old.items ++ outer_faults (types_view types.now))) }
 {
-    let mut found = Vec::new(alloc);
-    add_inner_faults(alloc, types, &mut found)?;
-    add_outer_faults(alloc, types, &mut found)?;
-    put_told(&found, faults)
+    add_outer_faults(alloc, types, inner)?;
+    put_told(inner, faults)
 }

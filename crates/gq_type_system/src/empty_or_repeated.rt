@@ -4,11 +4,10 @@ ghost use Rattle.std.specs.Arc.{arc_value};
 ghost use Rattle.std.specs.List.{list_any};
 ghost use Rattle.std.specs.Str.{bytes_eq};
 ghost use Rattle.gq_tree.specs.Views.{type_system_view, input_view, field_definition_view};
-ghost use Rattle.gq_type_system.specs.Helping.EmptyOrRepeatedPlaces.{empty_type, empty_types, repeated_faults, texts_of, repeated_part, repeated_parts_of, repeated_parts, repeated_arguments_in, repeated_arguments_of, repeated_arguments, empty_or_repeated};
+ghost use Rattle.gq_type_system.specs.Helping.EmptyOrRepeatedPlaces.{empty_type, repeated_faults, texts_of, repeated_part, repeated_parts_of, repeated_parts, repeated_arguments_in, repeated_arguments_of};
 ghost use Rattle.gq_type_system.specs.Helping.Groups.{names_in};
 ghost use Rattle.gq_types.specs.Look.{types_view};
 
-use crate::judged::is_judged;
 use crate::parts::{NameIn, Part, fields_in, part_names};
 use gq_fault::{Code, Fault};
 use gq_names::NameList;
@@ -17,8 +16,8 @@ use gq_tree::{FieldDefinition, InputValueDefinition, TypeSystemDefinition};
 use gq_types::{Entry, Types};
 use std::alloc::Global;
 
-/// The fault of the entry with that number, if it defines a type that has no part of the kind that it must have.
-fn add_empty_type(
+/// The fault of the entry with that number, if it defines a type that has no part of the kind that it must have (sections 3.6 to 3.10).
+pub(crate) fn add_empty_type(
     alloc: Global,
     types: &Types,
     number: usize,
@@ -43,19 +42,6 @@ fn add_empty_type(
             code: Code::EmptyOrRepeated,
             end: one.name.span.end,
         })?;
-    }
-    Ok(())
-}
-
-/// Each type that is defined and has no part of the kind that it must have.
-fn add_empty_types(alloc: Global, types: &Types, faults: &mut Vec<Fault>) -> Result<(), NoMemory>
-    ensures { OnOk result (faults.new.items ≡ faults.old.items ++ empty_types (types_view types.now)) }
-{
-    let entries = types.entries();
-    for number in 0..entries.len() {
-        if is_judged(&entries[number].definition) {
-            add_empty_type(alloc, types, number, &entries[number], faults)?;
-        }
     }
     Ok(())
 }
@@ -148,9 +134,13 @@ fn add_repeated_parts_of(
     add_repeated_part(alloc, types, number, Part::InputFields, faults)
 }
 
-/// Each part of a type with its extensions whose name stands earlier among those of its kind.
+/// Each part of a type with its extensions whose name stands earlier among those of its kind (sections 3.6 to 3.10).
 #[tactic(auto, using(gq_tree::proofs::Trees::gathers))]
-fn add_repeated_parts(alloc: Global, types: &Types, faults: &mut Vec<Fault>) -> Result<(), NoMemory>
+pub(crate) fn add_repeated_parts(
+    alloc: Global,
+    types: &Types,
+    faults: &mut Vec<Fault>,
+) -> Result<(), NoMemory>
     ensures { OnOk result (faults.new.items ≡ faults.old.items ++ repeated_parts (types_view types.now)) }
 {
     let entries = types.entries();
@@ -198,9 +188,9 @@ fn add_repeated_arguments_of_fields(
     Ok(())
 }
 
-/// The faults of the arguments of a field or of a directive whose names stand earlier.
+/// The faults of the arguments of a field or of a directive whose names stand earlier among these (sections 3.6.1 and 3.13).
 #[tactic(auto, using(gq_tree::proofs::Trees::gathers))]
-fn add_repeated_arguments_of(
+pub(crate) fn add_repeated_arguments_of(
     alloc: Global,
     entry: &Entry,
     faults: &mut Vec<Fault>,
@@ -216,36 +206,4 @@ fn add_repeated_arguments_of(
             add_repeated_arguments_in(alloc, entry.file, &one.arguments, faults)
         }
     }
-}
-
-/// Each argument of a field or of a directive whose name stands earlier among the arguments.
-fn add_repeated_arguments(
-    alloc: Global,
-    types: &Types,
-    faults: &mut Vec<Fault>,
-) -> Result<(), NoMemory>
-    ensures { OnOk result (faults.new.items ≡ faults.old.items ++ repeated_arguments (types_view types.now)) }
-{
-    let entries = types.entries();
-    for number in 0..entries.len() {
-        if is_judged(&entries[number].definition) {
-            add_repeated_arguments_of(alloc, &entries[number], faults)?;
-        }
-    }
-    Ok(())
-}
-
-/// Each type without parts, each part of a type with its extensions whose name stands earlier among those of its kind, and
-/// each argument whose name stands earlier among the arguments (sections 3.6 to 3.10 and 3.13).
-#[tactic(auto, using(gq_tree::proofs::Trees::gathers))]
-pub fn add_empty_or_repeated(
-    alloc: Global,
-    types: &Types,
-    faults: &mut Vec<Fault>,
-) -> Result<(), NoMemory>
-    ensures { OnOk result (faults.new.items ≡ faults.old.items ++ empty_or_repeated (types_view types.now)) }
-{
-    add_empty_types(alloc, types, faults)?;
-    add_repeated_parts(alloc, types, faults)?;
-    add_repeated_arguments(alloc, types, faults)
 }

@@ -5,18 +5,15 @@ ghost use Rattle.gq_fault.specs.declared.fault.Fault.{Fault};
 ghost use Rattle.gq_fault.specs.Order.{fault_cmp};
 ghost use Rattle.gq_types.specs.Look.{types_view};
 ghost use Rattle.gq_type_system.specs.SchemaFaults.{IsSchemaFault};
-ghost use Rattle.gq_type_system.specs.Helping.SchemaFaultsPlaces.{name_faults, part_faults};
+ghost use Rattle.gq_type_system.specs.Helping.EachEntry.{names_told, parts_told};
 
-use crate::bad_extension::add_bad_extensions;
-use crate::defined_twice::add_defined_twice;
 use crate::directives_and_defaults::add_bad_directives_and_defaults;
-use crate::empty_or_repeated::add_empty_or_repeated;
+use crate::each_entry::{EntryFaults, told_of_entries};
+use crate::empty_or_repeated::add_repeated_parts;
 use crate::endless_inputs::add_endless_inputs;
 use crate::implementations::add_bad_implementations;
 use crate::query_root::add_no_query_root;
-use crate::reserved_name::add_reserved_names;
 use crate::root_types::add_wrong_roots;
-use crate::used_types::add_wrong_uses;
 use gq_fault::{Fault, put_in_order};
 use gq_text::NoMemory;
 use gq_types::Types;
@@ -32,34 +29,49 @@ pub fn schema_faults(alloc: Global, types: &Types) -> Result<Vec<Fault>, NoMemor
     Ok(faults)
 }
 
-/// The same, rule by rule.
+/// The same in no order.
 fn all_faults(alloc: Global, types: &Types) -> Result<Vec<Fault>, NoMemory>
     ensures { IfOk result (λ faults. (fault : Fault) → Contains faults.items fault ↔ IsSchemaFault (types_view types.now) fault) }
 {
+    let mut told = told_of_entries(alloc, types)?;
     let mut faults = Vec::new(alloc);
-    add_name_faults(alloc, types, &mut faults)?;
-    add_part_faults(alloc, types, &mut faults)?;
+    add_name_faults(&mut told, &mut faults)?;
+    add_part_faults(alloc, types, &mut told, &mut faults)?;
     add_endless_inputs(alloc, types, &mut faults)?;
     Ok(faults)
 }
 
 /// What is wrong with names: those that are defined, and those of types that are used.
-fn add_name_faults(alloc: Global, types: &Types, faults: &mut Vec<Fault>) -> Result<(), NoMemory>
-    ensures { OnOk result (faults.new.items ≡ faults.old.items ++ name_faults (types_view types.now)) }
+#[tactic(auto, using(gq_tree::proofs::Trees::gathers))]
+fn add_name_faults(told: &mut EntryFaults, faults: &mut Vec<Fault>) -> Result<(), NoMemory>
+    ensures faults { OnOk result (faults.new.items ≡ faults.old.items ++ names_told told.old) }
+    ensures empty { OnOk result (told.new.empty.items ≡ told.old.empty.items) }
+    ensures arguments { OnOk result (told.new.arguments.items ≡ told.old.arguments.items) }
+    ensures inner { OnOk result (told.new.inner.items ≡ told.old.inner.items) }
 {
-    add_defined_twice(types, faults)?;
-    add_bad_extensions(types, faults)?;
-    add_reserved_names(alloc, types, faults)?;
-    add_wrong_uses(alloc, types, faults)
+    faults.append(&mut told.defined_twice)?;
+    faults.append(&mut told.extensions)?;
+    faults.append(&mut told.reserved)?;
+    faults.append(&mut told.unknown)?;
+    faults.append(&mut told.wrong)?;
+    Ok(())
 }
 
 /// What is wrong with the parts of types and of the schema.
-fn add_part_faults(alloc: Global, types: &Types, faults: &mut Vec<Fault>) -> Result<(), NoMemory>
-    ensures { OnOk result (faults.new.items ≡ faults.old.items ++ part_faults (types_view types.now)) }
+#[tactic(auto, using(gq_tree::proofs::Trees::gathers))]
+fn add_part_faults(
+    alloc: Global,
+    types: &Types,
+    told: &mut EntryFaults,
+    faults: &mut Vec<Fault>,
+) -> Result<(), NoMemory>
+    ensures { OnOk result (faults.new.items ≡ faults.old.items ++ parts_told (types_view types.now) told.old) }
 {
     add_wrong_roots(alloc, types, faults)?;
-    add_empty_or_repeated(alloc, types, faults)?;
+    faults.append(&mut told.empty)?;
+    add_repeated_parts(alloc, types, faults)?;
+    faults.append(&mut told.arguments)?;
     add_bad_implementations(types, faults)?;
     add_no_query_root(alloc, types, faults)?;
-    add_bad_directives_and_defaults(alloc, types, faults)
+    add_bad_directives_and_defaults(alloc, types, &mut told.inner, faults)
 }

@@ -6,6 +6,7 @@ mod default_values;
 pub mod defined_twice;
 mod directive_sites;
 mod directives_and_defaults;
+mod each_entry;
 mod empty_or_repeated;
 mod endless_inputs;
 pub mod faults;

@@ -3,19 +3,15 @@ ghost use Rattle.std.specs.Prelude.{◌≡◌, ◌++◌, OnOk, nat_eq, codes};
 ghost use Rattle.std.specs.Arc.{arc_value};
 ghost use Rattle.std.specs.List.{starts_with};
 ghost use Rattle.gq_tree.specs.Views.{name_of, type_system_view};
-ghost use Rattle.gq_types.specs.Entries.{entry_view};
-ghost use Rattle.gq_types.specs.Look.{types_view};
-ghost use Rattle.gq_type_system.specs.Helping.ReservedNamePlaces.{reserved_name, reserved_names_in, reserved_names};
+ghost use Rattle.gq_type_system.specs.Helping.ReservedNamePlaces.{reserved_name, reserved_names_in};
 ghost use Rattle.gq_type_system.specs.Uses.{defined_names};
 ghost use Rattle.gq_type_system.specs.Helping.UsesViews.{names_view};
 
-use crate::judged::is_judged;
 use crate::uses::put_defined_names;
 use gq_fault::{Code, Fault};
 use gq_text::NoMemory;
 use gq_tree::Name;
-use gq_types::{Entry, Types};
-use std::alloc::Global;
+use gq_types::Entry;
 
 /// Whether the text begins with two underscores.
 fn is_reserved(text: &str) -> bool
@@ -53,32 +49,16 @@ fn add_reserved_names_in(
     Ok(())
 }
 
-/// The faults of the names that an entry defines and that are reserved.
-fn add_reserved_names_of(
-    alloc: Global,
-    entry: &Entry,
+/// The faults of the names that an entry defines and that begin with two underscores (section 3.3, "Reserved names"). The list of names
+/// is emptied first.
+pub(crate) fn add_reserved_names_of<'a>(
+    entry: &'a Entry,
+    names: &mut Vec<&'a Name>,
     faults: &mut Vec<Fault>,
 ) -> Result<(), NoMemory>
     ensures { OnOk result (faults.new.items ≡ faults.old.items ++ reserved_names_in entry.now.file (defined_names (type_system_view (arc_value entry.now.definition)))) }
 {
-    let mut names = Vec::new(alloc);
-    put_defined_names(&entry.definition, &mut names)?;
-    add_reserved_names_in(entry.file, &names, faults)
-}
-
-/// Each name that is defined and begins with two underscores (section 3.3, "Reserved names").
-pub fn add_reserved_names(
-    alloc: Global,
-    types: &Types,
-    faults: &mut Vec<Fault>,
-) -> Result<(), NoMemory>
-    ensures { OnOk result (faults.new.items ≡ faults.old.items ++ reserved_names (types_view types.now)) }
-{
-    let entries = types.entries();
-    for number in 0..entries.len() {
-        if is_judged(&entries[number].definition) {
-            add_reserved_names_of(alloc, &entries[number], faults)?;
-        }
-    }
-    Ok(())
+    names.clear();
+    put_defined_names(&entry.definition, names)?;
+    add_reserved_names_in(entry.file, names, faults)
 }

@@ -1,4 +1,5 @@
-//! Names of types that are used: those that nothing defines, and those where a type of another kind has to stand.
+//! Names of types that are used: those that nothing defines (section 3.4.1), and those where a type of another kind has to stand (sections
+//! 3.4.2, 3.6, 3.7 and 3.8).
 ghost use Rattle.std.specs.Prelude.{◌≡◌, ◌++◌, OnOk};
 ghost use Rattle.std.specs.Arc.{arc_value};
 ghost use Rattle.gq_tree.specs.Views.{type_system_view};
@@ -7,15 +8,13 @@ ghost use Rattle.gq_fault.specs.FaultPlaces.{fault_at};
 ghost use Rattle.gq_type_system.specs.Uses.{used_types};
 ghost use Rattle.gq_type_system.specs.WrongKind.{suits};
 ghost use Rattle.gq_type_system.specs.Helping.UsesViews.{use_view, uses_view};
-ghost use Rattle.gq_type_system.specs.Helping.UnknownTypePlaces.{unknown_type, unknown_types_in, unknown_types};
-ghost use Rattle.gq_type_system.specs.Helping.WrongKindPlaces.{wrong_kind, wrong_kinds_in, wrong_kinds};
+ghost use Rattle.gq_type_system.specs.Helping.UnknownTypePlaces.{unknown_type, unknown_types_in};
+ghost use Rattle.gq_type_system.specs.Helping.WrongKindPlaces.{wrong_kind, wrong_kinds_in};
 
-use crate::judged::is_judged;
 use crate::uses::{Use, Wants, put_used_types};
 use gq_fault::{Code, Fault};
 use gq_text::NoMemory;
 use gq_types::{Entry, TypeKind, Types};
-use std::alloc::Global;
 
 /// Whether a type of that kind may stand where that is wanted.
 fn suits(wants: Wants, kind: TypeKind) -> bool
@@ -82,48 +81,18 @@ fn put_faults_in(
     Ok(())
 }
 
-/// The same of each type that an entry uses.
-fn put_faults_of(
-    alloc: Global,
+/// The same of each type that an entry uses. The list of uses is emptied first.
+pub(crate) fn put_faults_of<'a>(
     types: &Types,
-    entry: &Entry,
+    entry: &'a Entry,
+    uses: &mut Vec<Use<'a>>,
     unknown: &mut Vec<Fault>,
     wrong: &mut Vec<Fault>,
 ) -> Result<(), NoMemory>
     ensures unknown { OnOk result (unknown.new.items ≡ unknown.old.items ++ unknown_types_in (types_view types.now) entry.now.file (used_types (type_system_view (arc_value entry.now.definition)))) }
     ensures wrong { OnOk result (wrong.new.items ≡ wrong.old.items ++ wrong_kinds_in (types_view types.now) entry.now.file (used_types (type_system_view (arc_value entry.now.definition)))) }
 {
-    let mut uses = Vec::new(alloc);
-    put_used_types(&entry.definition, &mut uses)?;
-    put_faults_in(types, entry.file, &uses, unknown, wrong)
-}
-
-/// The same of all entries.
-fn put_all(
-    alloc: Global,
-    types: &Types,
-    unknown: &mut Vec<Fault>,
-    wrong: &mut Vec<Fault>,
-) -> Result<(), NoMemory>
-    ensures unknown { OnOk result (unknown.new.items ≡ unknown.old.items ++ unknown_types (types_view types.now)) }
-    ensures wrong { OnOk result (wrong.new.items ≡ wrong.old.items ++ wrong_kinds (types_view types.now)) }
-{
-    let entries = types.entries();
-    for number in 0..entries.len() {
-        if is_judged(&entries[number].definition) {
-            put_faults_of(alloc, types, &entries[number], unknown, wrong)?;
-        }
-    }
-    Ok(())
-}
-
-/// Each name of a type that nothing defines (section 3.4.1), and behind these each where a type of another kind has to stand (sections
-/// 3.4.2, 3.6, 3.7 and 3.8).
-pub fn add_wrong_uses(alloc: Global, types: &Types, faults: &mut Vec<Fault>) -> Result<(), NoMemory>
-    ensures { OnOk result (faults.new.items ≡ faults.old.items ++ (unknown_types (types_view types.now) ++ wrong_kinds (types_view types.now))) }
-{
-    let mut wrong = Vec::new(alloc);
-    put_all(alloc, types, faults, &mut wrong)?;
-    faults.append(&mut wrong)?;
-    Ok(())
+    uses.clear();
+    put_used_types(&entry.definition, uses)?;
+    put_faults_in(types, entry.file, uses, unknown, wrong)
 }

@@ -1,7 +1,8 @@
 -- What stands under a name in the tables is what the definitions say.
-use Rattle.std.proofs.Common.{◌≡◌, ℕ, ◌+◌, ◌<◌, length, get_or, Bool, true, false, cond, List, [], ◌∷◌, ◌++◌, Option, Some, None, refl, sym, ◌∙◌, ap, arith}
+use Rattle.std.proofs.Common.{◌≡◌, ℕ, zero, suc, map, ◌+◌, ◌<◌, length, get_or, Bool, true, false, cond, List, [], ◌∷◌, ◌++◌, Option, Some, None, refl, sym, ◌∙◌, ap, arith}
 use Rattle.std.specs.Option.{option_map, option_map_or, option_and_then}
 use Rattle.std.specs.List.{find, position, slice_get}
+use Rattle.std.specs.Prelude.{slice_index_or}
 use Rattle.std.specs.Str.{bytes_eq}
 use Rattle.gq_text.specs.declared.place.Span.{Span}
 use Rattle.gq_tree.specs.Plain.{TypeSystemOf, schema, type_definition, directive_definition}
@@ -23,6 +24,12 @@ shift k (Some i) = let e : k + 1 + i ≡ k + (i + 1) = omega arith in ap (λ n. 
 from_none : (o : Option ℕ) → option_map (λ i. 0 + i) o ≡ o
 from_none None = refl
 from_none (Some i) = let e : 0 + i ≡ i = omega arith in ap (λ n. Some n) e
+
+-- what is made of the items, at a place
+one_of : {A B : Type 0} (f : A → Option B) (xs : List A) (i : ℕ) → slice_index_or (map f xs) i None ≡ option_and_then f (slice_get xs i)
+one_of f [] i = refl
+one_of f (x ∷ xs) zero = refl
+one_of f (x ∷ xs) (suc i) = one_of f xs i
 
 module _ (text : Text) where
   under_cons : {A : Type 0} (name : Text) (names : List Text) (v : A) (vs : List A) → under_name (name ∷ names) (v ∷ vs) text ≡ cond (bytes_eq text name) (Some v) (under_name names vs text)
@@ -100,6 +107,11 @@ module _ (text : Text) where
   pub kind_at : (es : List EntryOf) (i : ℕ) (e : EntryOf) → type_number es text ≡ Some i → slice_get es i ≡ Some e → kind_named es text ≡ kind_in e.definition
   kind_at es i e here there =
       kind_through es ∙ ap (λ o. option_and_then (λ i. option_and_then (λ e. kind_in e.definition) (slice_get es i)) o) here ∙ ap (λ o. option_and_then (λ e. kind_in e.definition) o) there
+
+  -- the kinds of all entries, of which one is read
+  pub kind_kept : (es : List EntryOf) (i : ℕ) → type_number es text ≡ Some i → kind_named es text ≡ slice_index_or (map (λ e. kind_in e.definition) es) i None
+  kind_kept es i here =
+      kind_through es ∙ ap (λ o. option_and_then (λ i. option_and_then (λ e. kind_in e.definition) (slice_get es i)) o) here ∙ sym (one_of (λ e. kind_in e.definition) es i)
 
   pub no_directive : (es : List EntryOf) → directive_number es text ≡ None → directive_named es text ≡ None
   no_directive es none = directive_through es ∙ ap (λ o. option_and_then (λ i. option_and_then (λ e. directive_in e.definition) (slice_get es i)) o) none

@@ -14,8 +14,8 @@ use gq_text::NoMemory;
 use gq_tree::{FieldDefinition, InputValueDefinition, TypeSystemDefinition};
 use std::alloc::Global;
 
-/// The most arguments of a definition whose names are not kept. To go over so few takes less time.
-const FEW: usize = 16;
+/// The most arguments of a definition whose names are not kept, or not looked at. To go over so few takes less time.
+pub(crate) const FEW: usize = 16;
 
 /// The names of the arguments of one definition, and of those which are required.
 #[derive(Drop)]

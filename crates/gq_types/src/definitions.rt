@@ -1,5 +1,5 @@
 //! The definitions of a type system, found by their names.
-ghost use Rattle.std.specs.Prelude.{◌≡◌, ◌++◌, ◌<◌, ◌≤◌, IfOk, IfSome, OnOk, length};
+ghost use Rattle.std.specs.Prelude.{◌≡◌, ◌++◌, ◌<◌, ◌≤◌, IfOk, IfSome, None, OnOk, length, map, slice_index_or};
 ghost use Rattle.std.specs.Arc.{arc_value};
 ghost use Rattle.std.specs.Option.{option_map};
 ghost use Rattle.gq_tree.specs.Views.{body_view, type_system_view};
@@ -24,6 +24,7 @@ pub(crate) struct Definitions {
     entries: Vec<Entry>,
     types: Table<usize>,
     directives: Table<usize>,
+    kinds: Vec<Option<TypeKind>>,
     schema: usize,
 }
 
@@ -41,7 +42,7 @@ impl Model for Definitions {
 
     ghost view = { λ d. d.entries.items };
 
-    ghost invariant = { λ d. AreDefinitions (entries_view d.entries.items) d.types d.directives d.schema };
+    ghost invariant = { λ d. AreDefinitions (entries_view d.entries.items) d.types d.directives d.kinds.items d.schema };
 }
 
 impl Definitions {
@@ -51,11 +52,13 @@ impl Definitions {
     {
         let types = type_names(alloc, &entries)?;
         let directives = directive_names(alloc, &entries)?;
+        let kinds = kinds_of(alloc, &entries)?;
         let schema = schema_place(&entries);
         Ok(Definitions {
             entries,
             types,
             directives,
+            kinds,
             schema,
         })
     }
@@ -75,12 +78,12 @@ impl Definitions {
         self.types.get(name)
     }
 
-    /// The kind of the type of that name.
+    /// The kind of the type of that name. No definition is looked at.
     pub(crate) fn kind(&self, name: &str) -> Option<TypeKind>
         ensures { result ≡ kind_named (entries_view self.now) name.now }
     {
         let number = self.type_number(name)?;
-        kind_in(&self.entries[number])
+        kind_at(&self.kinds, number)
     }
 
     /// The directive of that name.
@@ -173,6 +176,28 @@ fn kind_in(entry: &Entry) -> Option<TypeKind>
     match &*entry.definition {
         TypeSystemDefinition::Type(one) => Some(TypeKind::of(&one.body)),
         _ => None,
+    }
+}
+
+/// For each entry the kind of the type that it defines or extends.
+#[tactic(auto, using(gq_tree::proofs::Trees::gathers))]
+fn kinds_of(alloc: Global, entries: &[Entry]) -> Result<Vec<Option<TypeKind>>, NoMemory>
+    ensures { IfOk result (λ kinds. kinds.items ≡ map (λ e. kind_in e.definition) (entries_view entries.now)) }
+{
+    let mut kinds = Vec::with_capacity(alloc, entries.len())?;
+    for entry in entries {
+        kinds.push(kind_in(entry))?;
+    }
+    Ok(kinds)
+}
+
+/// What stands at that place, and past the last one nothing.
+fn kind_at(kinds: &[Option<TypeKind>], number: usize) -> Option<TypeKind>
+    ensures { result ≡ slice_index_or kinds.now number None }
+{
+    match kinds.get(number) {
+        Some(kind) => *kind,
+        None => None,
     }
 }
 

@@ -18,6 +18,7 @@ ghost use Rattle.gq_types.specs.Declarers.{declarers};
 ghost use Rattle.gq_types.specs.Directives.{stands_at_location};
 ghost use Rattle.gq_types.specs.Helping.Tables.{lists_in, parts_at, stands_at};
 
+use crate::argument_names::FEW;
 use crate::arguments::Arguments;
 use crate::built_in::{built_in, typename_type};
 use crate::declarers::declarers_of;
@@ -361,6 +362,9 @@ impl Types {
         requires { arguments_at (types_view self.now) place ≡ Some (map input_view all.now) }
         ensures { map input_view result.all.now ≡ map input_view all.now }
     {
+        if all.len() <= FEW {
+            return Arguments::over(all);
+        }
         let Some(names) = self.uses.arguments.get(place.entry) else {
             return Arguments::over(all);
         };

@@ -26,6 +26,7 @@ use Rattle.crossbeam_channel.proofs.flavors.array.ruled.Receiving.TheSendSync as
 use Rattle.crossbeam_channel.proofs.flavors.array.ruled.Sending.TheSendSync as Sending
 use Rattle.gq_board.specs.declared.history.Room.{Ghosts}
 use Rattle.gq_board.proofs.looker.Told.TheSendSync as Told
+use Rattle.gq_workers.specs.contracts.order.Dispatch as DispatchType
 use Rattle.gq_workers.specs.contracts.order.Order as OrderType
 use Rattle.gq_workers.specs.contracts.sent.Sent as SentType
 use Rattle.gq_workers.specs.contracts.delivery.Delivery as DeliveryType
@@ -89,6 +90,12 @@ module _ (J : RattleType) (g : Ghosts J.Denot) where
   pub Order-send : IsSend (OrderType.the_row J g)
   Order-send = search (sendable, crosses, Order-field_send) depth 12
 
+  pub Dispatch-field_send : IsSend (DispatchType.the_field J g).row
+  Dispatch-field_send = search (sendable, crosses, Order-field_send, Told.the_send) depth 12
+
+  pub Dispatch-send : IsSend (DispatchType.the_row J g)
+  Dispatch-send = search (sendable, crosses, Dispatch-field_send) depth 12
+
   pub Sent-field_send : IsSend (SentType.the_field J g).row
   Sent-field_send = search (sendable, crosses, Order-field_send, Done-field_send, Told.the_send) depth 12
 
@@ -102,13 +109,13 @@ module _ (J : RattleType) (g : Ghosts J.Denot) where
   Delivery-send = search (sendable, crosses, Delivery-field_send) depth 12
 
   pub Jobs-send : IsSend (JobsType.the_row J g)
-  Jobs-send = search (sendable, crosses, channels, Sending.the_field_send, Receiving.the_field_send, Order-send) depth 20
+  Jobs-send = search (sendable, crosses, channels, Sending.the_field_send, Receiving.the_field_send, Dispatch-send) depth 20
 
   pub JobsOut-send : IsSend (JobsOutType.the_row J g)
-  JobsOut-send = search (sendable, crosses, channels, Sending.the_field_send, Order-send) depth 20
+  JobsOut-send = search (sendable, crosses, channels, Sending.the_field_send, Dispatch-send) depth 20
 
   pub JobsIn-send : IsSend (JobsInType.the_row J g)
-  JobsIn-send = search (sendable, crosses, channels, Receiving.the_field_send, Order-send) depth 20
+  JobsIn-send = search (sendable, crosses, channels, Receiving.the_field_send, Dispatch-send) depth 20
 
   pub Outbox-send : IsSend (OutboxType.the_row J g)
   Outbox-send = search (sendable, crosses, channels, Sending.the_field_send, Delivery-send) depth 20

@@ -1,8 +1,8 @@
 //! The channel by which workers get their jobs.
 ghost use Rattle.std.specs.Prelude.{◌≡◌, [], ◌∷◌, ◌++◌, IfOk, MatchResult, MatchOption};
-ghost use Rattle.gq_workers.specs.Orders.{order_of};
+ghost use Rattle.gq_workers.specs.Orders.{with_order};
 
-use crate::order::{Order, OrderOf};
+use crate::order::{Dispatch, Order, OrderOf};
 use atomic_table::Split;
 use crossbeam_channel::protocol::{Lesson, Outcome, Protocol};
 use crossbeam_channel::{Pass, RuledReceiver, RuledSender, bounded_with};
@@ -14,8 +14,9 @@ use std::collections::LinkedList;
 use std::marker::Model;
 use std::sync::Wait;
 
-/// So many jobs the channel holds, at most.
-const JOBS_MAX: usize = 64;
+/// So much the channel holds, at most: the 64 jobs that a desk gives before it takes what was made of the first, and for each of them, and
+/// the one before, news for seven other workers. So neither waits for room.
+const DISPATCHES_MAX: usize = 64 + 65 * 7;
 
 /// No worker is left to take a job.
 #[derive(Clone, Copy, Debug, PartialEq, Eq)]
@@ -30,42 +31,42 @@ pub struct Hand {
 /// The rule of the channel: an order is taken, or still there, as often as it was put.
 pub struct EachOnce;
 
-impl<J: Room> Protocol<Order<J>, Hand> for EachOnce {
-    ghost use Rattle.std.specs.Prelude.{[], map};
-    ghost use Rattle.gq_workers.specs.Orders.{order_of};
+impl<J: Room> Protocol<Dispatch<J>, Hand> for EachOnce {
+    ghost use Rattle.std.specs.Prelude.{[], flat_map};
+    ghost use Rattle.gq_workers.specs.Orders.{orders_in};
     ghost use Rattle.gq_workers.specs.Jobs.{hand, Balanced};
 
-    ghost holds = { λ orders views. Balanced (map order_of orders) views };
+    ghost holds = { λ dispatches views. Balanced (flat_map orders_in dispatches) views };
 
     ghost first = { hand [] [] };
 }
 
 struct Puts;
 
-impl<J: Room> Outcome<Order<J>, Hand> for Puts {
-    ghost use Rattle.std.specs.Prelude.{◌≡◌, [], ◌∷◌, ◌++◌};
-    ghost use Rattle.gq_workers.specs.Orders.{order_of};
+impl<J: Room> Outcome<Dispatch<J>, Hand> for Puts {
+    ghost use Rattle.std.specs.Prelude.{◌≡◌};
+    ghost use Rattle.gq_workers.specs.Orders.{with_order};
     ghost use Rattle.gq_workers.specs.Jobs.{hand};
 
-    ghost then = { λ v x w. w ≡ hand (v.put ++ order_of x ∷ []) v.taken };
+    ghost then = { λ v x w. w ≡ hand (with_order v.put x) v.taken };
 }
 
-impl<J: Room> Lesson<Order<J>, Hand> for Puts {
-    ghost fact = { λ v orders. Unit {0} };
+impl<J: Room> Lesson<Dispatch<J>, Hand> for Puts {
+    ghost fact = { λ v dispatches. Unit {0} };
 }
 
 struct Takes;
 
-impl<J: Room> Outcome<Order<J>, Hand> for Takes {
-    ghost use Rattle.std.specs.Prelude.{◌≡◌, [], ◌∷◌, ◌++◌};
-    ghost use Rattle.gq_workers.specs.Orders.{order_of};
+impl<J: Room> Outcome<Dispatch<J>, Hand> for Takes {
+    ghost use Rattle.std.specs.Prelude.{◌≡◌};
+    ghost use Rattle.gq_workers.specs.Orders.{with_order};
     ghost use Rattle.gq_workers.specs.Jobs.{hand};
 
-    ghost then = { λ v x w. w ≡ hand v.put (v.taken ++ order_of x ∷ []) };
+    ghost then = { λ v x w. w ≡ hand v.put (with_order v.taken x) };
 }
 
-impl<J: Room> Lesson<Order<J>, Hand> for Takes {
-    ghost fact = { λ v orders. Unit {0} };
+impl<J: Room> Lesson<Dispatch<J>, Hand> for Takes {
+    ghost fact = { λ v dispatches. Unit {0} };
 }
 
 struct Newcomer;
@@ -81,9 +82,9 @@ impl Split<Hand> for Newcomer {
 
 /// The channel before its ends are handed out. Contracts see the orders that were put by it.
 pub struct Jobs<J: Room> {
-    sender: RuledSender<Order<J>, Hand, EachOnce>,
-    receiver: RuledReceiver<Order<J>, Hand, EachOnce>,
-    pass: Pass<Order<J>, Hand>,
+    sender: RuledSender<Dispatch<J>, Hand, EachOnce>,
+    receiver: RuledReceiver<Dispatch<J>, Hand, EachOnce>,
+    pass: Pass<Dispatch<J>, Hand>,
 }
 
 impl<J: Room> Drop for Jobs<J> {
@@ -111,8 +112,8 @@ impl<J: Room> Model for Jobs<J> {
 
 /// The end that puts jobs. Contracts see the orders that it has put.
 pub struct JobsOut<J: Room> {
-    sender: RuledSender<Order<J>, Hand, EachOnce>,
-    pass: Pass<Order<J>, Hand>,
+    sender: RuledSender<Dispatch<J>, Hand, EachOnce>,
+    pass: Pass<Dispatch<J>, Hand>,
 }
 
 impl<J: Room> Drop for JobsOut<J> {
@@ -139,8 +140,8 @@ impl<J: Room> Model for JobsOut<J> {
 
 /// A worker's end, which takes jobs. Contracts see the orders that it has taken.
 pub struct JobsIn<J: Room> {
-    receiver: RuledReceiver<Order<J>, Hand, EachOnce>,
-    pass: Pass<Order<J>, Hand>,
+    receiver: RuledReceiver<Dispatch<J>, Hand, EachOnce>,
+    pass: Pass<Dispatch<J>, Hand>,
 }
 
 impl<J: Room> Drop for JobsIn<J> {
@@ -166,11 +167,11 @@ impl<J: Room> Model for JobsIn<J> {
 }
 
 impl<J: Room> Jobs<J> {
-    /// A channel that holds up to 64 jobs.
+    /// A channel that holds up to 64 jobs, and news beside them.
     pub fn new(alloc: Global) -> Result<Jobs<J>, NoMemory>
         ensures { IfOk result (λ j. j ≡ []) }
     {
-        let made = bounded_with::<Order<J>, Hand, EachOnce, Global>(alloc, JOBS_MAX);
+        let made = bounded_with::<Dispatch<J>, Hand, EachOnce, Global>(alloc, DISPATCHES_MAX);
         let Ok((sender, receiver, pass)) = made else {
             return Err(NoMemory);
         };
@@ -211,18 +212,35 @@ impl<J: Room> JobsOut<J> {
     pub fn put<R: Wait>(&mut self, rt: &R, job: Job, told: Told<J>) -> Result<(), NoTaker>
         ensures { MatchResult result (λ _. self.new ≡ self.old ++ record { number = job.number; told = told } ∷ []) (λ _. self.new ≡ self.old) }
     {
-        let order = Order { job, told };
+        let order = Dispatch::Order(Order { job, told });
         match self.sender.send_as::<Puts, R>(rt, &mut self.pass, order) {
             Ok(()) => Ok(()),
             Err(_) => Err(NoTaker),
         }
     }
+
+    /// Puts what is published behind the jobs, for so many workers that have none, as far as there is room. It waits for nobody.
+    pub fn tell<R: Wait>(&mut self, rt: &R, told: &Told<J>, workers: u8)
+        ensures { self.new ≡ self.old }
+    {
+        for _ in 0..workers {
+            self.tell_one(rt, told.again());
+        }
+    }
+
+    // The same for one worker.
+    fn tell_one<R: Wait>(&mut self, rt: &R, told: Told<J>)
+        ensures { self.new ≡ self.old }
+    {
+        let news = Dispatch::News(told);
+        let _ = self.sender.try_send_as::<Puts, R>(rt, &mut self.pass, news);
+    }
 }
 
 impl<J: Room> JobsIn<J> {
-    /// Takes the job in front. It waits while there is none, and gives none where none will come any more.
-    pub fn take<R: Wait>(&mut self, rt: &R) -> Option<Order<J>>
-        ensures { MatchOption result (self.new ≡ self.old) (λ o. self.new ≡ self.old ++ order_of o ∷ []) }
+    /// Takes what is in front. It waits while there is nothing, and gives nothing where no more will come.
+    pub fn take<R: Wait>(&mut self, rt: &R) -> Option<Dispatch<J>>
+        ensures { MatchOption result (self.new ≡ self.old) (λ dispatch. self.new ≡ with_order self.old dispatch) }
     {
         self.receiver.recv_as::<Takes, R>(rt, &mut self.pass).ok()
     }

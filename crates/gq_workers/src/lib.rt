@@ -12,7 +12,7 @@ pub mod worker;
 pub use delivery::Delivery;
 pub use ends::{Collected, DeskEnd, Outbox, ReaderEnd};
 pub use jobs::{Jobs, JobsIn, JobsOut, NoTaker};
-pub use order::{Order, OrderOf};
+pub use order::{Dispatch, Order, OrderOf};
 pub use passing::{compare, inbox};
 pub use sent::{Sent, attend};
 pub use worker::{Gate, Open, work};

@@ -1,4 +1,4 @@
-//! Orders: jobs on their way to workers.
+//! Orders: jobs on their way to workers, and what else comes to them.
 
 use gq_board::{Room, Told};
 use gq_events::Job;
@@ -20,6 +20,15 @@ impl<J: Room> Drop for Order<J> {
             told: _told,
         } = self;
     }
+}
+
+/// What comes to a worker.
+#[derive(Drop)]
+pub enum Dispatch<J: Room> {
+    /// A job, of which it hands on what it made.
+    Order(Order<J>),
+    /// What had been published when another worker was given a job. It brings what it keeps to that, and hands on nothing.
+    News(Told<J>),
 }
 
 /// What rules see of an order: the number of its job, and what had been published when it was put. No value of it is made.

@@ -88,6 +88,26 @@ fn see<J: Room>(
     }
 }
 
+/// Brings what is kept to what is published by now, where more had been published, as was told, than the worker has seen. Where memory is
+/// refused, some of that is done. It waits for nobody.
+pub(crate) fn hear<J: Room>(
+    alloc: Global,
+    looker: Looker<J>,
+    told: &Told<J>,
+    kept: &mut Kept,
+) -> Looker<J>
+    ensures { IsPrefix looker result }
+{
+    if looker.tell().is(told) {
+        return looker;
+    }
+    let (looker, texts) = see(alloc, looker, told);
+    if let Some(texts) = texts {
+        let _ = kept.bring_to(alloc, &texts, &[], &mut Vec::new(alloc));
+    }
+    looker
+}
+
 /// Whether more was seen than was told.
 #[tactic(auto, using(crate::proofs::Behind::more_seen))]
 fn saw_more<J: Room>(told: &Told<J>, seen: &Told<J>) -> bool

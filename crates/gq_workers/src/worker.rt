@@ -6,8 +6,8 @@ ghost use Rattle.gq_workers.specs.Work.{AllHanded, ButOne};
 
 use crate::ends::Outbox;
 use crate::jobs::JobsIn;
-use crate::order::Order;
-use crate::sent::{Sent, attend};
+use crate::order::{Dispatch, Order};
+use crate::sent::{Sent, attend, hear};
 use gq_board::{Looker, Room};
 use gq_kept::Kept;
 use gq_project::Project;
@@ -54,7 +54,27 @@ fn hand_twice<J: Room, R: Wait>(rt: &R, inbox: &mut Outbox<J>, sent: Sent<J>) ->
     }
 }
 
-/// Takes a job, and hands on what comes of it. False where the worker has to end.
+/// Attends to an order, and hands on what comes of it. False where the worker has to end.
+fn serve_order<J: Room, G: Gate, R: Wait>(
+    rt: &R,
+    alloc: Global,
+    looker: Looker<J>,
+    order: Order<J>,
+    inbox: &mut Outbox<J>,
+    kept: &mut Kept,
+    gate: &G,
+) -> (Looker<J>, bool)
+    ensures { MatchBool result.1 (inbox.new ≡ inbox.old ++ order_of order ∷ []) (inbox.new ≡ inbox.old) }
+{
+    let (looker, sent) = attend_twice(alloc, looker, order, kept);
+    let Some(sent) = sent else {
+        return (looker, false);
+    };
+    gate.pass(sent.order.job.number);
+    (looker, hand_twice(rt, inbox, sent))
+}
+
+/// Takes a job, and hands on what comes of it, or takes in news. False where the worker has to end.
 fn serve_one<J: Room, G: Gate, R: Wait>(
     rt: &R,
     alloc: Global,
@@ -64,21 +84,17 @@ fn serve_one<J: Room, G: Gate, R: Wait>(
     kept: &mut Kept,
     gate: &G,
 ) -> (Looker<J>, bool)
-    ensures on { result.1 ≡ true → (o : OrderOf) × (jobs.new ≡ jobs.old ++ o ∷ []) × (inbox.new ≡ inbox.old ++ o ∷ []) }
+    ensures on { result.1 ≡ true → ((jobs.new ≡ jobs.old) × (inbox.new ≡ inbox.old)) ⊎ ((o : OrderOf) × (jobs.new ≡ jobs.old ++ o ∷ []) × (inbox.new ≡ inbox.old ++ o ∷ [])) }
     ensures ends { result.1 ≡ false → (inbox.new ≡ inbox.old) × ((jobs.new ≡ jobs.old) ⊎ ((o : OrderOf) × (jobs.new ≡ jobs.old ++ o ∷ []))) }
 {
-    let Some(order) = jobs.take(rt) else {
-        return (looker, false);
-    };
-    let (looker, sent) = attend_twice(alloc, looker, order, kept);
-    let Some(sent) = sent else {
-        return (looker, false);
-    };
-    gate.pass(sent.order.job.number);
-    (looker, hand_twice(rt, inbox, sent))
+    match jobs.take(rt) {
+        Some(Dispatch::Order(order)) => { serve_order(rt, alloc, looker, order, inbox, kept, gate) }
+        Some(Dispatch::News(told)) => (hear(alloc, looker, &told, kept), true),
+        None => (looker, false),
+    }
 }
 
-/// Serves until no job comes any more, or it has to end.
+/// Serves until nothing comes any more, or it has to end.
 fn serve<J: Room, G: Gate, R: Wait>(
     rt: &R,
     alloc: Global,
@@ -111,7 +127,7 @@ fn keep_nothing(alloc: Global) -> Result<Kept, NoMemory>
     }
 }
 
-/// Takes jobs, and hands on what comes of each, until no job comes any more. It ends too where what it keeps at first, an order or a
+/// Takes jobs, and hands on what comes of each, until nothing comes any more; between them it takes in news. It ends too where what it keeps at first, an order or a
 /// handing on is refused twice.
 pub fn work<J: Room, G: Gate, R: Wait>(
     rt: &R,

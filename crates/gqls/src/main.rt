@@ -3,14 +3,12 @@
 //! `gqls rename FILE:LINE:COLUMN NAME FILE..` renames a fragment or a variable in them.
 #![tactic(auto)]
 
-mod commands;
 mod disk;
 mod folder;
 mod rewriting;
 
 ghost use Rattle.std.specs.Prelude.{◌≡◌, false};
 
-use crate::commands::{no_folder, no_place, not_utf8, parse_words};
 use crate::disk::{Disk, file_of};
 use crate::folder::{Folder, paths_in, read_root};
 use crate::rewriting::write_files;
@@ -18,6 +16,7 @@ use clap::error::ErrorKind;
 use clap::{ArgMatches, Error};
 use gq_check::{File, Format, check_by_threads, exec, print, refuse};
 use gq_codemod::{Renaming, rename_by_threads};
+use gq_command_line::{no_folder, no_place, not_utf8, parse_words};
 use gq_crew::{Ended, Files, NoFiles, Open, Ran, RunFault};
 use gq_reader::loads::fault_of;
 use gq_rpc::Flagged;

@@ -8,7 +8,7 @@ use Rattle.gq_graph.specs.Reach.{Reach, row}
 use Rattle.gq_fault.specs.declared.fault.Fault.{Fault}
 use Rattle.gq_types.specs.Entries.{Text}
 use Rattle.gq_document.specs.Executable.{ExecutableOf}
-use Rattle.gq_by_file.specs.Closed.Closed.{within}
+use Rattle.gq_by_file.specs.Closed.Closed.{within, StandsInFile}
 use Rattle.gq_by_file.specs.Closed.RestsOnNames.{IsFaultBySpreads}
 use Rattle.gq_by_file.specs.declared.covers.Cover.{Cover}
 
@@ -29,6 +29,11 @@ AreFaulty x files marks = (f : Fault) → IsFaultBySpreads (within files x) f �
 -- all that the starts lead to is among those
 abbrev pub LeadsInto : List (Vec ℕ Global) → List ℕ → List ℕ → Type 0
 LeadsInto rows starts all = (n : ℕ) → Reach starts (row rows) n → Contains all n
+
+-- A part of some operations and fragments has all of these that stand in files to which the starts lead, and nothing else than these.
+pub record HoldsAll (x part : ExecutableOf) (rows : List (Vec ℕ Global)) (starts : List ℕ) : Type 0 where
+  pub same : (files : List ℕ) → ((n : ℕ) → Contains files n → Reach starts (row rows) n) → within files part ≡ within files x
+  pub inside : (n : ℕ) → StandsInFile part n → StandsInFile x n
 
 -- one of the second texts is one of the first
 abbrev pub has_one_of : List Text → List Text → Bool

@@ -7,7 +7,7 @@ use gq_kept::Kept;
 use gq_project::{Doc, DocChange, Project};
 use gq_rpc::Outgoing;
 use gq_text::{NoMemory, OwnedText, PositionEncoding};
-use gq_workers::{Jobs, JobsIn, JobsOut, attend};
+use gq_workers::{Dispatch, Jobs, JobsIn, JobsOut, Order, attend};
 use std::alloc::Global;
 use std::marker::Brand;
 use std::process::Abort;
@@ -27,7 +27,7 @@ fn put(alloc: Global, version: u8, text: &str) -> Result<DocChange, NoMemory> {
 }
 
 /// Publishes the change that gives a document that text, and puts a check of it, under the number of its version.
-fn change_and_check<J: Room, R: Wait>(
+pub(crate) fn change_and_check<J: Room, R: Wait>(
     rt: &R,
     alloc: Global,
     front: &mut Front<J>,
@@ -49,6 +49,14 @@ fn change_and_check<J: Room, R: Wait>(
     Ok(())
 }
 
+/// The order, if that is what came.
+fn order_in<J: Room>(dispatch: Dispatch<J>) -> Option<Order<J>> {
+    match dispatch {
+        Dispatch::Order(order) => Some(order),
+        Dispatch::News(_) => None,
+    }
+}
+
 /// What is made of the order in front.
 fn attend_one<J: Room, R: Wait>(
     rt: &R,
@@ -57,7 +65,7 @@ fn attend_one<J: Room, R: Wait>(
     jobs: &mut JobsIn<J>,
     kept: &mut Kept,
 ) -> Result<(Looker<J>, Done), Fail> {
-    let order = jobs.take(rt).ok_or("an order is there")?;
+    let order = jobs.take(rt).and_then(order_in).ok_or("an order is there")?;
     let (looker, sent) = attend(alloc, looker, order, kept);
     let sent = sent.map_err(|_| "the order is answered")?;
     Ok((looker, sent.into_done()))

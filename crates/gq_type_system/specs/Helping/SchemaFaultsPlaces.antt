@@ -2,7 +2,7 @@
 use Rattle.std.specs.Prelude.{List, ◌++◌}
 use Rattle.gq_fault.specs.declared.fault.Fault.{Fault}
 use Rattle.gq_types.specs.Entries.{EntryOf}
-use Rattle.gq_type_system.specs.DefinedTwicePlaces.{all_defined_twice}
+use Rattle.gq_type_system.specs.Helping.DefinedTwicePlaces.{all_defined_twice}
 use Rattle.gq_type_system.specs.Helping.BadExtensionPlaces.{bad_extensions}
 use Rattle.gq_type_system.specs.Helping.ReservedNamePlaces.{reserved_names}
 use Rattle.gq_type_system.specs.Helping.UnknownTypePlaces.{unknown_types}

@@ -5,11 +5,12 @@ use Rattle.gq_text.specs.declared.place.Span.{Span}
 use Rattle.gq_tree.specs.declared.tree.OperationKind.{OperationKind}
 use Rattle.gq_tree.specs.Same.{same_kinds}
 use Rattle.gq_tree.specs.Plain.{BodyOf, TypeSystemOf, schema, type_definition, directive_definition}
+use Rattle.gq_types.specs.declared.entry.TypeKind.{TypeKind}
 use Rattle.gq_types.specs.declared.table.Table.{Table}
 use Rattle.gq_types.specs.declared.parts.Place.{Place}
 use Rattle.gq_types.specs.declared.parts.Parts.{Parts}
 use Rattle.gq_types.specs.Entries.{Text, EntryOf}
-use Rattle.gq_types.specs.Joined.{schema_number, body_in, fields_in_body, interfaces_in_body, members_in_body, values_in_body, inputs_in_body}
+use Rattle.gq_types.specs.Joined.{schema_number, kind_in, body_in, fields_in_body, interfaces_in_body, members_in_body, values_in_body, inputs_in_body}
 use Rattle.gq_types.specs.Roots.{roots_in}
 use Rattle.gq_types.specs.Look.{joined_numbers}
 
@@ -50,9 +51,10 @@ pub record AreNames (key : TypeSystemOf Span → Option Text) (es : List EntryOf
   pub names : table.names ≡ names_in key es
   pub numbers : table.values.items ≡ numbers_in key 0 es
 
-pub record AreDefinitions (es : List EntryOf) (types directives : Table ℕ) (schema : ℕ) : Type 0 where
+pub record AreDefinitions (es : List EntryOf) (types directives : Table ℕ) (kinds : List (Option TypeKind)) (schema : ℕ) : Type 0 where
   pub types_are : AreNames type_key es types
   pub directives_are : AreNames directive_key es directives
+  pub kinds_are : kinds ≡ map (λ e. kind_in e.definition) es
   pub schema_is : schema ≡ schema_number es
 
 -- the lists of a list of lists

@@ -9,6 +9,9 @@ use Rattle.gq_types.proofs.Gathered.{nothing_in}
 use Rattle.gq_by_file.specs.Closed.Closed.{is_among}
 use Rattle.gq_by_file.specs.declared.covers.Cover.{Cover}
 use Rattle.gq_by_file.specs.Helping.Covers.{unmarked_from}
+use Rattle.gq_document.specs.Executable.{ExecutableOf, executable_view}
+use Rattle.gq_by_file.specs.Helping.Covers.{HoldsAll}
+use Rattle.gq_by_file.proofs.HeldLemmas.{holds_itself}
 use Rattle.gq_by_file.proofs.CoverLemmas.{covered_or_open, marked_alone, unmarked_range}
 use Rattle.gq_by_file.proofs.covers.cover_rest.Goals as goal
 
@@ -42,3 +45,10 @@ returns-clause-all c =
     on_ok_weaker c.cover_by_halves.result
     (λ added n h. ⊎_elim (λ l. c.cover_by_halves.ensures.old n l) (λ d. added n (subst (λ (ns : List ℕ). Contains ns n) (sym (c.deref-3.ensures.value ∙ there)) d)) (covered_or_open c.args.covers.now.items marks are n (omega (arith, h, count))))
     c.cover_by_halves.ensures.rest
+
+pub returns-clause-kept : goal.returns-clause-kept
+returns-clause-kept c links are =
+    let x = executable_view c.args.files.executable.now in
+    let rows = c.args.files.rows.now in
+    let starts = c.deref-3.result.now in
+    c.cover_by_halves.ensures.kept (subst (λ (y : ExecutableOf). HoldsAll x y rows starts) (sym c.requires.part) (holds_itself x rows starts)) links are

@@ -24,4 +24,4 @@ returns-in_err-one-clause-none c =
 pub returns-clause-found : goal.returns-clause-found
 returns-clause-found c =
     let read = front_directives c.loop-alloc.invariant.front (none_at _ _ c.is_some.ensures c.loop-alloc-test.false c.punctuator.ensures.none) in
-    rw c.shrink_to_fit.ensures.items read
+    rw c.in_ok-directives.ensures.ok read

@@ -16,9 +16,9 @@ loop-end-preserved g c = record {
 pub returns-in-Some-clause-found : goal.returns-in-Some-clause-found
 returns-in-Some-clause-found g c =
     let closed = front_closed c.loop-end.invariant.front c.in-Some.ensures.found in
-    rw c.shrink_to_fit.ensures.items closed
+    rw c.in_ok-items.ensures.ok closed
 
 pub returns-in_err-one-clause-none : goal.returns-in_err-one-clause-none
 returns-in_err-one-clause-none g c =
-    let p = err_from_is_err_and c.from_residual.result c.from_residual.ensures.1 in
+    let p = err_from_is_err_and c.from_residual-in_err-one.result c.from_residual-in_err-one.ensures.1 in
     rw (p.1, p.2) (λ e. not_closed c.requires.unique c.requires.apart c.loop-end.invariant.front c.in_default.ensures.none (c.in_err-one.ensures.none e))

@@ -19,7 +19,7 @@ loop-names-preserved c = record {
 pub returns-in-None-clause-found : goal.returns-in-None-clause-found
 returns-in-None-clause-found c =
     let read = separated_put _ _ _ c.in_ok-put_name.ensures.ok c.loop-names.invariant.front c.in_ok-one.ensures.found c.in-None.ensures.none in
-    rw c.shrink_to_fit.ensures.items read
+    rw c.in_ok-names-in-None.ensures.ok read
 
 pub returns-in_err-one-clause-none : goal.returns-in_err-one-clause-none
 returns-in_err-one-clause-none c =

@@ -46,11 +46,11 @@ selections-loop-end-preserved t c = record {
 pub selections-returns-in-Some-clause-found : goal.selections-returns-in-Some-clause-found
 selections-returns-in-Some-clause-found t c =
     let closed = front_closed c.loop-end.invariant.front c.in-Some.ensures.found in
-    rw c.shrink_to_fit.ensures.items closed
+    rw c.in_ok-items.ensures.ok closed
 
 pub selections-returns-in_err-one-clause-none : goal.selections-returns-in_err-one-clause-none
 selections-returns-in_err-one-clause-none t c =
-    let p = err_from_is_err_and c.from_residual.result c.from_residual.ensures.1 in
+    let p = err_from_is_err_and c.from_residual-in_err-one.result c.from_residual-in_err-one.ensures.1 in
     rw (p.1, p.2) (λ e. not_closed unique_sel sel_or_close c.loop-end.invariant.front c.in_default.ensures.none (c.in_err-one.ensures.none e))
 
 pub selection-inline_fragment-requires : goal.selection-inline_fragment-requires

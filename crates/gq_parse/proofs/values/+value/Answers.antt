@@ -46,11 +46,11 @@ values-loop-end-preserved t c = record {
 pub values-returns-in-Some-clause-found : goal.values-returns-in-Some-clause-found
 values-returns-in-Some-clause-found t c =
     let closed = front_closed c.loop-end.invariant.front c.in-Some.ensures.found in
-    rw c.shrink_to_fit.ensures.items closed
+    rw c.in_ok-items.ensures.ok closed
 
 pub values-returns-in_err-one-clause-none : goal.values-returns-in_err-one-clause-none
 values-returns-in_err-one-clause-none t c =
-    let p = err_from_is_err_and c.from_residual.result c.from_residual.ensures.1 in
+    let p = err_from_is_err_and c.from_residual-in_err-one.result c.from_residual-in_err-one.ensures.1 in
     rw (p.1, p.2) (λ e. not_closed (unique_lone _) (lone_or_close _) c.loop-end.invariant.front c.in_default.ensures.none (c.in_err-one.ensures.none e))
 
 pub object_fields-loop-end-init : goal.object_fields-loop-end-init
@@ -66,9 +66,9 @@ object_fields-loop-end-preserved t c = record {
 pub object_fields-returns-in-Some-clause-found : goal.object_fields-returns-in-Some-clause-found
 object_fields-returns-in-Some-clause-found t c =
     let closed = front_closed c.loop-end.invariant.front c.in-Some.ensures.found in
-    rw c.shrink_to_fit.ensures.items closed
+    rw c.in_ok-fields.ensures.ok closed
 
 pub object_fields-returns-in_err-name-clause-none : goal.object_fields-returns-in_err-name-clause-none
 object_fields-returns-in_err-name-clause-none t c =
-    let p = err_from_is_err_and c.from_residual.result c.from_residual.ensures.1 in
+    let p = err_from_is_err_and c.from_residual-in_err-name.result c.from_residual-in_err-name.ensures.1 in
     rw (p.1, p.2) (λ e. not_closed (unique_argument _) (argument_or_brace _) c.loop-end.invariant.front c.in_default.ensures.none (c.in_err-name.ensures.none e))

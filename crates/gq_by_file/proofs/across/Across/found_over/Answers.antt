@@ -1,5 +1,5 @@
 -- Names and covers come to all that rests on several files.
-use Rattle.std.proofs.Common.{◌≡◌, ◌↔◌, ℕ, ◌<◌, inr, List, ◌++◌, Contains, flat_map, length, sym, ap, ◌∙◌, subst}
+use Rattle.std.proofs.Common.{◌≡◌, ◌↔◌, ℕ, ◌<◌, inr, List, ◌++◌, Contains, flat_map, length, refl, sym, ap, ◌∙◌, subst}
 use Rattle.std.specs.declared.vec.Vec.{Vec}
 use Rattle.std.specs.declared.alloc.Global.{Global}
 use Rattle.gq_fault.specs.declared.fault.Fault.{Fault}
@@ -14,7 +14,7 @@ use Rattle.gq_by_file.proofs.CleanLemmas.{clean_stays, named_stay}
 use Rattle.gq_by_file.proofs.across.Across.found_over.Goals as goal
 
 pub cover_rest-requires : goal.cover_rest-requires
-cover_rest-requires c = record { rows = rw c.deref.ensures.value c.args.self.now.links.in_range }
+cover_rest-requires c = record { rows = rw c.deref.ensures.value c.args.self.now.links.in_range; part = refl }
 
 pub returns-in_err-cover_rest-clause-kept : goal.returns-in_err-cover_rest-clause-kept
 returns-in_err-cover_rest-clause-kept c es rs is are =

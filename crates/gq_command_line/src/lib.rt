@@ -1,4 +1,5 @@
 //! The words of the command line: what the commands are, and what their help says.
+#![tactic(auto)]
 
 use clap::builder::ValueParser;
 use clap::error::ErrorKind;

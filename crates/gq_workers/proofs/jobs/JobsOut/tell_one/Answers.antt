@@ -1,0 +1,6 @@
+use Rattle.gq_workers.specs.Orders.{orders_in, with_order}
+use Rattle.gq_workers.proofs.JobMoves.{puts, adds_order}
+use Rattle.gq_workers.proofs.jobs.JobsOut.tell_one.Goals as goal
+
+pub try_send_as-requires-clause-rule : goal.try_send_as-requires-clause-rule
+try_send_as-requires-clause-rule g c = (puts orders_in with_order adds_order _ _ _ _, λ items views b at. tt)
