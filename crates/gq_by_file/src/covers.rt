@@ -33,7 +33,8 @@ pub struct Cover {
 /// Marks the files that stand in one of the covers.
 fn mark_covers(marks: &mut Vec<bool>, covers: &[Cover])
     ensures count { length marks.new.items ≡ length marks.old.items }
-    ensures marked { (n : ℕ) → n < length marks.old.items → slice_index_or marks.new.items n false ≡ (slice_index_or marks.old.items n false || list_any (λ c. is_among c.files.items n) covers.now) }
+    ensures marked { (n : ℕ) → n < length marks.old.items →
+        slice_index_or marks.new.items n false ≡ (slice_index_or marks.old.items n false || list_any (λ c. is_among c.files.items n) covers.now) }
 {
     for cover in covers {
         mark(marks, &cover.files);

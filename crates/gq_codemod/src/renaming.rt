@@ -144,7 +144,8 @@ fn rename_valid(
 fn renamed(alloc: Global, project: &Project, edit: &Edit) -> Result<Renaming, NoMemory>
     requires fits { FitDocuments project.now edit.now }
     requires texts { All (λ doc. length doc.text ≤ 2 ^ 22) project.now }
-    ensures { (file new : List ℕ) (position : Position) → IsRenamed project.now file (offset_at project.now file position) new edit.now → IfOk result (IsRenamingOf project.now file position new) }
+    ensures { (file new : List ℕ) (position : Position) →
+        IsRenamed project.now file (offset_at project.now file position) new edit.now → IfOk result (IsRenamingOf project.now file position new) }
 {
     let by_positions = to_positions(alloc, PositionEncoding::Utf16, project, edit)?;
     Ok(Renaming {
@@ -157,7 +158,8 @@ fn renamed(alloc: Global, project: &Project, edit: &Edit) -> Result<Renaming, No
 
 /// A refusal, as it is printed.
 fn denied(alloc: Global, refusal: Refusal) -> Result<Renaming, NoMemory>
-    ensures { (documents : List Doc) (file new : List ℕ) (position : Position) → ∥ IsValid documents ∥₁ → IsRenameAnswer documents file (offset_at documents file position) new (Err refusal)
+    ensures { (documents : List Doc) (file new : List ℕ) (position : Position) → ∥ IsValid documents ∥₁ →
+        IsRenameAnswer documents file (offset_at documents file position) new (Err refusal)
         → IfOk result (IsRenamingOf documents file position new) }
 {
     Ok(Renaming {

@@ -55,7 +55,8 @@ pub(crate) fn fragment_names(
     alloc: Global,
     readings: &[Arc<Parsed>],
 ) -> Result<Vec<OwnedText>, NoMemory>
-    ensures { IfOk result (λ names. (documents : List Doc) → AreParsed documents (readings_view readings.now) → (label : List ℕ) → Contains names.items label ↔ IsFragmentName documents label) }
+    ensures { IfOk result (λ names. (documents : List Doc) → AreParsed documents (readings_view readings.now) →
+        (label : List ℕ) → Contains names.items label ↔ IsFragmentName documents label) }
 {
     one_tree();
     let mut names = Vec::new(alloc);

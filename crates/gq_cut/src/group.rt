@@ -16,7 +16,8 @@ fn put_variable(
     name: &str,
     places: &mut Vec<Occurrence>,
 ) -> Result<(), NoMemory>
-    ensures { OnOk result ((ds : List DefinitionOf) → IsIndexOf ds index.now → places.new.items ≡ places.old.items ++ option_map_or (λ d. variable_occurrences d name.now) (slice_get ds number) []) }
+    ensures { OnOk result ((ds : List DefinitionOf) → IsIndexOf ds index.now →
+        places.new.items ≡ places.old.items ++ option_map_or (λ d. variable_occurrences d name.now) (slice_get ds number) []) }
 {
     let definitions = index.places();
     if number < definitions.len() {

@@ -195,7 +195,8 @@ fn take_turn<H: Hands, W: Sink>(
     requires next { IfSome desk.old (λ s. s.jobs.next < 2 ^ 62) }
     requires works { W.failed writer.old ≡ false }
     ensures ok { IfOk result (λ stop. turns.TakesTurn H.takes desk.old event hands.old (W.held writer.old) desk.new hands.new (W.held writer.new) stop) }
-    ensures err { IfErr result (λ fault. (s : machine.State) → desk.old ≡ Some s → turns.BreaksTurn H.takes H.refuses s event hands.old (W.held writer.old) hands.new (W.held writer.new) fault) }
+    ensures err { IfErr result (λ fault. (s : machine.State) → desk.old ≡ Some s →
+        turns.BreaksTurn H.takes H.refuses s event hands.old (W.held writer.old) hands.new (W.held writer.new) fault) }
     ensures fails { OnErr result (desk.new ≡ None) }
     ensures flag { W.failed writer.new ≡ turns.is_device_error result }
     ensures closed { IsErrOf result DriveFault.Closed → H.closed hands.new ≡ true }
@@ -261,7 +262,8 @@ fn drive_on<I: Iterator<Item = Event>, H: Hands, W: Sink>(
         spec.Fails I.next_gives H.takes H.refuses workers earlier events.old hands.old (W.held writer.old) events.new desk.new hands.new (W.held writer.new) fault) }
     ensures device { IsErrOf result DriveFault.Device → (W.failed writer.new ≡ true) ⊎ ((workers : ℕ) (earlier : List Turn) → StandsFor workers earlier desk.old →
         spec.TakesTooMany I.next_gives H.takes workers earlier events.old hands.old (W.held writer.old) events.new desk.new hands.new (W.held writer.new) DriveFault.Device) }
-    ensures bound { IsErrOf result DriveFault.Device → (W.failed writer.new ≡ true) ⊎ ((taken : List Event) × Yields I.next_gives events.old taken events.new × (length taken ≡ spec.events_max)) }
+    ensures bound { IsErrOf result DriveFault.Device →
+        (W.failed writer.new ≡ true) ⊎ ((taken : List Event) × Yields I.next_gives events.old taken events.new × (length taken ≡ spec.events_max)) }
     ensures flag { W.failed writer.new ≡ true → result ≡ Err DriveFault.Device }
     ensures closed { IsErrOf result DriveFault.Closed → H.closed hands.new ≡ true }
     ensures failed { IsErrOf result DriveFault.Failed → desk.old ≡ None }
@@ -299,7 +301,8 @@ pub fn drive<I: Iterator<Item = Event>, H: Hands, W: Sink>(
         spec.Fails I.next_gives H.takes H.refuses workers earlier events.old hands.old (W.held writer.old) events.new desk.new hands.new (W.held writer.new) fault) }
     ensures device { IsErrOf result DriveFault.Device → (W.failed writer.new ≡ true) ⊎ ((workers : ℕ) (earlier : List Turn) → StandsFor workers earlier desk.old →
         spec.TakesTooMany I.next_gives H.takes workers earlier events.old hands.old (W.held writer.old) events.new desk.new hands.new (W.held writer.new) DriveFault.Device) }
-    ensures bound { IsErrOf result DriveFault.Device → (W.failed writer.new ≡ true) ⊎ ((taken : List Event) × Yields I.next_gives events.old taken events.new × (length taken ≡ spec.events_max)) }
+    ensures bound { IsErrOf result DriveFault.Device →
+        (W.failed writer.new ≡ true) ⊎ ((taken : List Event) × Yields I.next_gives events.old taken events.new × (length taken ≡ spec.events_max)) }
     ensures flag { W.failed writer.new ≡ true → result ≡ Err DriveFault.Device }
     ensures closed { IsErrOf result DriveFault.Closed → H.closed hands.new ≡ true }
     ensures failed { desk.old ≡ None → (result ≡ Err DriveFault.Failed) × (desk.new ≡ None) × (events.new ≡ events.old) × (hands.new ≡ hands.old) × (writer.new ≡ writer.old) }

@@ -124,7 +124,8 @@ fn coerced_by_readings(
     name: Option<&str>,
     raw: &[Entry],
 ) -> Result<Option<Vec<Entry>>, NoMemory>
-    ensures { IfOk result (λ found. option_map (λ es. entries_view es.items) found ≡ coerced_in (defined_in entries.items (unshared_view readings.now)) (text_of name.entry) (entries_view raw.now)) }
+    ensures { IfOk result (λ found. option_map (λ es. entries_view es.items) found ≡
+        coerced_in (defined_in entries.items (unshared_view readings.now)) (text_of name.entry) (entries_view raw.now)) }
 {
     let types = Types::of(alloc, entries)?;
     let definitions = Definitions::of(alloc, readings)?;

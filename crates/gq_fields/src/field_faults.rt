@@ -112,7 +112,8 @@ fn add_faults_in<'a>(
     selection: &'a Selection,
     faults: &mut Vec<Fault>,
 ) -> Result<(), NoMemory>
-    ensures { OnOk result (faults.new.items ≡ faults.old.items ++ selections_faults (types_view types.now) (selected_in (types_view types.now) file (text_of parent.entry) (sel_view selection.now))) }
+    ensures { OnOk result (faults.new.items ≡ faults.old.items ++
+        selections_faults (types_view types.now) (selected_in (types_view types.now) file (text_of parent.entry) (sel_view selection.now))) }
 {
     let selected = Selected {
         file,

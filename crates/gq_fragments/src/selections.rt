@@ -79,7 +79,8 @@ fn put_of_fragments_among<'a>(
     selections: &'a [Selection],
     all: &mut Vec<Selected<'a>>,
 ) -> Result<(), NoMemory>
-    ensures { OnOk result (selections_view all.new.items ≡ selections_view all.old.items ++ of_fragments (selected_among (types_view types.now) file (text_of parent.entry) (sels_view selections.now))) }
+    ensures { OnOk result (selections_view all.new.items ≡ selections_view all.old.items ++
+        of_fragments (selected_among (types_view types.now) file (text_of parent.entry) (sels_view selections.now))) }
 {
     for selection in selections {
         put_of_fragments_in(types, file, parent, selection, all)?;

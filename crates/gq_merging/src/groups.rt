@@ -10,8 +10,8 @@
 //! Where a test fails, the fragments that are spread in its set are tested, and no other set that spreads one that fails.
 //!
 //! Where many sets reach the same fragments, each with fields of its own, their tests take more steps than they have. Then all
-//! are tested as one group, and where that fails, by classes (`unions`), and one by one in more steps. After a number of steps in
-//! proportion to the project the tests end.
+//! are tested as one group, and where that fails, by classes (`unions`), and one by one in more steps, if these can be enough. After a
+//! number of steps in proportion to the project the tests end.
 ghost use Rattle.std.specs.Prelude.{◌≡◌, ◌<◌, ◌+◌, ◌⊎◌, ℕ, List, All, Some, IsTrue, IfOk, OnOk, true, false, length, map, slice_get, slice_index_or};
 ghost use Rattle.std.specs.List.{flat_map};
 ghost use Rattle.gq_graph.specs.Reach.{InRange, row};
@@ -36,6 +36,9 @@ use gq_graph::mark_all;
 use gq_text::NoMemory;
 use std::alloc::Global;
 use std::thread::{Threads, join};
+
+/// So many sets have to be marked in few steps, that by them it can be told how many would be in more.
+const SOME: usize = 8;
 
 /// How many steps are left for all tests, and how many more groups and numbers in them may be kept.
 #[derive(Clone, Copy)]
@@ -185,7 +188,8 @@ fn look_at(
     requires spreads { map (λ v. v.items) tables.spreads.now ≡ map (λ r. r.spreads.items) tables.rows.now }
     requires place { place < length groups.old.items }
     requires test { IsTest (types_view tables.types.now) (rows_view tables.rows.now) (groups_view groups.old.items) place reached.old.items }
-    ensures test { IfOk result (λ passed. IsTrue passed → IsTest (types_view tables.entry.types.now) (rows_view tables.entry.rows.now) (groups_view groups.new.items) (place + 1) reached.new.items) }
+    ensures test { IfOk result (λ passed. IsTrue passed →
+        IsTest (types_view tables.entry.types.now) (rows_view tables.entry.rows.now) (groups_view groups.new.items) (place + 1) reached.new.items) }
     ensures left { IfOk result (λ passed. IsTrue passed → left.new.steps < left.old.steps) }
 {
     let found = reached_sets(tables.alloc, tables.spreads, &groups[place])?;
@@ -225,7 +229,8 @@ fn pass(
     requires tested { AreTested (types_view tables.types.now) (rows_view tables.rows.now) marks.now }
     requires place { place < length groups.old.items }
     requires test { IsTest (types_view tables.types.now) (rows_view tables.rows.now) (groups_view groups.old.items) place reached.old.items }
-    ensures test { IfOk result (λ passed. IsTrue passed → IsTest (types_view tables.entry.types.now) (rows_view tables.entry.rows.now) (groups_view groups.new.items) (place + 1) reached.new.items) }
+    ensures test { IfOk result (λ passed. IsTrue passed →
+        IsTest (types_view tables.entry.types.now) (rows_view tables.entry.rows.now) (groups_view groups.new.items) (place + 1) reached.new.items) }
     ensures left { IfOk result (λ passed. IsTrue passed → notes.new.left.steps < notes.old.left.steps) }
 {
     if is_known(groups, marks, place, &mut notes.places) {
@@ -500,6 +505,7 @@ fn mark_otherwise(
     starts: &[usize],
     marks: &mut Vec<bool>,
     steps: usize,
+    more: usize,
 ) -> Result<(), NoMemory>
     requires range { InRange tables.spreads.now }
     requires spreads { map (λ v. v.items) tables.spreads.now ≡ map (λ r. r.spreads.items) tables.rows.now }
@@ -512,8 +518,29 @@ fn mark_otherwise(
         return Ok(());
     }
     mark_by_classes(tables, marks)?;
-    mark_in_steps(tables, starts, marks, steps.saturating_mul(4))?;
+    mark_in_steps(tables, starts, marks, more)?;
     Ok(())
+}
+
+/// How many of the numbers are marked.
+fn count_marked(marks: &[bool], numbers: &[usize]) -> usize {
+    let mut count: usize = 0;
+    for number in numbers {
+        if is_one_marked(marks, &[*number]) {
+            count = count.saturating_add(1);
+        }
+    }
+    count
+}
+
+/// How many steps tests of these sets one by one may take once more, behind those in a quarter of the room: four times the room. None
+/// where some were marked, and so few that sixteen times as many are not all.
+fn more_steps(marks: &[bool], starts: &[usize], room: usize) -> usize {
+    let marked = count_marked(marks, starts);
+    if marked >= SOME && marked.saturating_mul(16) < starts.len() {
+        return 0;
+    }
+    room.saturating_mul(4)
 }
 
 /// The marks that tests leave which begin with these sets: one by one in few steps, and where these are used up, otherwise.
@@ -526,7 +553,8 @@ fn marks_from(tables: Tables<'_>, starts: &[usize]) -> Result<Vec<bool>, NoMemor
     let mut marks = vec![in tables.alloc; false; tables.rows.len()]?;
     let room = all_room(tables.rows);
     if !mark_in_steps(tables, starts, &mut marks, room / 4)? {
-        mark_otherwise(tables, starts, &mut marks, room)?;
+        let more = more_steps(&marks, starts, room);
+        mark_otherwise(tables, starts, &mut marks, room, more)?;
     }
     Ok(marks)
 }

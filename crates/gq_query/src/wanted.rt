@@ -44,7 +44,8 @@ fn places_by(
     mention: &Mention<'_>,
     wanted: Wanted,
 ) -> Result<Vec<Occurrence>, NoMemory>
-    ensures { IfOk result (λ all. (ds : List DefinitionOf) → IsIndexOf ds index.now → (o : _) → Contains all.items o ↔ IsWanted ds wanted.uses wanted.declarations (mention_view mention.now) o) }
+    ensures { IfOk result (λ all. (ds : List DefinitionOf) → IsIndexOf ds index.now → (o : _) →
+        Contains all.items o ↔ IsWanted ds wanted.uses wanted.declarations (mention_view mention.now) o) }
 {
     let name = mention.name.text.as_str();
     match mention.kind {

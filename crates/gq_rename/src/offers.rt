@@ -38,7 +38,8 @@ pub(crate) fn offer_fragment(
     ensures answer { IsIndexOfProject valid.now index.now → (key : List ℕ) (offset : ℕ) → IsTarget valid.now key offset target.now →
         (result ≡ Err refusal.NoMemory) ⊎ IsRenameAnswer valid.now key offset new_name.now result }
     ensures fits { IfOk result (FitDocuments valid.now) }
-    ensures kept { IsIndexOfProject valid.now index.now → (key : List ℕ) (offset : ℕ) → IsTarget valid.now key offset target.now → IfOk result (KeepsTrees valid.now key offset new_name.now) }
+    ensures kept { IsIndexOfProject valid.now index.now → (key : List ℕ) (offset : ℕ) →
+        IsTarget valid.now key offset target.now → IfOk result (KeepsTrees valid.now key offset new_name.now) }
     ensures valid { IfOk result (λ edit. ∥ IsValid (after_edit edit valid.now) ∥₁) }
 {
     valid_documents_are_trees();
@@ -69,7 +70,8 @@ pub(crate) fn offer_variable(
     ensures answer { IsIndexOfProject valid.now index.now → (key : List ℕ) (offset : ℕ) → IsTarget valid.now key offset target.now →
         (result ≡ Err refusal.NoMemory) ⊎ IsRenameAnswer valid.now key offset new_name.now result }
     ensures fits { IfOk result (FitDocuments valid.now) }
-    ensures kept { IsIndexOfProject valid.now index.now → (key : List ℕ) (offset : ℕ) → IsTarget valid.now key offset target.now → IfOk result (KeepsTrees valid.now key offset new_name.now) }
+    ensures kept { IsIndexOfProject valid.now index.now → (key : List ℕ) (offset : ℕ) →
+        IsTarget valid.now key offset target.now → IfOk result (KeepsTrees valid.now key offset new_name.now) }
     ensures valid { IfOk result (λ edit. ∥ IsValid (after_edit edit valid.now) ∥₁) }
 {
     let old_name = target.name.text.as_str();
@@ -96,7 +98,8 @@ fn offer_group(
     ensures answer { IsIndexOfProject valid.now index.now → (key : List ℕ) (offset : ℕ) → IsTarget valid.now key offset target.now →
         (result ≡ Err refusal.NoMemory) ⊎ IsRenameAnswer valid.now key offset new_name.now result }
     ensures fits { IfOk result (FitDocuments valid.now) }
-    ensures kept { IsIndexOfProject valid.now index.now → (key : List ℕ) (offset : ℕ) → IsTarget valid.now key offset target.now → IfOk result (KeepsTrees valid.now key offset new_name.now) }
+    ensures kept { IsIndexOfProject valid.now index.now → (key : List ℕ) (offset : ℕ) →
+        IsTarget valid.now key offset target.now → IfOk result (KeepsTrees valid.now key offset new_name.now) }
     ensures valid { IfOk result (λ edit. ∥ IsValid (after_edit edit valid.now) ∥₁) }
 {
     valid_documents_are_trees();

@@ -102,7 +102,8 @@ fn offer(
     ensures answer { IsIndexOfProject valid.now index.now → (key : List ℕ) (offset : ℕ) → IsTarget valid.now key offset target.now →
         (result ≡ Err refusal.NoMemory) ⊎ IsRenameAnswer valid.now key offset new_name.now result }
     ensures fits { IfOk result (FitDocuments valid.now) }
-    ensures kept { IsIndexOfProject valid.now index.now → (key : List ℕ) (offset : ℕ) → IsTarget valid.now key offset target.now → IfOk result (KeepsTrees valid.now key offset new_name.now) }
+    ensures kept { IsIndexOfProject valid.now index.now → (key : List ℕ) (offset : ℕ) →
+        IsTarget valid.now key offset target.now → IfOk result (KeepsTrees valid.now key offset new_name.now) }
     ensures valid { IfOk result (λ edit. ∥ IsValid (after_edit edit valid.now) ∥₁) }
 {
     match target.kind {

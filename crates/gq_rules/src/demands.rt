@@ -56,7 +56,8 @@ pub(crate) fn faults_of_texts<R: AsParsed>(
 
 /// The same of what is known, where only documents that define types are looked at for both sorts.
 pub(crate) fn faults_of_known_texts(alloc: Global, known: Known<'_>) -> Result<Vec<Fault>, NoMemory>
-    ensures { IfOk result (λ faults. IsKnown known.entry → faults.items ≡ each_from unread_at 0 (readings_view known.entry.readings.now) ++ each_from mixed_at 0 (readings_view known.entry.readings.now)) }
+    ensures { IfOk result (λ faults. IsKnown known.entry →
+        faults.items ≡ each_from unread_at 0 (readings_view known.entry.readings.now) ++ each_from mixed_at 0 (readings_view known.entry.readings.now)) }
 {
     let mut faults = Vec::new(alloc);
     add_unread(known.readings, &mut faults)?;

@@ -211,7 +211,8 @@ fn add_own_faults(
     value: &Value,
     faults: &mut Vec<Fault>,
 ) -> Result<(), NoMemory>
-    ensures { OnOk result (faults.new.items ≡ faults.old.items ++ own_faults (types_view types.now) file (expected_view reading.entry) (value_view value.now).label.says (value_view value.now).below) }
+    ensures { OnOk result (faults.new.items ≡ faults.old.items ++
+        own_faults (types_view types.now) file (expected_view reading.entry) (value_view value.now).label.says (value_view value.now).below) }
 {
     let mut names = NameList::new(alloc);
     add_repeated_fields(file, entries_of(value), &mut names, faults)?;

@@ -95,7 +95,8 @@ fn put_uses_in<'a>(
     selection: &'a Selection,
     uses: &mut Vec<Use<'a>>,
 ) -> Result<(), NoMemory>
-    ensures { OnOk result (uses_view uses.new.items ≡ uses_view uses.old.items ++ selection_uses (types_view types.now) (selected_in (types_view types.now) file (text_of parent.entry) (sel_view selection.now))) }
+    ensures { OnOk result (uses_view uses.new.items ≡ uses_view uses.old.items ++
+        selection_uses (types_view types.now) (selected_in (types_view types.now) file (text_of parent.entry) (sel_view selection.now))) }
 {
     let selected = Selected {
         file,
@@ -132,7 +133,8 @@ fn put_uses_among<'a>(
     all: &'a [Selection],
     uses: &mut Vec<Use<'a>>,
 ) -> Result<(), NoMemory>
-    ensures { OnOk result (uses_view uses.new.items ≡ uses_view uses.old.items ++ selection_uses (types_view types.now) (selected_among (types_view types.now) file (text_of parent.entry) (sels_view all.now))) }
+    ensures { OnOk result (uses_view uses.new.items ≡ uses_view uses.old.items ++
+        selection_uses (types_view types.now) (selected_among (types_view types.now) file (text_of parent.entry) (sels_view all.now))) }
 {
     for selection in all {
         put_uses_in(types, file, parent, selection, uses)?;

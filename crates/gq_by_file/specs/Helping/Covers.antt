@@ -30,7 +30,8 @@ AreFaulty x files marks = (f : Fault) → IsFaultBySpreads (within files x) f �
 abbrev pub LeadsInto : List (Vec ℕ Global) → List ℕ → List ℕ → Type 0
 LeadsInto rows starts all = (n : ℕ) → Reach starts (row rows) n → Contains all n
 
--- A part of some operations and fragments has all of these that stand in files to which the starts lead, and nothing else than these.
+-- A part of some operations and fragments has all of these that stand in files to which the starts lead, and stands in no file in which the whole has
+-- nothing.
 pub record HoldsAll (x part : ExecutableOf) (rows : List (Vec ℕ Global)) (starts : List ℕ) : Type 0 where
   pub same : (files : List ℕ) → ((n : ℕ) → Contains files n → Reach starts (row rows) n) → within files part ≡ within files x
   pub inside : (n : ℕ) → StandsInFile part n → StandsInFile x n
