@@ -282,12 +282,14 @@ def wrong_cut(data, cut, wanted, output, errors, status):
 
 
 def threads_of(program, workers):
-    """How many threads a server has that has answered its first request."""
+    """How many threads a server has that has answered its first request, once there are no more of them shortly after."""
     server = Server(command_of(program, workers, Case("threads", [], [])))
     server.write(framed('{"id":1,"method":"initialize","params":{"capabilities":{}}}', "/w"))
     server.await_that(lambda output: b'"id":1' in output)
-    time.sleep(SHORTLY)
-    count = len(os.listdir(f"/proc/{server.process.pid}/task"))
+    count, before = 0, -1
+    while count != before:
+        time.sleep(SHORTLY)
+        count, before = len(os.listdir(f"/proc/{server.process.pid}/task")), count
     server.end()
     return count
 
