@@ -12,7 +12,7 @@ repository stays as it is.
 With --over-statements only the functions that an edit changes are checked, over the statements of the crates below, of which none need be proved
 (scripts/over_statements.py says what DIR is). That takes a minute or two where a whole crate takes many. The functions as they are must be proved
 so first. --only keeps the edits that have one of these texts in their names. An edit that is refused only where its function is used counts as not
-refused there, so try it without --over-statements.
+refused there, as does one that changes no function but a constant, so try these without --over-statements.
 
 The last line is `N refused, M not`. The status is 1 if M is not 0 or `rt must-fail` failed for a crate, and 2 if a name is
 none of a crate with a folder wrong-bodies, in which case nothing is tried."""
@@ -202,7 +202,7 @@ def try_one(name, room, work, edit):
     for path, text in texts.items():
         with open(f"{crate}/{path}", "w", encoding="utf-8") as file:
             file.write(text)
-    found = verdict(*check(name, room, work, functions)) if functions else ("BAD EDIT", "it changes no function")
+    found = verdict(*check(name, room, work, functions)) if functions else ("NOT TRIED", "it changes no function: try it without --over-statements")
     for path in texts:
         shutil.copy2(f"{ROOT}/crates/{name}/{path}", f"{crate}/{path}")
     return found
