@@ -24,7 +24,7 @@ pub fn lex<'a>(alloc: Global, text: &'a str) -> Result<Vec<Token<'a>>, LexFault>
     ensures bad { (place : ℕ) (kind : BadKind) → result ≡ Err (LexFault.Bad place kind) → IsBadAt text.now place kind }
     ensures limit { (place : ℕ) → result ≡ Err (LexFault.Limit place) → IsLimitAt text.now place }
 {
-    let mut tokens = Vec::new(alloc);
+    let mut tokens = no_tokens(alloc, text.len())?;
     let mut at = 0;
     while at < text.len() {
         let (kind, len) = match front(text, at) {
@@ -46,6 +46,17 @@ pub fn lex<'a>(alloc: Global, text: &'a str) -> Result<Vec<Token<'a>>, LexFault>
         at = end;
     }
     Ok(tokens)
+}
+
+/// No tokens, with room for those of a text of so many bytes, one in four of which begins a token.
+fn no_tokens<'a>(alloc: Global, bytes: usize) -> Result<Vec<Token<'a>>, LexFault>
+    ensures none { IfOk result (λ tokens. tokens.items ≡ []) }
+    ensures err { IfErr result (λ fault. fault ≡ LexFault.NoMemory) }
+{
+    match Vec::with_capacity(alloc, TOKENS_MAX.min(bytes / 4)) {
+        Ok(tokens) => Ok(tokens),
+        Err(_) => Err(LexFault::NoMemory),
+    }
 }
 
 // One more token.

@@ -7,6 +7,7 @@ pub mod PastLast
 pub mod DeclarerLemmas
 pub mod ImplementerLemmas
 pub mod NameLaws
+pub mod FieldLemmas
 pub mod Gathered
 pub mod PartLemmas
 pub mod KindLemmas

@@ -11,9 +11,9 @@ use Rattle.gq_tree.specs.declared.tree.OperationKind.{OperationKind}
 use Rattle.gq_tree.specs.Plain.{BodyOf, RootOf}
 use Rattle.gq_tree.specs.Same.{same_kinds}
 use Rattle.gq_types.specs.Entries.{Text, EntryOf, Numbered, numbered, numbered_from}
-use Rattle.gq_types.specs.Joined.{In, put_in, parts_in, parts_of, body_in, owner, joined, type_number, schema_number, fields_in_body, interfaces_in_body, members_in_body, values_in_body, inputs_in_body, fields_of, interfaces_of, members_of, values_of, inputs_of}
+use Rattle.gq_types.specs.Joined.{In, put_in, parts_in, parts_of, body_in, owner, joined, type_number, schema_number, interfaces_in_body, members_in_body, values_in_body, inputs_in_body, interfaces_of, members_of, values_of, inputs_of}
 use Rattle.gq_types.specs.Look.{joined_numbers}
-use Rattle.gq_types.specs.LookUps.{field_in, declares_in}
+use Rattle.gq_types.specs.LookUps.{declares_in}
 use Rattle.gq_types.specs.Names.{input_named, has_value, has_member}
 use Rattle.gq_types.specs.Roots.{roots_in, entry_for}
 use Rattle.gq_types.specs.Helping.Tables.{places_from, Lists, no_parts, add_body, add_entry, parts_at, stands_at, root_at, first_root_at}
@@ -64,22 +64,13 @@ module _ {A : Type 0} (parts : BodyOf Span → List A) (name : A → Text) where
   put_names file [] = refl
   put_names file (x ∷ xs) = ap (λ ts. name x ∷ ts) (put_names file xs)
 
-  all_names : (ns : List Numbered) → flat_map (λ n. map name (parts (body_in n.entry.definition))) ns ≡ map (λ x. name x.it) (flat_map (λ n. parts_in parts n.entry) ns)
+  pub all_names : (ns : List Numbered) → flat_map (λ n. map name (parts (body_in n.entry.definition))) ns ≡ map (λ x. name x.it) (flat_map (λ n. parts_in parts n.entry) ns)
   all_names [] = refl
   all_names (n ∷ ns) =
       ap (λ ts. ts ++ flat_map (λ n. map name (parts (body_in n.entry.definition))) ns) (sym (put_names n.entry.file (parts (body_in n.entry.definition))))
       ∙ ap (λ ts. map (λ x. name x.it) (parts_in parts n.entry) ++ ts) (all_names ns) ∙ sym (map-append (λ x. name x.it) (parts_in parts n.entry) (flat_map (λ n. parts_in parts n.entry) ns))
 
 module _ (es : List EntryOf) (k : ℕ) where
-  field_names_are : (parts_at es (joined_numbers es k)).field_names ≡ map (λ f. f.it.name.text) (fields_of es k)
-  field_names_are =
-      gathered es (λ l. l.field_names) (λ n. map (λ f. f.name.text) (fields_in_body (body_in n.entry.definition))) (λ l n there. added es (λ l. l.field_names) l n there) (joined es k) (joined_stand es k) no_parts
-      ∙ all_names fields_in_body (λ f. f.name.text) (joined es k)
-
-  field_places_are : (parts_at es (joined_numbers es k)).field_places ≡ flat_map (λ n. places_from n.number 0 (fields_in_body (body_in n.entry.definition))) (joined es k)
-  field_places_are =
-      gathered es (λ l. l.field_places) (λ n. places_from n.number 0 (fields_in_body (body_in n.entry.definition))) (λ l n there. added es (λ l. l.field_places) l n there) (joined es k) (joined_stand es k) no_parts
-
   input_names_are : (parts_at es (joined_numbers es k)).input_names ≡ map (λ f. f.it.name.text) (inputs_of es k)
   input_names_are =
       gathered es (λ l. l.input_names) (λ n. map (λ f. f.name.text) (inputs_in_body (body_in n.entry.definition))) (λ l n there. added es (λ l. l.input_names) l n there) (joined es k) (joined_stand es k) no_parts
@@ -204,13 +195,6 @@ module _ (es : List EntryOf) (text : Text) (k : ℕ) (l : Lists) where
   have_at (Some e) h = cc
 
   module _ (have : HaveAt (slice_get es k)) where
-    pub field_is : field_in es k text ≡ option_and_then (λ p. stands_at fields_in_body es p) (under_name l.field_names l.field_places text)
-    field_is =
-        part_found fields_in_body (λ f. f.name.text) es k text
-        ∙ ap (λ o. option_and_then (λ p. stands_at fields_in_body es p) o)
-        (ap (λ ts. under_name ts (flat_map (λ n. places_from n.number 0 (fields_in_body (body_in n.entry.definition))) (joined es k)) text) (sym (field_names_are es k)) ∙ ap (λ ps. under_name (parts_at es (joined_numbers es k)).field_names ps text) (sym (field_places_are es k))
-        ∙ ap (λ l. under_name l.field_names l.field_places text) (sym (have_at (slice_get es k) have)))
-
     pub interface_is : list_any (bytes_eq text) l.interfaces ≡ declares_in es k text
     interface_is =
         ap (λ l. list_any (bytes_eq text) l.interfaces) (have_at (slice_get es k) have) ∙ ap (λ ts. list_any (bytes_eq text) ts) (interfaces_are es k) ∙ any_map (bytes_eq text) (λ i. i.it.text) (interfaces_of es k)

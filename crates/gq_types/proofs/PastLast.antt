@@ -45,6 +45,9 @@ module _ {A : Type 0} (parts : BodyOf Span → List A) (none : parts scalar_type
   no_parts : parts_of parts es number ≡ []
   no_parts = none_joined (numbered es) (numbered_stand es)
 
+pub no_field : (es : List EntryOf) (number : ℕ) (text : Text) → length es ≤ number → field_in es number text ≡ None
+no_field es number text past = ap (λ fs. option_map (λ f. f.it) (find (λ f. bytes_eq text f.it.name.text) fs)) (no_parts fields_in_body refl es number past)
+
 -- a number at which nothing stands
 nothing_at : {P : Type 0} (p : P) (o : Option EntryOf) → ◌≡◌ {A = Option P} None (option_map (λ e. p) o) → o ≡ None
 nothing_at p None h = refl
@@ -53,9 +56,6 @@ nothing_at p (Some e) h = absurd (cc)
 module _ {P : Type 0} (es : List EntryOf) (number : ℕ) (text : Text) (p : P) (nothing : ◌≡◌ {A = Option P} None (option_map (λ e. p) (slice_get es number))) where
   past_last : length es ≤ number
   past_last = ⊎_elim (λ there. let none = nothing_at p (slice_get es number) nothing in let some = there.2 in absurd (cc)) (λ past. past.0) (slice_get_cases es number).1
-
-  pub no_field : field_in es number text ≡ None
-  no_field = ap (λ fs. option_map (λ f. f.it) (find (λ f. bytes_eq text f.it.name.text) fs)) (no_parts fields_in_body refl es number past_last)
 
   pub no_interface : declares_in es number text ≡ false
   no_interface = ap (λ is. list_any (λ i. bytes_eq text i.it.text) is) (no_parts interfaces_in_body refl es number past_last)

@@ -1,10 +1,12 @@
 //! The parts of a definition or extension of a type, which is given by its number.
 ghost use Rattle.std.specs.Prelude.{◌≡◌, map};
 ghost use Rattle.gq_tree.specs.Views.{name_of, field_definition_view, body_view, type_system_view};
+ghost use Rattle.gq_types.specs.Entries.{entries_view};
 ghost use Rattle.gq_types.specs.Joined.{body_in, fields_in_body, interfaces_in_body, members_in_body};
 ghost use Rattle.gq_types.specs.Look.{types_view};
 ghost use Rattle.gq_types.specs.LookUps.{parts_of_entry};
 
+use crate::entry::Entry;
 use crate::types::Types;
 use gq_tree::{FieldDefinition, Name, TypeBody, TypeSystemDefinition};
 
@@ -23,10 +25,7 @@ impl Types {
     pub fn fields_at(&self, number: usize) -> &[FieldDefinition]
         ensures { map field_definition_view result.now ≡ parts_of_entry fields_in_body (types_view self.now) number }
     {
-        match self.entries().get(number) {
-            Some(entry) => fields_of(&entry.definition),
-            None => &[],
-        }
+        fields_among(self.entries(), number)
     }
 
     /// Its members; none where it is no union.
@@ -60,6 +59,16 @@ fn interfaces_in(body: &TypeBody) -> &[Name]
         TypeBody::Union(_) => &[],
         TypeBody::Enum(_) => &[],
         TypeBody::InputObject(_) => &[],
+    }
+}
+
+/// The fields of the entry with that number; none where it is no object type or interface, nor past the last one.
+pub(crate) fn fields_among(entries: &[Entry], number: usize) -> &[FieldDefinition]
+    ensures { map field_definition_view result.now ≡ parts_of_entry fields_in_body (entries_view entries.now) number }
+{
+    match entries.get(number) {
+        Some(entry) => fields_of(&entry.definition),
+        None => &[],
     }
 }
 

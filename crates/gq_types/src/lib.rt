@@ -9,6 +9,7 @@ mod declarers;
 mod definitions;
 pub mod entry;
 pub mod entry_parts;
+mod fields;
 pub mod implementers;
 mod joined;
 pub mod laws;

@@ -8,10 +8,7 @@ use crate::entry::Entry;
 use crate::table::Table;
 use gq_names::NameList;
 use gq_text::NoMemory;
-use gq_tree::{
-    EnumValueDefinition, FieldDefinition, InputValueDefinition, Name, TypeBody,
-    TypeSystemDefinition,
-};
+use gq_tree::{EnumValueDefinition, InputValueDefinition, Name, TypeBody, TypeSystemDefinition};
 use std::alloc::Global;
 
 /// Where a field or an input field stands.
@@ -23,10 +20,9 @@ pub(crate) struct Place {
     pub(crate) index: usize,
 }
 
-/// The names of the parts of a type with its extensions, and the places of its fields and input fields.
+/// The names of the parts of a type with its extensions, but for its fields, and the places of its input fields.
 #[derive(Drop)]
 pub(crate) struct Parts {
-    pub(crate) fields: Table<Place>,
     pub(crate) inputs: Table<Place>,
     pub(crate) values: NameList,
     pub(crate) members: NameList,
@@ -39,7 +35,6 @@ impl Parts {
         ensures { lists_in result ≡ no_parts }
     {
         Parts {
-            fields: Table::new(alloc),
             inputs: Table::new(alloc),
             values: NameList::new(alloc),
             members: NameList::new(alloc),
@@ -67,14 +62,8 @@ impl Parts {
     {
         match body {
             TypeBody::Scalar => {}
-            TypeBody::Object(parts) => {
-                add_names(&mut self.interfaces, &parts.interfaces)?;
-                add_fields(&mut self.fields, number, &parts.fields)?;
-            }
-            TypeBody::Interface(parts) => {
-                add_names(&mut self.interfaces, &parts.interfaces)?;
-                add_fields(&mut self.fields, number, &parts.fields)?;
-            }
+            TypeBody::Object(parts) => add_names(&mut self.interfaces, &parts.interfaces)?,
+            TypeBody::Interface(parts) => add_names(&mut self.interfaces, &parts.interfaces)?,
             TypeBody::Union(members) => add_names(&mut self.members, members)?,
             TypeBody::Enum(values) => add_values(&mut self.values, values)?,
             TypeBody::InputObject(fields) => add_inputs(&mut self.inputs, number, fields)?,
@@ -92,7 +81,7 @@ pub(crate) fn all_parts(
     requires { AreJoined (entries_view entries.now) (lists_of joined.now) }
     ensures { IfOk result (λ parts. AreParts (entries_view entries.now) parts.items) }
 {
-    let mut all = Vec::new(alloc);
+    let mut all = Vec::with_capacity(alloc, entries.len())?;
     for number in 0..entries.len() {
         let numbers = numbers_at(joined, number);
         let parts = parts_of(alloc, entries, numbers)?;
@@ -120,20 +109,6 @@ fn parts_of(alloc: Global, entries: &[Entry], numbers: &[usize]) -> Result<Parts
         parts.add_entry(entries, *number)?;
     }
     Ok(parts)
-}
-
-fn add_fields(
-    table: &mut Table<Place>,
-    entry: usize,
-    fields: &[FieldDefinition],
-) -> Result<(), NoMemory>
-    ensures names { OnOk result (table.new.names ≡ table.old.names ++ map (λ f. f.name.text) fields.now) }
-    ensures places { OnOk result (table.new.values.items ≡ table.old.values.items ++ places_from entry 0 fields.now) }
-{
-    for (index, field) in fields.iter().enumerate() {
-        table.push(field.name.text.as_str(), Place { entry, index })?;
-    }
-    Ok(())
 }
 
 fn add_inputs(

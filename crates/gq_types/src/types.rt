@@ -24,12 +24,14 @@ use crate::built_in::{built_in, typename_type};
 use crate::declarers::declarers_of;
 use crate::definitions::Definitions;
 use crate::entry::{Entry, TypeKind};
+use crate::fields::{all_fields, place_in};
 use crate::joined::joined_numbers;
 use crate::locations::has_location;
 use crate::parts::{Parts, Place, all_parts, numbers_at};
 use crate::places::{field_at, input_at};
 use crate::required::is_any_lacking;
 use crate::roots::default_name;
+use crate::table::Table;
 use crate::uses::Uses;
 use gq_names::{ByName, NameList};
 use gq_text::NoMemory;
@@ -55,6 +57,7 @@ pub struct DefinedField<'a> {
 pub struct Types {
     definitions: Definitions,
     joined: Vec<Vec<usize>>,
+    fields: Vec<Option<Box<Table<Place>>>>,
     parts: Vec<Parts>,
     declarers: ByName<usize>,
     uses: Uses,
@@ -66,6 +69,7 @@ impl Drop for Types {
         let Types {
             definitions: _definitions,
             joined: _joined,
+            fields: _fields,
             parts: _parts,
             declarers: _declarers,
             uses: _uses,
@@ -88,7 +92,7 @@ impl Model for Types {
 
     ghost view = { λ t. t.definitions };
 
-    ghost invariant = { λ t. IsIndex (entries_view t.definitions) t.joined.items t.parts.items t.declarers t.uses t.typename_type };
+    ghost invariant = { λ t. IsIndex (entries_view t.definitions) t.joined.items t.fields.items t.parts.items t.declarers t.uses t.typename_type };
 }
 
 impl Types {
@@ -100,6 +104,7 @@ impl Types {
         all.append(&mut entries)?;
         let definitions = Definitions::of(alloc, all)?;
         let joined = joined_numbers(alloc, &definitions)?;
+        let fields = all_fields(alloc, definitions.entries(), &joined)?;
         let parts = all_parts(alloc, definitions.entries(), &joined)?;
         let declarers = declarers_of(alloc, &parts)?;
         let schema = definitions.schema_number();
@@ -108,6 +113,7 @@ impl Types {
         Ok(Types {
             definitions,
             joined,
+            fields,
             parts,
             declarers,
             uses,
@@ -354,7 +360,10 @@ impl Types {
     fn field_place(&self, number: usize, name: &str) -> Option<Place>
         ensures { option_and_then (stands_at fields_in_body (types_view self.now)) result ≡ field_in (types_view self.now) number name.now }
     {
-        self.parts_numbered(number)?.fields.get(name)
+        match self.fields.get(number)? {
+            Some(table) => table.get(name),
+            None => place_in(self.entries(), number, name),
+        }
     }
 
     /// The arguments that stand at that place.

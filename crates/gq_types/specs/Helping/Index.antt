@@ -1,6 +1,7 @@
 -- What a type system keeps of its entries. No contract of a public call speaks of it.
-use Rattle.std.specs.Prelude.{◌≡◌, ℕ, List, [], ◌∷◌, Option, Some, length, map, option_and_then, slice_get, Vec}
+use Rattle.std.specs.Prelude.{◌≡◌, ℕ, List, [], ◌∷◌, Option, Some, length, map, option_and_then, slice_get, Box, Vec}
 use Rattle.std.specs.List.{list_any}
+use Rattle.std.specs.declared.alloc.Global.{Global}
 use Rattle.gq_text.specs.declared.place.Span.{Span}
 use Rattle.gq_tree.specs.declared.tree.OperationKind.{OperationKind}
 use Rattle.gq_tree.specs.declared.tree.OperationKind.TheVariants as kind
@@ -13,6 +14,7 @@ use Rattle.gq_types.specs.declared.argument_names.ArgumentNames.{ArgumentNames}
 use Rattle.gq_types.specs.declared.parts.Parts.{Parts}
 use Rattle.gq_types.specs.declared.parts.Place.{Place}
 use Rattle.gq_types.specs.declared.roots.RootNames.{RootNames}
+use Rattle.gq_types.specs.declared.table.Table.{Table}
 use Rattle.gq_types.specs.declared.uses.Uses.{Uses}
 use Rattle.gq_types.specs.Directives.{locations_in}
 use Rattle.gq_types.specs.Entries.{Text, EntryOf}
@@ -21,6 +23,7 @@ use Rattle.gq_names.specs.UnderNames.{UnderNames, items_under}
 use Rattle.gq_types.specs.Declarers.{declaring_from}
 use Rattle.gq_types.specs.Joined.{fields_in_body, schema_number}
 use Rattle.gq_types.specs.Look.{joined_numbers}
+use Rattle.gq_types.specs.Helping.FieldTables.{AreFieldTables}
 use Rattle.gq_types.specs.Helping.RequiredNames.{AreRequired, AreNamesOf}
 use Rattle.gq_types.specs.Helping.Tables.{lists_of, AreJoined, AreParts, EachAt, first_root_at}
 
@@ -65,8 +68,9 @@ pub record AreUses (es : List EntryOf) (uses : Uses) : Type 0 where
   pub locations_are : AreLocations es (lists_of uses.locations.items)
   pub roots_are : AreRoots es (joined_numbers es (schema_number es)) uses.roots
 
-pub record IsIndex {Z : Type 0} (es : List EntryOf) (joined : List (Vec ℕ Z)) (parts : List Parts) (declarers : UnderNames ℕ) (uses : Uses) (of_typename : TypeRef) : Type 0 where
+pub record IsIndex {Z : Type 0} (es : List EntryOf) (joined : List (Vec ℕ Z)) (fields : List (Option (Box (Table Place) Global))) (parts : List Parts) (declarers : UnderNames ℕ) (uses : Uses) (of_typename : TypeRef) : Type 0 where
   pub joined_are : AreJoined es (lists_of joined)
+  pub fields_are : AreFieldTables es fields
   pub parts_are : AreParts es parts
   pub declarers_are : (text : Text) → items_under declarers text ≡ declaring_from 0 (map (λ p. p.interfaces) parts) text
   pub uses_are : AreUses es uses

@@ -10,7 +10,7 @@ use Rattle.gq_types.specs.declared.table.Table.{Table}
 use Rattle.gq_types.specs.declared.parts.Place.{Place}
 use Rattle.gq_types.specs.declared.parts.Parts.{Parts}
 use Rattle.gq_types.specs.Entries.{Text, EntryOf}
-use Rattle.gq_types.specs.Joined.{schema_number, kind_in, body_in, fields_in_body, interfaces_in_body, members_in_body, values_in_body, inputs_in_body}
+use Rattle.gq_types.specs.Joined.{schema_number, kind_in, body_in, interfaces_in_body, members_in_body, values_in_body, inputs_in_body}
 use Rattle.gq_types.specs.Roots.{roots_in}
 use Rattle.gq_types.specs.Look.{joined_numbers}
 
@@ -70,10 +70,8 @@ abbrev pub places_from : {A : Type 0} → (entry index : ℕ) → List A → Lis
 places_from entry index [] = []
 places_from entry index (x ∷ xs) = record { entry = entry; index = index } ∷ places_from entry (index + 1) xs
 
--- the parts of a type with its extensions: the names of each, and for those that are looked up their places
+-- the parts of a type with its extensions, but for its fields: the names of each, and the places of input fields
 pub record Lists : Type 0 where
-  pub field_names : List Text
-  pub field_places : List Place
   pub input_names : List Text
   pub input_places : List Place
   pub values : List Text
@@ -81,13 +79,11 @@ pub record Lists : Type 0 where
   pub interfaces : List Text
 
 abbrev pub no_parts : Lists
-no_parts = record { field_names = []; field_places = []; input_names = []; input_places = []; values = []; members = []; interfaces = [] }
+no_parts = record { input_names = []; input_places = []; values = []; members = []; interfaces = [] }
 
 -- those of one more entry
 abbrev pub add_body : Lists → ℕ → BodyOf Span → Lists
 add_body l number body = record {
-  field_names = l.field_names ++ map (λ f. f.name.text) (fields_in_body body);
-  field_places = l.field_places ++ places_from number 0 (fields_in_body body);
   input_names = l.input_names ++ map (λ i. i.name.text) (inputs_in_body body);
   input_places = l.input_places ++ places_from number 0 (inputs_in_body body);
   values = l.values ++ map (λ v. v.name.text) (values_in_body body);
@@ -103,8 +99,6 @@ parts_at es numbers = fold (add_entry es) no_parts numbers
 
 abbrev pub lists_in : Parts → Lists
 lists_in p = record {
-  field_names = p.fields.names;
-  field_places = p.fields.values.items;
   input_names = p.inputs.names;
   input_places = p.inputs.values.items;
   values = p.values;

@@ -6,9 +6,9 @@ use Rattle.gq_lex.proofs.lexer.lex.Goals as goal
 
 pub loop-at-init : goal.loop-at-init
 loop-at-init c =
-    let empty : map lexeme_of c.new-tokens.result.items ≡ [] = ap (map lexeme_of) c.new-tokens.ensures.items in
+    let empty : map lexeme_of c.in_ok-tokens.tokens.items ≡ [] = ap (map lexeme_of) c.in_ok-tokens.ensures.none in
     let P : List Lexeme → Type 0 = λ l. ReadsTo 0 c.args.text.now l c.args.text.now in
-    record { within = omega arith; few = omega (arith, ap length c.new-tokens.ensures.items); reads = subst P (sym empty) here }
+    record { within = omega arith; few = omega (arith, ap length c.in_ok-tokens.ensures.none); reads = subst P (sym empty) here }
 
 pub returns-then-len-eq-TOKENS_MAX-clause-limit : goal.returns-then-len-eq-TOKENS_MAX-clause-limit
 returns-then-len-eq-TOKENS_MAX-clause-limit c = λ place h.

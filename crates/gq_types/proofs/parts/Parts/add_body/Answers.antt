@@ -1,20 +1,20 @@
+use Rattle.gq_tree.specs.Views.{field_definition_view}
+use Rattle.std.proofs.Common.{map}
 use Rattle.gq_types.specs.Helping.Tables.{lists_in}
 use Rattle.gq_types.proofs.PartsLemmas.{object_adds, interface_adds, union_adds, enum_adds, input_adds}
 use Rattle.gq_types.proofs.parts.Parts.add_body.Goals as goal
 
-pub returns-in_ok-add_fields-in-Object : goal.returns-in_ok-add_fields-in-Object
-returns-in_ok-add_fields-in-Object c =
+pub returns-in_ok-add_names-in-Object : goal.returns-in_ok-add_names-in-Object
+returns-in_ok-add_names-in-Object c =
     rw c.in-Object.is
-    (object_adds (lists_in c.args.self.now) c.args.number c.in-Object.parts.fields.items c.in-Object.parts.interfaces.items c.add_fields.new.table.names c.add_fields.new.table.values.items c.add_names.new.list
-    (cc (c.in_ok-add_fields-in-Object.ensures.names, c.deref-in-Object.ensures.value)) (cc (c.in_ok-add_fields-in-Object.ensures.places, c.deref-in-Object.ensures.value))
-    (cc (c.in_ok-add_names-in-Object.ensures, c.deref.ensures.value)))
+    (object_adds (lists_in c.args.self.now) c.args.number c.in-Object.parts.interfaces.items c.add_names.new.list (cc (c.in_ok-add_names-in-Object.ensures, c.deref.ensures.value))
+    (map field_definition_view c.in-Object.parts.fields.items))
 
-pub returns-in_ok-add_fields-in-Interface : goal.returns-in_ok-add_fields-in-Interface
-returns-in_ok-add_fields-in-Interface c =
+pub returns-in_ok-add_names-in-Interface : goal.returns-in_ok-add_names-in-Interface
+returns-in_ok-add_names-in-Interface c =
     rw c.in-Interface.is
-    (interface_adds (lists_in c.args.self.now) c.args.number c.in-Interface.parts.fields.items c.in-Interface.parts.interfaces.items c.add_fields-in-Interface.new.table.names c.add_fields-in-Interface.new.table.values.items
-    c.add_names-in-Interface.new.list (cc (c.in_ok-add_fields-in-Interface.ensures.names, c.deref-in-Interface-2.ensures.value)) (cc (c.in_ok-add_fields-in-Interface.ensures.places, c.deref-in-Interface-2.ensures.value))
-    (cc (c.in_ok-add_names-in-Interface.ensures, c.deref-in-Interface.ensures.value)))
+    (interface_adds (lists_in c.args.self.now) c.args.number c.in-Interface.parts.interfaces.items c.add_names-in-Interface.new.list
+    (cc (c.in_ok-add_names-in-Interface.ensures, c.deref-in-Interface.ensures.value)) (map field_definition_view c.in-Interface.parts.fields.items))
 
 pub returns-in_ok-add_names-in-Union : goal.returns-in_ok-add_names-in-Union
 returns-in_ok-add_names-in-Union c =

@@ -1,6 +1,6 @@
 use Rattle.std.proofs.Common.{◌≡◌, ◌++◌, drop, map}
 use Rattle.gq_types.specs.Helping.Tables.{places_from}
-use Rattle.gq_types.proofs.parts.add_fields.Given as goal
+use Rattle.gq_types.proofs.fields.add_fields.Given as goal
 
 -- what was put, and what the other fields add
 abbrev pub invariant-loop-index : goal.invariant-loop-index
