@@ -1,5 +1,5 @@
 -- Type systems that are equal but for their places.
-use Rattle.std.specs.Prelude.{◌≡◌, List, map}
+use Rattle.std.specs.Prelude.{◌≡◌, ℕ, List, map}
 use Rattle.std.specs.Option.{option_map}
 use Rattle.gq_fault.specs.declared.fault.Fault.{Fault}
 use Rattle.gq_tree.specs.Plain.{TypeSystemOf, place_field, place_input, place_type_system, no_place}
@@ -9,6 +9,7 @@ use Rattle.gq_types.specs.Entries.{Text, EntryOf}
 use Rattle.gq_types.specs.Joined.{kind_named}
 use Rattle.gq_types.specs.Names.{field_named, input_named, has_value, has_member, declares, directive_named}
 use Rattle.gq_types.specs.Roots.{root_of}
+use Rattle.gq_type_system.specs.SchemaFaults.{IsSchemaFault}
 use Rattle.gq_document.specs.Definitions.{OperationOf, FragmentOf}
 use Rattle.gq_document.specs.Executable.{ExecutableOf}
 use Rattle.gq_rules.specs.Project.{executable_of}
@@ -34,9 +35,17 @@ PlacesOfTypesDoNotMatter IsFault = (es us : List EntryOf) → LooksAlike es us �
 abbrev pub erase_entry : EntryOf → TypeSystemOf (Unit {0})
 erase_entry e = place_type_system no_place e.definition
 
+-- the same with the number of its document
+abbrev pub erase_filed : EntryOf → ℕ × TypeSystemOf (Unit {0})
+erase_filed e = (e.file, erase_entry e)
+
 -- In type systems that are equal but for places each look-up finds the same but for places.
 abbrev pub TypesLookAlike : Type 0
 TypesLookAlike = (es us : List EntryOf) → map erase_entry es ≡ map erase_entry us → LooksAlike es us
+
+-- Of two type systems that are equal but for their places, the one breaks a rule of section 3 in a document where the other does.
+abbrev pub PlacesOfTypesDoNotMatterToTypes : Type 0
+PlacesOfTypesDoNotMatterToTypes = (es us : List EntryOf) → map erase_filed es ≡ map erase_filed us → (f : Fault) → IsSchemaFault es f → HasLike (IsSchemaFault us) f
 
 -- equal but for the places in the executable definitions and in the type system
 pub record SameButAllPlaces (x y : ExecutableOf) : Type 0 where
