@@ -16,6 +16,7 @@ use Rattle.gq_types.proofs.entry.TypeKind.TheSendSync as TypeKind
 use Rattle.gq_types.proofs.table.Table.TheSendSync as Table
 use Rattle.gq_types.proofs.uses.Uses.TheSendSync as Uses
 use Rattle.gq_types.proofs.parts.Parts.TheSendSync as Parts
+use Rattle.gq_types.proofs.parts.Place.TheSendSync as Place
 use Rattle.gq_names.proofs.by_name.ByName.TheSendSync as ByName
 
 Entry-field_sync : IsSync (Entry.the_field).row
@@ -31,7 +32,7 @@ TypeRef-field_sync : IsSync (TypeRef.the_field).row
 TypeRef-field_sync = search (sendable, crosses, sync-TypeRef, Name.the_field_sync) depth 12
 
 Types-field_sync : IsSync (Types.the_field).row
-Types-field_sync = search (sendable, crosses, Definitions-field_sync, Parts.the_sync, ByName.the_sync, Uses.the_field_sync, TypeRef-field_sync) depth 16
+Types-field_sync = search (sendable, crosses, Definitions-field_sync, Table.the_field_sync, Table.the_sync, Place.the_field_sync, Place.the_sync, Parts.the_sync, ByName.the_sync, Uses.the_field_sync, TypeRef-field_sync) depth 20
 
 pub Types-sync : IsSync Types.the_row
 Types-sync = search (sendable, crosses, Types-field_sync) depth 12

@@ -11,7 +11,8 @@ ghost use Rattle.gq_document.specs.Helping.Trees.{selected_in};
 ghost use Rattle.gq_document.specs.Selections.{parent_below, selected_among, selected_field};
 ghost use Rattle.gq_document.specs.Views.{selected_field_view, selected_view};
 ghost use Rattle.gq_fields.specs.FieldFaults.{IsFieldFault};
-ghost use Rattle.gq_fields.specs.Helping.FieldFaultsPlaces.{faults_of_field, faults_of_named, selection_faults, selections_faults, variable_faults, variables_faults, operation_faults, fragment_faults, operations_faults, fragments_faults, field_faults};
+ghost use Rattle.gq_fields.specs.Helping.FieldFaultsPlaces.{faults_of_field, faults_of_named, selection_faults, selections_faults, variable_faults};
+ghost use Rattle.gq_fields.specs.Helping.FieldFaultsPlaces.{variables_faults, operation_faults, fragment_faults, operations_faults, fragments_faults, field_faults};
 
 use crate::arguments::add_wrong_arguments;
 use crate::directives::{

@@ -1,8 +1,9 @@
 //! The selections of operations and fragments that are no fields.
-ghost use Rattle.std.specs.Prelude.{◌≡◌, ◌++◌, IfOk, OnOk, flat_map};
+ghost use Rattle.std.specs.Prelude.{◌≡◌, ◌++◌, ℕ, true, List, [], Option, IfOk, OnOk, flat_map};
 ghost use Rattle.std.specs.Option.{option_map};
 ghost use Rattle.gq_tree.specs.NamedTypes.{base_name};
 ghost use Rattle.gq_tree.specs.Views.{sel_view, sels_view};
+ghost use Rattle.gq_types.specs.Entries.{Text, EntryOf};
 ghost use Rattle.gq_types.specs.Look.{types_view, text_of};
 ghost use Rattle.gq_document.specs.Definitions.{operation_view, operations_view, fragment_view, fragments_view};
 ghost use Rattle.gq_document.specs.Selections.{operation_selections, fragment_selections, selected_among, selected_field};
@@ -27,6 +28,29 @@ fn type_below<'a>(types: &'a Types, parent: Option<&str>, name: &str) -> Option<
     }
 }
 
+/// Whether this is a field without selections.
+#[tactic(auto, using(gq_tree::proofs::Trees::views))]
+fn is_leaf(selection: &Selection) -> bool
+    ensures { result ≡ true → (es : List EntryOf) (file : ℕ) (parent : Option Text) → of_fragments (selected_in es file parent (sel_view selection.now)) ≡ [] }
+{
+    match selection {
+        Selection::Field(field) => field.set.is_none(),
+        Selection::Spread(_) | Selection::Inline(_) => false,
+    }
+}
+
+/// Whether these are all fields without selections. None of them is put, whatever the type of their parent is.
+fn are_leaves(all: &[Selection]) -> bool
+    ensures { result ≡ true → (es : List EntryOf) (file : ℕ) (parent : Option Text) → of_fragments (selected_among es file parent (sels_view all.now)) ≡ [] }
+{
+    for selection in all {
+        if !is_leaf(selection) {
+            return false;
+        }
+    }
+    true
+}
+
 /// Puts a selection that is no field, and those below a selection, behind the others.
 #[cycle(selections)]
 #[tactic(auto, using(gq_tree::proofs::Trees::gathers))]
@@ -46,6 +70,7 @@ fn put_of_fragments_in<'a>(
     };
     match selection {
         Selection::Field(field) => match &field.set {
+            Some(set) if are_leaves(&set.items) => Ok(()),
             Some(set) => {
                 let below = type_below(types, parent, field.name.text.as_str());
                 put_of_fragments_among(types, file, below, &set.items, all)

@@ -14,7 +14,7 @@ use Rattle.gq_types.specs.Entries.{EntryOf}
 use Rattle.gq_types.specs.Look.{types_view}
 use Rattle.gq_document.specs.Definitions.{entry_in, entries_of}
 use Rattle.gq_laws.specs.Placing.Tokens.{erased_types, types_in}
-use Rattle.gq_laws.specs.Placing.Types.{erase_entry}
+use Rattle.gq_laws.specs.Placing.Types.{erase_entry, erase_filed}
 use Rattle.gq_index.proofs.Parallel.{map_insert, map_remove}
 use Rattle.gq_kept.specs.declared.typed.Typed.{Typed}
 use Rattle.gq_kept.specs.Helping.TypesOf.{AreTypesOf, IsOneTypeSystem, types_defined}
@@ -237,3 +237,41 @@ erased_replaced rs at r was there alike =
     let same : f was ≡ f r = erased_in (definitions_read was) ∙ alike ∙ sym (erased_in (definitions_read r)) in
     one_what erase_entry erased_kept rs (set rs at r)
     (flat_of_map (map erase_entry) types_defined rs ∙ sym (flat_set f rs at r was there same) ∙ sym (flat_of_map (map erase_entry) types_defined (set rs at r)))
+
+-- the same with the numbers of the documents
+filed_at : (n : ℕ) (es : List EntryOf) → map erase_filed (map (entry_at n) es) ≡ map (λ t. (n, t)) (map erase_entry es)
+unfolding entry_at
+filed_at n [] = refl
+filed_at n (e ∷ es) = ap (λ (l : List (ℕ × TypeSystemOf (Unit {0}))). (n, erase_entry e) ∷ l) (filed_at n es)
+
+filed_gathered : (n : ℕ) (xs ys : List (List EntryOf)) → map (map erase_entry) xs ≡ map (map erase_entry) ys → map erase_filed (gathered n xs) ≡ map erase_filed (gathered n ys)
+unfolding gathered
+filed_gathered n [] [] e = refl
+filed_gathered n [] (y ∷ ys) e = absurd (cc)
+filed_gathered n (x ∷ xs) [] e = absurd (cc)
+filed_gathered n (x ∷ xs) (y ∷ ys) e =
+    let first : map erase_entry x ≡ map erase_entry y = cc in
+    let rest : map (map erase_entry) xs ≡ map (map erase_entry) ys = cc in
+    map-append erase_filed (map (entry_at n) x) (gathered (n + 1) xs)
+    ∙ ap (λ (l : List (ℕ × TypeSystemOf (Unit {0}))). l ++ map erase_filed (gathered (n + 1) xs)) (filed_at n x ∙ ap (map (λ t. (n, t))) first ∙ sym (filed_at n y))
+    ∙ ap (λ (l : List (ℕ × TypeSystemOf (Unit {0}))). map erase_filed (map (entry_at n) y) ++ l) (filed_gathered (n + 1) xs ys rest)
+    ∙ sym (map-append erase_filed (map (entry_at n) y) (gathered (n + 1) ys))
+
+map_set : {X Y : Type 0} (f : X → Y) (xs : List X) (i : ℕ) (x was : X) → slice_get xs i ≡ Some was → f was ≡ f x → map f (set xs i x) ≡ map f xs
+map_set f [] i x was there e = refl
+map_set {X} {Y} f (y ∷ xs) zero x was there e = let same : y ≡ was = cc in ap (λ (z : Y). z ∷ map f xs) (sym e ∙ ap f (sym same))
+map_set {X} {Y} f (y ∷ xs) (suc i) x was there e = ap (λ (ys : List Y). f y ∷ ys) (map_set f xs i x was there e)
+
+map_of_map : {X Y Z : Type 0} (f : Y → Z) (g : X → Y) (xs : List X) → map f (map g xs) ≡ map (λ x. f (g x)) xs
+map_of_map f g [] = refl
+map_of_map {X} {Y} {Z} f g (x ∷ xs) = ap (λ (zs : List Z). f (g x) ∷ zs) (map_of_map f g xs)
+
+pub filed_replaced : (rs : List ParsedOf) (at : ℕ) (r was : ParsedOf) → slice_get rs at ≡ Some was → erased_types was ≡ erased_types r → map erase_filed (built_in ++ entries_of rs) ≡ map erase_filed (built_in ++ entries_of (set rs at r))
+filed_replaced rs at r was there alike =
+    let f : ParsedOf → List (TypeSystemOf (Unit {0})) = λ one. map erase_entry (types_defined one) in
+    let same : f was ≡ f r = erased_in (definitions_read was) ∙ alike ∙ sym (erased_in (definitions_read r)) in
+    let each = map_of_map (map erase_entry) types_defined rs ∙ sym (map_set f rs at r was there same) ∙ sym (map_of_map (map erase_entry) types_defined (set rs at r)) in
+    map-append erase_filed built_in (entries_of rs)
+    ∙ ap (λ (l : List (ℕ × TypeSystemOf (Unit {0}))). map erase_filed built_in ++ l)
+    (ap (map erase_filed) (entries_from 0 rs) ∙ filed_gathered 0 (map types_defined rs) (map types_defined (set rs at r)) each ∙ ap (map erase_filed) (sym (entries_from 0 (set rs at r))))
+    ∙ sym (map-append erase_filed built_in (entries_of (set rs at r)))

@@ -2,5 +2,6 @@
 pub mod Facts
 pub mod Gone
 pub mod Judgements
+pub mod ReadsOn
 pub mod TypesOf
 pub mod Unindexed

@@ -18,14 +18,16 @@ use crate::judging::report_if_any;
 use crate::pieces::{reading_among, reading_by};
 use crate::places::{come_before, place_or_gap};
 use crate::typed::{
-    Typed, defines_types_at, has_types, last_of_types, made_of, retype, typed_less, typed_more,
+    Typed, defines_types_at, has_types, is_retyped, known_of, last_of_types, made_of, retype,
+    typed_less, typed_more,
 };
 use gq_by_file::ByFile;
 use gq_by_file::laws::numbers_of_entries_are_unseen;
 use gq_index::Index;
 use gq_known::{Known, Learned};
 use gq_laws::places::{
-    places_of_types_do_not_matter_to_rules, same_tokens_define_alike, types_look_alike,
+    places_of_types_do_not_matter_to_rules, places_of_types_do_not_matter_to_types,
+    same_tokens_define_alike, types_look_alike,
 };
 use gq_parse::Piece;
 use gq_parse::laws::one_tree;
@@ -189,10 +191,15 @@ impl Kept {
         same_tokens_define_alike();
         types_look_alike();
         places_of_types_do_not_matter_to_rules();
-        let stays = stays_indexed(&self.readings, at, &reading);
-        let typed = retype(alloc, &self.readings, at, &reading, &mut self.typed)?;
+        places_of_types_do_not_matter_to_types();
+        let readings = self.readings.as_slice();
+        let stays = stays_indexed(readings, at, &reading);
+        let is_made = is_retyped(readings, at, &reading);
         let documents = self.judged.project().documents();
-        let changes = changes_types(alloc, documents, at, doc.text.as_str(), typed.is_some());
+        let text = doc.text.as_str();
+        let changes = changes_types(alloc, documents, at, &readings[at], text, is_made);
+        let known = known_of(is_made, changes, &self.typed);
+        let typed = retype(alloc, readings, at, &reading, known, &mut self.typed)?;
         self.judged.put(alloc, doc)?;
         self.found.replace(alloc, at, &reading, changes);
         let reading = Some(write_over(&mut self.readings, at, reading));

@@ -1,10 +1,11 @@
 //! The type system of documents, made anew where one of them changes.
-ghost use Rattle.std.specs.Prelude.{◌≡◌, ◌<◌, ◌≤◌, ◌++◌, [], ◌∷◌, true, false, All, IfOk, OnOk, OnErr, drop, is_some, length, map, remove, slice_index_or, slice_set, take};
+ghost use Rattle.std.specs.Prelude.{◌≡◌, ◌<◌, ◌≤◌, ◌++◌, [], ◌∷◌, true, false, All, IfOk, IfSome, OnOk, OnErr, drop, length, map, remove, slice_index_or, slice_set, take};
 ghost use Rattle.std.specs.Option.{unwrap_or};
 ghost use Rattle.std.specs.List.{insert};
 ghost use Rattle.gq_tree.specs.Readings.{shared_view, readings_view};
 ghost use Rattle.gq_types.specs.Look.{types_view};
-ghost use Rattle.gq_kept.specs.Helping.TypesOf.{AreTypesOf, IsOneTypeSystem, types_defined};
+ghost use Rattle.gq_kept.specs.Helping.TypesOf.{AreTypesOf, TellsOf, IsKnownOf, IsOneTypeSystem, types_defined};
+ghost use Rattle.gq_kept.specs.declared.typed.Typed.{Typed};
 
 use gq_known::learned::{defines_types, type_system};
 use gq_text::NoMemory;
@@ -31,6 +32,14 @@ pub(crate) fn made_of(alloc: Global, readings: &[Arc<Parsed>]) -> Result<Typed, 
     Ok(Typed { types, has_schema })
 }
 
+/// The same, where it is known whether a rule is broken: the rules are not looked at.
+fn remade_of(alloc: Global, readings: &[Arc<Parsed>], has_schema: bool) -> Result<Typed, NoMemory>
+    ensures { IfOk result (λ made. TellsOf has_schema (readings_view readings.now) → AreTypesOf (readings_view readings.now) made) }
+{
+    let types = type_system(alloc, readings)?;
+    Ok(Typed { types, has_schema })
+}
+
 /// Whether a document that is read so has a definition or an extension of the type system.
 pub(crate) fn has_types(reading: &Arc<Parsed>) -> bool
     ensures { result ≡ false → types_defined (shared_view reading.now) ≡ [] }
@@ -38,24 +47,47 @@ pub(crate) fn has_types(reading: &Arc<Parsed>) -> bool
     defines_types(reading)
 }
 
+/// Whether the document at that place, or the one that it is replaced by, defines types.
+pub(crate) fn is_retyped(readings: &[Arc<Parsed>], at: usize, reading: &Arc<Parsed>) -> bool
+    requires { at < length readings.now }
+    ensures types { result ≡ false → (typed : Typed) → AreTypesOf (readings_view readings.now) typed → AreTypesOf (slice_set (readings_view readings.now) at (shared_view reading.now)) typed }
+    ensures stays { result ≡ false → IsOneTypeSystem (readings_view readings.now) (slice_set (readings_view readings.now) at (shared_view reading.now)) }
+{
+    has_types(reading) || has_types(&readings[at])
+}
+
+/// Whether a rule of the type system is broken, where that is as it was: the definitions are made anew, and the rules do not tell these
+/// from the ones before.
+pub(crate) fn known_of(is_made: bool, changes: bool, typed: &Typed) -> Option<bool>
+    ensures { IfSome result (λ holds. (is_made ≡ true) × (changes ≡ false) × (holds ≡ typed.now.has_schema)) }
+{
+    if is_made && !changes {
+        Some(typed.has_schema)
+    } else {
+        None
+    }
+}
+
 /// Makes the type system that of documents of which the one at that place is replaced by one that reads so, and
-/// answers the one that it was. Where neither of the two defines types, it stays as it is, and none is answered.
+/// answers the one that it was. Where neither of the two defines types, it stays as it is, and none is answered. Where it is known whether
+/// a rule is broken then, the rules are not looked at.
 pub(crate) fn retype(
     alloc: Global,
     readings: &[Arc<Parsed>],
     at: usize,
     reading: &Arc<Parsed>,
+    known: Option<bool>,
     typed: &mut Typed,
 ) -> Result<Option<Typed>, NoMemory>
     requires { at < length readings.now }
-    ensures ok { IfOk result (λ was. AreTypesOf (readings_view readings.now) typed.old → AreTypesOf (slice_set (readings_view readings.now) at (shared_view reading.now)) typed.new) }
-    ensures stays { IfOk result (λ was. is_some was ≡ false → IsOneTypeSystem (readings_view readings.now) (slice_set (readings_view readings.now) at (shared_view reading.now))) }
+    ensures ok { IfOk result (λ was. IsKnownOf known (slice_set (readings_view readings.now) at (shared_view reading.now)) →
+        AreTypesOf (readings_view readings.now) typed.old → AreTypesOf (slice_set (readings_view readings.now) at (shared_view reading.now)) typed.new) }
     ensures err { OnErr result (typed.new ≡ typed.old) }
 {
-    if !has_types(reading) && !has_types(&readings[at]) {
+    if !is_retyped(readings, at, reading) {
         return Ok(None);
     }
-    let made = typed_with(alloc, readings, at, reading)?;
+    let made = typed_with(alloc, readings, at, reading, known)?;
     Ok(Some(mem::replace(typed, made)))
 }
 
@@ -69,24 +101,23 @@ fn add_shared(readings: &[Arc<Parsed>], all: &mut Vec<Arc<Parsed>>) -> Result<()
     Ok(())
 }
 
-/// The type system of the documents before `end` and from `start` on, with one that reads so between them.
-fn typed_around(
+/// The readings before `end` and from `start` on, with one between them.
+fn readings_around(
     alloc: Global,
     readings: &[Arc<Parsed>],
     end: usize,
     reading: &Arc<Parsed>,
     start: usize,
-) -> Result<Typed, NoMemory>
+) -> Result<Vec<Arc<Parsed>>, NoMemory>
     requires end { end ≤ length readings.now }
     requires start { start ≤ length readings.now }
-    ensures { IfOk result (AreTypesOf (take end (readings_view readings.now) ++ (shared_view reading.now ∷ drop start (readings_view readings.now)))) }
+    ensures { IfOk result (λ all. readings_view all.items ≡ take end (readings_view readings.now) ++ (shared_view reading.now ∷ drop start (readings_view readings.now))) }
 {
     let mut all = Vec::with_capacity(alloc, readings.len())?;
     add_shared(&readings[..end], &mut all)?;
     all.push(Arc::try_clone(reading)?)?;
     add_shared(&readings[start..], &mut all)?;
-    let made = made_of(alloc, &all)?;
-    Ok(made)
+    Ok(all)
 }
 
 /// The type system, where the document at that place is replaced by one that reads so.
@@ -95,12 +126,17 @@ fn typed_with(
     readings: &[Arc<Parsed>],
     at: usize,
     reading: &Arc<Parsed>,
+    known: Option<bool>,
 ) -> Result<Typed, NoMemory>
     requires { at < length readings.now }
-    ensures { IfOk result (AreTypesOf (slice_set (readings_view readings.now) at (shared_view reading.now))) }
+    ensures { IfOk result (λ made. IsKnownOf known (slice_set (readings_view readings.now) at (shared_view reading.now)) →
+        AreTypesOf (slice_set (readings_view readings.now) at (shared_view reading.now)) made) }
 {
-    let made = typed_around(alloc, readings, at, reading, at + 1)?;
-    Ok(made)
+    let all = readings_around(alloc, readings, at, reading, at + 1)?;
+    match known {
+        Some(has_schema) => remade_of(alloc, &all, has_schema),
+        None => made_of(alloc, &all),
+    }
 }
 
 /// Whether all definitions and extensions of the type system stand in documents before that place.
@@ -125,7 +161,8 @@ pub(crate) fn typed_more(
     if !has_types(reading) && stand_before(&typed.types, at) {
         return Ok(None);
     }
-    let made = typed_around(alloc, readings, at, reading, at)?;
+    let all = readings_around(alloc, readings, at, reading, at)?;
+    let made = made_of(alloc, &all)?;
     Ok(Some(made))
 }
 

@@ -36,4 +36,11 @@ pub mod OtherNamesUses
 pub mod OtherNamesVariables
 pub mod OtherNamesMerging
 pub mod OtherNamesRead
+pub mod Judged
+pub mod TypeNamesAlike
+pub mod TypePartsAlike
+pub mod TypeGraphsAlike
+pub mod TypeDirectivesAlike
+pub mod TypeRules
+pub mod LinesApart
 pub mod SameTokens

@@ -7,8 +7,8 @@ ghost use Rattle.gq_fragments.specs.OperationFaults.{IsOperationFault};
 ghost use Rattle.gq_laws.specs.Placing.Merging.{DifferingIsSymmetric, FieldsThatAreKeptMerge, MeetingIsSymmetric};
 ghost use Rattle.gq_laws.specs.Placing.Names.{FragmentRenamesKeepFaultless, NamesDoNotMatter, RenamedAreSameButNames, RenamesKeepFaultless, VariableRenamesKeepFaultless};
 ghost use Rattle.gq_laws.specs.Placing.Places.{DocumentsAreSameButPlaces, PlacesDoNotMatter};
-ghost use Rattle.gq_laws.specs.Placing.Tokens.{SameTokensDefineAlike};
-ghost use Rattle.gq_laws.specs.Placing.Types.{NoPlacesMatter, PlacesOfTypesDoNotMatter, ProjectsAreSameButPlaces, TreesSayWhatIsFaultless, TypesLookAlike};
+ghost use Rattle.gq_laws.specs.Placing.Tokens.{LinesReadApart, SameTokensDefineAlike};
+ghost use Rattle.gq_laws.specs.Placing.Types.{NoPlacesMatter, PlacesOfTypesDoNotMatter, PlacesOfTypesDoNotMatterToTypes, ProjectsAreSameButPlaces, TreesSayWhatIsFaultless, TypesLookAlike};
 ghost use Rattle.gq_merging.specs.FieldsMerge.{IsMergingFault};
 ghost use Rattle.gq_rules.specs.RuleFaults.{IsRuleFault};
 ghost use Rattle.gq_spreads.specs.SpreadFaults.{IsSpreadFault};
@@ -82,6 +82,17 @@ pub fn places_of_types_do_not_matter_to_rules()
 /// In type systems that are equal but for their places each look-up finds the same but for its places.
 pub fn types_look_alike()
     ensures { TypesLookAlike }
+{}
+
+/// Of type systems that are equal but for their places, the one breaks a rule of the type system in a document where the other does.
+pub fn places_of_types_do_not_matter_to_types()
+    ensures { PlacesOfTypesDoNotMatterToTypes }
+{}
+
+/// Where lines in a text are exchanged for others with the same tokens, and these lines and what stands before them read by themselves,
+/// the whole has the tokens that it had.
+pub fn lines_read_apart()
+    ensures { LinesReadApart }
 {}
 
 /// Documents whose texts have the same tokens define types that are equal but for their places.

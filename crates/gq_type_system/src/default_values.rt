@@ -1,7 +1,8 @@
 //! The types one of whose input fields leads back to itself by default values (section 3.10).
 ghost use Rattle.std.specs.Prelude.{◌≡◌, ◌++◌, map, flat_map, IfOk, OnOk};
 ghost use Rattle.gq_tree.specs.Views.{type_view, value_view, values_view, entries_view};
-ghost use Rattle.gq_type_system.specs.Helping.DefaultValuesPlaces.{field_view, fields_view, type_at, field_type, keys_in, has_default, numbers_of, absent_number, type_node, led_to, led_in, below_of, gathered, gathered_of, field_leads, all_with_defaults, lead_table, any_marked};
+ghost use Rattle.gq_type_system.specs.Helping.DefaultValuesPlaces.{field_view, fields_view, type_at, field_type, keys_in, has_default, numbers_of, absent_number, type_node};
+ghost use Rattle.gq_type_system.specs.Helping.DefaultValuesPlaces.{led_to, led_in, below_of, gathered, gathered_of, field_leads, all_with_defaults, lead_table, any_marked};
 ghost use Rattle.gq_type_system.specs.Helping.EndlessInputsPlaces.{MarksByDefault, row_items};
 ghost use Rattle.gq_types.specs.Look.{types_view, text_of};
 

@@ -7,7 +7,8 @@ ghost use Rattle.gq_types.specs.Look.{types_view};
 ghost use Rattle.gq_values.specs.DirectivePlaces.{directive_texts};
 ghost use Rattle.gq_type_system.specs.Helping.Groups.{at_number};
 ghost use Rattle.gq_type_system.specs.DirectivesAndDefaults.{sites_in, own_names, all_inputs, told};
-ghost use Rattle.gq_type_system.specs.Helping.DirectivesAndDefaultsPlaces.{site_view, sites_view, inputs_view, group_view, site_fault, site_faults, default_fault, default_faults, own_faults, group_faults, itself, group_of, group_faults_of, outer_faults};
+ghost use Rattle.gq_type_system.specs.Helping.DirectivesAndDefaultsPlaces.{site_view, sites_view, inputs_view, group_view, site_fault, site_faults, default_fault};
+ghost use Rattle.gq_type_system.specs.Helping.DirectivesAndDefaultsPlaces.{default_faults, own_faults, group_faults, itself, group_of, group_faults_of, outer_faults};
 
 use crate::directive_sites::{DirectiveSite, own_site, put_inputs, put_sites};
 use crate::judged::is_judged;

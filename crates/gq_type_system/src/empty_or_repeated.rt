@@ -4,7 +4,8 @@ ghost use Rattle.std.specs.Arc.{arc_value};
 ghost use Rattle.std.specs.List.{list_any};
 ghost use Rattle.std.specs.Str.{bytes_eq};
 ghost use Rattle.gq_tree.specs.Views.{type_system_view, input_view, field_definition_view};
-ghost use Rattle.gq_type_system.specs.Helping.EmptyOrRepeatedPlaces.{empty_type, repeated_faults, texts_of, repeated_part, repeated_parts_of, repeated_parts, repeated_arguments_in, repeated_arguments_of};
+ghost use Rattle.gq_type_system.specs.Helping.EmptyOrRepeatedPlaces.{empty_type, repeated_faults, texts_of, repeated_part};
+ghost use Rattle.gq_type_system.specs.Helping.EmptyOrRepeatedPlaces.{repeated_parts_of, repeated_parts, repeated_arguments_in, repeated_arguments_of};
 ghost use Rattle.gq_type_system.specs.Helping.Groups.{names_in};
 ghost use Rattle.gq_types.specs.Look.{types_view};
 

@@ -1,7 +1,8 @@
 //! The types that lead back to themselves by input fields without null (section 3.10, Circular References).
 ghost use Rattle.std.specs.Prelude.{◌≡◌, ◌++◌, map, IfOk, OnOk};
 ghost use Rattle.gq_tree.specs.Views.{type_view, input_view};
-ghost use Rattle.gq_type_system.specs.Helping.EndlessInputsPlaces.{name_at, name_in, required_name, required_number, required_named, required_numbers, required_of, required_rows, row_items, MarksNonNull};
+ghost use Rattle.gq_type_system.specs.Helping.EndlessInputsPlaces.{name_at, name_in, required_name, required_number, required_named};
+ghost use Rattle.gq_type_system.specs.Helping.EndlessInputsPlaces.{required_numbers, required_of, required_rows, row_items, MarksNonNull};
 ghost use Rattle.gq_types.specs.Look.{types_view};
 
 use crate::input_fields::{inputs_at, type_name};

@@ -4,7 +4,8 @@ ghost use Rattle.gq_type_system.specs.Helping.Groups.{root_in, roots_in_view};
 ghost use Rattle.gq_types.specs.Joined.{kind_named};
 ghost use Rattle.gq_types.specs.Look.{types_view};
 ghost use Rattle.gq_types.specs.Roots.{default_root};
-ghost use Rattle.gq_type_system.specs.Helping.RootTypesPlaces.{taken_view, has_kind, has_text, taken_default, defaults, is_wrong_kind, root_code, root_told, roots_told, taken_after, wrong_roots_of, wrong_roots};
+ghost use Rattle.gq_type_system.specs.Helping.RootTypesPlaces.{taken_view, has_kind, has_text, taken_default, defaults, is_wrong_kind};
+ghost use Rattle.gq_type_system.specs.Helping.RootTypesPlaces.{root_code, root_told, roots_told, taken_after, wrong_roots_of, wrong_roots};
 
 use crate::root_entries::{RootIn, roots_of};
 use gq_fault::{Code, Fault};

@@ -1,5 +1,6 @@
 pub mod LiteralUseLemmas
 pub mod UseLemmas
+pub mod NothingLemmas
 pub mod CompatibleLemmas
 pub mod AgainLemmas
 pub mod AlikeLemmas

@@ -3,6 +3,7 @@ pub mod Again
 pub mod Alike
 pub mod Behind
 pub mod Leading
+pub mod UsesNothing
 pub mod UsesPlaces
 pub mod VariablePlaces
 pub mod Views

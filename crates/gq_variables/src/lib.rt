@@ -10,6 +10,7 @@ mod behind;
 mod compatible;
 pub mod definition_faults;
 pub mod faults;
+mod has_variable;
 mod leading;
 mod parts;
 mod places;

@@ -1,5 +1,5 @@
 //! The uses of variables in selections, operations and fragments.
-ghost use Rattle.std.specs.Prelude.{◌≡◌, ◌++◌, IfOk, OnOk, map};
+ghost use Rattle.std.specs.Prelude.{◌≡◌, ◌++◌, IfOk, OnOk, map, true, []};
 ghost use Rattle.std.specs.Option.{option_map};
 ghost use Rattle.gq_tree.specs.NamedTypes.{base_name};
 ghost use Rattle.gq_tree.specs.Views.{argument_view, sel_view, sels_view, variable_view};
@@ -10,14 +10,16 @@ ghost use Rattle.gq_document.specs.Selections.{selected_among, selected_field};
 ghost use Rattle.gq_document.specs.Views.{selected_view};
 ghost use Rattle.gq_values.specs.ArgumentPlaces.{definitions_view};
 ghost use Rattle.gq_variables.specs.Uses.{field_arguments};
+ghost use Rattle.gq_variables.specs.Helping.UsesNothing.{UsesNothing, UseNothing};
 ghost use Rattle.gq_variables.specs.Helping.UsesPlaces.{argument_uses, uses_of_selection, selection_uses, variable_uses, operation_uses, fragment_uses};
 ghost use Rattle.gq_variables.specs.Helping.Views.{uses_view};
 
+use crate::has_variable::has_variable_among;
 use crate::uses::Use;
 use crate::values::{put_uses_of_arguments, put_uses_of_directives};
 use gq_document::{FragmentEntry, OperationEntry, Selected, selected_field};
 use gq_text::NoMemory;
-use gq_tree::{Argument, Selection, VariableDefinition};
+use gq_tree::{Argument, Directive, Selection, VariableDefinition};
 use gq_types::{Arguments, Types};
 use std::alloc::Global;
 
@@ -31,8 +33,8 @@ fn field_arguments<'a>(types: &'a Types, parent: Option<&str>, name: &str) -> Op
     }
 }
 
-/// Puts the uses in the arguments of the field of that name behind the others. Where there are no arguments the field is not
-/// looked up.
+/// Puts the uses in the arguments of the field of that name behind the others. Where no variable stands in them the field is
+/// not looked up.
 fn put_uses_of_field_arguments<'a>(
     types: &'a Types,
     file: usize,
@@ -44,7 +46,7 @@ fn put_uses_of_field_arguments<'a>(
     ensures { OnOk result (uses_view uses.new.items ≡ uses_view uses.old.items ++ argument_uses (types_view types.now) file
         (field_arguments (types_view types.now) (text_of parent.entry) name.now) (map argument_view arguments.now)) }
 {
-    if arguments.is_empty() {
+    if !has_variable_among(arguments) {
         return Ok(());
     }
     let known = field_arguments(types, parent, name);
@@ -85,7 +87,41 @@ fn type_below<'a>(types: &'a Types, parent: Option<&str>, name: &str) -> Option<
     }
 }
 
-/// Puts the uses in a selection, at any depth, behind the others.
+fn are_none(arguments: &[Argument], directives: &[Directive]) -> bool
+    ensures { result ≡ true → (arguments.now ≡ []) × (directives.now ≡ []) }
+{
+    arguments.is_empty() && directives.is_empty()
+}
+
+/// Whether the selection is a field with no arguments, no directives and no selection set. No variable is used in it then.
+#[tactic(auto, using(gq_tree::proofs::Trees::gathers))]
+fn uses_nothing(selection: &Selection) -> bool
+    ensures { result ≡ true → UsesNothing (sel_view selection.now) }
+{
+    match selection {
+        Selection::Field(field) => match &field.set {
+            Some(_) => false,
+            None => are_none(&field.arguments, &field.directives),
+        },
+        Selection::Spread(_) => false,
+        Selection::Inline(_) => false,
+    }
+}
+
+/// Whether all of the selections are such fields.
+fn use_nothing(all: &[Selection]) -> bool
+    ensures { result ≡ true → UseNothing (sels_view all.now) }
+{
+    for selection in all {
+        if !uses_nothing(selection) {
+            return false;
+        }
+    }
+    true
+}
+
+/// Puts the uses in a selection, at any depth, behind the others. Where the selections of a field use nothing, its type is not
+/// looked up.
 #[cycle(selections)]
 #[tactic(auto, using(gq_tree::proofs::Trees::gathers))]
 fn put_uses_in<'a>(
@@ -107,6 +143,9 @@ fn put_uses_in<'a>(
     match selection {
         Selection::Field(field) => match &field.set {
             Some(set) => {
+                if use_nothing(&set.items) {
+                    return Ok(());
+                }
                 let below = type_below(types, parent, field.name.text.as_str());
                 put_uses_among(types, file, below, &set.items, uses)
             }

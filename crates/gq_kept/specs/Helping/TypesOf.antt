@@ -1,5 +1,5 @@
 -- The type system of documents that are read so.
-use Rattle.std.specs.Prelude.{◌≡◌, ◌++◌, true, false, List}
+use Rattle.std.specs.Prelude.{◌≡◌, ◌++◌, Bool, true, false, IfSome, List, Option}
 use Rattle.gq_tree.specs.Readings.{ParsedOf, in_document}
 use Rattle.gq_types.specs.BuiltIn.{built_in}
 use Rattle.gq_types.specs.Entries.{EntryOf}
@@ -18,6 +18,14 @@ pub record AreTypesOf (readings : List ParsedOf) (made : Typed) : Type 0 where
   pub is_type_system : types_view made.types ≡ built_in ++ entries_of readings
   pub sound : made.has_schema ≡ true → HasNoFault (types_view made.types)
   pub faulty : made.has_schema ≡ false → HasNoFault (types_view made.types) → ⊥
+
+-- the flag tells whether no rule of the type system of documents that are read so is broken
+abbrev pub TellsOf : Bool → List ParsedOf → Type 0
+TellsOf holds readings = (holds ≡ true → HasNoFault (built_in ++ entries_of readings)) × (holds ≡ false → HasNoFault (built_in ++ entries_of readings) → ⊥)
+
+-- so does a flag that may be known
+abbrev pub IsKnownOf : Option Bool → List ParsedOf → Type 0
+IsKnownOf known readings = IfSome known (λ holds. TellsOf holds readings)
 
 -- both define the same of the type system, whatever the numbers of their documents are
 abbrev pub IsOneTypeSystem : List ParsedOf → List ParsedOf → Type 0

@@ -31,7 +31,7 @@ texts_erased : (ds : List (DirectiveOf Span)) → map (λ d. d.name.text) ds ≡
 texts_erased [] = refl
 texts_erased (d ∷ ds) = ap (λ z. d.name.text ∷ z) (texts_erased ds)
 
-texts_alike : (ds us : List (DirectiveOf Span)) → map bare_directive ds ≡ map bare_directive us → map (λ d. d.name.text) ds ≡ map (λ d. d.name.text) us
+pub texts_alike : (ds us : List (DirectiveOf Span)) → map bare_directive ds ≡ map bare_directive us → map (λ d. d.name.text) ds ≡ map (λ d. d.name.text) us
 texts_alike ds us e = texts_erased ds ∙ ap (λ z. map (λ d. d.name.text) z) e ∙ sym (texts_erased us)
 
 repeated_after : {A : Type 0} (text : A → List ℕ) (before : List Text) (xs ys : List A) → map text xs ≡ map text ys → (x : A) → IsRepeatedAfter text before xs x → (y : A) × IsRepeatedAfter text before ys y × (text x ≡ text y)

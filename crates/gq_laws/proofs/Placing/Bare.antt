@@ -68,13 +68,13 @@ module _ {P Q : Type 0} (shown : Text → Text) (f : P → Q) where
   part_placed : (p : Part P) → bare_part (place_part f p) ≡ bare_part p
   part_placed p = ap (λ z. part z (bare_says (place_says f p.says))) (key_placed p.key) ∙ ap (λ z. part (bare_key p.key) z) (says_placed p.says)
 
-  value_placed : (v : Val P) → bare_value (place_value f v) ≡ bare_value v
+  pub value_placed : (v : Val P) → bare_value (place_value f v) ≡ bare_value v
   value_placed v = tree_same (place_part f) bare_part bare_part part_placed v
 
   values_placed : (vs : List (Val P)) → map bare_value (map (place_value f) vs) ≡ map bare_value vs
   values_placed vs = list_same (place_value f) bare_value bare_value value_placed vs
 
-  directive_placed : (d : DirectiveOf P) → bare_directive (place_directive f d) ≡ bare_directive d
+  pub directive_placed : (d : DirectiveOf P) → bare_directive (place_directive f d) ≡ bare_directive d
   directive_placed d = ap (λ z. directive (place_name no_place d.name) z) (values_placed d.arguments)
 
   directives_placed : (ds : List (DirectiveOf P)) → map bare_directive (map (place_directive f) ds) ≡ map bare_directive ds

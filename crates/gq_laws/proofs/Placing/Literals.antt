@@ -147,16 +147,16 @@ pub none_alike : (xs ys : List (NameOf Span)) → map (λ n. n.text) xs ≡ map 
 none_alike xs ys e text h name c e2 = let r = contains (λ n. n.text) ys xs (sym e) name c in h r.0 r.1 (sym r.2 ∙ e2)
 
 -- a literal in the one, in the other
-abbrev InToo : List EntryOf → (Option (NameOf Span) → Expected) → Vals Span → Expected → Val Span → Type 0
+abbrev pub InToo : List EntryOf → (Option (NameOf Span) → Expected) → Vals Span → Expected → Val Span → Type 0
 InToo es read ws r v = (q : Expected) × (w : Val Span) × StandsIn es read ws q w × (erase_expected r ≡ erase_expected q) × (bare_value v ≡ bare_value w)
 
-abbrev ReadAlike : (read read2 : Option (NameOf Span) → Expected) → Type 0
+abbrev pub ReadAlike : (read read2 : Option (NameOf Span) → Expected) → Type 0
 ReadAlike read read2 = (k l : Option (NameOf Span)) → option_map (place_name no_place) k ≡ option_map (place_name no_place) l → erase_expected (read k) ≡ erase_expected (read2 l)
 
 abbrev val : Part (Unit {0}) → Vals (Unit {0}) → Val (Unit {0})
 val l b = record { label = l; below = b }
 
-in_alike : (es : List EntryOf) {read : Option (NameOf Span) → Expected} {vs : Vals Span} {r : Expected} {v : Val Span} → StandsIn es read vs r v →
+pub in_alike : (es : List EntryOf) {read : Option (NameOf Span) → Expected} {vs : Vals Span} {r : Expected} {v : Val Span} → StandsIn es read vs r v →
     (read2 : Option (NameOf Span) → Expected) → ReadAlike read read2 → (ws : Vals Span) → relabel bare_part vs ≡ relabel bare_part ws → InToo es read2 ws r v
 in_alike es literals.here read2 h none e = absurd (cc)
 in_alike es (literals.here {part = part} {below = below}) read2 h (more m c t) e =

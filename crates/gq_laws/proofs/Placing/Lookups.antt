@@ -134,7 +134,7 @@ module _ (es us : List EntryOf) (same : LooksAlike es us) where
   input_types (list_of item) = input_types item
   input_types (non_null inner) = input_types inner
 
-  defaults : (t : TypeOf Span) → default_at es t ≡ default_at us t
+  pub defaults : (t : TypeOf Span) → default_at es t ≡ default_at us t
   defaults t = ap (λ b. if b then at_type t else at_any) (input_types t)
 
   pub input_objects : (t : TypeOf Span) → input_object_at es t ≡ input_object_at us t
@@ -151,7 +151,7 @@ module _ (es us : List EntryOf) (same : LooksAlike es us) where
   parts (at_type t) (Some key) = ap (λ o. erase_expected (at_field es o key.text)) (input_objects t) ∙ at_fields (input_object_at us t) key.text
   parts at_any (Some key) = refl
 
-  stands : {read : Option (NameOf Span) → Expected} {vs : Vals Span} {r : Expected} {v : Val Span} → StandsIn es read vs r v →
+  pub stands : {read : Option (NameOf Span) → Expected} {vs : Vals Span} {r : Expected} {v : Val Span} → StandsIn es read vs r v →
       (read2 : Option (NameOf Span) → Expected) → ((k : Option (NameOf Span)) → erase_expected (read k) ≡ erase_expected (read2 k)) → (q : Expected) × StandsIn us read2 vs q v × (erase_expected r ≡ erase_expected q)
   stands (here {part = part}) read2 h = (read2 part.key, here, h part.key)
   stands (within {read = read} {part = part} w) read2 h =
@@ -159,7 +159,7 @@ module _ (es us : List EntryOf) (same : LooksAlike es us) where
       (r.0, within r.1, r.2)
   stands (after w) read2 h = let r = stands w read2 h in (r.0, after r.1, r.2)
 
-  objects : (t u : TypeOf Span) → place_type no_place t ≡ place_type no_place u → input_object_at us u ≡ input_object_at es t
+  pub objects : (t u : TypeOf Span) → place_type no_place t ≡ place_type no_place u → input_object_at us u ≡ input_object_at es t
   objects t u e = sym (input_objects t ∙ seen (place_type no_place) (place_type back) (input_object_at us) (object_erased us) t u e)
 
   module _ {n : ℕ} {f : Fault} where
@@ -176,7 +176,7 @@ module _ (es us : List EntryOf) (same : LooksAlike es us) where
         let j = option_too (place_input no_place) (input_named us type_name text) i (ap (option_map (place_input no_place)) (sym d) ∙ same.input type_name text) in
         field_missing u.1 (objects t u.0 u.2 ∙ b) c j.1 (sym (required_alike i j.0 j.2) ∙ g) k e
 
-    literal : {r : Expected} (q : Expected) {v : Val Span} → erase_expected r ≡ erase_expected q → IsLiteralFault es n r v f → IsLiteralFault us n q v f
+    pub literal : {r : Expected} (q : Expected) {v : Val Span} → erase_expected r ≡ erase_expected q → IsLiteralFault es n r v f → IsLiteralFault us n q v f
     literal q e h =
         let i = stands h.stands (λ k. q) (λ k. e) in
         record { inner = i.0; part = h.part; stands = i.1; fault = part i.2 h.fault }
@@ -193,7 +193,7 @@ module _ (es us : List EntryOf) (same : LooksAlike es us) where
         argument_missing k.1 j.1 (sym (required_alike i j.0 j.2) ∙ c) d e
     argument {ds = ds} es2 h (fault_in_value {key = key} a b l) = fault_in_value a b (literal (argument_at es2 key.text) (argument_at_alike ds es2 key.text h) l)
 
-    directive : {location : DirectiveLocation} {before : List Text} {ds : List (DirectiveOf Span)} → IsDirectiveFault es n location before ds f → IsDirectiveFault us n location before ds f
+    pub directive : {location : DirectiveLocation} {before : List Text} {ds : List (DirectiveOf Span)} → IsDirectiveFault es n location before ds f → IsDirectiveFault us n location before ds f
     directive (unknown_directive {d = d} a b e) = unknown_directive a (none_too (place_type_system no_place) (directive_named es d.name.text) (directive_named us d.name.text) (same.directive d.name.text) b) e
     directive {location = location} (directive_in_wrong_place {d = d} {definition = definition} a b c e) =
         let u = option_too (place_type_system no_place) (directive_named us d.name.text) definition (ap (option_map (place_type_system no_place)) (sym b) ∙ same.directive d.name.text) in

@@ -1,5 +1,6 @@
 -- Texts with the same tokens.
-use Rattle.std.specs.Prelude.{◌≡◌, ℕ, List, [], ◌∷◌, map, flat_map}
+use Rattle.std.specs.Prelude.{◌≡◌, ℕ, true, List, [], ◌∷◌, ◌++◌, map, flat_map}
+use Rattle.gq_lex.specs.Bytes.{is_line_terminator}
 use Rattle.gq_lex.specs.declared.token.Kind.{Kind}
 use Rattle.gq_lex.specs.Tokens.{Lexeme, Reads}
 use Rattle.gq_tree.specs.Plain.{Def, TypeSystemOf, operation, fragment, type_system, erase_document}
@@ -21,6 +22,23 @@ pub record ReadAlike (text other : List ℕ) : Type 0 where
   pub others : List Lexeme
   pub reads_others : Reads other others
   pub same : map spelling_of tokens ≡ map spelling_of others
+
+-- a text that is empty or begins with a line end
+abbrev pub BeginsLine : List ℕ → Type 0
+BeginsLine [] = Unit {0}
+BeginsLine (b ∷ rest) = is_line_terminator b ≡ true
+
+-- a text can be cut there: nothing stands before, or a line ends
+abbrev pub CanBeCut : (front rest : List ℕ) → Type 0
+CanBeCut [] rest = Unit {0}
+CanBeCut (b ∷ front) rest = BeginsLine rest
+
+-- Lines in the middle of a text that is read are exchanged for others: where these, and what stands before, read by themselves, and both
+-- have the same tokens, so have the whole texts.
+abbrev pub LinesReadApart : Type 0
+LinesReadApart = (front old new back : List ℕ) (before tokens : List Lexeme) →
+    CanBeCut front (old ++ back) → CanBeCut front (new ++ back) → BeginsLine back → Reads front before → ReadAlike old new →
+    Reads (front ++ (old ++ back)) tokens → ReadAlike (front ++ (old ++ back)) (front ++ (new ++ back))
 
 -- the definitions of the type system among these
 abbrev pub types_in : {P : Type 0} → Def P → List (TypeSystemOf P)

@@ -1,9 +1,13 @@
 -- The document and its reading are written over.
-use Rattle.std.proofs.Common.{◌≡◌, true, List, [], get_or, map, ap, ◌∙◌, subst, sym}
+use Rattle.std.proofs.Common.{◌≡◌, ◌<◌, true, List, [], Some, get_or, length, map, refl, ap, ◌∙◌, subst, sym}
+use Rattle.std.specs.Option.{option_map}
+use Rattle.std.specs.Prelude.{slice_get}
+use Rattle.std.proofs.lemmas.Option.{slice_get-map, slice_get_read}
+use Rattle.gq_project.specs.Documents.{with_doc}
 use Rattle.gq_tree.specs.Readings.{SharedParsed, definitions_read, shared_view, readings_view}
 use Rattle.gq_kept.specs.Helping.Unindexed.{AddNothing}
 use Rattle.gq_kept.specs.KeptOf.{KeptOf, JudgedOf}
-use Rattle.gq_kept.proofs.AlikeLemmas.{replaced_alike, told_of_both}
+use Rattle.gq_kept.proofs.AlikeLemmas.{known_kept, replaced_alike, told_of_both}
 use Rattle.gq_kept.proofs.Brought.{place_found}
 use Rattle.gq_kept.proofs.KeptLemmas.{given_in_range, kept_replaced}
 use Rattle.gq_kept.proofs.kept.Kept.replace_at.Goals as goal
@@ -11,12 +15,26 @@ use Rattle.gq_kept.proofs.kept.Kept.replace_at.Goals as goal
 pub stays_indexed-stays-requires : goal.stays_indexed-stays-requires
 stays_indexed-stays-requires c =
     let same = ap (λ (k : KeptOf). k.documents) c.self.view_is in
-    rw c.deref.ensures.value (given_in_range _ _ _ _ _ c.self.invariant c.args.self.now.documents c.deref.result.now same c.deref.ensures.value c.args.at c.args.doc.key c.requires.place)
+    rw c.as_slice-readings.ensures.value
+    (given_in_range _ _ _ _ _ c.self.invariant c.args.self.now.documents c.as_slice-readings.result.now same c.as_slice-readings.ensures.value c.args.at c.args.doc.key c.requires.place)
+
+pub is_retyped-is_made-requires : goal.is_retyped-is_made-requires
+is_retyped-is_made-requires c =
+    let same = ap (λ (k : KeptOf). k.documents) c.self.view_is in
+    rw c.as_slice-readings.ensures.value
+    (given_in_range _ _ _ _ _ c.self.invariant c.args.self.now.documents c.as_slice-readings.result.now same c.as_slice-readings.ensures.value c.args.at c.args.doc.key c.requires.place)
+
+pub bounds-readings-at : goal.bounds-readings-at
+bounds-readings-at c =
+    let same = ap (λ (k : KeptOf). k.documents) c.self.view_is in
+    rw c.as_slice-readings.ensures.value
+    (given_in_range _ _ _ _ _ c.self.invariant c.args.self.now.documents c.as_slice-readings.result.now same c.as_slice-readings.ensures.value c.args.at c.args.doc.key c.requires.place)
 
 pub retype-requires : goal.retype-requires
 retype-requires c =
     let same = ap (λ (k : KeptOf). k.documents) c.self.view_is in
-    rw c.deref-2.ensures.value (given_in_range _ _ _ _ _ c.self.invariant c.args.self.now.documents c.deref-2.result.now same c.deref-2.ensures.value c.args.at c.args.doc.key c.requires.place)
+    rw c.as_slice-readings.ensures.value
+    (given_in_range _ _ _ _ _ c.self.invariant c.args.self.now.documents c.as_slice-readings.result.now same c.as_slice-readings.ensures.value c.args.at c.args.doc.key c.requires.place)
 
 pub invariant_of-self-in_err-put : goal.invariant_of-self-in_err-put
 invariant_of-self-in_err-put c =
@@ -25,20 +43,33 @@ invariant_of-self-in_err-put c =
 pub write_over-requires : goal.write_over-requires
 write_over-requires c =
     let same = ap (λ (k : KeptOf). k.documents) c.self.view_is in
-    given_in_range _ _ _ _ _ c.self.invariant c.args.self.now.documents c.deref-2.result.now same c.deref-2.ensures.value c.args.at c.args.doc.key c.requires.place
+    given_in_range _ _ _ _ _ c.self.invariant c.args.self.now.documents c.as_slice-readings.result.now same c.as_slice-readings.ensures.value c.args.at c.args.doc.key c.requires.place
 
 pub invariant_of-self-2 : goal.invariant_of-self-2
 invariant_of-self-2 c =
     let same = ap (λ (k : KeptOf). k.documents) c.self.view_is in
+    let given = c.as_slice-readings.result.now in
+    let is = c.as_slice-readings.ensures.value in
+    let was = c.index-readings-at.result in
+    let changes = c.changes_types-changes.result in
+    let is_made = c.is_retyped-is_made.result in
+    let within : c.args.at < length given = rw is (given_in_range _ _ _ _ _ c.self.invariant c.args.self.now.documents given same is c.args.at c.args.doc.key c.requires.place) in
+    let there : slice_get (readings_view given) c.args.at ≡ Some (shared_view was) =
+    slice_get-map shared_view given c.args.at ∙ ap (option_map shared_view) (slice_get_read given (length given) c.args.at was refl within c.index-readings-at.is) in
+    let told = told_of_both c.args.at (shared_view was) changes is_made (c.documents-documents.ensures.all ∙ c.project.ensures ∙ same) c.as_str-text.ensures c.changes_types-changes.ensures in
     rw (ap (λ (j : JudgedOf). j.documents) c.in_ok-put.ensures.ok, c.write_over.ensures, c.forget_unless.ensures)
-    (kept_replaced _ _ _ _ _ c.self.invariant c.args.self.now.documents c.deref-2.result.now same c.deref-2.ensures.value
-    c.args.at c.args.doc c.args.reading c.retype.new.typed c.replace.new.self c.changes_types-changes.result
-    c.requires.place c.requires.parsed c.in_ok-typed.ensures.ok
-    (replaced_alike c.numbers_of_entries_are_unseen.ensures c.same_tokens_define_alike.ensures c.types_look_alike.ensures c.places_of_types_do_not_matter_to_rules.ensures c.args.self.now.documents (readings_view c.deref-2.result.now) c.args.at c.args.doc.text
-    (shared_view c.args.reading) c.changes_types-changes.result c.is_some.result c.requires.place.in_range
-    (told_of_both c.args.at c.changes_types-changes.result c.is_some.result (c.documents-documents.ensures.all ∙ c.project.ensures ∙ same) c.as_str.ensures c.changes_types-changes.ensures) (λ e. c.in_ok-typed.ensures.stays (sym c.is_some.ensures ∙ e)))
+    (kept_replaced _ _ _ _ _ c.self.invariant c.args.self.now.documents given same is c.args.at c.args.doc c.args.reading c.retype.new.typed c.replace.new.self changes
+    c.requires.place c.requires.parsed
+    (λ read parsed types. c.in_ok-typed.ensures.ok
+    (known_kept c.places_of_types_do_not_matter_to_types.ensures c.same_tokens_define_alike.ensures c.args.self.now.documents (readings_view given) c.args.at c.args.doc.text (shared_view was) (shared_view c.args.reading)
+    c.self.inside.typed changes is_made c.known_of-known.result c.requires.place.in_range there told c.known_of-known.ensures types read parsed) types)
+    (replaced_alike c.numbers_of_entries_are_unseen.ensures c.same_tokens_define_alike.ensures c.types_look_alike.ensures c.places_of_types_do_not_matter_to_rules.ensures c.args.self.now.documents (readings_view given) c.args.at
+    c.args.doc.text (shared_view was) (shared_view c.args.reading) changes is_made c.requires.place.in_range there told c.is_retyped-is_made.ensures.stays)
     c.replace.ensures
     c.one_tree.ensures c.stays_indexed-stays.result
     (subst (λ (rs : List SharedParsed).
     c.stays_indexed-stays.result ≡ true → AddNothing (get_or (map definitions_read (readings_view rs)) c.args.at []) × AddNothing (definitions_read (shared_view c.args.reading)))
-    c.deref.ensures.value c.stays_indexed-stays.ensures))
+    is c.stays_indexed-stays.ensures))
+
+pub returns-clause-ok : goal.returns-clause-ok
+returns-clause-ok c = ap (λ (j : JudgedOf). j.documents) c.in_ok-put.ensures.ok ∙ ap (λ (k : KeptOf). with_doc k.documents c.args.doc) c.self.view_is

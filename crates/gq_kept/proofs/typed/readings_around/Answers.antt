@@ -1,11 +1,11 @@
 -- What stands before a place, one, and what stands from another place on.
-use Rattle.std.proofs.Common.{◌≡◌, List, [], ◌∷◌, ◌++◌, append_assoc, ap, drop, subst, take, ◌∙◌}
+use Rattle.std.proofs.Common.{◌≡◌, List, [], ◌∷◌, ◌++◌, append_assoc, ap, drop, take, ◌∙◌}
 use Rattle.std.proofs.lemmas.List.{map-append}
 use Rattle.gq_tree.specs.declared.parsed.Parsed.{Parsed}
 use Rattle.gq_tree.specs.Readings.{ParsedOf, SharedParsed, parsed_view, readings_view, shared_view}
 use Rattle.gq_kept.specs.Helping.TypesOf.{AreTypesOf}
 use Rattle.gq_kept.proofs.TypesLemmas.{read_before, read_behind}
-use Rattle.gq_kept.proofs.typed.typed_around.Goals as goal
+use Rattle.gq_kept.proofs.typed.readings_around.Goals as goal
 
 pub returns : goal.returns
 returns c =
@@ -20,10 +20,7 @@ returns c =
     ∙ map-append shared_view c.add_shared.new.all.items (c.in_ok-try_clone.field-0 ∷ [])
     ∙ ap (λ (rs : List ParsedOf). rs ++ shared_view c.in_ok-try_clone.field-0 ∷ []) before
     ∙ ap (λ (parsed : Parsed). front ++ parsed_view parsed ∷ []) c.in_ok-try_clone.ensures in
-    let all : readings_view c.deref.result.now ≡ front ++ shared_view c.args.reading.now ∷ back =
-    ap readings_view c.deref.ensures.value
-    ∙ c.in_ok-add_shared-2.ensures
+    c.in_ok-add_shared-2.ensures
     ∙ ap (λ (rs : List ParsedOf). readings_view c.push.new.self.items ++ rs) (read_behind readings c.args.start)
     ∙ ap (λ (rs : List ParsedOf). rs ++ back) with_one
-    ∙ append_assoc front one back in
-    subst (λ (rs : List ParsedOf). AreTypesOf rs c.in_ok-made.made) all c.in_ok-made.ensures
+    ∙ append_assoc front one back
