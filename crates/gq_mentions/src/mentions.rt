@@ -4,8 +4,7 @@ ghost use Rattle.std.specs.List.{flat_map};
 ghost use Rattle.std.specs.Option.{option_map};
 ghost use Rattle.gq_tree.specs.Forest.{labels, labels_in};
 ghost use Rattle.gq_tree.specs.Views.{name_of, value_view, values_view, entry_view, entries_view, argument_view, directive_view, variable_view, sel_view, sels_view, def_view};
-ghost use Rattle.gq_mentions.specs.Mentions.{name_mention, condition_mentions, variable_mention, part_mentions, value_mentions};
-ghost use Rattle.gq_mentions.specs.Mentions.{argument_mentions, directive_mentions, head_mentions, selection_mentions, defined_mentions, mentions_in};
+ghost use Rattle.gq_mentions.specs.Mentions.{name_mention, condition_mentions, variable_mention, part_mentions, value_mentions, argument_mentions, directive_mentions, head_mentions, selection_mentions, defined_mentions, mentions_in};
 ghost use Rattle.gq_mentions.specs.Views.{mentions_view};
 
 use crate::mention::{Mention, MentionKind};

@@ -3,8 +3,7 @@ ghost use Rattle.std.specs.Prelude.{◌≡◌, ◌++◌, OnOk};
 ghost use Rattle.gq_tree.specs.Views.{value_view, entries_view};
 ghost use Rattle.gq_types.specs.Look.{types_view, text_of};
 ghost use Rattle.gq_values.specs.LiteralFaults.{entry_names, literal_place, first_byte};
-ghost use Rattle.gq_values.specs.LiteralPlaces.{texts, repeated_fields, unknown_fields, missing_fields, field_faults, names_in};
-ghost use Rattle.gq_values.specs.LiteralPlaces.{entry_faults, type_faults, own_faults, literal_faults, item_faults, faults_of_field, value_faults};
+ghost use Rattle.gq_values.specs.LiteralPlaces.{texts, repeated_fields, unknown_fields, missing_fields, field_faults, names_in, entry_faults, type_faults, own_faults, literal_faults, item_faults, faults_of_field, value_faults};
 ghost use Rattle.gq_values.specs.ExpectedTypes.{expected_view};
 
 use crate::expected_type::{ExpectedType, field_at, input_object_at, items_at};
