@@ -1,5 +1,6 @@
 //! Whether a text has the tokens that it had, and so defines types that the rules do not tell from those before.
 ghost use Rattle.std.specs.Prelude.{◌≡◌, ◌⊎◌, ◌<◌, ◌≤◌, ◌++◌, true, false, Some, length, map, slice_get};
+ghost use Rattle.gq_lex.specs.Bytes.{is_line_terminator};
 ghost use Rattle.gq_lex.specs.Tokens.{lexeme_of};
 ghost use Rattle.gq_laws.specs.Placing.Tokens.{BeginsLine, CanBeCut, ReadAlike, spelling_of};
 ghost use Rattle.gq_kept.specs.Helping.ReadsOn.{HasTokens, ReadsOn, has_tree};
@@ -66,7 +67,9 @@ fn are_read_alike(alloc: Global, bytes: &[u8], others: &[u8]) -> bool
 }
 
 /// Whether a line ends there.
-fn is_line_end(byte: u8) -> bool {
+fn is_line_end(byte: u8) -> bool
+    ensures { result ≡ is_line_terminator byte }
+{
     byte == b'\n' || byte == b'\r'
 }
 
@@ -75,7 +78,7 @@ fn begins_line(bytes: &[u8]) -> bool
     ensures { result ≡ true → BeginsLine bytes.now }
 {
     match bytes.first() {
-        Some(byte) => *byte == b'\n' || *byte == b'\r',
+        Some(byte) => is_line_end(*byte),
         None => true,
     }
 }
