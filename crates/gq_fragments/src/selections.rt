@@ -28,23 +28,36 @@ fn type_below<'a>(types: &'a Types, parent: Option<&str>, name: &str) -> Option<
     }
 }
 
-/// Whether this is a field without selections.
-#[tactic(auto, using(gq_tree::proofs::Trees::views))]
-fn is_leaf(selection: &Selection) -> bool
+/// So many sets, one in the other, are gone over before the type of a field is looked up.
+const DEEP: usize = 4;
+
+/// Whether this is a field, and all below it, in so many sets at most.
+#[cycle(fields)]
+#[tactic(auto, using(gq_tree::proofs::Trees::gathers))]
+fn is_field(selection: &Selection, deep: usize) -> bool
     ensures { result ≡ true → (es : List EntryOf) (file : ℕ) (parent : Option Text) → of_fragments (selected_in es file parent (sel_view selection.now)) ≡ [] }
 {
     match selection {
-        Selection::Field(field) => field.set.is_none(),
+        Selection::Field(field) => match &field.set {
+            Some(set) => are_fields(&set.items, deep),
+            None => true,
+        },
         Selection::Spread(_) | Selection::Inline(_) => false,
     }
 }
 
-/// Whether these are all fields without selections. None of them is put, whatever the type of their parent is.
-fn are_leaves(all: &[Selection]) -> bool
+/// Whether these are all fields, in so many sets at most, of which theirs is the first. None of them is put, whatever the type of their
+/// parent is.
+#[cycle(fields)]
+#[tactic(auto, using(gq_tree::proofs::Trees::gathers))]
+fn are_fields(all: &[Selection], deep: usize) -> bool
     ensures { result ≡ true → (es : List EntryOf) (file : ℕ) (parent : Option Text) → of_fragments (selected_among es file parent (sels_view all.now)) ≡ [] }
 {
+    if deep == 0 {
+        return false;
+    }
     for selection in all {
-        if !is_leaf(selection) {
+        if !is_field(selection, deep - 1) {
             return false;
         }
     }
@@ -70,7 +83,7 @@ fn put_of_fragments_in<'a>(
     };
     match selection {
         Selection::Field(field) => match &field.set {
-            Some(set) if are_leaves(&set.items) => Ok(()),
+            Some(set) if are_fields(&set.items, DEEP) => Ok(()),
             Some(set) => {
                 let below = type_below(types, parent, field.name.text.as_str());
                 put_of_fragments_among(types, file, below, &set.items, all)

@@ -1,5 +1,5 @@
 -- A document is replaced by one with the same tokens: no rule tells the type systems apart.
-use Rattle.std.proofs.Common.{◌≡◌, ◌⊎◌, ⊎_elim, ℕ, zero, suc, ◌<◌, Bool, true, false, IfSome, List, [], ◌∷◌, ◌++◌, None, Option, Some, length, map, set, slice_get, refl, sym, ◌∙◌, ap, subst, arith}
+use Rattle.std.proofs.Common.{◌≡◌, ◌⊎◌, ⊎_elim, ℕ, zero, suc, ◌<◌, Bool, true, false, List, [], ◌∷◌, ◌++◌, Some, length, map, set, slice_get, refl, sym, ◌∙◌, ap, subst, arith}
 use Rattle.gq_project.specs.declared.document.Doc.{Doc}
 use Rattle.gq_tree.specs.Readings.{ParsedOf}
 use Rattle.gq_tree.specs.Readings as reading
@@ -9,11 +9,13 @@ use Rattle.gq_types.specs.Entries.{EntryOf}
 use Rattle.gq_document.specs.Definitions.{entries_of}
 use Rattle.gq_rules.specs.RuleFaults.{IsRuleFault}
 use Rattle.gq_by_file.specs.OneFile.Laws.{NumbersOfEntriesAreUnseen}
-use Rattle.gq_laws.specs.Placing.Tokens.{ReadAlike, SameTokensDefineAlike}
+use Rattle.gq_types.specs.ErasedEntries.{erase_entry}
+use Rattle.gq_types.specs.Look.{types_view}
+use Rattle.gq_laws.specs.Placing.Tokens.{ReadAlike, SameTokensDefineAlike, erased_types}
 use Rattle.gq_laws.specs.Placing.Types.{PlacesOfTypesDoNotMatter, PlacesOfTypesDoNotMatterToTypes, TypesLookAlike, erase_filed}
 use Rattle.gq_schema.specs.SchemaOf.{HasNoFault}
 use Rattle.gq_kept.specs.Helping.ReadsOn.{HasTokens, ReadsOn, has_tree}
-use Rattle.gq_kept.specs.Helping.TypesOf.{AreTypesOf, DefineAlike, IsKnownOf, IsOneTypeSystem, TellsOf}
+use Rattle.gq_kept.specs.Helping.TypesOf.{AreTypesOf, DefineAlike, IsOneTypeSystem, IsSameOf, TellsOf}
 use Rattle.gq_kept.specs.declared.typed.Typed.{Typed}
 use Rattle.gq_kept.proofs.TypesLemmas.{erased_replaced, filed_replaced}
 
@@ -78,20 +80,27 @@ rules_kept places holds rs qs same tells =
     let us : List EntryOf = built_in ++ entries_of qs in
     (λ yes f h. let g = places us es (sym same) f h in tells.0 yes g.0 g.1, λ no none. tells.1 no (λ f h. let g = places es us same f h in none g.0 g.1))
 
--- what is known of the rules, where it is made anew and nothing changes
-abbrev pub IsKnownBy : Typed → (changes is_made : Bool) → Option Bool → Type 0
-IsKnownBy typed changes is_made known = IfSome known (λ holds. (is_made ≡ true) × (changes ≡ false) × (holds ≡ typed.has_schema))
+-- so is it where the document has the tokens that it had
+module _ (tokens : SameTokensDefineAlike) (documents : List Doc) (rs : List ParsedOf) (at : ℕ) (text : List ℕ) (was r : ParsedOf) (changes is_made : Bool) (inside : at < length documents) (there : slice_get rs at ≡ Some was)
+    (told : IsToldOf documents at was text changes is_made) (both : (is_made ≡ true) × (changes ≡ false)) (are : AreParsed documents rs) (parsed : IsParsed text r) where
+  -- what the document was read as, and that it defines the same but for places
+  abbrev WasRead : Type 0
+  WasRead = (old : ParsedOf) × (slice_get rs at ≡ Some old) × (erased_types old ≡ erased_types r)
 
-pub known_kept : PlacesOfTypesDoNotMatterToTypes → SameTokensDefineAlike → (documents : List Doc) (rs : List ParsedOf) (at : ℕ) (text : List ℕ) (was r : ParsedOf) (typed : Typed) (changes is_made : Bool) (known : Option Bool)
-    → at < length documents → slice_get rs at ≡ Some was → IsToldOf documents at was text changes is_made → IsKnownBy typed changes is_made known → AreTypesOf rs typed → AreParsed documents rs → IsParsed text r → IsKnownOf known (set rs at r)
-known_kept places tokens documents rs at text was r typed changes is_made None inside there told known types are parsed = tt
-known_kept places tokens documents rs at text was r typed changes is_made (Some holds) inside there told known types are parsed =
-    ⊎_elim
-    (λ none. let clash : true ≡ false = sym known.0 ∙ none in absurd (cc))
-    (λ read.
-    let w = read_at documents rs at inside are in
-    let one = tokens w.document.text text w.reading r (read_alike documents rs at text was w there read.0 read.1) w.parsed parsed in
-    let sound : typed.has_schema ≡ true → HasNoFault (built_in ++ entries_of rs) = λ yes. subst HasNoFault types.is_type_system (types.sound yes) in
-    let faulty : typed.has_schema ≡ false → HasNoFault (built_in ++ entries_of rs) → ⊥ = λ no none. types.faulty no (subst HasNoFault (sym types.is_type_system) none) in
-    rules_kept places holds rs (set rs at r) (filed_replaced rs at r w.reading w.there one) (λ yes. sound (sym known.2 ∙ yes), λ no. faulty (sym known.2 ∙ no)))
-    (told known.1)
+  was_read : WasRead
+  was_read =
+      ⊎_elim
+      (λ none. let clash : true ≡ false = sym both.0 ∙ none in absurd (cc))
+      (λ read.
+      let w = read_at documents rs at inside are in
+      (w.reading, w.there, tokens w.document.text text w.reading r (read_alike documents rs at text was w there read.0 read.1) w.parsed parsed))
+      (told both.1)
+
+  pub told_kept : PlacesOfTypesDoNotMatterToTypes → (typed : Typed) → AreTypesOf rs typed → TellsOf typed.has_schema (set rs at r)
+  told_kept places typed types =
+      let sound : typed.has_schema ≡ true → HasNoFault (built_in ++ entries_of rs) = λ yes. subst HasNoFault types.is_type_system (types.sound yes) in
+      let faulty : typed.has_schema ≡ false → HasNoFault (built_in ++ entries_of rs) → ⊥ = λ no none. types.faulty no (subst HasNoFault (sym types.is_type_system) none) in
+      rules_kept places typed.has_schema rs (set rs at r) (filed_replaced rs at r was_read.0 was_read.1 was_read.2) (sound, faulty)
+
+  pub same_kept : (typed : Typed) → types_view typed.types ≡ built_in ++ entries_of rs → IsSameOf typed (set rs at r)
+  same_kept typed is = ap (map erase_entry) is ∙ erased_replaced rs at r was_read.0 was_read.1 was_read.2

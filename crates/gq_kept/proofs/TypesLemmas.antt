@@ -14,7 +14,8 @@ use Rattle.gq_types.specs.Entries.{EntryOf}
 use Rattle.gq_types.specs.Look.{types_view}
 use Rattle.gq_document.specs.Definitions.{entry_in, entries_of}
 use Rattle.gq_laws.specs.Placing.Tokens.{erased_types, types_in}
-use Rattle.gq_laws.specs.Placing.Types.{erase_entry, erase_filed}
+use Rattle.gq_types.specs.ErasedEntries.{erase_entry}
+use Rattle.gq_laws.specs.Placing.Types.{erase_filed}
 use Rattle.gq_index.proofs.Parallel.{map_insert, map_remove}
 use Rattle.gq_kept.specs.declared.typed.Typed.{Typed}
 use Rattle.gq_kept.specs.Helping.TypesOf.{AreTypesOf, IsOneTypeSystem, types_defined}

@@ -18,8 +18,8 @@ use crate::judging::report_if_any;
 use crate::pieces::{reading_among, reading_by};
 use crate::places::{come_before, place_or_gap};
 use crate::typed::{
-    Typed, defines_types_at, has_types, is_retyped, known_of, last_of_types, made_of, retype,
-    typed_less, typed_more,
+    Typed, Was, defines_types_at, has_types, is_retyped, keeps_names, last_of_types, made_of,
+    retype, typed_less, typed_more,
 };
 use gq_by_file::ByFile;
 use gq_by_file::laws::numbers_of_entries_are_unseen;
@@ -74,7 +74,7 @@ impl Drop for Kept {
 /// What the last change replaced, which takes a while to drop.
 #[derive(Drop)]
 struct Past {
-    typed: Option<Typed>,
+    types: Option<Was>,
     reading: Option<Arc<Parsed>>,
 }
 
@@ -109,7 +109,7 @@ impl Kept {
             found: ByFile::new(alloc),
             index: None,
             past: Past {
-                typed: None,
+                types: None,
                 reading: None,
             },
         })
@@ -198,12 +198,12 @@ impl Kept {
         let documents = self.judged.project().documents();
         let text = doc.text.as_str();
         let changes = changes_types(alloc, documents, at, &readings[at], text, is_made);
-        let known = known_of(is_made, changes, &self.typed);
-        let typed = retype(alloc, readings, at, &reading, known, &mut self.typed)?;
+        let same = keeps_names(is_made, changes);
+        let types = retype(alloc, readings, at, &reading, same, &mut self.typed)?;
         self.judged.put(alloc, doc)?;
         self.found.replace(alloc, at, &reading, changes);
         let reading = Some(write_over(&mut self.readings, at, reading));
-        self.past = Past { typed, reading };
+        self.past = Past { types, reading };
         forget_unless(stays, &mut self.index);
         Ok(())
     }
@@ -213,7 +213,7 @@ impl Kept {
         ensures { self.new ≡ self.old }
     {
         self.past = Past {
-            typed: None,
+            types: None,
             reading: None,
         };
     }
@@ -335,7 +335,7 @@ impl Kept {
             found: ByFile::new(alloc),
             index: None,
             past: Past {
-                typed: None,
+                types: None,
                 reading: None,
             },
         };

@@ -1,17 +1,20 @@
 //! The type system of documents, made anew where one of them changes.
-ghost use Rattle.std.specs.Prelude.{◌≡◌, ◌<◌, ◌≤◌, ◌++◌, [], ◌∷◌, true, false, All, IfOk, IfSome, OnOk, OnErr, drop, length, map, remove, slice_index_or, slice_set, take};
+ghost use Rattle.std.specs.Prelude.{◌≡◌, ◌<◌, ◌≤◌, ◌++◌, [], ◌∷◌, true, false, All, IfOk, OnOk, OnErr, drop, length, map, remove, slice_index_or, slice_set, take};
 ghost use Rattle.std.specs.Option.{unwrap_or};
 ghost use Rattle.std.specs.List.{insert};
 ghost use Rattle.gq_tree.specs.Readings.{shared_view, readings_view};
+ghost use Rattle.gq_types.specs.BuiltIn.{built_in};
 ghost use Rattle.gq_types.specs.Look.{types_view};
-ghost use Rattle.gq_kept.specs.Helping.TypesOf.{AreTypesOf, TellsOf, IsKnownOf, IsOneTypeSystem, types_defined};
+ghost use Rattle.gq_document.specs.Definitions.{entries_of};
+ghost use Rattle.gq_kept.specs.Helping.TypesOf.{AreTypesOf, TellsOf, IsSameOf, IsOneTypeSystem, types_defined};
 ghost use Rattle.gq_kept.specs.declared.typed.Typed.{Typed};
 
+use gq_document::type_system_entries;
 use gq_known::learned::{defines_types, type_system};
 use gq_text::NoMemory;
 use gq_tree::Parsed;
 use gq_type_system::schema_faults;
-use gq_types::Types;
+use gq_types::{Entry, Types};
 use std::alloc::Global;
 use std::mem;
 use std::sync::Arc;
@@ -23,20 +26,19 @@ pub(crate) struct Typed {
     pub(crate) has_schema: bool,
 }
 
+/// What a type system was before a change, which takes a while to drop: all of it, or its definitions and extensions.
+#[derive(Drop)]
+pub(crate) enum Was {
+    Typed(Typed),
+    Entries(Vec<Entry>),
+}
+
 /// The type system of documents that are read so.
 pub(crate) fn made_of(alloc: Global, readings: &[Arc<Parsed>]) -> Result<Typed, NoMemory>
     ensures { IfOk result (AreTypesOf (readings_view readings.now)) }
 {
     let types = type_system(alloc, readings)?;
     let has_schema = schema_faults(alloc, &types)?.is_empty();
-    Ok(Typed { types, has_schema })
-}
-
-/// The same, where it is known whether a rule is broken: the rules are not looked at.
-fn remade_of(alloc: Global, readings: &[Arc<Parsed>], has_schema: bool) -> Result<Typed, NoMemory>
-    ensures { IfOk result (λ made. TellsOf has_schema (readings_view readings.now) → AreTypesOf (readings_view readings.now) made) }
-{
-    let types = type_system(alloc, readings)?;
     Ok(Typed { types, has_schema })
 }
 
@@ -56,39 +58,55 @@ pub(crate) fn is_retyped(readings: &[Arc<Parsed>], at: usize, reading: &Arc<Pars
     has_types(reading) || has_types(&readings[at])
 }
 
-/// Whether a rule of the type system is broken, where that is as it was: the definitions are made anew, and the rules do not tell these
-/// from the ones before.
-pub(crate) fn known_of(is_made: bool, changes: bool, typed: &Typed) -> Option<bool>
-    ensures { IfSome result (λ holds. (is_made ≡ true) × (changes ≡ false) × (holds ≡ typed.now.has_schema)) }
+/// Whether the type system is that of before but for places, though it is made of other trees.
+pub(crate) fn keeps_names(is_made: bool, changes: bool) -> bool
+    ensures { result ≡ true → (is_made ≡ true) × (changes ≡ false) }
 {
-    if is_made && !changes {
-        Some(typed.has_schema)
-    } else {
-        None
-    }
+    is_made && !changes
 }
 
 /// Makes the type system that of documents of which the one at that place is replaced by one that reads so, and
-/// answers the one that it was. Where neither of the two defines types, it stays as it is, and none is answered. Where it is known whether
-/// a rule is broken then, the rules are not looked at.
+/// answers what it was. Where neither of the two defines types, it stays as it is, and nothing is answered. Where it is the same but for places,
+/// no name and no rule is looked at.
 pub(crate) fn retype(
     alloc: Global,
     readings: &[Arc<Parsed>],
     at: usize,
     reading: &Arc<Parsed>,
-    known: Option<bool>,
+    keeps_names: bool,
     typed: &mut Typed,
-) -> Result<Option<Typed>, NoMemory>
-    requires { at < length readings.now }
-    ensures ok { IfOk result (λ was. IsKnownOf known (slice_set (readings_view readings.now) at (shared_view reading.now)) →
+) -> Result<Option<Was>, NoMemory>
+    requires at { at < length readings.now }
+    requires names { keeps_names ≡ true → ∥ IsSameOf typed.old (slice_set (readings_view readings.now) at (shared_view reading.now)) ∥₁ }
+    ensures ok { IfOk result (λ was. (keeps_names ≡ true → TellsOf typed.old.has_schema (slice_set (readings_view readings.now) at (shared_view reading.now))) →
         AreTypesOf (readings_view readings.now) typed.old → AreTypesOf (slice_set (readings_view readings.now) at (shared_view reading.now)) typed.new) }
     ensures err { OnErr result (typed.new ≡ typed.old) }
 {
     if !is_retyped(readings, at, reading) {
         return Ok(None);
     }
-    let made = typed_with(alloc, readings, at, reading, known)?;
-    Ok(Some(mem::replace(typed, made)))
+    let all = readings_around(alloc, readings, at, reading, at + 1)?;
+    if keeps_names {
+        let was = replace_entries(alloc, &all, typed)?;
+        return Ok(Some(Was::Entries(was)));
+    }
+    let made = made_of(alloc, &all)?;
+    Ok(Some(Was::Typed(mem::replace(typed, made))))
+}
+
+/// Makes the type system that of these documents, which is the same but for places, and answers the definitions and extensions that it had.
+fn replace_entries(
+    alloc: Global,
+    readings: &[Arc<Parsed>],
+    typed: &mut Typed,
+) -> Result<Vec<Entry>, NoMemory>
+    requires { ∥ IsSameOf typed.old (readings_view readings.now) ∥₁ }
+    ensures types { OnOk result (types_view typed.new.types ≡ built_in ++ entries_of (readings_view readings.now)) }
+    ensures flag { typed.new.has_schema ≡ typed.old.has_schema }
+    ensures err { OnErr result (typed.new ≡ typed.old) }
+{
+    let entries = type_system_entries(alloc, readings)?;
+    typed.types.replace_entries(alloc, entries)
 }
 
 /// Puts the readings behind others. No tree is copied.
@@ -118,25 +136,6 @@ fn readings_around(
     all.push(Arc::try_clone(reading)?)?;
     add_shared(&readings[start..], &mut all)?;
     Ok(all)
-}
-
-/// The type system, where the document at that place is replaced by one that reads so.
-fn typed_with(
-    alloc: Global,
-    readings: &[Arc<Parsed>],
-    at: usize,
-    reading: &Arc<Parsed>,
-    known: Option<bool>,
-) -> Result<Typed, NoMemory>
-    requires { at < length readings.now }
-    ensures { IfOk result (λ made. IsKnownOf known (slice_set (readings_view readings.now) at (shared_view reading.now)) →
-        AreTypesOf (slice_set (readings_view readings.now) at (shared_view reading.now)) made) }
-{
-    let all = readings_around(alloc, readings, at, reading, at + 1)?;
-    match known {
-        Some(has_schema) => remade_of(alloc, &all, has_schema),
-        None => made_of(alloc, &all),
-    }
 }
 
 /// Whether all definitions and extensions of the type system stand in documents before that place.

@@ -1,5 +1,4 @@
 -- What is wrong with definitions that are equal but for their places, or for names that a rename changes.
-pub mod Alike
 pub mod Forgetting
 pub mod Selected
 pub mod Bare
@@ -10,7 +9,6 @@ pub mod Whole
 pub mod Documents
 pub mod Schema
 pub mod Lookups
-pub mod Lists
 pub mod Entries
 pub mod Operations
 pub mod DefinitionFaults

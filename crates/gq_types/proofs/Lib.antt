@@ -17,3 +17,4 @@ pub mod ArgumentLemmas
 pub mod RequiredLemmas
 pub mod ArgumentNameLemmas
 pub mod IndexLemmas
+pub mod Placing

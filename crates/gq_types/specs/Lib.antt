@@ -1,4 +1,5 @@
 pub mod Entries
+pub mod ErasedEntries
 pub mod Kinds
 pub mod BuiltIn
 pub mod Typename

@@ -4,6 +4,7 @@ ghost use Rattle.std.specs.Arc.{arc_value};
 ghost use Rattle.std.specs.Option.{option_map};
 ghost use Rattle.gq_tree.specs.Views.{body_view, type_system_view};
 ghost use Rattle.gq_types.specs.Entries.{entry_view, entries_view};
+ghost use Rattle.gq_types.specs.ErasedEntries.{erase_entry};
 ghost use Rattle.gq_types.specs.Kinds.{kind_of};
 ghost use Rattle.gq_types.specs.Joined.{type_number, kind_in, kind_named, directive_number, is_schema, schema_number, owner_of_extension};
 ghost use Rattle.gq_types.specs.Look.{text_of, owner_at, directive_of};
@@ -16,6 +17,7 @@ use gq_text::NoMemory;
 use gq_tree::{DirectiveDefinition, TypeDefinition, TypeSystemDefinition};
 use std::alloc::Global;
 use std::marker::Model;
+use std::mem;
 
 /// The definitions and extensions of a type system, and where those stand that have a name. Of equal names the first is
 /// found. A look-up takes no memory.
@@ -68,6 +70,16 @@ impl Definitions {
         ensures { result.now ≡ self.now }
     {
         self.entries.as_slice()
+    }
+
+    /// Puts other definitions and extensions in the place of these, and answers these. They are the same but for their places, so what is kept
+    /// of their names stays.
+    pub(crate) fn replace(&mut self, entries: Vec<Entry>) -> Vec<Entry>
+        requires { ∥ map erase_entry (entries_view self.old) ≡ map erase_entry (entries_view entries.items) ∥₁ }
+        ensures now { self.new ≡ entries.items }
+        ensures was { result.items ≡ self.old }
+    {
+        mem::replace(&mut self.entries, entries)
     }
 
     /// The number of the first definition of a type of that name.

@@ -1,10 +1,11 @@
 //! The type system of a project.
-ghost use Rattle.std.specs.Prelude.{◌≡◌, ◌++◌, ◌<◌, [], Some, IfOk, IfSome, length, map, option_and_then, slice_get};
+ghost use Rattle.std.specs.Prelude.{◌≡◌, ◌++◌, ◌<◌, [], Some, IfOk, IfSome, OnErr, OnOk, length, map, option_and_then, slice_get};
 ghost use Rattle.std.specs.Option.{option_map};
 ghost use Rattle.gq_tree.specs.Views.{type_view, input_view, field_definition_view};
 ghost use Rattle.gq_types.specs.Arguments.{directive_arguments};
 ghost use Rattle.gq_types.specs.Entries.{entries_view};
 ghost use Rattle.gq_types.specs.BuiltIn.{built_in};
+ghost use Rattle.gq_types.specs.ErasedEntries.{erase_entry};
 ghost use Rattle.gq_types.specs.Joined.{type_number, kind_named, directive_number, schema_number, fields_in_body, inputs_of};
 ghost use Rattle.gq_types.specs.Look.{types_view, owner_at, text_of, field_of, input_of, joined_numbers, directive_of};
 ghost use Rattle.gq_types.specs.LookUps.{field_in, declares_in};
@@ -119,6 +120,24 @@ impl Types {
             uses,
             typename_type,
         })
+    }
+
+    /// Puts these definitions and extensions in the place of those that are not built in, and answers all that were there. They are the same,
+    /// in the same order, but for their places and documents, so no name is looked at: it takes the room and the time for the list alone.
+    /// Want of memory leaves all as it was.
+    pub fn replace_entries(
+        &mut self,
+        alloc: Global,
+        mut entries: Vec<Entry>,
+    ) -> Result<Vec<Entry>, NoMemory>
+        requires { ∥ map erase_entry (types_view self.old) ≡ map erase_entry (built_in ++ entries_view entries.items) ∥₁ }
+        ensures ok { OnOk result (types_view self.new ≡ built_in ++ entries_view entries.items) }
+        ensures was { IfOk result (λ was. entries_view was.items ≡ types_view self.old) }
+        ensures err { OnErr result (self.new ≡ self.old) }
+    {
+        let mut all = built_in(alloc)?;
+        all.append(&mut entries)?;
+        Ok(self.definitions.replace(all))
     }
 
     /// The definitions and extensions, those that are built in first.

@@ -93,27 +93,49 @@ fn are_none(arguments: &[Argument], directives: &[Directive]) -> bool
     arguments.is_empty() && directives.is_empty()
 }
 
-/// Whether the selection is a field with no arguments, no directives and no selection set. No variable is used in it then.
+fn are_no_directives(directives: &[Directive]) -> bool
+    ensures { result ≡ true → directives.now ≡ [] }
+{
+    directives.is_empty()
+}
+
+/// So many sets, one in the other, are gone over before the type of a field is looked up.
+const DEEP: usize = 4;
+
+/// Whether the selection has no arguments and no directives, nor those below it, in so many sets at most. No variable is used then.
+#[cycle(silent)]
 #[tactic(auto, using(gq_tree::proofs::Trees::gathers))]
-fn uses_nothing(selection: &Selection) -> bool
+fn uses_nothing(selection: &Selection, deep: usize) -> bool
     ensures { result ≡ true → UsesNothing (sel_view selection.now) }
 {
     match selection {
-        Selection::Field(field) => match &field.set {
-            Some(_) => false,
-            None => are_none(&field.arguments, &field.directives),
-        },
-        Selection::Spread(_) => false,
-        Selection::Inline(_) => false,
+        Selection::Field(field) => {
+            if !are_none(&field.arguments, &field.directives) {
+                return false;
+            }
+            match &field.set {
+                Some(set) => use_nothing(&set.items, deep),
+                None => true,
+            }
+        }
+        Selection::Spread(spread) => are_no_directives(&spread.directives),
+        Selection::Inline(inline) => {
+            are_no_directives(&inline.directives) && use_nothing(&inline.set.items, deep)
+        }
     }
 }
 
-/// Whether all of the selections are such fields.
-fn use_nothing(all: &[Selection]) -> bool
+/// Whether none of the selections has any, in so many sets at most, of which theirs is the first.
+#[cycle(silent)]
+#[tactic(auto, using(gq_tree::proofs::Trees::gathers))]
+fn use_nothing(all: &[Selection], deep: usize) -> bool
     ensures { result ≡ true → UseNothing (sels_view all.now) }
 {
+    if deep == 0 {
+        return false;
+    }
     for selection in all {
-        if !uses_nothing(selection) {
+        if !uses_nothing(selection, deep - 1) {
             return false;
         }
     }
@@ -143,7 +165,7 @@ fn put_uses_in<'a>(
     match selection {
         Selection::Field(field) => match &field.set {
             Some(set) => {
-                if use_nothing(&set.items) {
+                if use_nothing(&set.items, DEEP) {
                     return Ok(());
                 }
                 let below = type_below(types, parent, field.name.text.as_str());

@@ -1,8 +1,9 @@
 -- The type system of documents that are read so.
-use Rattle.std.specs.Prelude.{◌≡◌, ◌++◌, Bool, true, false, IfSome, List, Option}
+use Rattle.std.specs.Prelude.{◌≡◌, ◌++◌, Bool, true, false, List, map}
 use Rattle.gq_tree.specs.Readings.{ParsedOf, in_document}
 use Rattle.gq_types.specs.BuiltIn.{built_in}
 use Rattle.gq_types.specs.Entries.{EntryOf}
+use Rattle.gq_types.specs.ErasedEntries.{erase_entry}
 use Rattle.gq_types.specs.Look.{types_view}
 use Rattle.gq_document.specs.Definitions.{entry_in, entries_of}
 use Rattle.gq_schema.specs.SchemaOf.{HasNoFault}
@@ -23,9 +24,9 @@ pub record AreTypesOf (readings : List ParsedOf) (made : Typed) : Type 0 where
 abbrev pub TellsOf : Bool → List ParsedOf → Type 0
 TellsOf holds readings = (holds ≡ true → HasNoFault (built_in ++ entries_of readings)) × (holds ≡ false → HasNoFault (built_in ++ entries_of readings) → ⊥)
 
--- so does a flag that may be known
-abbrev pub IsKnownOf : Option Bool → List ParsedOf → Type 0
-IsKnownOf known readings = IfSome known (λ holds. TellsOf holds readings)
+-- it is the type system of the documents but for places
+abbrev pub IsSameOf : Typed → List ParsedOf → Type 0
+IsSameOf typed readings = map erase_entry (types_view typed.types) ≡ map erase_entry (built_in ++ entries_of readings)
 
 -- both define the same of the type system, whatever the numbers of their documents are
 abbrev pub IsOneTypeSystem : List ParsedOf → List ParsedOf → Type 0

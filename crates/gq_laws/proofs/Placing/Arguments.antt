@@ -17,7 +17,7 @@ use Rattle.gq_values.specs.ArgumentFaults.{argument_names, argument_at, IsArgume
 use Rattle.gq_values.specs.DirectiveFaults.{IsDirectiveFault, unknown_directive, directive_in_wrong_place, directive_repeated, fault_in_arguments}
 use Rattle.gq_laws.specs.Placing.Places.{HasLike}
 use Rattle.gq_laws.specs.Placing.Names.{bare_part, bare_value, bare_directive}
-use Rattle.gq_laws.proofs.Placing.Alike.{contains, repeated}
+use Rattle.gq_types.proofs.Placing.Alike.{contains, repeated}
 use Rattle.gq_laws.proofs.Placing.Literals.{erase_expected, names_alike, none_alike, literal_too}
 
 pub option_too : {A B : Type 0} (h : A → B) (k : Option A) (n : A) → Some (h n) ≡ option_map h k → (m : A) × (k ≡ Some m) × (h n ≡ h m)

@@ -15,7 +15,7 @@ use Rattle.gq_document.specs.Executable.{ExecutableOf}
 use Rattle.gq_laws.specs.Placing.Places.{erase_operation, erase_fragment, SameButPlaces, PlacesDoNotMatter}
 use Rattle.gq_laws.specs.Placing.Names.{nameless, bare_says, bare_part, bare_value, bare_directive, bare_variable, shown_name, named_head, named_def, forgotten, bare_def, bare_operation, bare_fragment, SameButNames, NamesDoNotMatter}
 use Rattle.gq_laws.proofs.Placing.Forgetting.{tree}
-use Rattle.gq_laws.proofs.Placing.Lists.{weaken}
+use Rattle.gq_types.proofs.Placing.Lists.{weaken}
 
 -- a change that is not seen in the parts is not seen in the whole
 module _ {A B K : Type 0} (f : A → B) (g : B → K) (k : A → K) (each : (a : A) → g (f a) ≡ k a) where

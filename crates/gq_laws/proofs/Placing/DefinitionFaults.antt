@@ -14,7 +14,7 @@ use Rattle.gq_fragments.specs.FragmentsOnCompositeTypes.{IsConditionNotComposite
 use Rattle.gq_fragments.specs.FragmentSpreadIsPossible.{IsSpread, of_fragment, of_inline_fragment, IsSpreadNotPossible}
 use Rattle.gq_fragments.specs.FragmentFaults.{IsFragmentFault, repeated_fragment_name, unknown_condition, condition_not_composite, spread_not_possible}
 use Rattle.gq_laws.specs.Placing.Places.{erase_operation, erase_fragment, SameButPlaces, HasLike, PlacesDoNotMatter}
-use Rattle.gq_laws.proofs.Placing.Alike.{contains}
+use Rattle.gq_types.proofs.Placing.Alike.{contains}
 use Rattle.gq_laws.proofs.Placing.Bare.{by_names}
 use Rattle.gq_laws.proofs.Placing.Operations.{repeated_by, names_of_unknown_conditions, names_of_other_conditions}
 use Rattle.gq_laws.proofs.Placing.Selected.{selected_alike}

@@ -9,7 +9,8 @@ use Rattle.gq_types.specs.BuiltIn.{built_in}
 use Rattle.gq_types.specs.Entries.{Text}
 use Rattle.gq_document.specs.Definitions.{OperationOf, FragmentOf, operation_in, fragment_in, entry_in, operations_of, fragments_of, entries_of}
 use Rattle.gq_laws.specs.Placing.Places.{erase_operation, erase_fragment, DocumentsAreSameButPlaces}
-use Rattle.gq_laws.specs.Placing.Types.{erase_entry, ProjectsAreSameButPlaces}
+use Rattle.gq_types.specs.ErasedEntries.{erase_entry}
+use Rattle.gq_laws.specs.Placing.Types.{ProjectsAreSameButPlaces}
 use Rattle.gq_laws.specs.Placing.Names.{named_def, forgotten, RenamedAreSameButNames}
 use Rattle.gq_laws.proofs.Placing.Bare.{named_read, def_renamed, renamed_alike}
 

@@ -17,8 +17,8 @@ use Rattle.gq_fields.specs.FieldSelections.{IsUnknownField}
 use Rattle.gq_fields.specs.LeafFieldSelections.{HasWrongSelections}
 use Rattle.gq_laws.specs.Placing.Places.{HasLike}
 use Rattle.gq_laws.specs.Placing.Names.{bare_value, bare_head, bare_operation, bare_fragment}
-use Rattle.gq_laws.proofs.Placing.Alike.{back, seen}
-use Rattle.gq_laws.proofs.Placing.Lists.{weaken}
+use Rattle.gq_types.proofs.Placing.Alike.{back, seen}
+use Rattle.gq_types.proofs.Placing.Lists.{weaken}
 use Rattle.gq_laws.proofs.Placing.Forgetting.{all_three, selects_operation, selects_fragment, selected_by}
 
 parent_erased : (es : List EntryOf) (parent : Option Text) (h : Head Span) → parent_below es parent h ≡ parent_below es parent (place_head back (bare_head h))

@@ -9,7 +9,7 @@ use Rattle.gq_types.specs.Roots.{root_of}
 use Rattle.gq_document.specs.Definitions.{OperationOf, FragmentOf}
 use Rattle.gq_document.specs.Selections.{SelectedOf, parent_below, IsSelectionWithin, here, within, after, IsSelected}
 use Rattle.gq_document.specs.Selections as selections
-use Rattle.gq_laws.proofs.Placing.Lists.{contains_by}
+use Rattle.gq_types.proofs.Placing.Lists.{contains_by}
 
 abbrev pub tree : {K : Type 0} → K → Forest K → Tree K
 tree l b = record { label = l; below = b }

@@ -7,10 +7,11 @@ use Rattle.gq_tree.specs.Plain.{TypeSystemOf, scalar_type, object_type, interfac
 use Rattle.gq_types.specs.BuiltIn.{defines_built_in}
 use Rattle.gq_types.specs.Entries.{EntryOf, Numbered, numbered_from, numbered}
 use Rattle.gq_types.specs.Joined.{joined, judged, owner}
-use Rattle.gq_laws.specs.Placing.Types.{erase_entry, erase_filed}
-use Rattle.gq_laws.proofs.Placing.Alike.{back, contains}
-use Rattle.gq_laws.proofs.Placing.Lists.{kept, weaken}
-use Rattle.gq_laws.proofs.Placing.Entries.{blind, owners}
+use Rattle.gq_types.specs.ErasedEntries.{erase_entry}
+use Rattle.gq_laws.specs.Placing.Types.{erase_filed}
+use Rattle.gq_types.proofs.Placing.Alike.{back, contains}
+use Rattle.gq_types.proofs.Placing.Lists.{kept, weaken}
+use Rattle.gq_types.proofs.Placing.Entries.{blind, owners}
 
 -- what is made of each item, and two lists in a row
 pub mapped : {A B K L : Type 0} (h : A → K) (g : A → B) (k : B → L) → ((a b : A) → h a ≡ h b → k (g a) ≡ k (g b)) → (xs ys : List A) → map h xs ≡ map h ys → map k (map g xs) ≡ map k (map g ys)

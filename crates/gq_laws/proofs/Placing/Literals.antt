@@ -20,7 +20,7 @@ use Rattle.gq_values.specs.Literals as literals
 use Rattle.gq_values.specs.LiteralFaults.{key_in, entry_names, HasNone, literal_place, first_byte, IsFaultOf, wrong_value, unknown_field, field_not_unique, field_missing, IsLiteralFault}
 use Rattle.gq_laws.specs.Placing.Places.{HasLike}
 use Rattle.gq_laws.specs.Placing.Names.{bare_says, bare_part, bare_value}
-use Rattle.gq_laws.proofs.Placing.Alike.{back, seen, contains, repeated}
+use Rattle.gq_types.proofs.Placing.Alike.{back, seen, contains, repeated}
 
 -- what a literal is read at, places forgotten
 abbrev pub erase_expected : Expected → Option (TypeOf (Unit {0}))

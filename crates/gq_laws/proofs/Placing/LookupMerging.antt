@@ -22,7 +22,7 @@ use Rattle.gq_merging.specs.declared.purpose.Purpose.TheVariants.{Shapes, Names}
 use Rattle.gq_merging.specs.Shapes.{composite, leaf, many, never_null, shape_of}
 use Rattle.gq_merging.specs.FieldsMerge.{HaveOneKey, can_coincide, leads_on, Meet, together, deeper, HasType, Differ, in_shape, in_call, IsFaultFor, IsMergingFault, of_shapes, of_names}
 use Rattle.gq_laws.specs.Placing.Types.{LooksAlike, PlacesOfTypesDoNotMatter}
-use Rattle.gq_laws.proofs.Placing.Alike.{back, seen}
+use Rattle.gq_types.proofs.Placing.Alike.{back, seen}
 use Rattle.gq_laws.proofs.Placing.Arguments.{option_too}
 use Rattle.gq_laws.proofs.Placing.Schema.{base_alike}
 use Rattle.gq_laws.proofs.Placing.Lookups.{executable, erase_field, base_of, composites, selected_on}

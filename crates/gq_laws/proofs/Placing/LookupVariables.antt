@@ -21,8 +21,8 @@ use Rattle.gq_variables.specs.VariablesAreInputTypes.{NamesNoInputType, unknown,
 use Rattle.gq_variables.specs.AllVariableUsagesAreAllowed.{AreCompatible, both_non_null, variable_non_null, both_lists, same_name, IsAllowed, by_default, by_type, is_known}
 use Rattle.gq_variables.specs.VariableFaults.{IsFaultOfOperation, IsVariableFault, not_unique, not_of_input_type, not_defined, not_used, not_allowed}
 use Rattle.gq_laws.specs.Placing.Types.{LooksAlike, PlacesOfTypesDoNotMatter}
-use Rattle.gq_laws.proofs.Placing.Alike.{back, seen}
-use Rattle.gq_laws.proofs.Placing.Lists.{and_then_same}
+use Rattle.gq_types.proofs.Placing.Alike.{back, seen}
+use Rattle.gq_types.proofs.Placing.Lists.{and_then_same}
 use Rattle.gq_laws.proofs.Placing.Literals.{erase_expected, restore, part_alike, type_too, object_erased}
 use Rattle.gq_laws.proofs.Placing.Schema.{base_alike, non_null_erased, argument_named_alike}
 use Rattle.gq_laws.proofs.Placing.Lookups as lookups

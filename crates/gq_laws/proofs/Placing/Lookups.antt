@@ -20,7 +20,7 @@ use Rattle.gq_tree.specs.Same.{same_locations}
 use Rattle.gq_values.specs.ArgumentFaults.{argument_at}
 use Rattle.gq_document.specs.Executable.{ExecutableOf}
 use Rattle.gq_laws.specs.Placing.Types.{LooksAlike, PlacesOfTypesDoNotMatter}
-use Rattle.gq_laws.proofs.Placing.Alike.{back, seen}
+use Rattle.gq_types.proofs.Placing.Alike.{back, seen}
 use Rattle.gq_laws.proofs.Placing.Literals.{erase_expected, part_alike, type_too, fits_alike, object_erased}
 use Rattle.gq_laws.proofs.Placing.Arguments.{option_too}
 use Rattle.gq_laws.proofs.Placing.Schema.{none_too, base_alike, required_alike, at_input_alike, argument_named_alike, directive_alike}

@@ -17,7 +17,7 @@ use Rattle.gq_merging.specs.declared.purpose.Purpose.{Purpose}
 use Rattle.gq_merging.specs.FieldsMerge.{HaveOneKey, Meet, together, deeper, Differ, IsNoLater, fault_of, IsFaultFor, IsMergingFault, of_shapes, of_names}
 use Rattle.gq_laws.specs.Placing.Places.{erase_operation, erase_fragment, HasLike, PlacesDoNotMatter}
 use Rattle.gq_laws.specs.Placing.Merging.{SayTheSame}
-use Rattle.gq_laws.proofs.Placing.Alike.{contains}
+use Rattle.gq_types.proofs.Placing.Alike.{contains}
 use Rattle.gq_laws.proofs.Placing.MergingSame.{leads_alike, differ_alike}
 use Rattle.gq_laws.proofs.Placing.MergingBack.{meet_back, differ_back, one_is_no_later}
 

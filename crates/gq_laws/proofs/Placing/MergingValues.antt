@@ -6,7 +6,7 @@ use Rattle.gq_tree.specs.Forest.{none, more, relabel}
 use Rattle.gq_tree.specs.Plain.{NameOf, Says, Part, Val, Vals, variable, int, float, string, boolean, null, enum, list, object, place_name, place_says, place_part, place_value, no_place, erase_values}
 use Rattle.gq_merging.specs.SameArguments.{AreSame, variables, ints, floats, strings, booleans, nulls, enums, AreSameStrings, AreIdentical, same, lists, objects, AreInOrder, no_more, one_more, EachIsIn, none_is, next_is, EachHas, none_has, next_has, IsIn, is_first, is_later, HasOne, has_first, has_later, IsArgument, SameArguments}
 use Rattle.gq_merging.proofs.ArgumentLemmas.{at_first, has_at_first}
-use Rattle.gq_laws.proofs.Placing.Alike.{contains}
+use Rattle.gq_types.proofs.Placing.Alike.{contains}
 
 -- what is said, and values in a row, that are equal but for places
 abbrev SayAlike : Says Span → Says Span → Type 0

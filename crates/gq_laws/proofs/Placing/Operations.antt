@@ -25,9 +25,9 @@ use Rattle.gq_fragments.specs.FragmentSpreadTypeExistence.{IsUnknownCondition}
 use Rattle.gq_fragments.specs.FragmentsOnCompositeTypes.{IsConditionNotComposite}
 use Rattle.gq_laws.specs.Placing.Places.{HasLike}
 use Rattle.gq_laws.specs.Placing.Names.{bare_head, bare_operation, bare_fragment, NamesDoNotMatter}
-use Rattle.gq_laws.proofs.Placing.Alike.{stands, contains}
+use Rattle.gq_types.proofs.Placing.Alike.{stands, contains}
 use Rattle.gq_laws.proofs.Placing.Fields.{selected_bare}
-use Rattle.gq_laws.proofs.Placing.Lists.{gathered}
+use Rattle.gq_types.proofs.Placing.Lists.{gathered}
 use Rattle.gq_laws.proofs.Placing.Arguments.{option_too}
 use Rattle.gq_laws.proofs.Placing.Schema.{none_too}
 

@@ -31,8 +31,8 @@ use Rattle.gq_laws.specs.Placing.Places.{HasLike}
 use Rattle.gq_rules.specs.Files.{together}
 use Rattle.gq_laws.specs.Placing.Names.{shown_name, named_head, named_def, FragmentRenamesKeepFaultless, ChangesNoFragment, VariableRenamesKeepFaultless}
 use Rattle.gq_laws.specs.Placing.Types.{IsFaultless}
-use Rattle.gq_laws.proofs.Placing.Alike.{back}
-use Rattle.gq_laws.proofs.Placing.Lists.{weaken_by, stands_by, contains_by}
+use Rattle.gq_types.proofs.Placing.Alike.{back}
+use Rattle.gq_types.proofs.Placing.Lists.{weaken_by, stands_by, contains_by}
 use Rattle.gq_laws.proofs.Placing.Forgetting.{all_three, selects_operation, selects_fragment, selected_by}
 use Rattle.gq_laws.proofs.Placing.Bare.{named_read, shown_before, def_renamed, renamed_alike}
 use Rattle.gq_laws.proofs.Placing.Documents.{named_operation, named_fragment, operations_named, fragments_named}

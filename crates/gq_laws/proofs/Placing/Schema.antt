@@ -14,8 +14,8 @@ use Rattle.gq_types.specs.Names.{argument_named}
 use Rattle.gq_types.specs.Required.{is_required}
 use Rattle.gq_values.specs.Literals.{at_input}
 use Rattle.gq_values.specs.DirectiveFaults.{is_repeatable}
-use Rattle.gq_laws.proofs.Placing.Alike.{back, seen}
-use Rattle.gq_laws.proofs.Placing.Lists.{found}
+use Rattle.gq_types.proofs.Placing.Alike.{back, seen}
+use Rattle.gq_types.proofs.Placing.Lists.{found}
 use Rattle.gq_laws.proofs.Placing.Literals.{erase_expected}
 
 -- what is asked of what is found

@@ -15,8 +15,8 @@ use Rattle.gq_fields.specs.LeafFieldSelections.{HasWrongSelections}
 use Rattle.gq_fault.specs.FaultPlaces.{fault_at}
 use Rattle.gq_fault.specs.declared.code.Code.TheVariants.{UnknownField, WrongSelections}
 use Rattle.gq_laws.specs.Placing.Places.{erase_operation, erase_fragment, HasLike}
-use Rattle.gq_laws.proofs.Placing.Alike.{back, seen}
-use Rattle.gq_laws.proofs.Placing.Lists.{weaken}
+use Rattle.gq_types.proofs.Placing.Alike.{back, seen}
+use Rattle.gq_types.proofs.Placing.Lists.{weaken}
 use Rattle.gq_laws.proofs.Placing.Forgetting.{all_three, selects_operation, selects_fragment, within_by, selected_by}
 
 parent_erased : (es : List EntryOf) (parent : Option Text) (h : Head Span) → parent_below es parent h ≡ parent_below es parent (place_head back (place_head no_place h))

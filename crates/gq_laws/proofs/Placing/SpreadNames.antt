@@ -17,7 +17,7 @@ use Rattle.gq_spreads.specs.FragmentSpreadsMustNotFormCycles.{IsFragmentCycle}
 use Rattle.gq_spreads.specs.SpreadFaults.{IsSpreadFault, fragment_not_used, unknown_fragment, fragment_cycle}
 use Rattle.gq_spreads.proofs.ReachLemmas.{reached_stands}
 use Rattle.gq_laws.specs.Placing.Places.{HasLike}
-use Rattle.gq_laws.proofs.Placing.Alike.{contains}
+use Rattle.gq_types.proofs.Placing.Alike.{contains}
 
 -- the texts of the names in spreads; with the name of a fragment; each with its document
 abbrev pub spread_texts : Sels Span → List Text

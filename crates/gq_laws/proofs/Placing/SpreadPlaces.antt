@@ -14,7 +14,7 @@ use Rattle.gq_renamed.specs.Renamings.{Renaming}
 use Rattle.gq_rules.specs.Files.{together}
 use Rattle.gq_laws.specs.Placing.Places.{erase_operation, erase_fragment, PlacesDoNotMatter}
 use Rattle.gq_laws.specs.Placing.Names.{shown_name, named_head, ChangesNoFragment, VariableRenamesKeepFaultless}
-use Rattle.gq_laws.proofs.Placing.Lists.{weaken}
+use Rattle.gq_types.proofs.Placing.Lists.{weaken}
 use Rattle.gq_laws.proofs.Placing.Forgetting.{all_three}
 use Rattle.gq_laws.proofs.Placing.DefinitionFaults.{fragment_name}
 use Rattle.gq_laws.proofs.Placing.Documents.{named_operation, named_fragment, operations_named, fragments_named}

@@ -20,14 +20,15 @@ use Rattle.gq_type_system.specs.DirectivesAndDefaults.{Site, argument_site, fiel
 use Rattle.gq_laws.specs.Placing.Places.{HasLike}
 use Rattle.gq_laws.specs.Placing.Names.{forgotten, bare_value, bare_directive}
 use Rattle.gq_laws.specs.Placing.Types.{erase_filed}
-use Rattle.gq_laws.proofs.Placing.Alike.{back, seen, contains}
-use Rattle.gq_laws.proofs.Placing.Lists.{gathered, weaken}
+use Rattle.gq_types.proofs.Placing.Alike.{back, seen, contains}
+use Rattle.gq_types.proofs.Placing.Lists.{gathered, weaken}
 use Rattle.gq_laws.proofs.Placing.Literals.{erase_expected, default_alike, literal_too}
 use Rattle.gq_laws.proofs.Placing.Arguments.{option_too, texts_alike, directive_too}
 use Rattle.gq_laws.proofs.Placing.Lookups.{defaults, literal, directive}
 use Rattle.gq_laws.proofs.Placing.Bare.{value_placed, directive_placed}
 use Rattle.gq_laws.proofs.Placing.Judged.{erase_judged, built_in_alike, entries_too, judged_too, joined_filed}
-use Rattle.gq_laws.proofs.Placing.Entries.{fields_alike, values_alike, inputs_alike, owners, looks_alike}
+use Rattle.gq_types.proofs.Placing.Entries.{fields_alike, values_alike, inputs_alike, owners}
+use Rattle.gq_laws.proofs.Placing.Entries.{looks_alike}
 
 -- what is equal but for places is equal but for places and the names of variables
 value_alike : (v w : Val Span) → place_value no_place v ≡ place_value no_place w → bare_value v ≡ bare_value w

@@ -23,11 +23,13 @@ use Rattle.gq_type_system.specs.Implementations.{Implements, Inherits, BreaksFie
 use Rattle.gq_type_system.specs.EndlessInputs.{Way, step, further, LeadsByNonNull, InputField, has_key, LeadsByDefault, IsEndless, by_non_null, by_default, input_object_in, IsEndlessInput}
 use Rattle.gq_laws.specs.Placing.Places.{HasLike}
 use Rattle.gq_laws.specs.Placing.Names.{bare_says, bare_part, bare_value}
-use Rattle.gq_laws.specs.Placing.Types.{LooksAlike, erase_entry, erase_filed}
-use Rattle.gq_laws.proofs.Placing.Lists.{any, found, map_twice}
-use Rattle.gq_laws.proofs.Placing.Alike.{back, seen}
+use Rattle.gq_types.specs.ErasedEntries.{erase_entry}
+use Rattle.gq_laws.specs.Placing.Types.{LooksAlike, erase_filed}
+use Rattle.gq_types.proofs.Placing.Lists.{any, found, map_twice}
+use Rattle.gq_types.proofs.Placing.Alike.{back, seen}
 use Rattle.gq_laws.proofs.Placing.Judged.{entries_too, judged_too}
-use Rattle.gq_laws.proofs.Placing.Entries.{blind, kind_erased, fields_alike, interfaces_alike, definition_kinds, type_numbers, parts_alike, looks_alike}
+use Rattle.gq_types.proofs.Placing.Entries.{blind, kind_erased, fields_alike, interfaces_alike, definition_kinds, type_numbers, parts_alike}
+use Rattle.gq_laws.proofs.Placing.Entries.{looks_alike}
 use Rattle.gq_laws.proofs.Placing.Arguments.{option_too}
 use Rattle.gq_laws.proofs.Placing.Schema.{none_too, required_alike, argument_named_alike}
 use Rattle.gq_laws.proofs.Placing.Literals.{type_too, in_alike}

@@ -21,10 +21,10 @@ use Rattle.gq_type_system.specs.UnknownType.{IsUnknownType}
 use Rattle.gq_type_system.specs.WrongKind.{suits, IsWrongKind}
 use Rattle.gq_laws.specs.Placing.Places.{HasLike}
 use Rattle.gq_laws.specs.Placing.Types.{erase_filed}
-use Rattle.gq_laws.proofs.Placing.Alike.{back, seen, contains}
-use Rattle.gq_laws.proofs.Placing.Lists.{gathered}
+use Rattle.gq_types.proofs.Placing.Alike.{back, seen, contains}
+use Rattle.gq_types.proofs.Placing.Lists.{gathered}
 use Rattle.gq_laws.proofs.Placing.Judged.{mapped, in_a_row, entries_too, numbered_too, judged_too}
-use Rattle.gq_laws.proofs.Placing.Entries.{blind, kind_erased, definition_kinds, fields_alike, interfaces_alike, members_alike, values_alike, inputs_alike}
+use Rattle.gq_types.proofs.Placing.Entries.{blind, kind_erased, definition_kinds, fields_alike, interfaces_alike, members_alike, values_alike, inputs_alike}
 
 -- the texts of the names that a definition defines
 abbrev pub name_text : NameOf Span → Text

@@ -21,11 +21,11 @@ use Rattle.gq_type_system.specs.RootTypes.{HasRoot, has_default, has_entry, IsFi
 use Rattle.gq_type_system.specs.QueryRoot.{no_query_root_fault, HasNoQueryRoot}
 use Rattle.gq_laws.specs.Placing.Places.{HasLike}
 use Rattle.gq_laws.specs.Placing.Types.{erase_filed}
-use Rattle.gq_laws.proofs.Placing.Alike.{back, seen, stands, contains, repeated}
-use Rattle.gq_laws.proofs.Placing.Lists.{lengths, gathered, weaken}
+use Rattle.gq_types.proofs.Placing.Alike.{back, seen, stands, contains, repeated}
+use Rattle.gq_types.proofs.Placing.Lists.{lengths, gathered, weaken}
 use Rattle.gq_laws.proofs.Placing.Judged.{mapped, erase_judged, entries_too, judged_too, joined_filed}
-use Rattle.gq_laws.proofs.Placing.Entries.{body_alike, roots_alike, PartsAlike, fields_alike, interfaces_alike, members_alike, values_alike, inputs_alike}
-use Rattle.gq_laws.proofs.Placing.Entries.{definition_kinds, schema_numbers, default_roots}
+use Rattle.gq_types.proofs.Placing.Entries.{body_alike, roots_alike, PartsAlike, fields_alike, interfaces_alike, members_alike, values_alike, inputs_alike}
+use Rattle.gq_types.proofs.Placing.Entries.{definition_kinds, schema_numbers, default_roots}
 
 empty_too : {A K : Type 0} (h : A → K) (xs ys : List A) → map h xs ≡ map h ys → xs ≡ [] → ys ≡ []
 empty_too h xs [] e n = refl

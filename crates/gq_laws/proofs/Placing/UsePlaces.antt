@@ -13,7 +13,7 @@ use Rattle.gq_spreads.proofs.ReachLemmas.{reached_stands}
 use Rattle.gq_variables.specs.Uses.{PlaceOf, part_place, argument_place, StandsIn, here, within, after, StandsInValue, StandsInArguments, StandsInDirectives, directives_of, field_arguments, StandsInSelection, in_arguments, in_directives, UseOf, IsUsedInOperation, in_selection, in_directive, in_variable, IsUsedInFragment, within_selection, within_directive}
 use Rattle.gq_variables.specs.ReachedUses.{ReachesUse, of_itself, of_fragment}
 use Rattle.gq_laws.specs.Placing.Places.{erase_operation, erase_fragment}
-use Rattle.gq_laws.proofs.Placing.Alike.{back, seen, contains}
+use Rattle.gq_types.proofs.Placing.Alike.{back, seen, contains}
 use Rattle.gq_laws.proofs.Placing.Selected.{within_alike}
 use Rattle.gq_laws.proofs.Placing.SpreadPlaces.{fragment_set, operation_set, reaches_too}
 

@@ -19,7 +19,7 @@ use Rattle.gq_variables.specs.AllVariablesUsed.{IsNotUsed}
 use Rattle.gq_variables.specs.AllVariableUsagesAreAllowed.{AreCompatible, both_non_null, variable_non_null, both_lists, same_name, is_value, IsAllowed, by_default, by_type, IsNotAllowed}
 use Rattle.gq_variables.specs.VariableFaults.{IsFaultOfOperation, not_unique, not_of_input_type, not_defined, not_used, not_allowed, IsVariableFault}
 use Rattle.gq_laws.specs.Placing.Places.{erase_operation, erase_fragment, HasLike, PlacesDoNotMatter}
-use Rattle.gq_laws.proofs.Placing.Alike.{back, seen, contains, repeated}
+use Rattle.gq_types.proofs.Placing.Alike.{back, seen, contains, repeated}
 use Rattle.gq_laws.proofs.Placing.Schema.{base_alike, non_null_erased}
 use Rattle.gq_laws.proofs.Placing.UsePlaces.{with_name, reached_use}
 

@@ -19,7 +19,7 @@ use Rattle.gq_fields.specs.Values.{HasWrongDefault}
 use Rattle.gq_fields.specs.FieldFaults.{IsFieldFault, unknown_field, wrong_selections, wrong_argument, wrong_directive, wrong_default}
 use Rattle.gq_laws.specs.Placing.Places.{HasLike}
 use Rattle.gq_laws.specs.Placing.Names.{bare_value, bare_directive, bare_variable, bare_head, bare_operation, bare_fragment, NamesDoNotMatter}
-use Rattle.gq_laws.proofs.Placing.Alike.{contains}
+use Rattle.gq_types.proofs.Placing.Alike.{contains}
 use Rattle.gq_laws.proofs.Placing.Fields.{selected_bare, field_too, unknown_too, wrong_selections_too}
 use Rattle.gq_laws.proofs.Placing.Literals.{default_alike, literal_too}
 use Rattle.gq_laws.proofs.Placing.Arguments.{option_too, argument_too, directive_too}

@@ -19,7 +19,7 @@ use Rattle.gq_variables.specs.ReachedUses.{ReachesUse, of_itself, of_fragment}
 use Rattle.gq_variables.specs.VariablesAreInputTypes.{NamesNoInputType}
 use Rattle.gq_variables.specs.AllVariableUsagesAreAllowed.{IsAllowed, by_default, by_type, is_known}
 use Rattle.gq_variables.specs.VariableFaults.{IsFaultOfOperation, not_unique, not_of_input_type, not_defined, not_used, not_allowed}
-use Rattle.gq_laws.proofs.Placing.Lists.{stands_by}
+use Rattle.gq_types.proofs.Placing.Lists.{stands_by}
 use Rattle.gq_laws.proofs.Placing.OtherNames.{from_map, to_map}
 use Rattle.gq_laws.proofs.Placing.OtherNamesRead.{list_itself}
 use Rattle.gq_laws.proofs.Placing.UsePlaces.{with_name}

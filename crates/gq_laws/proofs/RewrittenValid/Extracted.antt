@@ -22,7 +22,7 @@ use Rattle.gq_variables.specs.Uses.{in_selection, in_directive, in_variable, IsU
 use Rattle.gq_variables.specs.ReachedUses.{ReachesUse}
 use Rattle.gq_variables.specs.ReachedUses as uses
 use Rattle.gq_laws.specs.Placing.Types.{IsFaultless}
-use Rattle.gq_laws.proofs.Placing.Alike.{repeated}
+use Rattle.gq_types.proofs.Placing.Alike.{repeated}
 use Rattle.gq_laws.proofs.RewrittenValid.Opened.{StandsToo}
 use Rattle.gq_laws.proofs.RewrittenValid.Moved.{IsMoved, a_spread, spread_named, IsNewSpread, new_name, moved_was, moved_is, run_was, names_were, names_are, names_of_run, new_stands}
 use Rattle.gq_laws.proofs.RewrittenValid.Inserted.{Inserted, inserted_there, inserted_too, inserted_from, none_repeated}

@@ -28,7 +28,7 @@ use Rattle.gq_fragments.specs.OperationPlace.{operation_place, first_token}
 use Rattle.gq_fragments.specs.OperationNameUniqueness.{names_in, operation_names}
 use Rattle.gq_fragments.specs.OperationFaults.{IsOperationFault, subscription, no_root_type, repeated_operation_name, not_alone}
 use Rattle.gq_laws.specs.Placing.Types.{IsFaultless}
-use Rattle.gq_laws.proofs.Placing.Alike.{contains}
+use Rattle.gq_types.proofs.Placing.Alike.{contains}
 use Rattle.gq_laws.proofs.RewrittenValid.Placed.{with_operation_set, with_fragment_set}
 
 -- a definition but for its selections

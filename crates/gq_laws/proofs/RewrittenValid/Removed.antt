@@ -20,7 +20,7 @@ use Rattle.gq_variables.specs.Uses.{in_selection, in_directive, in_variable, IsU
 use Rattle.gq_variables.specs.ReachedUses.{ReachesUse}
 use Rattle.gq_variables.specs.ReachedUses as uses
 use Rattle.gq_laws.specs.Placing.Types.{IsFaultless}
-use Rattle.gq_laws.proofs.Placing.Alike.{repeated}
+use Rattle.gq_types.proofs.Placing.Alike.{repeated}
 use Rattle.gq_laws.proofs.Placing.SpreadNames.{spread_texts, spreads_operation, spreads_fragment, both, reaches_by, same_spreads}
 use Rattle.gq_laws.proofs.Placing.Forgetting.{all_three}
 use Rattle.gq_laws.proofs.RewrittenValid.Placed.{changed_operation, changed_fragment}

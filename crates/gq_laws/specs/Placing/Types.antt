@@ -6,6 +6,7 @@ use Rattle.gq_tree.specs.Plain.{TypeSystemOf, place_field, place_input, place_ty
 use Rattle.gq_tree.specs.declared.tree.OperationKind.{OperationKind}
 use Rattle.gq_tree.specs.Readings.{ParsedOf}
 use Rattle.gq_types.specs.Entries.{Text, EntryOf}
+use Rattle.gq_types.specs.ErasedEntries.{erase_entry}
 use Rattle.gq_types.specs.Joined.{kind_named}
 use Rattle.gq_types.specs.Names.{field_named, input_named, has_value, has_member, declares, directive_named}
 use Rattle.gq_types.specs.Roots.{root_of}
@@ -31,11 +32,7 @@ abbrev pub PlacesOfTypesDoNotMatter : (ExecutableOf → Fault → Type 0) → Ty
 PlacesOfTypesDoNotMatter IsFault = (es us : List EntryOf) → LooksAlike es us → (os : List OperationOf) (gs : List FragmentOf) (f : Fault) →
     IsFault (record { entries = es; operations = os; fragments = gs }) f → IsFault (record { entries = us; operations = os; fragments = gs }) f
 
--- a definition of the type system, its places and its document forgotten
-abbrev pub erase_entry : EntryOf → TypeSystemOf (Unit {0})
-erase_entry e = place_type_system no_place e.definition
-
--- the same with the number of its document
+-- a definition of the type system without its places, and the number of its document
 abbrev pub erase_filed : EntryOf → ℕ × TypeSystemOf (Unit {0})
 erase_filed e = (e.file, erase_entry e)
 

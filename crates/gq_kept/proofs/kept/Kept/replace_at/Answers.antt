@@ -1,15 +1,19 @@
 -- The document and its reading are written over.
-use Rattle.std.proofs.Common.{◌≡◌, ◌<◌, true, List, [], Some, get_or, length, map, refl, ap, ◌∙◌, subst, sym}
+use Rattle.std.proofs.Common.{◌≡◌, ◌<◌, ◌++◌, true, List, [], Some, get_or, length, map, refl, ap, ◌∙◌, subst, sym}
 use Rattle.std.specs.Option.{option_map}
 use Rattle.std.specs.Prelude.{slice_get}
 use Rattle.std.proofs.lemmas.Option.{slice_get-map, slice_get_read}
+use Rattle.gq_project.specs.declared.document.Doc.{Doc}
 use Rattle.gq_project.specs.Documents.{with_doc}
 use Rattle.gq_tree.specs.Readings.{SharedParsed, definitions_read, shared_view, readings_view}
+use Rattle.gq_parse.specs.Parsed.{AreParsed}
+use Rattle.gq_types.specs.BuiltIn.{built_in}
+use Rattle.gq_document.specs.Definitions.{entries_of}
 use Rattle.gq_kept.specs.Helping.Unindexed.{AddNothing}
 use Rattle.gq_kept.specs.KeptOf.{KeptOf, JudgedOf}
-use Rattle.gq_kept.proofs.AlikeLemmas.{known_kept, replaced_alike, told_of_both}
+use Rattle.gq_kept.proofs.AlikeLemmas.{replaced_alike, same_kept, told_kept, told_of_both}
 use Rattle.gq_kept.proofs.Brought.{place_found}
-use Rattle.gq_kept.proofs.KeptLemmas.{given_in_range, kept_replaced}
+use Rattle.gq_kept.proofs.KeptLemmas.{both_known, given_in_range, kept_replaced}
 use Rattle.gq_kept.proofs.kept.Kept.replace_at.Goals as goal
 
 pub stays_indexed-stays-requires : goal.stays_indexed-stays-requires
@@ -30,11 +34,29 @@ bounds-readings-at c =
     rw c.as_slice-readings.ensures.value
     (given_in_range _ _ _ _ _ c.self.invariant c.args.self.now.documents c.as_slice-readings.result.now same c.as_slice-readings.ensures.value c.args.at c.args.doc.key c.requires.place)
 
-pub retype-requires : goal.retype-requires
-retype-requires c =
+pub retype-requires-clause-at : goal.retype-requires-clause-at
+retype-requires-clause-at c =
     let same = ap (λ (k : KeptOf). k.documents) c.self.view_is in
     rw c.as_slice-readings.ensures.value
     (given_in_range _ _ _ _ _ c.self.invariant c.args.self.now.documents c.as_slice-readings.result.now same c.as_slice-readings.ensures.value c.args.at c.args.doc.key c.requires.place)
+
+pub retype-requires-clause-names : goal.retype-requires-clause-names
+retype-requires-clause-names c keeps =
+    let same = ap (λ (k : KeptOf). k.documents) c.self.view_is in
+    let given = c.as_slice-readings.result.now in
+    let is = c.as_slice-readings.ensures.value in
+    let was = c.index-readings-at.result in
+    let within : c.args.at < length given = rw is (given_in_range _ _ _ _ _ c.self.invariant c.args.self.now.documents given same is c.args.at c.args.doc.key c.requires.place) in
+    let there : slice_get (readings_view given) c.args.at ≡ Some (shared_view was) =
+    slice_get-map shared_view given c.args.at ∙ ap (option_map shared_view) (slice_get_read given (length given) c.args.at was refl within c.index-readings-at.is) in
+    let told = told_of_both c.args.at (shared_view was) c.changes_types-changes.result c.is_retyped-is_made.result (c.documents-documents.ensures.all ∙ c.project.ensures ∙ same) c.as_str-text.ensures c.changes_types-changes.ensures in
+    both_known c.self.invariant.known c.requires.parsed
+    (λ known parsed.
+    let read : AreParsed c.args.self.now.documents (readings_view given) =
+    subst (λ (ds : List Doc). AreParsed ds (readings_view given)) same (subst (λ (rs : List SharedParsed). AreParsed c.self.inside.judged.documents (readings_view rs)) (sym is) known.are_readings) in
+    same_kept c.same_tokens_define_alike.ensures c.args.self.now.documents (readings_view given) c.args.at c.args.doc.text (shared_view was) (shared_view c.args.reading) c.changes_types-changes.result c.is_retyped-is_made.result
+    c.requires.place.in_range there told (c.keeps_names-same.ensures keeps) read parsed c.self.inside.typed
+    (known.is_type_system ∙ ap (λ (rs : List SharedParsed). built_in ++ entries_of (readings_view rs)) (sym is)))
 
 pub invariant_of-self-in_err-put : goal.invariant_of-self-in_err-put
 invariant_of-self-in_err-put c =
@@ -60,9 +82,9 @@ invariant_of-self-2 c =
     rw (ap (λ (j : JudgedOf). j.documents) c.in_ok-put.ensures.ok, c.write_over.ensures, c.forget_unless.ensures)
     (kept_replaced _ _ _ _ _ c.self.invariant c.args.self.now.documents given same is c.args.at c.args.doc c.args.reading c.retype.new.typed c.replace.new.self changes
     c.requires.place c.requires.parsed
-    (λ read parsed types. c.in_ok-typed.ensures.ok
-    (known_kept c.places_of_types_do_not_matter_to_types.ensures c.same_tokens_define_alike.ensures c.args.self.now.documents (readings_view given) c.args.at c.args.doc.text (shared_view was) (shared_view c.args.reading)
-    c.self.inside.typed changes is_made c.known_of-known.result c.requires.place.in_range there told c.known_of-known.ensures types read parsed) types)
+    (λ read parsed types. c.in_ok-types.ensures.ok
+    (λ same. told_kept c.same_tokens_define_alike.ensures c.args.self.now.documents (readings_view given) c.args.at c.args.doc.text (shared_view was) (shared_view c.args.reading) changes is_made
+    c.requires.place.in_range there told (c.keeps_names-same.ensures same) read parsed c.places_of_types_do_not_matter_to_types.ensures c.self.inside.typed types) types)
     (replaced_alike c.numbers_of_entries_are_unseen.ensures c.same_tokens_define_alike.ensures c.types_look_alike.ensures c.places_of_types_do_not_matter_to_rules.ensures c.args.self.now.documents (readings_view given) c.args.at
     c.args.doc.text (shared_view was) (shared_view c.args.reading) changes is_made c.requires.place.in_range there told c.is_retyped-is_made.ensures.stays)
     c.replace.ensures

@@ -2,7 +2,7 @@
 use Rattle.std.proofs.Common.{◌≡◌, ℕ, List, map, sym, ap, ◌∙◌, Contains}
 use Rattle.gq_text.specs.declared.place.Span.{Span}
 use Rattle.gq_names.specs.Repeats.{StandsAt, IsRepeated}
-use Rattle.gq_laws.proofs.Placing.Lists.{stands_by, contains_by}
+use Rattle.gq_types.proofs.Placing.Lists.{stands_by, contains_by}
 
 -- some place
 abbrev pub back : Unit {0} → Span
