@@ -26,7 +26,7 @@ LENGTH = b"Content-Length: "
 NOTHING_WRONG = b'"diagnostics":[]'
 OPERATIONS, SCHEMA = "q0.graphql", "s.graphql"
 CHECK, CHECK_MEMORY, MEMORY = "check", "memory of the check", "memory of the server, at the end"
-ASKED = 3  # how often a question is asked in a round
+ASKED = 3  # how often a question is asked, or a key is struck, in a round
 FIELD = "zz:Int "  # a field more, which no file uses, so that the type system is another one
 CAPABILITIES = {
     "workspace": {"workspaceEdit": {"documentChanges": True}},
@@ -239,8 +239,10 @@ class Project:
         brace = text.index("{", text.index("fragment F0_0"))
         for _ in range(100 if is_last else ASKED):
             self.type(program, client, OPERATIONS, "a keystroke in a file of operations", brace)
-        self.type(program, client, SCHEMA, "a space in the schema", schema.index("{"))
-        self.type(program, client, SCHEMA, "a field in the schema, or none", schema.index("{") + 1, FIELD)
+        for _ in range(ASKED):
+            self.type(program, client, SCHEMA, "a space in the schema", schema.index("{"))
+        for _ in range(ASKED):
+            self.type(program, client, SCHEMA, "a field in the schema, or none", schema.index("{") + 1, FIELD)
         if is_last:
             for _ in range(20):
                 client.ask(method, params)
