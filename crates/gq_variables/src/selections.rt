@@ -2,86 +2,41 @@
 ghost use Rattle.std.specs.Prelude.{◌≡◌, ◌++◌, IfOk, OnOk, map, true, []};
 ghost use Rattle.std.specs.Option.{option_map};
 ghost use Rattle.gq_tree.specs.NamedTypes.{base_name};
-ghost use Rattle.gq_tree.specs.Views.{argument_view, sel_view, sels_view, variable_view};
+ghost use Rattle.gq_tree.specs.Views.{argument_view, below_of, sel_view, sels_view, variable_view};
 ghost use Rattle.gq_types.specs.Look.{types_view, text_of};
 ghost use Rattle.gq_document.specs.Definitions.{operation_view, fragment_view};
 ghost use Rattle.gq_document.specs.Helping.Trees.{selected_in};
-ghost use Rattle.gq_document.specs.Selections.{selected_among, selected_field};
-ghost use Rattle.gq_document.specs.Views.{selected_view};
+ghost use Rattle.gq_document.specs.Selections.{selected_among};
+ghost use Rattle.gq_document.specs.Views.{selected_field_view};
 ghost use Rattle.gq_values.specs.ArgumentPlaces.{definitions_view};
-ghost use Rattle.gq_variables.specs.Uses.{field_arguments};
-ghost use Rattle.gq_variables.specs.Helping.UsesNothing.{UsesNothing, UseNothing};
-ghost use Rattle.gq_variables.specs.Helping.UsesPlaces.{argument_uses, uses_of_selection, selection_uses, variable_uses, operation_uses, fragment_uses};
+ghost use Rattle.gq_variables.specs.Helping.UsesNothing.{ArgumentsUseNothing, UsesNothing, UseNothing};
+ghost use Rattle.gq_variables.specs.Helping.UsesPlaces.{selection_uses, variable_uses, operation_uses, fragment_uses};
 ghost use Rattle.gq_variables.specs.Helping.Views.{uses_view};
 
 use crate::has_variable::has_variable_among;
 use crate::uses::Use;
 use crate::values::{put_uses_of_arguments, put_uses_of_directives};
-use gq_document::{FragmentEntry, OperationEntry, Selected, selected_field};
+use gq_document::{FragmentEntry, OperationEntry, SelectedField, selected_field};
 use gq_text::NoMemory;
-use gq_tree::{Argument, Directive, Selection, VariableDefinition};
+use gq_tree::{Argument, Directive, Selection, SelectionSet, VariableDefinition};
 use gq_types::{Arguments, Types};
 use std::alloc::Global;
 
-/// The definitions of the arguments of the field of that name, where the type of its parent is known and has it.
-fn field_arguments<'a>(types: &'a Types, parent: Option<&str>, name: &str) -> Option<Arguments<'a>>
-    ensures { definitions_view result ≡ field_arguments (types_view types.now) (text_of parent.entry) name.now }
+/// The definitions of the arguments of a field, where it is known.
+fn arguments_of<'a>(found: Option<SelectedField<'a>>) -> Option<Arguments<'a>>
+    ensures { definitions_view result ≡ option_map (λ f. f.arguments) (selected_field_view found.entry) }
 {
-    match selected_field(types, parent, name) {
+    match found {
         Some(field) => Some(field.arguments()),
         None => None,
     }
 }
 
-/// Puts the uses in the arguments of the field of that name behind the others. Where no variable stands in them the field is
-/// not looked up.
-fn put_uses_of_field_arguments<'a>(
-    types: &'a Types,
-    file: usize,
-    parent: Option<&str>,
-    name: &str,
-    arguments: &'a [Argument],
-    uses: &mut Vec<Use<'a>>,
-) -> Result<(), NoMemory>
-    ensures { OnOk result (uses_view uses.new.items ≡ uses_view uses.old.items ++ argument_uses (types_view types.now) file
-        (field_arguments (types_view types.now) (text_of parent.entry) name.now) (map argument_view arguments.now)) }
+/// The name of the type of a field, without lists and non-null, where it is known.
+fn name_below<'a>(found: Option<SelectedField<'a>>) -> Option<&'a str>
+    ensures { text_of result ≡ option_map (λ f. base_name f.type_ref) (selected_field_view found.entry) }
 {
-    if !has_variable_among(arguments) {
-        return Ok(());
-    }
-    let known = field_arguments(types, parent, name);
-    put_uses_of_arguments(types, file, known, arguments, uses)
-}
-
-#[tactic(auto, using(gq_tree::proofs::Trees::gathers))]
-fn put_uses_of_selection<'a>(
-    types: &'a Types,
-    selected: Selected<'a>,
-    uses: &mut Vec<Use<'a>>,
-) -> Result<(), NoMemory>
-    ensures { OnOk result (uses_view uses.new.items ≡ uses_view uses.old.items ++ uses_of_selection (types_view types.now) (selected_view selected.entry)) }
-{
-    let file = selected.file;
-    match selected.selection {
-        Selection::Field(field) => {
-            let (name, arguments) = (field.name.text.as_str(), &field.arguments);
-            put_uses_of_field_arguments(types, file, selected.parent, name, arguments, uses)?;
-            put_uses_of_directives(types, file, &field.directives, uses)
-        }
-        Selection::Spread(spread) => {
-            put_uses_of_directives(types, file, &spread.directives, uses)
-        }
-        Selection::Inline(inline) => {
-            put_uses_of_directives(types, file, &inline.directives, uses)
-        }
-    }
-}
-
-/// The name of the type of the field of that name, without lists and non-null, where the type of its parent is known and has it.
-fn type_below<'a>(types: &'a Types, parent: Option<&str>, name: &str) -> Option<&'a str>
-    ensures { text_of result ≡ option_map (λ f. base_name f.type_ref) (selected_field (types_view types.now) (text_of parent.entry) name.now) }
-{
-    match selected_field(types, parent, name) {
+    match found {
         Some(field) => Some(field.base_name()),
         None => None,
     }
@@ -142,8 +97,22 @@ fn use_nothing(all: &[Selection], deep: usize) -> bool
     true
 }
 
-/// Puts the uses in a selection, at any depth, behind the others. Where the selections of a field use nothing, its type is not
-/// looked up.
+/// Whether no variable stands in the arguments of a field, and none is used in its selection set, in so many sets at most.
+fn is_silent(arguments: &[Argument], set: &Option<Box<SelectionSet>>) -> bool
+    ensures arguments { result ≡ true → ArgumentsUseNothing (map argument_view arguments.now) }
+    ensures set { result ≡ true → UseNothing (below_of set.now) }
+{
+    if has_variable_among(arguments) {
+        return false;
+    }
+    match set {
+        Some(set) => use_nothing(&set.items, DEEP),
+        None => true,
+    }
+}
+
+/// Puts the uses in a selection, at any depth, behind the others. A field is looked up once, and not at all where no variable is used
+/// in it but in its directives.
 #[cycle(selections)]
 #[tactic(auto, using(gq_tree::proofs::Trees::gathers))]
 fn put_uses_in<'a>(
@@ -156,31 +125,33 @@ fn put_uses_in<'a>(
     ensures { OnOk result (uses_view uses.new.items ≡ uses_view uses.old.items ++
         selection_uses (types_view types.now) (selected_in (types_view types.now) file (text_of parent.entry) (sel_view selection.now))) }
 {
-    let selected = Selected {
-        file,
-        parent,
-        selection,
-    };
-    put_uses_of_selection(types, selected, uses)?;
     match selection {
-        Selection::Field(field) => match &field.set {
-            Some(set) => {
-                if use_nothing(&set.items, DEEP) {
-                    return Ok(());
+        Selection::Field(field) => {
+            let (arguments, directives) = (&field.arguments, &field.directives);
+            if is_silent(arguments, &field.set) {
+                return put_uses_of_directives(types, file, directives, uses);
+            }
+            let found = selected_field(types, parent, field.name.text.as_str());
+            put_uses_of_arguments(types, file, arguments_of(found), arguments, uses)?;
+            put_uses_of_directives(types, file, directives, uses)?;
+            match &field.set {
+                Some(set) => { put_uses_among(types, file, name_below(found), &set.items, uses) }
+                None => Ok(()),
+            }
+        }
+        Selection::Spread(spread) => {
+            put_uses_of_directives(types, file, &spread.directives, uses)
+        }
+        Selection::Inline(inline) => {
+            put_uses_of_directives(types, file, &inline.directives, uses)?;
+            match &inline.on {
+                Some(name) => {
+                    let below = Some(name.text.as_str());
+                    put_uses_among(types, file, below, &inline.set.items, uses)
                 }
-                let below = type_below(types, parent, field.name.text.as_str());
-                put_uses_among(types, file, below, &set.items, uses)
+                None => put_uses_among(types, file, parent, &inline.set.items, uses),
             }
-            None => Ok(()),
-        },
-        Selection::Spread(_) => Ok(()),
-        Selection::Inline(inline) => match &inline.on {
-            Some(name) => {
-                let below = Some(name.text.as_str());
-                put_uses_among(types, file, below, &inline.set.items, uses)
-            }
-            None => put_uses_among(types, file, parent, &inline.set.items, uses),
-        },
+        }
     }
 }
 
