@@ -4,5 +4,6 @@ pub mod Names
 pub mod Links
 pub mod Across
 pub mod Own
+pub mod Unseen
 pub mod ByFile
 pub mod Helping

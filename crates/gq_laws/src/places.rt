@@ -6,6 +6,7 @@ ghost use Rattle.gq_fragments.specs.FragmentsOnCompositeTypes.{IsConditionNotCom
 ghost use Rattle.gq_fragments.specs.OperationFaults.{IsOperationFault};
 ghost use Rattle.gq_laws.specs.Placing.Merging.{DifferingIsSymmetric, FieldsThatAreKeptMerge, MeetingIsSymmetric};
 ghost use Rattle.gq_laws.specs.Placing.Names.{FragmentRenamesKeepFaultless, NamesDoNotMatter, RenamedAreSameButNames, RenamesKeepFaultless, VariableRenamesKeepFaultless};
+ghost use Rattle.gq_laws.specs.Placing.OtherFields.{OtherFieldsDoNotMatter, TypesLookAlikeBut};
 ghost use Rattle.gq_laws.specs.Placing.Places.{DocumentsAreSameButPlaces, PlacesDoNotMatter};
 ghost use Rattle.gq_laws.specs.Placing.Tokens.{LinesReadApart, SameTokensDefineAlike};
 ghost use Rattle.gq_laws.specs.Placing.Types.{NoPlacesMatter, PlacesOfTypesDoNotMatter, PlacesOfTypesDoNotMatterToTypes, ProjectsAreSameButPlaces, TreesSayWhatIsFaultless, TypesLookAlike};
@@ -82,6 +83,16 @@ pub fn places_of_types_do_not_matter_to_rules()
 /// In type systems that are equal but for their places each look-up finds the same but for its places.
 pub fn types_look_alike()
     ensures { TypesLookAlike }
+{}
+
+/// In type systems that are equal but for their places and for fields of some names each look-up of another field finds the same but for its places.
+pub fn types_look_alike_but()
+    ensures { TypesLookAlikeBut }
+{}
+
+/// Over such type systems operations and fragments that select no field of these names have the same faults.
+pub fn other_fields_do_not_matter_to_rules()
+    ensures { OtherFieldsDoNotMatter IsRuleFault }
 {}
 
 /// Of type systems that are equal but for their places, the one breaks a rule of the type system in a document where the other does.
