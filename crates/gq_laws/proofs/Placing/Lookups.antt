@@ -1,11 +1,14 @@
--- The field faults over type systems in which each look-up finds the same but for its places.
-use Rattle.std.proofs.Common.{◌≡◌, ℕ, Bool, true, false, List, map, Option, Some, None, refl, sym, ap, ◌∙◌, subst}
+-- The field faults over type systems in which each look-up finds the same but for its places, and for fields that are not selected.
+use Rattle.std.proofs.Common.{◌≡◌, ℕ, Bool, true, false, List, [], ◌∷◌, ◌++◌, map, Option, Some, None, refl, sym, ap, ◌∙◌, subst}
 use Rattle.std.specs.Prelude.{◌||◌, if◌then◌else◌}
 use Rattle.std.specs.Str.{bytes_eq}
 use Rattle.std.specs.Option.{option_map, option_map_or}
+use Rattle.std.proofs.lemmas.Bool.{or_parts}
+use Rattle.std.proofs.lemmas.List.Folds.{list_any-append}
 use Rattle.gq_text.specs.declared.place.Span.{Span}
 use Rattle.gq_tree.specs.declared.type_system.DirectiveLocation.{DirectiveLocation}
 use Rattle.gq_tree.specs.Plain.{NameOf, TypeOf, named, list_of, non_null, InputOf, FieldDefinitionOf, TypeSystemOf, place_type, place_input, place_field, place_type_system, no_place, Says, Val, Vals, DirectiveOf, Head, Sel, Sels, variable, int, float, string, boolean, null, enum, list, object, field, spread, inline}
+use Rattle.gq_tree.specs.Forest.{more, labels}
 use Rattle.gq_tree.specs.NamedTypes.{base_name}
 use Rattle.gq_tree.specs.Wrapping.{is_null}
 use Rattle.gq_fault.specs.declared.fault.Fault.{Fault}
@@ -20,6 +23,7 @@ use Rattle.gq_tree.specs.Same.{same_locations}
 use Rattle.gq_values.specs.ArgumentFaults.{argument_at}
 use Rattle.gq_document.specs.Executable.{ExecutableOf}
 use Rattle.gq_laws.specs.Placing.Types.{LooksAlike, PlacesOfTypesDoNotMatter}
+use Rattle.gq_laws.specs.Placing.OtherFields.{is_one_of, LooksAlikeBut, selects_in, selects_one_of, SelectNone, OtherFieldsDoNotMatter}
 use Rattle.gq_types.proofs.Placing.Alike.{back, seen}
 use Rattle.gq_laws.proofs.Placing.Literals.{erase_expected, part_alike, type_too, fits_alike, object_erased}
 use Rattle.gq_laws.proofs.Placing.Arguments.{option_too}
@@ -90,10 +94,10 @@ field_arguments (Some i) (Some j) e =
     let those : erase_field i ≡ erase_field j = cc in
     ap (λ z. Some z.1) those
 
-pub turned : (es us : List EntryOf) → LooksAlike es us → LooksAlike us es
-turned es us same = record {
+pub turned : (names : List Text) (es us : List EntryOf) → LooksAlikeBut names es us → LooksAlikeBut names us es
+turned names es us same = record {
   kind = λ text. sym (same.kind text);
-  field = λ type_name text. sym (same.field type_name text);
+  field = λ type_name text other. sym (same.field type_name text other);
   input = λ type_name text. sym (same.input type_name text);
   value = λ type_name text. sym (same.value type_name text);
   member = λ type_name text. sym (same.member type_name text);
@@ -102,7 +106,55 @@ turned es us same = record {
   root = λ kind. sym (same.root kind);
 }
 
-module _ (es us : List EntryOf) (same : LooksAlike es us) where
+-- of no names: each field is another
+pub all_fields : (es us : List EntryOf) → LooksAlike es us → LooksAlikeBut [] es us
+all_fields es us same = record {
+  kind = same.kind;
+  field = λ type_name text other. same.field type_name text;
+  input = same.input;
+  value = same.value;
+  member = same.member;
+  declared = same.declared;
+  directive = same.directive;
+  root = same.root;
+}
+
+pub each_field : (es us : List EntryOf) → LooksAlikeBut [] es us → LooksAlike es us
+each_field es us same = record {
+  kind = same.kind;
+  field = λ type_name text. same.field type_name text refl;
+  input = same.input;
+  value = same.value;
+  member = same.member;
+  declared = same.declared;
+  directive = same.directive;
+  root = same.root;
+}
+
+none_among : (heads : List (Head Span)) → list_any (selects_in []) heads ≡ false
+none_among [] = refl
+none_among (field alias name arguments directives braces place ∷ heads) = none_among heads
+none_among (spread name directives place ∷ heads) = none_among heads
+none_among (inline on directives braces place ∷ heads) = none_among heads
+
+pub none_selected : (os : List OperationOf) (gs : List FragmentOf) → SelectNone [] os gs
+none_selected os gs = record { operations = λ o c. none_among (labels o.set); fragments = λ g c. none_among (labels g.set) }
+
+-- selections that select none of some names: the first, those below it, and those after it
+pub set_parts : (names : List Text) (l : Head Span) (b r : Sels Span) → selects_one_of names (more l b r) ≡ false →
+    (selects_in names l ≡ false) × (selects_one_of names b ≡ false) × (selects_one_of names r ≡ false)
+set_parts names l b r e =
+    let both = or_parts (selects_in names l) (list_any (selects_in names) (labels b ++ labels r)) e in
+    let later = or_parts (selects_one_of names b) (selects_one_of names r) (sym (list_any-append (selects_in names) (labels b) (labels r)) ∙ both.1) in
+    (both.0, later.0, later.1)
+
+pub unselected : (names : List Text) {es : List EntryOf} {parent inner : Option Text} {set : Sels Span} {s : Sel Span} →
+    selects_one_of names set ≡ false → IsSelectionWithin es parent set inner s → selects_in names s.label ≡ false
+unselected names e (selections.here {head = head} {below = below} {rest = rest}) = (set_parts names head below rest e).0
+unselected names e (selections.within {head = head} {below = below} {rest = rest} h) = unselected names (set_parts names head below rest e).1 h
+unselected names e (selections.after {head = head} {below = below} {rest = rest} h) = unselected names (set_parts names head below rest e).2 h
+
+module _ (names : List Text) (es us : List EntryOf) (same : LooksAlikeBut names es us) where
   -- literals
   enum_fits : (text : Text) (s : Says Span) → fits_enum es text s ≡ fits_enum us text s
   enum_fits text (enum name) = same.value text name.text
@@ -208,35 +260,48 @@ module _ (es us : List EntryOf) (same : LooksAlike es us) where
   pub composites : (text : Text) → is_composite_named es text ≡ is_composite_named us text
   composites text = ap (λ k. option_map_or is_composite k false) (same.kind text)
 
-  on : (type_name text : Text) → option_map erase_field (field_on es type_name text) ≡ option_map erase_field (field_on us type_name text)
-  on type_name text = field_step (bytes_eq text typename) (is_composite_named es type_name) (is_composite_named us type_name) (field_named es type_name text) (field_named us type_name text) (composites type_name) (same.field type_name text)
+  on : (type_name text : Text) → is_one_of names text ≡ false → option_map erase_field (field_on es type_name text) ≡ option_map erase_field (field_on us type_name text)
+  on type_name text other =
+      field_step (bytes_eq text typename) (is_composite_named es type_name) (is_composite_named us type_name) (field_named es type_name text) (field_named us type_name text)
+          (composites type_name) (same.field type_name text other)
 
-  pub selected_on : (parent : Option Text) (text : Text) → option_map erase_field (selected_field es parent text) ≡ option_map erase_field (selected_field us parent text)
-  selected_on None text = refl
-  selected_on (Some type_name) text = on type_name text
+  pub selected_on : (parent : Option Text) (text : Text) → is_one_of names text ≡ false →
+      option_map erase_field (selected_field es parent text) ≡ option_map erase_field (selected_field us parent text)
+  selected_on None text other = refl
+  selected_on (Some type_name) text other = on type_name text other
 
-  below_parent : (parent : Option Text) (head : Head Span) → parent_below es parent head ≡ parent_below us parent head
-  below_parent parent (field alias name arguments directives braces place) = base_of (selected_field es parent name.text) (selected_field us parent name.text) (selected_on parent name.text)
-  below_parent parent (spread name directives place) = refl
-  below_parent parent (inline None directives braces place) = refl
-  below_parent parent (inline (Some condition) directives braces place) = refl
+  below_parent : (parent : Option Text) (head : Head Span) → selects_in names head ≡ false → parent_below es parent head ≡ parent_below us parent head
+  below_parent parent (field alias name arguments directives braces place) other =
+      base_of (selected_field es parent name.text) (selected_field us parent name.text) (selected_on parent name.text other)
+  below_parent parent (spread name directives place) other = refl
+  below_parent parent (inline None directives braces place) other = refl
+  below_parent parent (inline (Some condition) directives braces place) other = refl
 
-  selection : {parent inner : Option Text} {set : Sels Span} {s : Sel Span} → IsSelectionWithin es parent set inner s → IsSelectionWithin us parent set inner s
-  selection selections.here = selections.here
-  selection (selections.within {parent = parent} {inner = inner} {head = head} {below = below} {selection = s} h) =
-      selections.within (subst (λ z. IsSelectionWithin us z below inner s) (below_parent parent head) (selection h))
-  selection (selections.after h) = selections.after (selection h)
+  selection : {parent inner : Option Text} {set : Sels Span} {s : Sel Span} → selects_one_of names set ≡ false → IsSelectionWithin es parent set inner s → IsSelectionWithin us parent set inner s
+  selection e selections.here = selections.here
+  selection e (selections.within {parent = parent} {inner = inner} {head = head} {below = below} {rest = rest} {selection = s} h) =
+      let split = set_parts names head below rest e in
+      selections.within (subst (λ z. IsSelectionWithin us z below inner s) (below_parent parent head split.0) (selection split.1 h))
+  selection e (selections.after {head = head} {below = below} {rest = rest} h) = selections.after (selection (set_parts names head below rest e).2 h)
 
-  pub of_operation : (o : OperationOf) (s : SelectedOf) → IsOfOperation es o s → IsOfOperation us o s
-  of_operation o s w = (w.0, subst (λ z. IsSelectionWithin us z o.set s.parent s.selection) (same.root o.kind) (selection w.1))
+  pub of_operation : (o : OperationOf) (s : SelectedOf) → selects_one_of names o.set ≡ false → IsOfOperation es o s → IsOfOperation us o s
+  of_operation o s e w = (w.0, subst (λ z. IsSelectionWithin us z o.set s.parent s.selection) (same.root o.kind) (selection e w.1))
 
-  pub of_fragment : (g : FragmentOf) (s : SelectedOf) → IsOfFragment es g s → IsOfFragment us g s
-  of_fragment g s w = (w.0, selection w.1)
+  pub of_fragment : (g : FragmentOf) (s : SelectedOf) → selects_one_of names g.set ≡ false → IsOfFragment es g s → IsOfFragment us g s
+  of_fragment g s e w = (w.0, selection e w.1)
 
-  module _ (os : List OperationOf) (gs : List FragmentOf) where
+  module _ (os : List OperationOf) (gs : List FragmentOf) (none : SelectNone names os gs) where
     pub selects : {s : SelectedOf} → IsSelected es os gs s → IsSelected us os gs s
-    selects {s} (selections.of_operation {o = o} c w) = selections.of_operation c (of_operation o s w)
-    selects {s} (selections.of_fragment {f = g} c w) = selections.of_fragment c (of_fragment g s w)
+    selects {s} (selections.of_operation {o = o} c w) = selections.of_operation c (of_operation o s (none.operations o c) w)
+    selects {s} (selections.of_fragment {f = g} c w) = selections.of_fragment c (of_fragment g s (none.fragments g c) w)
+
+    pub selected_none : {s : SelectedOf} → IsSelected es os gs s → selects_in names s.selection.label ≡ false
+    selected_none (selections.of_operation {o = o} c w) = unselected names (none.operations o c) w.1
+    selected_none (selections.of_fragment {f = g} c w) = unselected names (none.fragments g c) w.1
+
+    -- no field that is selected has one of the names
+    pub is_other : (one : SelectsField (executable es os gs)) → is_one_of names one.name.text ≡ false
+    is_other one = ap (selects_in names) (sym one.is_field) ∙ selected_none one.stands
 
     abbrev one_in : SelectsField (executable es os gs) → SelectsField (executable us os gs)
     one_in one = record {
@@ -264,11 +329,13 @@ module _ (es us : List EntryOf) (same : LooksAlike es us) where
       is_parent = h.is_parent;
       kind = h.kind;
       is_known = sym (same.kind h.type_name) ∙ h.is_known;
-      is_not_defined = none_too erase_field (field_on es h.type_name h.one.name.text) (field_on us h.type_name h.one.name.text) (on h.type_name h.one.name.text) h.is_not_defined;
+      is_not_defined = none_too erase_field (field_on es h.type_name h.one.name.text) (field_on us h.type_name h.one.name.text) (on h.type_name h.one.name.text (is_other h.one)) h.is_not_defined;
       is = h.is;
     })
     by_lookups f (faults.wrong_selections h) =
-        let d = option_too erase_field (selected_field us h.one.selected.parent h.one.name.text) h.definition (ap (option_map erase_field) (sym h.is_defined) ∙ selected_on h.one.selected.parent h.one.name.text) in
+        let parent = h.one.selected.parent in
+        let text = h.one.name.text in
+        let d = option_too erase_field (selected_field us parent text) h.definition (ap (option_map erase_field) (sym h.is_defined) ∙ selected_on parent text (is_other h.one)) in
         faults.wrong_selections (record {
           one = one_in h.one;
           definition = d.0;
@@ -283,7 +350,8 @@ module _ (es us : List EntryOf) (same : LooksAlike es us) where
         let text = h.one.name.text in
         faults.wrong_argument (record {
           one = one_in h.one;
-          fault = argument (option_map (λ d. d.arguments) (selected_field us parent text)) (field_arguments (selected_field es parent text) (selected_field us parent text) (selected_on parent text)) h.fault;
+          fault = argument (option_map (λ d. d.arguments) (selected_field us parent text))
+              (field_arguments (selected_field es parent text) (selected_field us parent text) (selected_on parent text (is_other h.one))) h.fault;
         })
     by_lookups f (faults.wrong_directive h) = faults.wrong_directive (record { site = h.site; stands = site h.stands; fault = directive h.fault })
     by_lookups f (faults.wrong_default h) = faults.wrong_default (record {
@@ -296,5 +364,8 @@ module _ (es us : List EntryOf) (same : LooksAlike es us) where
       fault = literal (default_at us h.variable.type_ref) (ap erase_expected (defaults h.variable.type_ref)) h.fault;
     })
 
+pub other_fields : OtherFieldsDoNotMatter IsFieldFault
+other_fields names es us same os gs none f h = by_lookups names es us same os gs none f h
+
 pub places_of_types : PlacesOfTypesDoNotMatter IsFieldFault
-places_of_types es us same os gs f h = by_lookups es us same os gs f h
+places_of_types es us same os gs f h = other_fields [] es us (all_fields es us same) os gs (none_selected os gs) f h
