@@ -1,5 +1,5 @@
--- The faults of operations, fragments and type conditions over type systems in which each look-up finds the same but for places.
-use Rattle.std.proofs.Common.{ℕ, List, sym, ◌∙◌}
+-- The faults of operations, fragments and type conditions over type systems in which each look-up finds the same but for places, and for fields that are not selected.
+use Rattle.std.proofs.Common.{ℕ, List, [], sym, ◌∙◌}
 use Rattle.gq_text.specs.declared.place.Span.{Span}
 use Rattle.gq_tree.specs.declared.tree.OperationKind.TheVariants.{Mutation}
 use Rattle.gq_tree.specs.Plain.{NameOf}
@@ -15,24 +15,26 @@ use Rattle.gq_fragments.specs.TypeConditions as conditions
 use Rattle.gq_fragments.specs.FragmentSpreadIsPossible.{HaveNoObject}
 use Rattle.gq_fragments.specs.FragmentFaults.{IsFragmentFault}
 use Rattle.gq_fragments.specs.FragmentFaults as fragments
-use Rattle.gq_laws.specs.Placing.Types.{LooksAlike, PlacesOfTypesDoNotMatter}
-use Rattle.gq_laws.proofs.Placing.Lookups.{turned, selects}
+use Rattle.gq_laws.specs.Placing.Types.{PlacesOfTypesDoNotMatter}
+use Rattle.gq_laws.specs.Placing.OtherFields.{LooksAlikeBut, SelectNone, OtherFieldsDoNotMatter}
+use Rattle.gq_laws.proofs.Placing.Lookups.{turned, all_fields, none_selected, selects}
 
-possible : (es us : List EntryOf) → LooksAlike es us → {type_name object : Text} → IsPossible es type_name object → IsPossible us type_name object
-possible es us same (itself {object = object} k) = itself (sym (same.kind object) ∙ k)
-possible es us same (member {union = union} {object = object} k m o) = member (sym (same.kind union) ∙ k) (sym (same.member union object) ∙ m) (sym (same.kind object) ∙ o)
-possible es us same (declaring {interface = interface} {object = object} k d o) = declaring (sym (same.kind interface) ∙ k) (sym (same.declared object interface) ∙ d) (sym (same.kind object) ∙ o)
+possible : (names : List Text) (es us : List EntryOf) → LooksAlikeBut names es us → {type_name object : Text} → IsPossible es type_name object → IsPossible us type_name object
+possible names es us same (itself {object = object} k) = itself (sym (same.kind object) ∙ k)
+possible names es us same (member {union = union} {object = object} k m o) = member (sym (same.kind union) ∙ k) (sym (same.member union object) ∙ m) (sym (same.kind object) ∙ o)
+possible names es us same (declaring {interface = interface} {object = object} k d o) =
+    declaring (sym (same.kind interface) ∙ k) (sym (same.declared object interface) ∙ d) (sym (same.kind object) ∙ o)
 
-no_object : (es us : List EntryOf) → LooksAlike es us → {parent condition : Text} → HaveNoObject es parent condition → HaveNoObject us parent condition
-no_object es us same {parent} {condition} h = record {
+no_object : (names : List Text) (es us : List EntryOf) → LooksAlikeBut names es us → {parent condition : Text} → HaveNoObject es parent condition → HaveNoObject us parent condition
+no_object names es us same {parent} {condition} h = record {
   parent_kind = h.parent_kind;
   parent_is_known = sym (same.kind parent) ∙ h.parent_is_known;
   condition_kind = h.condition_kind;
   condition_is_known = sym (same.kind condition) ∙ h.condition_is_known;
-  none_is_possible = λ object a b. h.none_is_possible object (possible us es (turned es us same) a) (possible us es (turned es us same) b);
+  none_is_possible = λ object a b. h.none_is_possible object (possible names us es (turned names es us same) a) (possible names us es (turned names es us same) b);
 }
 
-module _ (es us : List EntryOf) (same : LooksAlike es us) (os : List OperationOf) (gs : List FragmentOf) where
+module _ (names : List Text) (es us : List EntryOf) (same : LooksAlikeBut names es us) (os : List OperationOf) (gs : List FragmentOf) (none : SelectNone names os gs) where
   abbrev x : ExecutableOf
   x = record { entries = es; operations = os; fragments = gs }
 
@@ -72,7 +74,7 @@ module _ (es us : List EntryOf) (same : LooksAlike es us) (os : List OperationOf
 
   condition : {file : ℕ} {name : NameOf Span} → IsTypeCondition x file name → IsTypeCondition y file name
   condition (conditions.of_fragment c) = conditions.of_fragment c
-  condition (conditions.of_inline_fragment c is) = conditions.of_inline_fragment (selects es us same os gs c) is
+  condition (conditions.of_inline_fragment c is) = conditions.of_inline_fragment (selects names es us same os gs none c) is
 
   fragment_fault : (f : Fault) → IsFragmentFault x f → IsFragmentFault y f
   fragment_fault f (fragments.repeated_fragment_name h) = fragments.repeated_fragment_name (record {
@@ -98,18 +100,24 @@ module _ (es us : List EntryOf) (same : LooksAlike es us) (os : List OperationOf
   })
   fragment_fault f (fragments.spread_not_possible h) = fragments.spread_not_possible (record {
     selected = h.selected;
-    is_selected = selects es us same os gs h.is_selected;
+    is_selected = selects names es us same os gs none h.is_selected;
     parent = h.parent;
     is_below = h.is_below;
     condition = h.condition;
     place = h.place;
     is_spread = h.is_spread;
-    have_no_object = no_object es us same h.have_no_object;
+    have_no_object = no_object names es us same h.have_no_object;
     is = h.is;
   })
 
+pub other_fields_of_operations : OtherFieldsDoNotMatter IsOperationFault
+other_fields_of_operations names es us same os gs none f h = operation_fault names es us same os gs none f h
+
+pub other_fields_of_fragments : OtherFieldsDoNotMatter IsFragmentFault
+other_fields_of_fragments names es us same os gs none f h = fragment_fault names es us same os gs none f h
+
 pub types_of_operations : PlacesOfTypesDoNotMatter IsOperationFault
-types_of_operations es us same os gs f h = operation_fault es us same os gs f h
+types_of_operations es us same os gs f h = other_fields_of_operations [] es us (all_fields es us same) os gs (none_selected os gs) f h
 
 pub types_of_fragments : PlacesOfTypesDoNotMatter IsFragmentFault
-types_of_fragments es us same os gs f h = fragment_fault es us same os gs f h
+types_of_fragments es us same os gs f h = other_fields_of_fragments [] es us (all_fields es us same) os gs (none_selected os gs) f h

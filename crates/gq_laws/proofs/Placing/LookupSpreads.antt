@@ -1,5 +1,5 @@
 -- The faults of spreads over any type system: none is asked.
-use Rattle.std.proofs.Common.{ℕ, List}
+use Rattle.std.proofs.Common.{ℕ, List, []}
 use Rattle.gq_text.specs.declared.place.Span.{Span}
 use Rattle.gq_tree.specs.Plain.{NameOf}
 use Rattle.gq_fault.specs.declared.fault.Fault.{Fault}
@@ -11,6 +11,8 @@ use Rattle.gq_spreads.specs.FragmentSpreadTargetDefined as targets
 use Rattle.gq_spreads.specs.SpreadFaults.{IsSpreadFault}
 use Rattle.gq_spreads.specs.SpreadFaults as spreads
 use Rattle.gq_laws.specs.Placing.Types.{PlacesOfTypesDoNotMatter}
+use Rattle.gq_laws.specs.Placing.OtherFields.{OtherFieldsDoNotMatter}
+use Rattle.gq_laws.proofs.Placing.Lookups.{all_fields, none_selected}
 
 module _ (es us : List EntryOf) (os : List OperationOf) (gs : List FragmentOf) where
   abbrev x : ExecutableOf
@@ -50,5 +52,8 @@ module _ (es us : List EntryOf) (os : List OperationOf) (gs : List FragmentOf) w
     is = h.is;
   })
 
+pub other_fields_of_spreads : OtherFieldsDoNotMatter IsSpreadFault
+other_fields_of_spreads names es us same os gs none f h = spread_fault es us os gs f h
+
 pub types_of_spreads : PlacesOfTypesDoNotMatter IsSpreadFault
-types_of_spreads es us same os gs f h = spread_fault es us os gs f h
+types_of_spreads es us same os gs f h = other_fields_of_spreads [] es us (all_fields es us same) os gs (none_selected os gs) f h

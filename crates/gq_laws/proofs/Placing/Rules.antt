@@ -9,6 +9,7 @@ use Rattle.gq_rules.specs.Files.{together}
 use Rattle.gq_rules.specs.RuleFaults.{IsRuleFault, of_operations, of_fields, of_fragments, of_spreads, of_variables, of_merging}
 use Rattle.gq_renamed.specs.Renamings.{fragment_called}
 use Rattle.gq_laws.specs.Placing.Types.{NoPlacesMatter, PlacesOfTypesDoNotMatter}
+use Rattle.gq_laws.specs.Placing.OtherFields.{OtherFieldsDoNotMatter}
 use Rattle.gq_laws.specs.Placing.Names.{RenamesKeepFaultless, FragmentRenamesKeepFaultless}
 
 pub by_group : NoPlacesMatter IsOperationFault → NoPlacesMatter IsFieldFault → NoPlacesMatter IsFragmentFault →
@@ -29,6 +30,16 @@ types_by_group operations fields fragments spreads variables merging es us same 
 types_by_group operations fields fragments spreads variables merging es us same os gs f (of_spreads h) = of_spreads (spreads es us same os gs f h)
 types_by_group operations fields fragments spreads variables merging es us same os gs f (of_variables h) = of_variables (variables es us same os gs f h)
 types_by_group operations fields fragments spreads variables merging es us same os gs f (of_merging h) = of_merging (merging es us same os gs f h)
+
+-- the same of fields that are not selected
+pub other_fields_by_group : OtherFieldsDoNotMatter IsOperationFault → OtherFieldsDoNotMatter IsFieldFault → OtherFieldsDoNotMatter IsFragmentFault →
+    OtherFieldsDoNotMatter IsSpreadFault → OtherFieldsDoNotMatter IsVariableFault → OtherFieldsDoNotMatter IsMergingFault → OtherFieldsDoNotMatter IsRuleFault
+other_fields_by_group operations fields fragments spreads variables merging names es us same os gs none f (of_operations h) = of_operations (operations names es us same os gs none f h)
+other_fields_by_group operations fields fragments spreads variables merging names es us same os gs none f (of_fields h) = of_fields (fields names es us same os gs none f h)
+other_fields_by_group operations fields fragments spreads variables merging names es us same os gs none f (of_fragments h) = of_fragments (fragments names es us same os gs none f h)
+other_fields_by_group operations fields fragments spreads variables merging names es us same os gs none f (of_spreads h) = of_spreads (spreads names es us same os gs none f h)
+other_fields_by_group operations fields fragments spreads variables merging names es us same os gs none f (of_variables h) = of_variables (variables names es us same os gs none f h)
+other_fields_by_group operations fields fragments spreads variables merging names es us same os gs none f (of_merging h) = of_merging (merging names es us same os gs none f h)
 
 -- the same of the rename of a fragment
 pub fragment_renames : RenamesKeepFaultless IsOperationFault → RenamesKeepFaultless IsFieldFault → FragmentRenamesKeepFaultless IsFragmentFault →

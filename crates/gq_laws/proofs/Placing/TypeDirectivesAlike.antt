@@ -20,11 +20,12 @@ use Rattle.gq_type_system.specs.DirectivesAndDefaults.{Site, argument_site, fiel
 use Rattle.gq_laws.specs.Placing.Places.{HasLike}
 use Rattle.gq_laws.specs.Placing.Names.{forgotten, bare_value, bare_directive}
 use Rattle.gq_laws.specs.Placing.Types.{erase_filed}
+use Rattle.gq_laws.specs.Placing.OtherFields.{LooksAlikeBut}
 use Rattle.gq_types.proofs.Placing.Alike.{back, seen, contains}
 use Rattle.gq_types.proofs.Placing.Lists.{gathered, weaken}
 use Rattle.gq_laws.proofs.Placing.Literals.{erase_expected, default_alike, literal_too}
 use Rattle.gq_laws.proofs.Placing.Arguments.{option_too, texts_alike, directive_too}
-use Rattle.gq_laws.proofs.Placing.Lookups.{defaults, literal, directive}
+use Rattle.gq_laws.proofs.Placing.Lookups.{all_fields, defaults, literal, directive}
 use Rattle.gq_laws.proofs.Placing.Bare.{value_placed, directive_placed}
 use Rattle.gq_laws.proofs.Placing.Judged.{erase_judged, built_in_alike, entries_too, judged_too, joined_filed}
 use Rattle.gq_types.proofs.Placing.Entries.{fields_alike, values_alike, inputs_alike, owners}
@@ -174,11 +175,14 @@ split_too h (b ∷ before) x after (y ∷ ys) e =
     split_step h b y before x ys head (split_too h before x after ys rest)
 
 module _ (es us : List EntryOf) (same : map erase_filed es ≡ map erase_filed us) where
+  looks : LooksAlikeBut [] es us
+  looks = all_fields es us (looks_alike es us (entries_too es us same))
+
   -- the same faults of directives and of literals, but for their places
   directives_too : (f : Fault) (file file2 : ℕ) (s t : Site) (names names2 : List Text) → file ≡ file2 → erase_site s ≡ erase_site t → names ≡ names2 →
       IsDirectiveFault es file s.location names s.directives f → HasLike (IsDirectiveFault us file2 t.location names2 t.directives) f
   directives_too f file file2 s t names names2 files sites before h =
-      let g = directive_too us file f s.location names s.directives t.directives (site_alike s t sites) (directive es us (looks_alike es us (entries_too es us same)) h) in
+      let g = directive_too us file f s.location names s.directives t.directives (site_alike s t sites) (directive [] es us looks h) in
       let at_location = subst (λ l. IsDirectiveFault us file l names t.directives g.0) (ap (λ z. z.0) sites) g.1 in
       let at_names = subst (λ l. IsDirectiveFault us file t.location l t.directives g.0) before at_location in
       (g.0, subst (λ n. IsDirectiveFault us n t.location names2 t.directives g.0) files at_names, g.2, g.3)
@@ -186,8 +190,8 @@ module _ (es us : List EntryOf) (same : map erase_filed es ≡ map erase_filed u
   default_too : (f : Fault) (file file2 : ℕ) (i j : InputOf Span) (v w : Val Span) → file ≡ file2 → place_input no_place i ≡ place_input no_place j → place_value no_place v ≡ place_value no_place w →
       IsLiteralFault es file (default_at es i.type_ref) v f → HasLike (IsLiteralFault us file2 (default_at us j.type_ref) w) f
   default_too f file file2 i j v w files inputs values h =
-      let expected = default_alike es i.type_ref j.type_ref (ap (λ z. z.type_ref) inputs) ∙ ap erase_expected (defaults es us (looks_alike es us (entries_too es us same)) j.type_ref) in
-      let there = literal es us (looks_alike es us (entries_too es us same)) (default_at us j.type_ref) expected h in
+      let expected = default_alike es i.type_ref j.type_ref (ap (λ z. z.type_ref) inputs) ∙ ap erase_expected (defaults [] es us looks j.type_ref) in
+      let there = literal [] es us looks (default_at us j.type_ref) expected h in
       let g = literal_too us file f (default_at us j.type_ref) (default_at us j.type_ref) v w refl (value_alike v w values) there in
       (g.0, subst (λ n. IsLiteralFault us n (default_at us j.type_ref) w g.0) files g.1, g.2, g.3)
 

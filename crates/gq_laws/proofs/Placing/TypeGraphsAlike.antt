@@ -1,5 +1,5 @@
 -- Implementations of interfaces and circular input objects, in type systems that are equal but for their places.
-use Rattle.std.proofs.Common.{◌≡◌, ℕ, true, false, List, inl, inr, ◌⊎◌, Option, Some, None, map, refl, sym, ap, ◌∙◌, subst}
+use Rattle.std.proofs.Common.{◌≡◌, ℕ, true, false, List, [], inl, inr, ◌⊎◌, Option, Some, None, map, refl, sym, ap, ◌∙◌, subst}
 use Rattle.std.specs.Prelude.{find, is_some, if◌then◌else◌}
 use Rattle.std.specs.Option.{option_map, option_map_or}
 use Rattle.std.specs.Str.{bytes_eq}
@@ -103,7 +103,8 @@ module _ (es us : List EntryOf) (looks : LooksAlike es us) (wanted own wanted2 o
 
   breaks_field_too : BreaksField es wanted own → BreaksField us wanted2 own2
   breaks_field_too (has_no_subtype n) =
-      has_no_subtype (λ c. n (covers_too (MayBeSubtypeName us) (MayBeSubtypeName es) (may_be_subtype_too us es (lookups.turned es us looks)) c own.type_ref wanted.type_ref
+      let back_again = lookups.each_field us es (lookups.turned [] es us (lookups.all_fields es us looks)) in
+      has_no_subtype (λ c. n (covers_too (MayBeSubtypeName us) (MayBeSubtypeName es) (may_be_subtype_too us es back_again) c own.type_ref wanted.type_ref
       (sym (ap (λ z. z.type_ref) owns)) (sym (ap (λ z. z.type_ref) wanteds))))
   breaks_field_too (lacks_argument text argument a b) =
       let w = wanted_too text argument a in
@@ -253,7 +254,7 @@ module _ (es us : List EntryOf) (looks : LooksAlike es us) where
       (u2 : TypeOf Span) × (w : Val Span) × Holds us (at_type t2) d2 (at_type u2) w × (place_type no_place u ≡ place_type no_place u2) × (bare_value v ≡ bare_value w)
   holds_too t t2 u d d2 v types defaults h =
       let i = in_alike es h (λ k. at_type t2) (λ k l z. ap (λ z. Some z) types) (alone d2) (bare_alone d d2 defaults) in
-      let o = lookups.stands es us looks i.2 (λ k. at_type t2) (λ k. refl) in
+      let o = lookups.stands [] es us (lookups.all_fields es us looks) i.2 (λ k. at_type t2) (λ k. refl) in
       let q = type_too o.0 u (i.3 ∙ o.2) in
       (q.0, i.1, subst (λ z. Holds us (at_type t2) d2 z i.1) q.1 o.1, q.2, i.4)
 
@@ -272,7 +273,7 @@ module _ (es us : List EntryOf) (looks : LooksAlike es us) where
         literal_type = h.0;
         holds = h.2;
         is_object = object_too l.literal.label.says h.1.label.says (ap (λ z. z.label.says) h.4) l.is_object;
-        is_at = lookups.objects es us looks l.literal_type h.0 h.3 ∙ l.is_at;
+        is_at = lookups.objects [] es us (lookups.all_fields es us looks) l.literal_type h.0 h.3 ∙ l.is_at;
         is_absent = absent_too to.name l.literal.below h.1.below (ap (λ z. z.below) h.4) l.is_absent;
         other = o.0;
         is_other = o.1;
