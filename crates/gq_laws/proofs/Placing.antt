@@ -10,6 +10,7 @@ pub mod Documents
 pub mod Schema
 pub mod Lookups
 pub mod Entries
+pub mod OtherFields
 pub mod Operations
 pub mod DefinitionFaults
 pub mod LookupDefinitions
