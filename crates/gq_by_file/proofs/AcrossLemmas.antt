@@ -71,7 +71,7 @@ module _ (es us : List EntryOf) (alike : AreAlikeToRules es us) (rs : List Parse
   covers_over covers are c stands = cover_over c (are c stands)
 
 -- what is not so is no
-is_no : (b : Bool) → (b ≡ true → ⊥) → b ≡ false
+pub is_no : (b : Bool) → (b ≡ true → ⊥) → b ≡ false
 is_no true h = absurd (h refl)
 is_no false h = refl
 

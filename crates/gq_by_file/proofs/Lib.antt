@@ -13,4 +13,5 @@ pub mod AloneLemmas
 pub mod Crossing
 pub mod OwnLemmas
 pub mod KnownOwnLemmas
+pub mod UnseenLemmas
 pub mod ToldLemmas

@@ -1,7 +1,9 @@
 //! What rests on several files, kept by closed sets of them.
-ghost use Rattle.std.specs.Prelude.{◌≡◌, ◌↔◌, ◌<◌, ◌≤◌, false, true, List, Contains, IfOk, OnOk, Some, length, map, slice_get, slice_set};
+ghost use Rattle.std.specs.Prelude.{◌≡◌, ◌↔◌, ◌<◌, ◌≤◌, Bool, false, true, List, Contains, IfOk, OnOk, Some, length, map, slice_get, slice_set};
 ghost use Rattle.std.specs.List.{insert};
 ghost use Rattle.gq_fault.specs.declared.fault.Fault.{Fault};
+ghost use Rattle.gq_text.specs.declared.place.Span.{Span};
+ghost use Rattle.gq_tree.specs.Plain.{Sels};
 ghost use Rattle.gq_tree.specs.Readings.{ParsedOf, parsed_view, readings_view};
 ghost use Rattle.gq_types.specs.Entries.{EntryOf};
 ghost use Rattle.gq_types.specs.Look.{types_view};
@@ -15,6 +17,7 @@ ghost use Rattle.gq_by_file.specs.declared.names.FileNames.{FileNames};
 ghost use Rattle.gq_by_file.specs.Helping.Covers.{has_one_of};
 ghost use Rattle.gq_by_file.specs.Helping.Learned.{AreLearned};
 ghost use Rattle.gq_by_file.specs.Own.{AreOwnOver};
+ghost use Rattle.gq_by_file.specs.Unseen.{AreAlikeUnseen, SeeNothing};
 
 use crate::by_names::{found_by_names, put_names};
 use crate::closed_sets::{
@@ -344,5 +347,14 @@ impl Across {
         keep_before(&mut self.covers, at, marks);
         self.is_clean = false;
         self.links.forget();
+    }
+
+    /// What is known stays of closed sets in which no file has a mark, where the type system becomes another one in what no
+    /// operation and no fragment of the files without a mark sees.
+    pub fn keep_unseen(&mut self, marks: &[bool])
+        ensures { (sees : Sels Span → Bool) (es us : List EntryOf) (rs : List ParsedOf) → AreAlikeUnseen sees es us → SeeNothing sees rs marks.now
+            → AreAcross es rs self.old → AreAcross us rs self.new }
+    {
+        keep_unmarked(&mut self.covers, marks);
     }
 }

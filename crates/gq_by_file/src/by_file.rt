@@ -1,6 +1,8 @@
 //! The faults of files each by itself, and of files together, kept until one of them or the type system changes.
-ghost use Rattle.std.specs.Prelude.{◌≡◌, ◌↔◌, ◌⊎◌, false, Contains, List, IfOk, remove, slice_set};
+ghost use Rattle.std.specs.Prelude.{◌≡◌, ◌↔◌, ◌⊎◌, Bool, false, Contains, List, IfOk, remove, slice_set};
 ghost use Rattle.std.specs.List.{insert};
+ghost use Rattle.gq_text.specs.declared.place.Span.{Span};
+ghost use Rattle.gq_tree.specs.Plain.{Sels};
 ghost use Rattle.gq_tree.specs.Readings.{ParsedOf, shared_view, readings_view};
 ghost use Rattle.gq_types.specs.Entries.{EntryOf};
 ghost use Rattle.gq_types.specs.Look.{types_view};
@@ -8,9 +10,10 @@ ghost use Rattle.gq_fault.specs.declared.fault.Fault.{Fault};
 ghost use Rattle.gq_rules.specs.Files.{together, IsFaultAcross, IsOfItsFile};
 ghost use Rattle.gq_by_file.specs.OneFile.Laws.{AreAlikeToRules};
 ghost use Rattle.gq_by_file.specs.ByFile.{AreByFile, AreByFileOver};
+ghost use Rattle.gq_by_file.specs.Unseen.{AreAlikeUnseen, SeeNothing};
 
 use crate::across::Across;
-use crate::own::{close_room, forget_at, make_room, own_faults};
+use crate::own::{close_room, forget_at, keep_own, make_room, own_faults};
 use gq_fault::Fault;
 use gq_text::{Items, NoMemory};
 use gq_tree::Parsed;
@@ -97,5 +100,15 @@ impl ByFile {
     {
         close_room(&mut self.own, at, changes_types);
         self.across.forget();
+    }
+
+    /// What is known stays of files without a mark, each by itself and together, where the type system becomes another one in what no operation and
+    /// no fragment of these sees.
+    pub fn keep_unmarked(&mut self, marks: &[bool])
+        ensures { (sees : Sels Span → Bool) (es us : List EntryOf) (rs : List ParsedOf) → AreAlikeUnseen sees es us → SeeNothing sees rs marks.now
+            → AreByFile es rs self.old → AreByFile us rs self.new }
+    {
+        keep_own(&mut self.own, marks);
+        self.across.keep_unseen(marks);
     }
 }

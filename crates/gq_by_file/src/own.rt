@@ -1,6 +1,8 @@
 //! The faults of each file that rest on it and the type system alone, kept until one of these changes.
-ghost use Rattle.std.specs.Prelude.{◌≡◌, ◌↔◌, ◌++◌, ◌<◌, ◌≤◌, false, Contains, List, Some, IfOk, OnOk, OnErr, length, remove, slice_get, slice_set};
+ghost use Rattle.std.specs.Prelude.{◌≡◌, ◌↔◌, ◌++◌, ◌<◌, ◌≤◌, Bool, false, Contains, List, Some, IfOk, OnOk, OnErr, length, remove, slice_get, slice_set};
 ghost use Rattle.std.specs.List.{insert};
+ghost use Rattle.gq_text.specs.declared.place.Span.{Span};
+ghost use Rattle.gq_tree.specs.Plain.{Sels};
 ghost use Rattle.gq_tree.specs.Readings.{ParsedOf, shared_view, readings_view};
 ghost use Rattle.gq_types.specs.Entries.{EntryOf};
 ghost use Rattle.gq_types.specs.Look.{types_view};
@@ -8,9 +10,11 @@ ghost use Rattle.gq_fault.specs.declared.fault.Fault.{Fault};
 ghost use Rattle.gq_rules.specs.Files.{IsOfItsFile};
 ghost use Rattle.gq_by_file.specs.OneFile.Laws.{AreAlikeToRules};
 ghost use Rattle.gq_by_file.specs.Own.{AreOwn, AreOwnOver, IsFoundAt, IsFoundOwn, IsOwn, own_in};
+ghost use Rattle.gq_by_file.specs.Unseen.{AreAlikeUnseen, SeeNothing};
 
 use crate::alone::{found_alone, put_in_file};
 use crate::laws::numbers_of_files_are_unseen;
+use crate::marks::is_marked;
 use gq_fault::Fault;
 use gq_text::{Items, NoMemory};
 use gq_tree::Parsed;
@@ -173,5 +177,17 @@ pub(crate) fn close_room(own: &mut Vec<Option<Items<Fault>>>, at: usize, changes
     }
     if at < own.len() {
         let _ = own.remove(at);
+    }
+}
+
+/// What is known of the files without a mark stays, and of the others nothing is known any more.
+pub(crate) fn keep_own(own: &mut Vec<Option<Items<Fault>>>, marks: &[bool])
+    ensures { (sees : Sels Span → Bool) (es us : List EntryOf) (rs : List ParsedOf) → AreAlikeUnseen sees es us → SeeNothing sees rs marks.now
+        → AreOwn es rs own.old.items → AreOwn us rs own.new.items }
+{
+    for file in 0..own.len() {
+        if is_marked(marks, file) {
+            own[file] = None;
+        }
     }
 }
