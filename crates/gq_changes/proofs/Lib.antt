@@ -1,0 +1,4 @@
+pub mod AlikeLemmas
+pub mod FieldLemmas
+pub mod GatheredLemmas
+pub mod Selected
