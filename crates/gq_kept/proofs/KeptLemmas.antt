@@ -88,7 +88,7 @@ module _ (documents : List Doc) (readings : List SharedParsed) (typed : Typed) (
     pub kept_replaced : (at : ℕ) (doc : Doc) (reading : SharedParsed) (made : Typed) (left : ByFile) (changes : Bool) → IsPlaceOf (λ d. d.key) doc.key told at → ∥ IsParsed doc.text (shared_view reading) ∥₁
         → (AreParsed told (readings_view given) → IsParsed doc.text (shared_view reading) → AreTypesOf (readings_view given) typed → AreTypesOf (set (readings_view given) at (shared_view reading)) made)
         → (changes ≡ false → AreParsed told (readings_view given) → IsParsed doc.text (shared_view reading) → DefineAlike (readings_view given) (set (readings_view given) at (shared_view reading)))
-        → ((es us : List EntryOf) (rs : List ParsedOf) → (changes ≡ false → AreAlikeToRules es us) → AreByFile es rs found → AreByFile us (set rs at (shared_view reading)) left)
+        → ((changes ≡ false → AreAlikeToRules (types_view typed.types) (types_view made.types)) → AreByFile (types_view typed.types) (readings_view readings) found → AreByFile (types_view made.types) (set (readings_view readings) at (shared_view reading)) left)
         → OneTree → (keeps : Bool) → (keeps ≡ true → AddNothing (get_or (map definitions_read (readings_view readings)) at []) × AddNothing (definitions_read (shared_view reading)))
         → AreKept (with_doc documents doc) (set readings at reading) made left (if keeps then index else None)
     kept_replaced at doc reading made left changes place merely types stays forgets one_tree keeps silent =
@@ -98,7 +98,7 @@ module _ (documents : List Doc) (readings : List SharedParsed) (typed : Typed) (
         subst (λ (ds : List Doc). AreParsed ds (readings_view given)) is_told (subst (λ (gs : List SharedParsed). AreParsed documents (readings_view gs)) (sym is_given) known.are_readings) in
         let are : AreTypesOf (set (readings_view given) at (shared_view reading)) made = types read parsed was in
         let one = systems (readings_view given) (set (readings_view given) at (shared_view reading)) typed made changes was are (λ e. stays e read parsed) in
-        let there : AreByFile (types_view made.types) (set (readings_view readings) at (shared_view reading)) left = forgets (types_view typed.types) (types_view made.types) (readings_view readings) one owned in
+        let there : AreByFile (types_view made.types) (set (readings_view readings) at (shared_view reading)) left = forgets one owned in
         (replaced documents readings typed known at doc reading made (rw is_told place) parsed (rw (← is_given) are), rw map-set there))))
         (∥∥₁_elim merely ∥∥₁_prop (λ (parsed : IsParsed doc.text (shared_view reading)). both_known kept.known kept.indexed (λ known indexed.
         settled one_tree documents (readings_view readings) index at doc (shared_view reading) keeps known.are_readings indexed (rw is_told place) parsed silent)))

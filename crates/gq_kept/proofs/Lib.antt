@@ -6,3 +6,4 @@ pub mod KeptLemmas
 pub mod KnownLemmas
 pub mod RemadeLemmas
 pub mod TypesLemmas
+pub mod UnseenLemmas

@@ -5,3 +5,4 @@ pub mod Judgements
 pub mod ReadsOn
 pub mod TypesOf
 pub mod Unindexed
+pub mod Unseen

@@ -9,5 +9,6 @@ pub mod kept;
 mod pieces;
 mod places;
 mod typed;
+mod unseen;
 
 pub use kept::Kept;

@@ -7,6 +7,7 @@ ghost use Rattle.gq_types.specs.BuiltIn.{built_in};
 ghost use Rattle.gq_types.specs.Look.{types_view};
 ghost use Rattle.gq_document.specs.Definitions.{entries_of};
 ghost use Rattle.gq_kept.specs.Helping.TypesOf.{AreTypesOf, TellsOf, IsSameOf, IsOneTypeSystem, types_defined};
+ghost use Rattle.gq_kept.specs.Helping.Unseen.{IsIfWholly};
 ghost use Rattle.gq_kept.specs.declared.typed.Typed.{Typed};
 
 use gq_document::type_system_entries;
@@ -80,6 +81,7 @@ pub(crate) fn retype(
     requires names { keeps_names ≡ true → ∥ IsSameOf typed.old (slice_set (readings_view readings.now) at (shared_view reading.now)) ∥₁ }
     ensures ok { IfOk result (λ was. (keeps_names ≡ true → TellsOf typed.old.has_schema (slice_set (readings_view readings.now) at (shared_view reading.now))) →
         AreTypesOf (readings_view readings.now) typed.old → AreTypesOf (slice_set (readings_view readings.now) at (shared_view reading.now)) typed.new) }
+    ensures was { IfOk result (λ was. IsIfWholly was typed.old) }
     ensures err { OnErr result (typed.new ≡ typed.old) }
 {
     if !is_retyped(readings, at, reading) {

@@ -258,3 +258,51 @@ fn a_thousand_changes_of_operations_tell_what_is_found_anew(rt: HostRuntime) -> 
     assert!(rt; is_as_anew_over_a_schema(alloc, &mut kept)?);
     Ok(())
 }
+
+/// Schemas that differ in fields alone, in one of these each or in several, in their order, in descriptions, and in more than fields.
+const SCHEMAS: [&str; 13] = [
+    "type Query{x:Int f(a:Int):Int q:Query} type T{y:Int}",
+    "type Query{x:Int f(a:Int):Int q:Query z:Int} type T{y:Int}",
+    "type Query{x:Int f(a:Int!):Int q:Query} type T{y:Int}",
+    "type Query{x:Int q:Query} type T{y:Int}",
+    "type Query{x:Query f(a:Int):Int q:Query} type T{y:Int}",
+    "type Query{x:Int f(a:String):Int q:T} type T{y:Int}",
+    "\"t\" type Query{x:Int \"d\" f(a:Int):Int q:Query} type T{y:Int z:Int}",
+    "type Query{f(a:Int):Int x:Int q:Query} type T{y:Int}",
+    "type Query{x:Int f(a:Int=1):Int! q:Query} type T{y:Query}",
+    "type Query{x:[Int] f(a:[Int]):Int q:Query} type T{y:Int @deprecated}",
+    "type Query{x:Int f(a:Int):Int q:Query} interface T{y:Int}",
+    "type Query{x:Int x:T f(a:Int):Int q:Query} type T{y:Int}",
+    "schema{query:Query} type Query{x:Int f(a:Int):Int q:Query} type T{y:Int}",
+];
+
+/// Replaces the schema by the text of that number.
+fn change_schema(alloc: Global, kept: &mut Kept, number: usize) -> Result<(), NoMemory> {
+    let schema = SCHEMAS[(number * 5 + number / 13 * 7) % 13];
+    kept.replace_file(alloc, file(alloc, "s", schema)?, None)
+}
+
+/// The same where the schema changes once for each change of operations.
+fn is_as_anew_over_schemas(alloc: Global, kept: &mut Kept) -> Result<bool, NoMemory> {
+    for number in 0..500 {
+        change_schema(alloc, kept, number)?;
+        if !is_as_anew(alloc, kept)? {
+            return Ok(false);
+        }
+        change_operations(alloc, kept, number)?;
+        if !is_as_anew(alloc, kept)? {
+            return Ok(false);
+        }
+    }
+    Ok(true)
+}
+
+#[test]
+fn a_thousand_changes_of_fields_and_operations_tell_what_is_found_anew(
+    rt: HostRuntime,
+) -> Result<(), Fail> {
+    let alloc = rt.alloc();
+    let mut kept = Kept::of(alloc, &Project::new(alloc))?;
+    assert!(rt; is_as_anew_over_schemas(alloc, &mut kept)?);
+    Ok(())
+}

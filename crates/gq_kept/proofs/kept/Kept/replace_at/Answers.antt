@@ -8,12 +8,16 @@ use Rattle.gq_project.specs.Documents.{with_doc}
 use Rattle.gq_tree.specs.Readings.{SharedParsed, definitions_read, shared_view, readings_view}
 use Rattle.gq_parse.specs.Parsed.{AreParsed}
 use Rattle.gq_types.specs.BuiltIn.{built_in}
+use Rattle.gq_types.specs.Look.{types_view}
 use Rattle.gq_document.specs.Definitions.{entries_of}
+use Rattle.gq_by_file.specs.ByFile.{AreByFile}
 use Rattle.gq_kept.specs.Helping.Unindexed.{AddNothing}
 use Rattle.gq_kept.specs.KeptOf.{KeptOf, JudgedOf}
 use Rattle.gq_kept.proofs.AlikeLemmas.{replaced_alike, same_kept, told_kept, told_of_both}
 use Rattle.gq_kept.proofs.Brought.{place_found}
+use Rattle.gq_kept.specs.Helping.Unseen.{IfWholly}
 use Rattle.gq_kept.proofs.KeptLemmas.{both_known, given_in_range, kept_replaced}
+use Rattle.gq_kept.proofs.UnseenLemmas.{replaced_on}
 use Rattle.gq_kept.proofs.kept.Kept.replace_at.Goals as goal
 
 pub stays_indexed-stays-requires : goal.stays_indexed-stays-requires
@@ -87,7 +91,11 @@ invariant_of-self-2 c =
     c.requires.place.in_range there told (c.keeps_names-same.ensures same) read parsed c.places_of_types_do_not_matter_to_types.ensures c.self.inside.typed types) types)
     (replaced_alike c.numbers_of_entries_are_unseen.ensures c.same_tokens_define_alike.ensures c.types_look_alike.ensures c.places_of_types_do_not_matter_to_rules.ensures c.args.self.now.documents (readings_view given) c.args.at
     c.args.doc.text (shared_view was) (shared_view c.args.reading) changes is_made c.requires.place.in_range there told c.is_retyped-is_made.ensures.stays)
-    c.replace.ensures
+    (λ alike. replaced_on c.self.inside.found c.keep_unseen-unseen.new.found c.replace.new.self c.self.inside.typed c.retype.new.typed (readings_view c.self.inside.readings.items) c.args.at (shared_view c.args.reading)
+    c.in_ok-types.types changes c.keep_unseen-unseen.result c.in_ok-types.ensures.was
+    (subst (λ (rs : List SharedParsed). c.keep_unseen-unseen.result ≡ true → IfWholly c.in_ok-types.types (λ old.
+    AreByFile (types_view old.types) (readings_view rs) c.self.inside.found → AreByFile (types_view c.retype.new.typed.types) (readings_view rs) c.keep_unseen-unseen.new.found)) is c.keep_unseen-unseen.ensures.kept)
+    c.keep_unseen-unseen.ensures.same c.replace.ensures alike)
     c.one_tree.ensures c.stays_indexed-stays.result
     (subst (λ (rs : List SharedParsed).
     c.stays_indexed-stays.result ≡ true → AddNothing (get_or (map definitions_read (readings_view rs)) c.args.at []) × AddNothing (definitions_read (shared_view c.args.reading)))
