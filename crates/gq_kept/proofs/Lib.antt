@@ -1,9 +1,13 @@
 pub mod AlikeLemmas
 pub mod Brought
+pub mod FieldLemmas
+pub mod GatheredLemmas
 pub mod IndexLemmas
 pub mod JudgingLemmas
 pub mod KeptLemmas
 pub mod KnownLemmas
 pub mod RemadeLemmas
+pub mod SamenessLemmas
+pub mod Selected
 pub mod TypesLemmas
 pub mod UnseenLemmas

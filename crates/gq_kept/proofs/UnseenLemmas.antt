@@ -15,7 +15,7 @@ use Rattle.gq_by_file.specs.OneFile.Laws.{AreAlikeToRules}
 use Rattle.gq_by_file.specs.Unseen.{AreAlikeUnseen, SeeNothing, sets_in}
 use Rattle.gq_by_file.specs.ByFile.{AreByFile}
 use Rattle.gq_by_file.specs.declared.by_file.ByFile.{ByFile}
-use Rattle.gq_changes.specs.Texts.{texts_at}
+use Rattle.gq_kept.specs.Helping.Texts.{texts_at}
 use Rattle.gq_laws.specs.Placing.OtherFields.{OtherFieldsDoNotMatter, SelectNone, TypesLookAlikeBut, erase_without, has_selected, selects_one_of}
 use Rattle.gq_kept.specs.declared.typed.Typed.{Typed}
 use Rattle.gq_kept.specs.declared.typed.Was.{Was}

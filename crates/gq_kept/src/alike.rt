@@ -7,6 +7,7 @@ ghost use Rattle.gq_kept.specs.Helping.ReadsOn.{HasTokens, ReadsOn, has_tree};
 ghost use Rattle.gq_project.specs.declared.document.Doc.{Doc};
 ghost use Rattle.gq_tree.specs.Readings.{shared_view};
 
+use crate::sameness::{common_back, common_front};
 use gq_laws::places::lines_read_apart;
 use gq_lex::{Token, lex};
 use gq_project::Doc;
@@ -88,34 +89,6 @@ fn can_be_cut(front: &[u8], rest: &[u8]) -> bool
     ensures { result ≡ true → CanBeCut front.now rest.now }
 {
     front.is_empty() || begins_line(rest)
-}
-
-/// How many bytes at the front are the same in both.
-fn common_front(text: &[u8], other: &[u8]) -> usize
-    ensures text { result ≤ length text.now }
-    ensures other { result ≤ length other.now }
-{
-    let most = text.len().min(other.len());
-    for at in 0..most {
-        if text[at] != other[at] {
-            return at;
-        }
-    }
-    most
-}
-
-/// How many bytes at the end are the same in both.
-fn common_back(text: &[u8], other: &[u8]) -> usize
-    ensures text { result ≤ length text.now }
-    ensures other { result ≤ length other.now }
-{
-    let most = text.len().min(other.len());
-    for count in 0..most {
-        if text[text.len() - 1 - count] != other[other.len() - 1 - count] {
-            return count;
-        }
-    }
-    most
 }
 
 /// The place of the last line end among so many bytes, or 0.

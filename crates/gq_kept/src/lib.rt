@@ -2,12 +2,16 @@
 #![tactic(auto)]
 
 mod alike;
+mod differing;
+mod gathering;
 mod indexed;
 mod judged;
 mod judging;
 pub mod kept;
 mod pieces;
 mod places;
+mod sameness;
+mod selecting;
 mod typed;
 mod unseen;
 

@@ -4,13 +4,14 @@ ghost use Rattle.std.specs.List.{list_any};
 ghost use Rattle.gq_tree.specs.Readings.{definitions_read, readings_view};
 ghost use Rattle.gq_types.specs.Look.{types_view};
 ghost use Rattle.gq_by_file.specs.ByFile.{AreByFile};
-ghost use Rattle.gq_changes.specs.Texts.{texts_at};
+ghost use Rattle.gq_kept.specs.Helping.Texts.{texts_at};
 ghost use Rattle.gq_laws.specs.Placing.OtherFields.{has_selected};
 ghost use Rattle.gq_kept.specs.Helping.Unseen.{AreMarkedBy, IfWholly};
 
+use crate::differing::differing_fields;
+use crate::selecting::has_selected;
 use crate::typed::{Typed, Was};
 use gq_by_file::ByFile;
-use gq_changes::{differing_fields, has_selected};
 use gq_laws::places::{other_fields_do_not_matter_to_rules, types_look_alike_but};
 use gq_text::NoMemory;
 use gq_tree::{Name, Parsed};

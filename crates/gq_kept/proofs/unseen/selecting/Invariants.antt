@@ -2,7 +2,7 @@
 use Rattle.std.proofs.Common.{◌≡◌, ◌++◌, drop, map}
 use Rattle.std.specs.List.{list_any}
 use Rattle.gq_tree.specs.Readings.{definitions_read, readings_view}
-use Rattle.gq_changes.specs.Texts.{texts_at}
+use Rattle.gq_kept.specs.Helping.Texts.{texts_at}
 use Rattle.gq_laws.specs.Placing.OtherFields.{has_selected}
 use Rattle.gq_kept.proofs.unseen.selecting.Given as goal
 

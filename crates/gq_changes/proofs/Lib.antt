@@ -1,4 +1,0 @@
-pub mod AlikeLemmas
-pub mod FieldLemmas
-pub mod GatheredLemmas
-pub mod Selected

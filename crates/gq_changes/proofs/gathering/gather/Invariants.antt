@@ -1,7 +1,0 @@
--- what is gathered, and the names of those that are left
-use Rattle.std.proofs.Common.{◌≡◌, ◌++◌, drop, map}
-use Rattle.gq_changes.specs.Texts.{texts_at}
-use Rattle.gq_changes.proofs.gathering.gather.Given as goal
-
-abbrev pub invariant-loop-field : goal.invariant-loop-field
-invariant-loop-field l = texts_at l.names.items ++ map (λ f. f.name.text) (drop l.field-index l.fields) ≡ texts_at l.initial.names.items ++ map (λ f. f.name.text) l.fields

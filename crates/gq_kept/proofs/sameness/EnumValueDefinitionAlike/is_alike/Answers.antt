@@ -1,0 +1,9 @@
+use Rattle.gq_tree.specs.Plain.{no_place, place_name, place_directive}
+use Rattle.gq_tree.specs.Views.{literal_view, directive_view}
+use Rattle.gq_kept.proofs.SamenessLemmas.{enum_values_alike, alike_lists, alike_options}
+use Rattle.gq_kept.proofs.sameness.EnumValueDefinitionAlike.is_alike.Goals as goal
+
+pub returns : goal.returns
+returns c = λ h. enum_values_alike c.args.self.now c.args.other.now (c.is_alike.ensures c.if-not-is_alike.false)
+    (alike_lists (place_directive no_place) directive_view _ _ _ _ _ c.deref.ensures.value c.deref-2.ensures.value c.are_alike.ensures c.if-not-are_alike.false)
+    (alike_options (place_name no_place) literal_view _ _ _ c.are_both_alike.ensures h)
