@@ -75,6 +75,12 @@ marked_by es us old new rs found given marks were are is same told =
     let one : erase old ≡ erase new = subst (λ (ns : List (Bor Name)). map (erase_without (texts_at ns)) old ≡ map (erase_without (texts_at ns)) new) (sym is) same in
     record { names = texts_at given; same = ap erase (sym were) ∙ one ∙ ap erase are; are = told }
 
+-- what holds of one that all of it is
+pub wholly_is : (w : Option Was) (old : Typed) (P : Typed → Type 0) → IfWholly w (λ typed. typed ≡ old) → P old → IfWholly w P
+wholly_is None old P h p = h
+wholly_is (Some (was.Typed typed)) old P h p = subst P (sym h) p
+wholly_is (Some (was.Entries entries)) old P h p = h
+
 -- ---- a document is replaced
 
 not_both : (a b : Bool) → b ≡ false → (a && not b) ≡ false → a ≡ false

@@ -21,7 +21,7 @@ use crate::typed::{
     Typed, Was, defines_types_at, has_types, is_retyped, keeps_names, last_of_types, made_of,
     retype, typed_less, typed_more,
 };
-use crate::unseen::keep_unseen;
+use crate::unseen::{is_forgotten, keep_unseen};
 use gq_by_file::ByFile;
 use gq_by_file::laws::numbers_of_entries_are_unseen;
 use gq_index::Index;
@@ -203,7 +203,8 @@ impl Kept {
         let types = retype(alloc, readings, at, &reading, same, &mut self.typed)?;
         self.judged.put(alloc, doc)?;
         let unseen = keep_unseen(alloc, &types, &self.typed, readings, &mut self.found);
-        self.found.replace(alloc, at, &reading, changes && !unseen);
+        let forgets = is_forgotten(changes, unseen);
+        self.found.replace(alloc, at, &reading, forgets);
         let reading = Some(write_over(&mut self.readings, at, reading));
         self.past = Past { types, reading };
         forget_unless(stays, &mut self.index);

@@ -1,5 +1,5 @@
 //! What stays known where the type system becomes another one in fields that are not selected.
-ghost use Rattle.std.specs.Prelude.{◌≡◌, true, false, IfOk, IfSome, map};
+ghost use Rattle.std.specs.Prelude.{◌≡◌, ◌&&◌, true, false, IfOk, IfSome, map, not};
 ghost use Rattle.std.specs.List.{list_any};
 ghost use Rattle.gq_tree.specs.Readings.{definitions_read, readings_view};
 ghost use Rattle.gq_types.specs.Look.{types_view};
@@ -49,6 +49,24 @@ fn seeing(
     }
 }
 
+/// All of what a type system was, where it is there.
+fn wholly(was: &Option<Was>) -> Option<&Typed>
+    ensures { IfSome result (λ old. IfWholly was.now (λ typed. typed ≡ old.now)) }
+{
+    match was {
+        Some(Was::Typed(old)) => Some(old),
+        Some(Was::Entries(_)) => None,
+        None => None,
+    }
+}
+
+/// Whether all is forgotten where the types change: not, where what is known stays but of documents that see it.
+pub(crate) fn is_forgotten(changes_types: bool, unseen: bool) -> bool
+    ensures { result ≡ (changes_types && not unseen) }
+{
+    changes_types && !unseen
+}
+
 /// Whether the type system is what it was but for fields in which it differs. What is known of documents stays then, where none of these fields is
 /// selected, and of others is forgotten; else all stays as it is.
 pub(crate) fn keep_unseen(
@@ -63,7 +81,7 @@ pub(crate) fn keep_unseen(
 {
     types_look_alike_but();
     other_fields_do_not_matter_to_rules();
-    let Some(Was::Typed(old)) = was else {
+    let Some(old) = wholly(was) else {
         return false;
     };
     let Ok(Some(marks)) = seeing(alloc, &old.types, &typed.types, readings) else {

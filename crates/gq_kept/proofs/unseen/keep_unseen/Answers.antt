@@ -1,22 +1,19 @@
 -- What is known of documents without a mark stays.
 use Rattle.std.proofs.Common.{subst, sym}
-use Rattle.std.specs.Prelude.{List, Bool, Option, Some}
+use Rattle.std.specs.Prelude.{List, Bool}
 use Rattle.gq_tree.specs.Readings.{readings_view}
 use Rattle.gq_types.specs.Look.{types_view}
 use Rattle.gq_by_file.specs.ByFile.{AreByFile}
 use Rattle.gq_by_file.specs.Unseen.{SeeNothing}
-use Rattle.gq_kept.specs.Helping.Unseen.{IfWholly}
 use Rattle.gq_kept.specs.declared.typed.Typed.{Typed}
-use Rattle.gq_kept.specs.declared.typed.Was.{Was}
-use Rattle.gq_kept.proofs.UnseenLemmas.{known_on, some_of}
+use Rattle.gq_kept.proofs.UnseenLemmas.{known_on, some_of, wholly_is}
 use Rattle.gq_kept.proofs.unseen.keep_unseen.Goals as goal
 
 pub returns-clause-kept : goal.returns-clause-kept
 returns-clause-kept c is =
     let Stays : Typed → Type 0 = λ old. AreByFile (types_view old.types) (readings_view c.args.readings.now) c.args.found.now →
     AreByFile (types_view c.args.typed.now.types) (readings_view c.args.readings.now) c.keep_unmarked.new.self in
-    subst (λ (w : Option Was). IfWholly w Stays) (sym c.in-Some-Typed.is)
-    (subst (λ (w : Was). IfWholly (Some w) Stays) (sym c.in-Some-Typed.field-0-is)
+    wholly_is c.args.was.now c.in-Some.old.now Stays (some_of _ c.wholly.result c.in-Some.old c.in-Some.is c.wholly.ensures)
     (known_on c.types_look_alike_but.ensures c.other_fields_do_not_matter_to_rules.ensures _ _ _ _ (some_of _ c.in-Ok-Some.field-0 c.in-Ok-Some.marks c.in-Ok-Some.field-0-is c.in-Ok-Some.ensures) c.args.found.now
     c.keep_unmarked.new.self
-    (λ sees es us rs alike unseen. c.keep_unmarked.ensures sees es us rs alike (subst (λ (ms : List Bool). SeeNothing sees rs ms) (sym c.deref.ensures.value) unseen))))
+    (λ sees es us rs alike unseen. c.keep_unmarked.ensures sees es us rs alike (subst (λ (ms : List Bool). SeeNothing sees rs ms) (sym c.deref.ensures.value) unseen)))

@@ -1,15 +1,17 @@
 -- The document and its reading are written over.
-use Rattle.std.proofs.Common.{◌≡◌, ◌<◌, ◌++◌, true, List, [], Some, get_or, length, map, refl, ap, ◌∙◌, subst, sym}
+use Rattle.std.proofs.Common.{◌≡◌, ◌<◌, ◌++◌, Bool, true, false, List, [], Some, get_or, length, map, refl, ap, ◌∙◌, set, subst, sym}
 use Rattle.std.specs.Option.{option_map}
 use Rattle.std.specs.Prelude.{slice_get}
 use Rattle.std.proofs.lemmas.Option.{slice_get-map, slice_get_read}
 use Rattle.gq_project.specs.declared.document.Doc.{Doc}
 use Rattle.gq_project.specs.Documents.{with_doc}
-use Rattle.gq_tree.specs.Readings.{SharedParsed, definitions_read, shared_view, readings_view}
+use Rattle.gq_tree.specs.Readings.{ParsedOf, SharedParsed, definitions_read, shared_view, readings_view}
 use Rattle.gq_parse.specs.Parsed.{AreParsed}
 use Rattle.gq_types.specs.BuiltIn.{built_in}
+use Rattle.gq_types.specs.Entries.{EntryOf}
 use Rattle.gq_types.specs.Look.{types_view}
 use Rattle.gq_document.specs.Definitions.{entries_of}
+use Rattle.gq_by_file.specs.OneFile.Laws.{AreAlikeToRules}
 use Rattle.gq_by_file.specs.ByFile.{AreByFile}
 use Rattle.gq_kept.specs.Helping.Unindexed.{AddNothing}
 use Rattle.gq_kept.specs.KeptOf.{KeptOf, JudgedOf}
@@ -95,7 +97,8 @@ invariant_of-self-2 c =
     c.in_ok-types.types changes c.keep_unseen-unseen.result c.in_ok-types.ensures.was
     (subst (λ (rs : List SharedParsed). c.keep_unseen-unseen.result ≡ true → IfWholly c.in_ok-types.types (λ old.
     AreByFile (types_view old.types) (readings_view rs) c.self.inside.found → AreByFile (types_view c.retype.new.typed.types) (readings_view rs) c.keep_unseen-unseen.new.found)) is c.keep_unseen-unseen.ensures.kept)
-    c.keep_unseen-unseen.ensures.same c.replace.ensures alike)
+    c.keep_unseen-unseen.ensures.same (subst (λ (b : Bool). (es us : List EntryOf) (qs : List ParsedOf) → (b ≡ false → AreAlikeToRules es us) →
+    AreByFile es qs c.keep_unseen-unseen.new.found → AreByFile us (set qs c.args.at (shared_view c.args.reading)) c.replace.new.self) c.is_forgotten-forgets.ensures c.replace.ensures) alike)
     c.one_tree.ensures c.stays_indexed-stays.result
     (subst (λ (rs : List SharedParsed).
     c.stays_indexed-stays.result ≡ true → AddNothing (get_or (map definitions_read (readings_view rs)) c.args.at []) × AddNothing (definitions_read (shared_view c.args.reading)))
