@@ -1,5 +1,5 @@
 //! Directives and default values in a type system.
-ghost use Rattle.std.specs.Prelude.{◌≡◌, ◌++◌, OnOk, IfOk, map};
+ghost use Rattle.std.specs.Prelude.{◌≡◌, ◌++◌, OnOk, IfOk, length, map};
 ghost use Rattle.std.specs.Arc.{arc_value};
 ghost use Rattle.gq_tree.specs.Views.{directive_view, input_view, type_system_view};
 ghost use Rattle.gq_types.specs.Entries.{entry_view, entries_view};
@@ -8,7 +8,7 @@ ghost use Rattle.gq_values.specs.DirectivePlaces.{directive_texts};
 ghost use Rattle.gq_type_system.specs.Helping.Groups.{at_number};
 ghost use Rattle.gq_type_system.specs.DirectivesAndDefaults.{sites_in, own_names, all_inputs, told};
 ghost use Rattle.gq_type_system.specs.Helping.DirectivesAndDefaultsPlaces.{site_view, sites_view, inputs_view, group_view, site_fault, site_faults, default_fault};
-ghost use Rattle.gq_type_system.specs.Helping.DirectivesAndDefaultsPlaces.{default_faults, own_faults, group_faults, itself, group_of, group_faults_of, outer_faults};
+ghost use Rattle.gq_type_system.specs.Helping.DirectivesAndDefaultsPlaces.{default_faults, own_faults, group_faults, itself, group_of, group_faults_of};
 
 use crate::directive_sites::{DirectiveSite, own_site, put_inputs, put_sites};
 use crate::judged::is_judged;
@@ -205,7 +205,7 @@ fn group_of<'a>(alloc: Global, types: &'a Types, number: usize) -> Result<Vec<&'
 }
 
 /// The faults of the directives on the entries themselves that belong to that number.
-fn add_group_faults_of(
+pub(crate) fn add_group_faults_of(
     alloc: Global,
     types: &Types,
     number: usize,
@@ -216,17 +216,6 @@ fn add_group_faults_of(
     let group = group_of(alloc, types, number)?;
     let mut before = NameList::new(alloc);
     add_group_faults(alloc, types, &mut before, &group, faults)
-}
-
-#[tactic(auto, using(gq_tree::proofs::Trees::gathers))]
-fn add_outer_faults(alloc: Global, types: &Types, faults: &mut Vec<Fault>) -> Result<(), NoMemory>
-    ensures { OnOk result (faults.new.items ≡ faults.old.items ++ outer_faults (types_view types.now)) }
-{
-    let entries = types.entries();
-    for number in 0..entries.len() {
-        add_group_faults_of(alloc, types, number, faults)?;
-    }
-    add_group_faults_of(alloc, types, entries.len(), faults)
 }
 
 /// Adds these faults behind the others, each under the code of this rule.
@@ -245,16 +234,20 @@ fn put_told(found: &[Fault], faults: &mut Vec<Fault>) -> Result<(), NoMemory>
 }
 
 /// Each fault of the directives in a type system and of the default values of arguments and input fields (sections 3.3 to 3.13, 5.4, 5.6 and
-/// 5.7), where those in entries are given, and taken.
+/// 5.7). Given are those in entries, and those on the entries that belong to the number of one; to these it adds those of the number behind.
 #[tactic(auto, using(gq_tree::proofs::Trees::gathers))]
 pub(crate) fn add_bad_directives_and_defaults(
     alloc: Global,
     types: &Types,
-    inner: &mut Vec<Fault>,
+    inner: &[Fault],
+    outer: &mut Vec<Fault>,
     faults: &mut Vec<Fault>,
 ) -> Result<(), NoMemory>
-    ensures { OnOk result (faults.new.items ≡ faults.old.items ++ map told (inner.old.items ++ outer_faults (types_view types.now))) }
+    ensures { OnOk result (faults.new.items ≡ faults.old.items
+        ++ map told (inner.now ++ (outer.old.items ++ group_faults_of (types_view types.now) (length (types_view types.now))))) }
 {
-    add_outer_faults(alloc, types, inner)?;
-    put_told(inner, faults)
+    let entries = types.entries();
+    add_group_faults_of(alloc, types, entries.len(), outer)?;
+    put_told(inner, faults)?;
+    put_told(outer, faults)
 }

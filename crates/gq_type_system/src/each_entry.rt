@@ -1,5 +1,5 @@
-//! What the rules tell of single definitions and extensions. Each of these is looked at once, by all such rules, so that it comes from memory
-//! once.
+//! What the rules tell of single definitions and extensions, and of these with what belongs to them. Each is looked at once, by all such rules,
+//! so that it comes from memory once.
 ghost use Rattle.std.specs.Prelude.{◌≡◌, ◌++◌, [], IfOk, OnOk};
 ghost use Rattle.std.specs.Arc.{arc_value};
 ghost use Rattle.gq_tree.specs.Views.{type_system_view};
@@ -9,9 +9,10 @@ ghost use Rattle.gq_type_system.specs.Helping.DefinedTwicePlaces.{defined_twice,
 ghost use Rattle.gq_type_system.specs.DirectivesAndDefaults.{all_inputs, sites_in};
 ghost use Rattle.gq_type_system.specs.Uses.{defined_names, used_types};
 ghost use Rattle.gq_type_system.specs.Helping.BadExtensionPlaces.{bad_extension, bad_extensions};
-ghost use Rattle.gq_type_system.specs.Helping.DirectivesAndDefaultsPlaces.{default_faults, inner_faults, site_faults};
+ghost use Rattle.gq_type_system.specs.Helping.DirectivesAndDefaultsPlaces.{default_faults, faults_of_groups, group_faults_of, inner_faults, site_faults};
 ghost use Rattle.gq_type_system.specs.Helping.EachEntry.{AreTold};
-ghost use Rattle.gq_type_system.specs.Helping.EmptyOrRepeatedPlaces.{empty_type, empty_types, repeated_arguments, repeated_arguments_of};
+ghost use Rattle.gq_type_system.specs.Helping.EmptyOrRepeatedPlaces.{empty_type, empty_types, repeated_arguments, repeated_arguments_of, repeated_parts, repeated_parts_of};
+ghost use Rattle.gq_type_system.specs.Helping.ImplementationsPlaces.{bad_implementation, bad_implementations};
 ghost use Rattle.gq_type_system.specs.Helping.ReservedNamePlaces.{reserved_names, reserved_names_in};
 ghost use Rattle.gq_type_system.specs.Helping.UnknownTypePlaces.{unknown_types, unknown_types_in};
 ghost use Rattle.gq_type_system.specs.Helping.WrongKindPlaces.{wrong_kinds, wrong_kinds_in};
@@ -19,8 +20,9 @@ ghost use Rattle.gq_type_system.specs.Helping.WrongKindPlaces.{wrong_kinds, wron
 use crate::bad_extension::add_bad_extension;
 use crate::defined_twice::add_if_defined_twice;
 use crate::directive_sites::DirectiveSite;
-use crate::directives_and_defaults::add_inner_faults_of;
-use crate::empty_or_repeated::{add_empty_type, add_repeated_arguments_of};
+use crate::directives_and_defaults::{add_group_faults_of, add_inner_faults_of};
+use crate::empty_or_repeated::{add_empty_type, add_repeated_arguments_of, add_repeated_parts_of};
+use crate::implementations::add_bad_implementation;
 use crate::judged::is_judged;
 use crate::reserved_name::add_reserved_names_of;
 use crate::used_types::put_faults_of;
@@ -31,7 +33,7 @@ use gq_tree::{InputValueDefinition, Name};
 use gq_types::{Entry, Types};
 use std::alloc::Global;
 
-/// What is told of entries, rule by rule.
+/// What is told of single entries, rule by rule.
 #[derive(Drop)]
 pub(crate) struct EntryFaults {
     pub(crate) defined_twice: Vec<Fault>,
@@ -67,6 +69,36 @@ impl EntryFaults {
             inner: Vec::new(alloc),
         }
     }
+}
+
+/// What is told of entries with those that belong to them, rule by rule.
+#[derive(Drop)]
+pub(crate) struct GroupFaults {
+    pub(crate) repeated: Vec<Fault>,
+    pub(crate) implementations: Vec<Fault>,
+    pub(crate) outer: Vec<Fault>,
+}
+
+impl GroupFaults {
+    /// Nothing is told. It takes no memory.
+    fn nothing(alloc: Global) -> GroupFaults
+        ensures repeated { result.repeated.items ≡ [] }
+        ensures implementations { result.implementations.items ≡ [] }
+        ensures outer { result.outer.items ≡ [] }
+    {
+        GroupFaults {
+            repeated: Vec::new(alloc),
+            implementations: Vec::new(alloc),
+            outer: Vec::new(alloc),
+        }
+    }
+}
+
+/// What is told of entries, singly and with those that belong to them.
+#[derive(Drop)]
+pub(crate) struct Told {
+    pub(crate) entries: EntryFaults,
+    pub(crate) groups: GroupFaults,
 }
 
 /// Lists of what stands in an entry, which are emptied for the next one.
@@ -117,8 +149,31 @@ fn look_at<'a>(
     add_inner_faults_of(alloc, types, entry, sites, inputs, &mut told.inner)
 }
 
-/// The same of all entries that are judged.
-fn look_at_all(alloc: Global, types: &Types, told: &mut EntryFaults) -> Result<(), NoMemory>
+/// What is told of an entry with those that belong to its number.
+fn look_at_group(
+    alloc: Global,
+    types: &Types,
+    number: usize,
+    entry: &Entry,
+    told: &mut GroupFaults,
+) -> Result<(), NoMemory>
+    ensures repeated { OnOk result (told.new.repeated.items ≡ told.old.repeated.items ++ repeated_parts_of (types_view types.now) number) }
+    ensures implementations { OnOk result (told.new.implementations.items ≡ told.old.implementations.items
+        ++ bad_implementation (types_view types.now) number entry.now.file (type_system_view (arc_value entry.now.definition))) }
+    ensures outer { OnOk result (told.new.outer.items ≡ told.old.outer.items ++ group_faults_of (types_view types.now) number) }
+{
+    add_repeated_parts_of(alloc, types, number, &mut told.repeated)?;
+    add_bad_implementation(types, number, entry, &mut told.implementations)?;
+    add_group_faults_of(alloc, types, number, &mut told.outer)
+}
+
+/// What is told of each entry that is judged, and of each with those that belong to its number.
+fn look_at_all(
+    alloc: Global,
+    types: &Types,
+    told: &mut EntryFaults,
+    groups: &mut GroupFaults,
+) -> Result<(), NoMemory>
     ensures defined_twice { OnOk result (told.new.defined_twice.items ≡ told.old.defined_twice.items ++ all_defined_twice (types_view types.now)) }
     ensures extensions { OnOk result (told.new.extensions.items ≡ told.old.extensions.items ++ bad_extensions (types_view types.now)) }
     ensures reserved { OnOk result (told.new.reserved.items ≡ told.old.reserved.items ++ reserved_names (types_view types.now)) }
@@ -127,6 +182,9 @@ fn look_at_all(alloc: Global, types: &Types, told: &mut EntryFaults) -> Result<(
     ensures empty { OnOk result (told.new.empty.items ≡ told.old.empty.items ++ empty_types (types_view types.now)) }
     ensures arguments { OnOk result (told.new.arguments.items ≡ told.old.arguments.items ++ repeated_arguments (types_view types.now)) }
     ensures inner { OnOk result (told.new.inner.items ≡ told.old.inner.items ++ inner_faults (types_view types.now)) }
+    ensures repeated { OnOk result (groups.new.repeated.items ≡ groups.old.repeated.items ++ repeated_parts (types_view types.now)) }
+    ensures implementations { OnOk result (groups.new.implementations.items ≡ groups.old.implementations.items ++ bad_implementations (types_view types.now)) }
+    ensures outer { OnOk result (groups.new.outer.items ≡ groups.old.outer.items ++ faults_of_groups (types_view types.now)) }
 {
     let mut lists = Lists {
         names: Vec::new(alloc),
@@ -139,15 +197,17 @@ fn look_at_all(alloc: Global, types: &Types, told: &mut EntryFaults) -> Result<(
         if is_judged(&entries[number].definition) {
             look_at(alloc, types, number, &entries[number], &mut lists, told)?;
         }
+        look_at_group(alloc, types, number, &entries[number], groups)?;
     }
     Ok(())
 }
 
 /// What is told of all entries.
-pub(crate) fn told_of_entries(alloc: Global, types: &Types) -> Result<EntryFaults, NoMemory>
+pub(crate) fn told_of_entries(alloc: Global, types: &Types) -> Result<Told, NoMemory>
     ensures { IfOk result (AreTold (types_view types.now)) }
 {
-    let mut told = EntryFaults::nothing(alloc);
-    look_at_all(alloc, types, &mut told)?;
-    Ok(told)
+    let mut entries = EntryFaults::nothing(alloc);
+    let mut groups = GroupFaults::nothing(alloc);
+    look_at_all(alloc, types, &mut entries, &mut groups)?;
+    Ok(Told { entries, groups })
 }

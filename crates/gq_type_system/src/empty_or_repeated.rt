@@ -5,7 +5,7 @@ ghost use Rattle.std.specs.List.{list_any};
 ghost use Rattle.std.specs.Str.{bytes_eq};
 ghost use Rattle.gq_tree.specs.Views.{type_system_view, input_view, field_definition_view};
 ghost use Rattle.gq_type_system.specs.Helping.EmptyOrRepeatedPlaces.{empty_type, repeated_faults, texts_of, repeated_part};
-ghost use Rattle.gq_type_system.specs.Helping.EmptyOrRepeatedPlaces.{repeated_parts_of, repeated_parts, repeated_arguments_in, repeated_arguments_of};
+ghost use Rattle.gq_type_system.specs.Helping.EmptyOrRepeatedPlaces.{repeated_parts_of, repeated_arguments_in, repeated_arguments_of};
 ghost use Rattle.gq_type_system.specs.Helping.Groups.{names_in};
 ghost use Rattle.gq_types.specs.Look.{types_view};
 
@@ -118,9 +118,9 @@ fn add_repeated_part(
     add_repeated_names(alloc, &names, faults)
 }
 
-/// The faults of all parts of a type with its extensions whose names stand earlier.
+/// The faults of all parts of a type with its extensions whose names stand earlier among those of their kind (sections 3.6 to 3.10).
 #[tactic(auto, using(gq_tree::proofs::Trees::gathers))]
-fn add_repeated_parts_of(
+pub(crate) fn add_repeated_parts_of(
     alloc: Global,
     types: &Types,
     number: usize,
@@ -133,22 +133,6 @@ fn add_repeated_parts_of(
     add_repeated_part(alloc, types, number, Part::Members, faults)?;
     add_repeated_part(alloc, types, number, Part::Values, faults)?;
     add_repeated_part(alloc, types, number, Part::InputFields, faults)
-}
-
-/// Each part of a type with its extensions whose name stands earlier among those of its kind (sections 3.6 to 3.10).
-#[tactic(auto, using(gq_tree::proofs::Trees::gathers))]
-pub(crate) fn add_repeated_parts(
-    alloc: Global,
-    types: &Types,
-    faults: &mut Vec<Fault>,
-) -> Result<(), NoMemory>
-    ensures { OnOk result (faults.new.items ≡ faults.old.items ++ repeated_parts (types_view types.now)) }
-{
-    let entries = types.entries();
-    for number in 0..entries.len() {
-        add_repeated_parts_of(alloc, types, number, faults)?;
-    }
-    Ok(())
 }
 
 /// The faults of the arguments whose names stand earlier among these arguments.

@@ -8,10 +8,8 @@ ghost use Rattle.gq_type_system.specs.SchemaFaults.{IsSchemaFault};
 ghost use Rattle.gq_type_system.specs.Helping.EachEntry.{names_told, parts_told};
 
 use crate::directives_and_defaults::add_bad_directives_and_defaults;
-use crate::each_entry::{EntryFaults, told_of_entries};
-use crate::empty_or_repeated::add_repeated_parts;
+use crate::each_entry::{EntryFaults, GroupFaults, told_of_entries};
 use crate::endless_inputs::add_endless_inputs;
-use crate::implementations::add_bad_implementations;
 use crate::query_root::add_no_query_root;
 use crate::root_types::add_wrong_roots;
 use gq_fault::{Fault, put_in_order};
@@ -35,8 +33,14 @@ fn all_faults(alloc: Global, types: &Types) -> Result<Vec<Fault>, NoMemory>
 {
     let mut told = told_of_entries(alloc, types)?;
     let mut faults = Vec::new(alloc);
-    add_name_faults(&mut told, &mut faults)?;
-    add_part_faults(alloc, types, &mut told, &mut faults)?;
+    add_name_faults(&mut told.entries, &mut faults)?;
+    add_part_faults(
+        alloc,
+        types,
+        &mut told.entries,
+        &mut told.groups,
+        &mut faults,
+    )?;
     add_endless_inputs(alloc, types, &mut faults)?;
     Ok(faults)
 }
@@ -63,15 +67,16 @@ fn add_part_faults(
     alloc: Global,
     types: &Types,
     told: &mut EntryFaults,
+    groups: &mut GroupFaults,
     faults: &mut Vec<Fault>,
 ) -> Result<(), NoMemory>
-    ensures { OnOk result (faults.new.items ≡ faults.old.items ++ parts_told (types_view types.now) told.old) }
+    ensures { OnOk result (faults.new.items ≡ faults.old.items ++ parts_told (types_view types.now) told.old groups.old) }
 {
     add_wrong_roots(alloc, types, faults)?;
     faults.append(&mut told.empty)?;
-    add_repeated_parts(alloc, types, faults)?;
+    faults.append(&mut groups.repeated)?;
     faults.append(&mut told.arguments)?;
-    add_bad_implementations(types, faults)?;
+    faults.append(&mut groups.implementations)?;
     add_no_query_root(alloc, types, faults)?;
-    add_bad_directives_and_defaults(alloc, types, &mut told.inner, faults)
+    add_bad_directives_and_defaults(alloc, types, &told.inner, &mut groups.outer, faults)
 }

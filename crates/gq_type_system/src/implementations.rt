@@ -6,7 +6,7 @@ ghost use Rattle.std.specs.Option.{option_map};
 ghost use Rattle.gq_tree.specs.Same.{same_types};
 ghost use Rattle.gq_tree.specs.Views.{name_of, type_view, input_view, field_definition_view, type_system_view};
 ghost use Rattle.gq_type_system.specs.Helping.ImplementationsPlaces.{breaks_argument_named, breaks_arguments, requires_named, requires_further, breaks_own_field, breaks_field_named, breaks_fields};
-ghost use Rattle.gq_type_system.specs.Helping.ImplementationsPlaces.{lacks_further, lacks_interfaces, breaks_interface, breaks_implementation, told_of, bad_implementation, bad_implementations};
+ghost use Rattle.gq_type_system.specs.Helping.ImplementationsPlaces.{lacks_further, lacks_interfaces, breaks_interface, breaks_implementation, told_of, bad_implementation};
 ghost use Rattle.gq_types.specs.Look.{types_view};
 ghost use Rattle.gq_types.specs.Names.{field_named};
 ghost use Rattle.gq_types.specs.SubtypesTests.{covers, may_be_subtype_name};
@@ -16,19 +16,9 @@ use gq_text::NoMemory;
 use gq_tree::{FieldDefinition, Name, TypeBody, TypeRef, TypeSystemDefinition};
 use gq_types::{Arguments, DefinedField, Entry, TypeKind, Types, is_required};
 
-/// Each object type and interface that does not implement an interface as it must. The work for a type is the sum over
-/// its interfaces of their fields and interfaces.
-pub fn add_bad_implementations(types: &Types, faults: &mut Vec<Fault>) -> Result<(), NoMemory>
-    ensures { OnOk result (faults.new.items ≡ faults.old.items ++ bad_implementations (types_view types.now)) }
-{
-    let entries = types.entries();
-    for number in 0..entries.len() {
-        add_bad_implementation(types, number, &entries[number], faults)?;
-    }
-    Ok(())
-}
-
-fn add_bad_implementation(
+/// The fault of the entry with that number, if it defines an object type or interface that does not implement an interface as it must. The work
+/// is the sum over its interfaces of their fields and interfaces.
+pub(crate) fn add_bad_implementation(
     types: &Types,
     number: usize,
     entry: &Entry,

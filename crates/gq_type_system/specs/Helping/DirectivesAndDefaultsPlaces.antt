@@ -72,8 +72,12 @@ group_of es number = flat_map (λ n. itself n.entry) (joined es number)
 abbrev pub group_faults_of : List EntryOf → ℕ → List Fault
 group_faults_of es number = group_faults es [] (group_of es number)
 
+-- of all numbers but the one behind the last
+abbrev pub faults_of_groups : List EntryOf → List Fault
+faults_of_groups es = at_each_number (group_faults_of es) 0 es
+
 abbrev pub outer_faults : List EntryOf → List Fault
-outer_faults es = at_each_number (group_faults_of es) 0 es ++ group_faults_of es (length es)
+outer_faults es = faults_of_groups es ++ group_faults_of es (length es)
 
 abbrev pub all_faults : List EntryOf → List Fault
 all_faults es = inner_faults es ++ outer_faults es
