@@ -17,4 +17,5 @@ pub mod ArgumentLemmas
 pub mod RequiredLemmas
 pub mod ArgumentNameLemmas
 pub mod IndexLemmas
+pub mod EntryTablesLemmas
 pub mod Placing

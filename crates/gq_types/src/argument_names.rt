@@ -1,12 +1,9 @@
 //! The names of arguments, made once where a definition has many of them.
-ghost use Rattle.std.specs.Prelude.{◌≡◌, ◌∷◌, [], IfOk, map};
+ghost use Rattle.std.specs.Prelude.{◌∷◌, [], IfOk, map};
 ghost use Rattle.gq_tree.specs.Views.{input_view, field_definition_view, type_system_view};
-ghost use Rattle.gq_types.specs.Entries.{entries_view};
-ghost use Rattle.gq_types.specs.Helping.Index.{argument_lists, AreNamesOfEach, AreArgumentNames};
+ghost use Rattle.gq_types.specs.Helping.Index.{argument_lists, AreNamesOfEach};
 ghost use Rattle.gq_types.specs.Helping.RequiredNames.{AreNamesOf};
-ghost use Rattle.gq_types.specs.Helping.Tables.{lists_of};
 
-use crate::entry::Entry;
 use crate::entry_parts::fields_of;
 use crate::required::put_required;
 use gq_names::NameList;
@@ -39,23 +36,8 @@ impl ArgumentNames {
     }
 }
 
-/// For each entry the names of the arguments of each of its fields, or of its directive; none where all are few.
-pub(crate) fn all_argument_names(
-    alloc: Global,
-    entries: &[Entry],
-) -> Result<Vec<Vec<ArgumentNames>>, NoMemory>
-    ensures { IfOk result (λ lists. AreArgumentNames (entries_view entries.now) (lists_of lists.items)) }
-{
-    let mut all = Vec::new(alloc);
-    for entry in entries {
-        let names = names_in(alloc, &entry.definition)?;
-        all.push(names)?;
-    }
-    Ok(all)
-}
-
-/// Those of one definition or extension.
-fn names_in(
+/// The names of the arguments of each field of a definition or extension, or of its directive; none where all are few.
+pub(crate) fn names_in(
     alloc: Global,
     definition: &TypeSystemDefinition,
 ) -> Result<Vec<ArgumentNames>, NoMemory>

@@ -1,41 +1,23 @@
 //! The fields of types, found by their names.
-ghost use Rattle.std.specs.Prelude.{◌≡◌, ◌++◌, ◌∷◌, [], true, IfOk, OnOk, length, map, position};
+ghost use Rattle.std.specs.Prelude.{◌≡◌, ◌++◌, ◌∷◌, [], true, IfOk, OnOk, map, position};
 ghost use Rattle.std.specs.Str.{bytes_eq};
 ghost use Rattle.gq_types.specs.Entries.{entries_view};
-ghost use Rattle.gq_types.specs.Helping.FieldTables.{field_names_at, field_places_at, IsTableOf, IsKeptFor, AreFieldTables};
-ghost use Rattle.gq_types.specs.Helping.Tables.{lists_of, places_from, AreJoined};
+ghost use Rattle.gq_types.specs.Helping.FieldTables.{field_names_at, field_places_at, IsTableOf, IsKeptFor};
+ghost use Rattle.gq_types.specs.Helping.Tables.{places_from};
 ghost use Rattle.gq_types.specs.Helping.UnderName.{under_name};
 
 use crate::argument_names::FEW;
 use crate::entry::Entry;
 use crate::entry_parts::fields_among;
-use crate::parts::{Place, numbers_at};
+use crate::parts::Place;
 use crate::table::Table;
 use gq_text::NoMemory;
 use gq_tree::FieldDefinition;
 use std::alloc::Global;
 
-/// For each entry the table of its fields with those of the entries that belong to it. None is made where the entry is the only one, and
-/// has few: these are found where they stand.
-pub(crate) fn all_fields(
-    alloc: Global,
-    entries: &[Entry],
-    joined: &[Vec<usize>],
-) -> Result<Vec<Option<Box<Table<Place>>>>, NoMemory>
-    requires { AreJoined (entries_view entries.now) (lists_of joined.now) }
-    ensures { IfOk result (λ tables. AreFieldTables (entries_view entries.now) tables.items) }
-{
-    let mut all = Vec::with_capacity(alloc, entries.len())?;
-    for number in 0..entries.len() {
-        let numbers = numbers_at(joined, number);
-        let table = table_of(alloc, entries, number, numbers)?;
-        all.push(table)?;
-    }
-    Ok(all)
-}
-
-/// The table for the entry with that number, to which those with these numbers belong, if it wants one.
-fn table_of(
+/// The table of the fields of the entry with that number, to which those with these numbers belong. None is made where the entry is the only
+/// one, and has few: these are found where they stand.
+pub(crate) fn table_of(
     alloc: Global,
     entries: &[Entry],
     number: usize,

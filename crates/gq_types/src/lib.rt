@@ -21,6 +21,7 @@ pub mod required;
 mod roots;
 pub mod subtype;
 mod table;
+mod tables;
 pub mod types;
 mod uses;
 

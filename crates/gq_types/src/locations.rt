@@ -4,11 +4,8 @@ ghost use Rattle.std.specs.List.{list_any};
 ghost use Rattle.gq_tree.specs.Same.{location_number, same_locations};
 ghost use Rattle.gq_tree.specs.Views.{type_system_view};
 ghost use Rattle.gq_types.specs.Directives.{locations_in};
-ghost use Rattle.gq_types.specs.Entries.{entries_view};
-ghost use Rattle.gq_types.specs.Helping.Index.{AreLocationsOf, AreLocations};
-ghost use Rattle.gq_types.specs.Helping.Tables.{lists_of};
+ghost use Rattle.gq_types.specs.Helping.Index.{AreLocationsOf};
 
-use crate::entry::Entry;
 use gq_text::NoMemory;
 use gq_tree::{DirectiveLocation, TypeSystemDefinition};
 use std::alloc::Global;
@@ -51,23 +48,8 @@ pub(crate) fn has_location(locations: &[DirectiveLocation], location: DirectiveL
     false
 }
 
-/// For each entry the locations of the directive that it defines, each once; none where it defines no directive.
-pub(crate) fn all_locations(
-    alloc: Global,
-    entries: &[Entry],
-) -> Result<Vec<Vec<DirectiveLocation>>, NoMemory>
-    ensures { IfOk result (λ lists. AreLocations (entries_view entries.now) (lists_of lists.items)) }
-{
-    let mut all = Vec::new(alloc);
-    for entry in entries {
-        let kept = distinct(alloc, locations_in(&entry.definition))?;
-        all.push(kept)?;
-    }
-    Ok(all)
-}
-
-/// The locations of a directive.
-fn locations_in(definition: &TypeSystemDefinition) -> &[DirectiveLocation]
+/// The locations of a directive; none of any other definition.
+pub(crate) fn locations_in(definition: &TypeSystemDefinition) -> &[DirectiveLocation]
     ensures { result.now ≡ locations_in (type_system_view definition.now) }
 {
     match definition {
@@ -78,7 +60,7 @@ fn locations_in(definition: &TypeSystemDefinition) -> &[DirectiveLocation]
 }
 
 /// These locations, each once.
-fn distinct(
+pub(crate) fn distinct(
     alloc: Global,
     locations: &[DirectiveLocation],
 ) -> Result<Vec<DirectiveLocation>, NoMemory>

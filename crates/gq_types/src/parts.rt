@@ -1,7 +1,7 @@
 //! The parts of types: fields, input fields, values, members and interfaces.
 ghost use Rattle.std.specs.Prelude.{◌≡◌, ◌++◌, [], IfOk, OnOk, map, get_or};
 ghost use Rattle.gq_types.specs.Entries.{entries_view};
-ghost use Rattle.gq_types.specs.Helping.Tables.{lists_of, places_from, no_parts, add_body, add_entry, parts_at, lists_in, AreJoined, AreParts};
+ghost use Rattle.gq_types.specs.Helping.Tables.{lists_of, places_from, no_parts, add_body, add_entry, parts_at, lists_in};
 ghost use Rattle.gq_tree.specs.Views.{body_view};
 
 use crate::entry::Entry;
@@ -72,24 +72,6 @@ impl Parts {
     }
 }
 
-/// For each entry its parts with those of the entries that belong to it.
-pub(crate) fn all_parts(
-    alloc: Global,
-    entries: &[Entry],
-    joined: &[Vec<usize>],
-) -> Result<Vec<Parts>, NoMemory>
-    requires { AreJoined (entries_view entries.now) (lists_of joined.now) }
-    ensures { IfOk result (λ parts. AreParts (entries_view entries.now) parts.items) }
-{
-    let mut all = Vec::with_capacity(alloc, entries.len())?;
-    for number in 0..entries.len() {
-        let numbers = numbers_at(joined, number);
-        let parts = parts_of(alloc, entries, numbers)?;
-        all.push(parts)?;
-    }
-    Ok(all)
-}
-
 /// The list at that place, and past the last one no numbers.
 pub(crate) fn numbers_at(joined: &[Vec<usize>], number: usize) -> &[usize]
     ensures { result.now ≡ get_or (lists_of joined.now) number [] }
@@ -101,7 +83,11 @@ pub(crate) fn numbers_at(joined: &[Vec<usize>], number: usize) -> &[usize]
 }
 
 /// The parts of the entries with these numbers.
-fn parts_of(alloc: Global, entries: &[Entry], numbers: &[usize]) -> Result<Parts, NoMemory>
+pub(crate) fn parts_of(
+    alloc: Global,
+    entries: &[Entry],
+    numbers: &[usize],
+) -> Result<Parts, NoMemory>
     ensures { IfOk result (λ parts. lists_in parts ≡ parts_at (entries_view entries.now) numbers.now) }
 {
     let mut parts = Parts::new(alloc);

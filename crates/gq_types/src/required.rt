@@ -8,11 +8,9 @@ ghost use Rattle.gq_types.specs.Entries.{entries_view};
 ghost use Rattle.gq_types.specs.Joined.{inputs_in_body};
 ghost use Rattle.gq_types.specs.LookUps.{parts_of_entry};
 ghost use Rattle.gq_types.specs.Required.{is_required};
-ghost use Rattle.gq_types.specs.Helping.RequiredNames.{required_after, inputs_among, AreRequired};
-ghost use Rattle.gq_types.specs.Helping.Tables.{lists_of, AreJoined};
+ghost use Rattle.gq_types.specs.Helping.RequiredNames.{required_after, inputs_among};
 
 use crate::entry::Entry;
-use crate::parts::numbers_at;
 use crate::places::inputs_in;
 use gq_names::NameList;
 use gq_text::NoMemory;
@@ -56,26 +54,12 @@ pub(crate) fn is_any_lacking(names: &NameList, given: &NameList) -> bool
     false
 }
 
-/// For each entry the names of the required input fields of the entries that belong to it.
-pub(crate) fn all_required(
+/// The names of the required input fields of the entries with these numbers.
+pub(crate) fn required_among(
     alloc: Global,
     entries: &[Entry],
-    joined: &[Vec<usize>],
-) -> Result<Vec<NameList>, NoMemory>
-    requires { AreJoined (entries_view entries.now) (lists_of joined.now) }
-    ensures { IfOk result (λ lists. AreRequired (entries_view entries.now) lists.items) }
-{
-    let mut all = Vec::new(alloc);
-    for number in 0..entries.len() {
-        let numbers = numbers_at(joined, number);
-        let required = required_among(alloc, entries, numbers)?;
-        all.push(required)?;
-    }
-    Ok(all)
-}
-
-/// The names of the required input fields of the entries with these numbers.
-fn required_among(alloc: Global, entries: &[Entry], numbers: &[usize]) -> Result<NameList, NoMemory>
+    numbers: &[usize],
+) -> Result<NameList, NoMemory>
     ensures { IfOk result (λ required. required ≡ required_after [] (inputs_among (entries_view entries.now) numbers.now)) }
 {
     let mut names = NameList::new(alloc);

@@ -25,14 +25,15 @@ use crate::built_in::{built_in, typename_type};
 use crate::declarers::declarers_of;
 use crate::definitions::Definitions;
 use crate::entry::{Entry, TypeKind};
-use crate::fields::{all_fields, place_in};
+use crate::fields::place_in;
 use crate::joined::joined_numbers;
 use crate::locations::has_location;
-use crate::parts::{Parts, Place, all_parts, numbers_at};
+use crate::parts::{Parts, Place, numbers_at};
 use crate::places::{field_at, input_at};
 use crate::required::is_any_lacking;
-use crate::roots::default_name;
+use crate::roots::{RootNames, default_name};
 use crate::table::Table;
+use crate::tables::EntryTables;
 use crate::uses::Uses;
 use gq_names::{ByName, NameList};
 use gq_text::NoMemory;
@@ -105,12 +106,12 @@ impl Types {
         all.append(&mut entries)?;
         let definitions = Definitions::of(alloc, all)?;
         let joined = joined_numbers(alloc, &definitions)?;
-        let fields = all_fields(alloc, definitions.entries(), &joined)?;
-        let parts = all_parts(alloc, definitions.entries(), &joined)?;
-        let declarers = declarers_of(alloc, &parts)?;
-        let schema = definitions.schema_number();
-        let uses = Uses::of(alloc, definitions.entries(), &joined, schema)?;
+        let schema = numbers_at(&joined, definitions.schema_number());
+        let roots = RootNames::of(alloc, definitions.entries(), schema)?;
         let typename_type = typename_type(alloc)?;
+        let tables = EntryTables::of(alloc, definitions.entries(), &joined)?;
+        let declarers = declarers_of(alloc, &tables.parts)?;
+        let (fields, parts, uses) = tables.split(roots);
         Ok(Types {
             definitions,
             joined,

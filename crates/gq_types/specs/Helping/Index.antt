@@ -15,17 +15,18 @@ use Rattle.gq_types.specs.declared.parts.Parts.{Parts}
 use Rattle.gq_types.specs.declared.parts.Place.{Place}
 use Rattle.gq_types.specs.declared.roots.RootNames.{RootNames}
 use Rattle.gq_types.specs.declared.table.Table.{Table}
+use Rattle.gq_types.specs.declared.tables.EntryTables.{EntryTables}
 use Rattle.gq_types.specs.declared.uses.Uses.{Uses}
 use Rattle.gq_types.specs.Directives.{locations_in}
 use Rattle.gq_types.specs.Entries.{Text, EntryOf}
 use Rattle.gq_types.specs.Typename.{typename_type}
 use Rattle.gq_names.specs.UnderNames.{UnderNames, items_under}
 use Rattle.gq_types.specs.Declarers.{declaring_from}
-use Rattle.gq_types.specs.Joined.{fields_in_body, schema_number}
+use Rattle.gq_types.specs.Joined.{fields_in_body, inputs_of, schema_number}
 use Rattle.gq_types.specs.Look.{joined_numbers}
-use Rattle.gq_types.specs.Helping.FieldTables.{AreFieldTables}
-use Rattle.gq_types.specs.Helping.RequiredNames.{AreRequired, AreNamesOf}
-use Rattle.gq_types.specs.Helping.Tables.{lists_of, AreJoined, AreParts, EachAt, first_root_at}
+use Rattle.gq_types.specs.Helping.FieldTables.{IsKeptFor, AreFieldTables}
+use Rattle.gq_types.specs.Helping.RequiredNames.{required_after, AreRequired, AreNamesOf}
+use Rattle.gq_types.specs.Helping.Tables.{lists_of, lists_in, parts_at, AreJoined, AreParts, EachAt, first_root_at}
 
 -- the arguments of each field that it defines, or of the directive
 abbrev pub argument_lists : TypeSystemOf Span → List (List (InputOf Span))
@@ -60,6 +61,27 @@ root_name names kind.Subscription = names.subscription
 
 abbrev pub AreRoots : List EntryOf → List ℕ → RootNames → Type 0
 AreRoots es numbers names = (kind : OperationKind) → root_name names kind ≡ first_root_at es kind numbers
+
+-- what is kept of each entry, in five lists
+pub record AreTables (es : List EntryOf) (tables : EntryTables) : Type 0 where
+  pub fields_are : AreFieldTables es tables.fields.items
+  pub parts_are : AreParts es tables.parts.items
+  pub required_are : AreRequired es tables.required.items
+  pub arguments_are : AreArgumentNames es (lists_of tables.arguments.items)
+  pub locations_are : AreLocations es (lists_of tables.locations.items)
+
+-- what is kept so far, of the entries below a number
+pub record AreTablesBelow (es : List EntryOf) (number : ℕ) (tables : EntryTables) : Type 0 where
+  pub fields_count : length tables.fields.items ≡ number
+  pub fields_are : EachAt (λ i table. IsKeptFor es i (joined_numbers es i) table) tables.fields.items
+  pub parts_count : length tables.parts.items ≡ number
+  pub parts_are : EachAt (λ i p. lists_in p ≡ parts_at es (joined_numbers es i)) tables.parts.items
+  pub required_count : length tables.required.items ≡ number
+  pub required_are : EachAt (λ i names. names ≡ required_after [] (map (λ i. i.it) (inputs_of es i))) tables.required.items
+  pub arguments_count : length tables.arguments.items ≡ number
+  pub arguments_are : AreArgumentNames es (lists_of tables.arguments.items)
+  pub locations_count : length tables.locations.items ≡ number
+  pub locations_are : EachAt (λ k kept. (e : EntryOf) → slice_get es k ≡ Some e → AreLocationsOf (locations_in e.definition) kept) (lists_of tables.locations.items)
 
 -- what is kept for the uses of definitions
 pub record AreUses (es : List EntryOf) (uses : Uses) : Type 0 where

@@ -1,11 +1,10 @@
+use Rattle.gq_types.proofs.EntryTablesLemmas.{index_made}
 use Rattle.gq_types.proofs.types.Types.of.Goals as goal
 
 pub invariant_of-result : goal.invariant_of-result
-invariant_of-result c = record {
-  joined_are = c.in_ok-joined.ensures;
-  fields_are = rw c.entries.ensures at c.in_ok-fields.ensures;
-  parts_are = rw c.entries-2.ensures at c.in_ok-parts.ensures;
-  declarers_are = rw c.deref-3.ensures.value at c.in_ok-declarers.ensures;
-  uses_are = rw c.entries-3.ensures at c.in_ok-uses.ensures;
-  typename_type_is = c.in_ok-typename_type.ensures;
-}
+invariant_of-result c =
+    let split = c.split-fields in
+    index_made _ c.in_ok-joined.joined.items c.in_ok-tables.tables c.in_ok-roots.roots c.in_ok-declarers.declarers c.in_ok-typename_type.typename_type
+    split.result.0 split.result.1 split.result.2 c.schema_number.result c.numbers_at-schema.result.now split.ensures.fields split.ensures.parts split.ensures.uses
+    c.in_ok-joined.ensures (rw c.entries-2.ensures at c.in_ok-tables.ensures) (rw c.deref-3.ensures.value at c.in_ok-declarers.ensures)
+    c.schema_number.ensures.is (rw c.deref.ensures.value at c.numbers_at-schema.ensures) (rw c.entries.ensures at c.in_ok-roots.ensures) c.in_ok-typename_type.ensures
