@@ -263,7 +263,7 @@ module _ (names : List Text) (es us : List EntryOf) (same : LooksAlikeBut names 
   on : (type_name text : Text) → is_one_of names text ≡ false → option_map erase_field (field_on es type_name text) ≡ option_map erase_field (field_on us type_name text)
   on type_name text other =
       field_step (bytes_eq text typename) (is_composite_named es type_name) (is_composite_named us type_name) (field_named es type_name text) (field_named us type_name text)
-          (composites type_name) (same.field type_name text other)
+      (composites type_name) (same.field type_name text other)
 
   pub selected_on : (parent : Option Text) (text : Text) → is_one_of names text ≡ false →
       option_map erase_field (selected_field es parent text) ≡ option_map erase_field (selected_field us parent text)
