@@ -1,5 +1,5 @@
 //! The names of the fields in which two definitions differ.
-ghost use Rattle.std.specs.Prelude.{◌≡◌, ◌≤◌, ◌++◌, ◌-◌, IfOk, length, map, take, drop, true};
+ghost use Rattle.std.specs.Prelude.{◌≡◌, ◌++◌, IfOk, map, true};
 ghost use Rattle.gq_tree.specs.Plain.{no_place, place_body, place_field, place_type_system};
 ghost use Rattle.gq_tree.specs.Views.{body_view, field_definition_view, type_system_view};
 ghost use Rattle.gq_tree.specs.declared.type_system.TypeSystemDefinition.TheVariants as definition;
