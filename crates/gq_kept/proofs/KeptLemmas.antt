@@ -19,10 +19,10 @@ use Rattle.gq_index.specs.declared.index.Index.{Index}
 use Rattle.gq_index.specs.Indexed.{IsIndexOfProject}
 use Rattle.gq_known.specs.Known.{AreKnown}
 use Rattle.gq_rules.specs.Validity.{IsReportOf, IsValid}
-use Rattle.gq_by_file.specs.declared.by_file.ByFile.{ByFile}
+use Rattle.gq_kept.specs.declared.by_document.ByDocument.{ByDocument}
 use Rattle.gq_kept.specs.declared.typed.Typed.{Typed}
 use Rattle.gq_kept.specs.Helping.Facts.{AreKept}
-use Rattle.gq_by_file.specs.ByFile.{AreByFile}
+use Rattle.gq_kept.specs.Helping.ByDocument.{AreByDocument}
 use Rattle.gq_kept.specs.Helping.TypesOf.{AreTypesOf, DefineAlike, types_defined}
 use Rattle.gq_kept.specs.Helping.Unindexed.{AddNothing}
 use Rattle.gq_parse.proofs.OneReading.{OneTree}
@@ -32,16 +32,16 @@ use Rattle.gq_kept.proofs.KnownLemmas.{types_known, replaced, inserted, removed}
 use Rattle.gq_kept.proofs.TypesLemmas.{system_inserted, system_removed}
 
 -- with no index
-kept_by : (documents : List Doc) (readings : List SharedParsed) (typed : Typed) (found : ByFile) → ∥ AreKnown documents readings (types_view typed.types) typed.has_schema × AreByFile (types_view typed.types) (readings_view readings) found ∥₁ →
+kept_by : (documents : List Doc) (readings : List SharedParsed) (typed : Typed) (found : ByDocument) → ∥ AreKnown documents readings (types_view typed.types) typed.has_schema × AreByDocument (types_view typed.types) (readings_view readings) found ∥₁ →
     AreKept documents readings typed found None
 kept_by documents readings typed found both = record { known = ∥∥₁_map both (λ b. b.0); owned = ∥∥₁_map both (λ b. b.1); indexed = ∣ tt ∣₁ }
 
 -- with an index
-kept_with : (documents : List Doc) (readings : List SharedParsed) (typed : Typed) (found : ByFile) (index : Option Index) → ∥ AreKnown documents readings (types_view typed.types) typed.has_schema × AreByFile (types_view typed.types) (readings_view readings) found ∥₁ →
+kept_with : (documents : List Doc) (readings : List SharedParsed) (typed : Typed) (found : ByDocument) (index : Option Index) → ∥ AreKnown documents readings (types_view typed.types) typed.has_schema × AreByDocument (types_view typed.types) (readings_view readings) found ∥₁ →
     ∥ IfSome index (IsIndexOfProject documents) ∥₁ → AreKept documents readings typed found index
 kept_with documents readings typed found index both indexed = record { known = ∥∥₁_map both (λ b. b.0); owned = ∥∥₁_map both (λ b. b.1); indexed = indexed }
 
-pub kept_first : (documents told : List Doc) (readings : List SharedParsed) (typed : Typed) (found : ByFile) → told ≡ documents → ((es : List EntryOf) (rs : List ParsedOf) → AreByFile es rs found) →
+pub kept_first : (documents told : List Doc) (readings : List SharedParsed) (typed : Typed) (found : ByDocument) → told ≡ documents → ((es : List EntryOf) (rs : List ParsedOf) → AreByDocument es rs found) →
     AreKnown documents readings (types_view typed.types) typed.has_schema → AreKept told readings typed found None
 kept_first documents told readings typed found same nothing known =
     let D : List Doc → Type 0 = λ ds. AreKept ds readings typed found None in
@@ -61,7 +61,7 @@ systems before after old made changes was is stays e =
     let D : List EntryOf → List EntryOf → Type 0 = λ es us. AreAlikeToRules es us in
     subst (λ (es : List EntryOf). D es (types_view made.types)) (sym was.is_type_system) (subst (λ (us : List EntryOf). D (built_in ++ entries_of before) us) (sym is.is_type_system) (stays e))
 
-module _ (documents : List Doc) (readings : List SharedParsed) (typed : Typed) (found : ByFile) (index : Option Index) (kept : AreKept documents readings typed found index) where
+module _ (documents : List Doc) (readings : List SharedParsed) (typed : Typed) (found : ByDocument) (index : Option Index) (kept : AreKept documents readings typed found index) where
   -- as many readings as documents
   kept_count : length documents ≡ length readings
   kept_count = ∥∥₁_elim kept.known (ℕ_set _ _) (λ known. as_many known.are_readings ∙ length-map readings shared_view)
@@ -74,7 +74,7 @@ module _ (documents : List Doc) (readings : List SharedParsed) (typed : Typed) (
   }
 
   -- more is known of the files each by itself
-  pub kept_owned : (others : ByFile) → (AreByFile (types_view typed.types) (readings_view readings) found → AreByFile (types_view typed.types) (readings_view readings) others) → AreKept documents readings typed others index
+  pub kept_owned : (others : ByDocument) → (AreByDocument (types_view typed.types) (readings_view readings) found → AreByDocument (types_view typed.types) (readings_view readings) others) → AreKept documents readings typed others index
   kept_owned others goes_on = record { known = kept.known; owned = ∥∥₁_map kept.owned goes_on; indexed = kept.indexed }
 
   -- the documents as they are told of, and the readings as they are given
@@ -85,10 +85,10 @@ module _ (documents : List Doc) (readings : List SharedParsed) (typed : Typed) (
     pub gap_in_range : (at : ℕ) (key : List ℕ) → IsGapFor (λ d. d.key) key told at → at ≤ length readings
     gap_in_range at key gap = let count = kept_count in let below : at ≤ length told = gap.in_range in let same = ap length is_told in omega arith
 
-    pub kept_replaced : (at : ℕ) (doc : Doc) (reading : SharedParsed) (made : Typed) (left : ByFile) (changes : Bool) → IsPlaceOf (λ d. d.key) doc.key told at → ∥ IsParsed doc.text (shared_view reading) ∥₁
+    pub kept_replaced : (at : ℕ) (doc : Doc) (reading : SharedParsed) (made : Typed) (left : ByDocument) (changes : Bool) → IsPlaceOf (λ d. d.key) doc.key told at → ∥ IsParsed doc.text (shared_view reading) ∥₁
         → (AreParsed told (readings_view given) → IsParsed doc.text (shared_view reading) → AreTypesOf (readings_view given) typed → AreTypesOf (set (readings_view given) at (shared_view reading)) made)
         → (changes ≡ false → AreParsed told (readings_view given) → IsParsed doc.text (shared_view reading) → DefineAlike (readings_view given) (set (readings_view given) at (shared_view reading)))
-        → ((changes ≡ false → AreAlikeToRules (types_view typed.types) (types_view made.types)) → AreByFile (types_view typed.types) (readings_view readings) found → AreByFile (types_view made.types) (set (readings_view readings) at (shared_view reading)) left)
+        → ((changes ≡ false → AreAlikeToRules (types_view typed.types) (types_view made.types)) → AreByDocument (types_view typed.types) (readings_view readings) found → AreByDocument (types_view made.types) (set (readings_view readings) at (shared_view reading)) left)
         → OneTree → (keeps : Bool) → (keeps ≡ true → AddNothing (get_or (map definitions_read (readings_view readings)) at []) × AddNothing (definitions_read (shared_view reading)))
         → AreKept (with_doc documents doc) (set readings at reading) made left (if keeps then index else None)
     kept_replaced at doc reading made left changes place merely types stays forgets one_tree keeps silent =
@@ -98,35 +98,35 @@ module _ (documents : List Doc) (readings : List SharedParsed) (typed : Typed) (
         subst (λ (ds : List Doc). AreParsed ds (readings_view given)) is_told (subst (λ (gs : List SharedParsed). AreParsed documents (readings_view gs)) (sym is_given) known.are_readings) in
         let are : AreTypesOf (set (readings_view given) at (shared_view reading)) made = types read parsed was in
         let one = systems (readings_view given) (set (readings_view given) at (shared_view reading)) typed made changes was are (λ e. stays e read parsed) in
-        let there : AreByFile (types_view made.types) (set (readings_view readings) at (shared_view reading)) left = forgets one owned in
+        let there : AreByDocument (types_view made.types) (set (readings_view readings) at (shared_view reading)) left = forgets one owned in
         (replaced documents readings typed known at doc reading made (rw is_told place) parsed (rw (← is_given) are), rw map-set there))))
         (∥∥₁_elim merely ∥∥₁_prop (λ (parsed : IsParsed doc.text (shared_view reading)). both_known kept.known kept.indexed (λ known indexed.
         settled one_tree documents (readings_view readings) index at doc (shared_view reading) keeps known.are_readings indexed (rw is_told place) parsed silent)))
 
-    pub kept_inserted : NumbersOfEntriesAreUnseen → (at : ℕ) (doc : Doc) (reading : SharedParsed) (made : Typed) (left : ByFile) (changes : Bool) → IsGapFor (λ d. d.key) doc.key told at → ∥ IsParsed doc.text (shared_view reading) ∥₁
+    pub kept_inserted : NumbersOfEntriesAreUnseen → (at : ℕ) (doc : Doc) (reading : SharedParsed) (made : Typed) (left : ByDocument) (changes : Bool) → IsGapFor (λ d. d.key) doc.key told at → ∥ IsParsed doc.text (shared_view reading) ∥₁
         → (AreTypesOf (readings_view given) typed → AreTypesOf (insert (readings_view given) at (shared_view reading)) made)
         → (changes ≡ false → types_defined (shared_view reading) ≡ [])
-        → ((es us : List EntryOf) (rs : List ParsedOf) → (changes ≡ false → AreAlikeToRules es us) → AreByFile es rs found → AreByFile us (insert rs at (shared_view reading)) left)
+        → ((es us : List EntryOf) (rs : List ParsedOf) → (changes ≡ false → AreAlikeToRules es us) → AreByDocument es rs found → AreByDocument us (insert rs at (shared_view reading)) left)
         → AreKept (with_doc documents doc) (insert readings at reading) made left None
     kept_inserted unseen at doc reading made left changes gap merely types defines opens =
         kept_by _ _ _ left (∥∥₁_elim merely ∥∥₁_prop (λ (parsed : IsParsed doc.text (shared_view reading)). both_known kept.known kept.owned (λ known owned.
         let was : AreTypesOf (readings_view given) typed = rw is_given (types_known documents readings typed known) in
         let are : AreTypesOf (insert (readings_view given) at (shared_view reading)) made = types was in
         let one = systems (readings_view given) (insert (readings_view given) at (shared_view reading)) typed made changes was are (λ e. unseen _ _ (system_inserted (readings_view given) at (shared_view reading) (defines e))) in
-        let there : AreByFile (types_view made.types) (insert (readings_view readings) at (shared_view reading)) left = opens (types_view typed.types) (types_view made.types) (readings_view readings) one owned in
+        let there : AreByDocument (types_view made.types) (insert (readings_view readings) at (shared_view reading)) left = opens (types_view typed.types) (types_view made.types) (readings_view readings) one owned in
         let same : readings_view (insert readings at reading) ≡ insert (readings_view readings) at (shared_view reading) = simp (map-append, take-map, drop-map) in
         (inserted documents readings typed known at doc reading made (rw is_told gap) parsed (rw (← is_given) are), rw same there))))
 
-    pub kept_removed : NumbersOfEntriesAreUnseen → (at : ℕ) (key : List ℕ) (made : Typed) (left : ByFile) (changes : Bool) → IsPlaceOf (λ d. d.key) key told at
+    pub kept_removed : NumbersOfEntriesAreUnseen → (at : ℕ) (key : List ℕ) (made : Typed) (left : ByDocument) (changes : Bool) → IsPlaceOf (λ d. d.key) key told at
         → AreTypesOf (remove (readings_view given) at) made
         → (changes ≡ false → get_or (map types_defined (readings_view given)) at [] ≡ [])
-        → ((es us : List EntryOf) (rs : List ParsedOf) → (changes ≡ false → AreAlikeToRules es us) → AreByFile es rs found → AreByFile us (remove rs at) left)
+        → ((es us : List EntryOf) (rs : List ParsedOf) → (changes ≡ false → AreAlikeToRules es us) → AreByDocument es rs found → AreByDocument us (remove rs at) left)
         → AreKept (without documents key) (remove readings at) made left None
     kept_removed unseen at key made left changes place are defines closes =
         kept_by _ _ _ left (both_known kept.known kept.owned (λ known owned.
         let was : AreTypesOf (readings_view given) typed = rw is_given (types_known documents readings typed known) in
         let one = systems (readings_view given) (remove (readings_view given) at) typed made changes was are (λ e. unseen _ _ (system_removed (readings_view given) at (defines e))) in
-        let there : AreByFile (types_view made.types) (remove (readings_view readings) at) left = closes (types_view typed.types) (types_view made.types) (readings_view readings) one owned in
+        let there : AreByDocument (types_view made.types) (remove (readings_view readings) at) left = closes (types_view typed.types) (types_view made.types) (readings_view readings) one owned in
         let same : readings_view (remove readings at) ≡ remove (readings_view readings) at = simp (map-append, take-map, drop-map) in
         (removed documents readings typed known at key made (rw is_told place) (rw (← is_given) are), rw same there)))
 

@@ -1,6 +1,7 @@
 pub mod AlikeLemmas
 pub mod Brought
 pub mod FieldLemmas
+pub mod FieldNamesLemmas
 pub mod GatheredLemmas
 pub mod IndexLemmas
 pub mod JudgingLemmas
@@ -8,6 +9,5 @@ pub mod KeptLemmas
 pub mod KnownLemmas
 pub mod RemadeLemmas
 pub mod SamenessLemmas
-pub mod Selected
 pub mod TypesLemmas
 pub mod UnseenLemmas

@@ -8,8 +8,8 @@ use Rattle.gq_parse.specs.Parsed.{IsParsed, AreParsed}
 use Rattle.gq_parse.proofs.ReadingLemmas.{one_more}
 use Rattle.gq_types.specs.Entries.{EntryOf}
 use Rattle.gq_types.specs.Look.{types_view}
-use Rattle.gq_by_file.specs.declared.by_file.ByFile.{ByFile}
-use Rattle.gq_by_file.specs.ByFile.{AreByFile}
+use Rattle.gq_kept.specs.declared.by_document.ByDocument.{ByDocument}
+use Rattle.gq_kept.specs.Helping.ByDocument.{AreByDocument}
 use Rattle.gq_by_file.proofs.KnownOwnLemmas.{get_some, reading_there}
 use Rattle.gq_kept.specs.declared.typed.Typed.{Typed}
 use Rattle.gq_kept.specs.Helping.Facts.{AreKept}
@@ -45,8 +45,8 @@ as_before documents readings at doc text one made inside within is there same cl
     subst (λ (t : List ℕ). IsParsed t (shared_view made)) same (subst (λ (x : ParsedOf). IsParsed doc.text x) (r ∙ sym cloned) of_document)
 
 -- all is known that was made of documents at once
-pub kept_remade : (documents told read : List Doc) (readings given : List SharedParsed) (made : Typed) (found : ByFile) → told ≡ documents → read ≡ documents → given ≡ readings
-    → ∥ AreParsed read (readings_view readings) ∥₁ → AreTypesOf (readings_view given) made → ((es : List EntryOf) (rs : List ParsedOf) → AreByFile es rs found) → AreKept told readings made found None
+pub kept_remade : (documents told read : List Doc) (readings given : List SharedParsed) (made : Typed) (found : ByDocument) → told ≡ documents → read ≡ documents → given ≡ readings
+    → ∥ AreParsed read (readings_view readings) ∥₁ → AreTypesOf (readings_view given) made → ((es : List EntryOf) (rs : List ParsedOf) → AreByDocument es rs found) → AreKept told readings made found None
 kept_remade documents told read readings given made found t r g parsed are nothing =
     let made_is : AreTypesOf (readings_view readings) made = subst (λ (gs : List SharedParsed). AreTypesOf (readings_view gs) made) g are in
     subst (λ (ds : List Doc). AreKept ds readings made found None) (sym t) (record {

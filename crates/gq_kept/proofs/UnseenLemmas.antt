@@ -17,9 +17,12 @@ use Rattle.gq_by_file.specs.ByFile.{AreByFile}
 use Rattle.gq_by_file.specs.declared.by_file.ByFile.{ByFile}
 use Rattle.gq_kept.specs.Helping.Texts.{texts_at}
 use Rattle.gq_laws.specs.Placing.OtherFields.{OtherFieldsDoNotMatter, SelectNone, TypesLookAlikeBut, erase_without, has_selected, selects_one_of}
+use Rattle.gq_kept.specs.declared.by_document.ByDocument.{ByDocument}
 use Rattle.gq_kept.specs.declared.typed.Typed.{Typed}
 use Rattle.gq_kept.specs.declared.typed.Was.{Was}
 use Rattle.gq_kept.specs.declared.typed.Was.TheVariants as was
+use Rattle.gq_kept.specs.Helping.ByDocument.{AreByDocument}
+use Rattle.gq_kept.specs.Helping.Selected.{AreMarkedFor}
 use Rattle.gq_kept.specs.Helping.Unseen.{AreMarkedBy, IfWholly, IsIfWholly}
 
 or_parts : (a b : Bool) → (a || b) ≡ false → (a ≡ false) × (b ≡ false)
@@ -37,12 +40,6 @@ sets_none names (fragment name on directives s braces place ∷ ds) none set c =
     ⊎_elim (λ (e : s ≡ set). subst (λ (z : Sels Span). selects_one_of names z ≡ false) e parts.0) (λ d. sets_none names ds parts.1 set d) (cases_cons s set (flat_map sets_in ds) c)
 sets_none names (type_system definition ∷ ds) none set c = sets_none names ds none set c
 
--- the mark at a place
-mark_at : {X : Type 0} (t : X → Bool) (xs : List X) (n : ℕ) (x : X) → slice_get xs n ≡ Some x → slice_index_or (map t xs) n false ≡ t x
-mark_at t [] n x e = absurd (cc)
-mark_at t (y ∷ ys) zero x e = let same : y ≡ x = cc in ap t same
-mark_at t (y ∷ ys) (suc n) x e = mark_at t ys n x e
-
 module _ (looks : TypesLookAlikeBut) (rules : OtherFieldsDoNotMatter IsRuleFault) (es us : List EntryOf) (rs : List ParsedOf) (marks : List Bool) (marked : AreMarkedBy es us rs marks) where
   abbrev names : List Text
   names = marked.names
@@ -53,10 +50,7 @@ module _ (looks : TypesLookAlikeBut) (rules : OtherFieldsDoNotMatter IsRuleFault
       (rules names es us (looks names es us marked.same) os gs none f, rules names us es (looks names us es (sym marked.same)) os gs none f)
 
   unseen : SeeNothing (selects_one_of names) rs marks
-  unseen n r stands free set c =
-      let test : ParsedOf → Bool = λ q. list_any (has_selected names) (definitions_read q) in
-      let free_there : test r ≡ false = sym (mark_at test rs n r stands) ∙ ap (λ (ms : List Bool). slice_index_or ms n false) (sym marked.are) ∙ free in
-      sets_none names (definitions_read r) free_there set c
+  unseen n r stands free set c = sets_none names (definitions_read r) (marked.are n r stands free) set c
 
   -- what is known of documents without a mark stays
   pub known_on : (found left : ByFile) → ((sees : Sels Span → Bool) (es us : List EntryOf) (rs : List ParsedOf) → AreAlikeUnseen sees es us → SeeNothing sees rs marks → AreByFile es rs found → AreByFile us rs left)
@@ -69,7 +63,7 @@ some_of {A} P o x e h = subst (λ (z : Option A). IfSome z P) e h
 
 -- marks by names that are lent
 pub marked_by : (es us old new : List EntryOf) (rs : List ParsedOf) (found given : List (Bor Name)) (marks : List Bool) → old ≡ es → new ≡ us → given ≡ found
-    → map (erase_without (texts_at found)) old ≡ map (erase_without (texts_at found)) new → marks ≡ map (λ r. list_any (has_selected (texts_at given)) (definitions_read r)) rs → AreMarkedBy es us rs marks
+    → map (erase_without (texts_at found)) old ≡ map (erase_without (texts_at found)) new → AreMarkedFor (texts_at given) rs marks → AreMarkedBy es us rs marks
 marked_by es us old new rs found given marks were are is same told =
     let erase : List EntryOf → List (TypeSystemOf (Unit {0})) = λ xs. map (erase_without (texts_at given)) xs in
     let one : erase old ≡ erase new = subst (λ (ns : List (Bor Name)). map (erase_without (texts_at ns)) old ≡ map (erase_without (texts_at ns)) new) (sym is) same in
@@ -89,22 +83,22 @@ not_both true false e h = absurd (cc)
 not_both false b e h = refl
 
 -- what is known of documents, one of which is replaced: the type system is the old one to the rules, or what is known stays where it becomes the new one
-pub replaced_on : (found middle left : ByFile) (old made : Typed) (rs : List ParsedOf) (at : ℕ) (r : ParsedOf) (whole : Option Was) (changes unseen : Bool) → IsIfWholly whole old
-    → (unseen ≡ true → IfWholly whole (λ typed. AreByFile (types_view typed.types) rs found → AreByFile (types_view made.types) rs middle))
-    → (unseen ≡ false → middle ≡ found)
-    → ((es us : List EntryOf) (qs : List ParsedOf) → ((changes && not unseen) ≡ false → AreAlikeToRules es us) → AreByFile es qs middle → AreByFile us (set qs at r) left)
+pub replaced_on : (found middle left : ByDocument) (old made : Typed) (rs : List ParsedOf) (at : ℕ) (r : ParsedOf) (whole : Option Was) (changes unseen : Bool) → IsIfWholly whole old
+    → (unseen ≡ true → IfWholly whole (λ typed. AreByDocument (types_view typed.types) rs found → AreByDocument (types_view made.types) rs middle))
+    → (unseen ≡ false → (es : List EntryOf) → AreByDocument es rs found → AreByDocument es rs middle)
+    → ((es us : List EntryOf) (qs : List ParsedOf) → ((changes && not unseen) ≡ false → AreAlikeToRules es us) → AreByDocument es qs middle → AreByDocument us (set qs at r) left)
     → (changes ≡ false → AreAlikeToRules (types_view old.types) (types_view made.types))
-    → AreByFile (types_view old.types) rs found → AreByFile (types_view made.types) (set rs at r) left
+    → AreByDocument (types_view old.types) rs found → AreByDocument (types_view made.types) (set rs at r) left
 replaced_on found middle left old made rs at r whole changes unseen is kept same goes alike are = by unseen refl whole refl
   where
-    by : (b : Bool) → unseen ≡ b → (w : Option Was) → whole ≡ w → AreByFile (types_view made.types) (set rs at r) left
-    by true e None f = absurd (subst (λ (w : Option Was). IfWholly w (λ typed. AreByFile (types_view typed.types) rs found → AreByFile (types_view made.types) rs middle)) f (kept e))
+    by : (b : Bool) → unseen ≡ b → (w : Option Was) → whole ≡ w → AreByDocument (types_view made.types) (set rs at r) left
+    by true e None f = absurd (subst (λ (w : Option Was). IfWholly w (λ typed. AreByDocument (types_view typed.types) rs found → AreByDocument (types_view made.types) rs middle)) f (kept e))
     by true e (Some (was.Entries entries)) f =
-        absurd (subst (λ (w : Option Was). IfWholly w (λ typed. AreByFile (types_view typed.types) rs found → AreByFile (types_view made.types) rs middle)) f (kept e))
+        absurd (subst (λ (w : Option Was). IfWholly w (λ typed. AreByDocument (types_view typed.types) rs found → AreByDocument (types_view made.types) rs middle)) f (kept e))
     by true e (Some (was.Typed typed)) f =
-        let stays = subst (λ (w : Option Was). IfWholly w (λ typed. AreByFile (types_view typed.types) rs found → AreByFile (types_view made.types) rs middle)) f (kept e) in
+        let stays = subst (λ (w : Option Was). IfWholly w (λ typed. AreByDocument (types_view typed.types) rs found → AreByDocument (types_view made.types) rs middle)) f (kept e) in
         let one : typed ≡ old = subst (λ (w : Option Was). IsIfWholly w old) f is in
-        let there = stays (subst (λ (t : Typed). AreByFile (types_view t.types) rs found) (sym one) are) in
+        let there = stays (subst (λ (t : Typed). AreByDocument (types_view t.types) rs found) (sym one) are) in
         goes (types_view made.types) (types_view made.types) rs (λ h os gs fault. (λ z. z, λ z. z)) there
     by false e w f =
-        goes (types_view old.types) (types_view made.types) rs (λ h. alike (not_both changes unseen e h)) (subst (λ (b : ByFile). AreByFile (types_view old.types) rs b) (sym (same e)) are)
+        goes (types_view old.types) (types_view made.types) rs (λ h. alike (not_both changes unseen e h)) (same e (types_view old.types) are)

@@ -1,9 +1,11 @@
 -- What only helps to prove that the code does what the definitions say. No contract of a public call is about it.
+pub mod ByDocument
 pub mod Facts
 pub mod Gathered
 pub mod Gone
 pub mod Judgements
 pub mod ReadsOn
+pub mod Selected
 pub mod Texts
 pub mod TypesOf
 pub mod Unindexed

@@ -5,9 +5,9 @@ ghost use Rattle.gq_fault.specs.declared.fault.Fault.{Fault};
 ghost use Rattle.gq_known.specs.Known.{IsKnown};
 ghost use Rattle.gq_rules.specs.Faults.{IsFaultOf, IsToldFirst};
 ghost use Rattle.gq_rules.specs.Validity.{IsInvalid, IsReportOf, IsValid};
-ghost use Rattle.gq_by_file.specs.ByFile.{AreByFileOver};
+ghost use Rattle.gq_kept.specs.Helping.ByDocument.{AreByDocumentOver};
 
-use gq_by_file::ByFile;
+use crate::by_document::ByDocument;
 use gq_by_file::laws::faults_are_told_by_files;
 use gq_fault::{Fault, found_at, put_in_order};
 use gq_known::Known;
@@ -19,10 +19,10 @@ use std::alloc::Global;
 fn faults_by_files(
     alloc: Global,
     known: Known<'_>,
-    found: &mut ByFile,
+    found: &mut ByDocument,
 ) -> Result<Vec<Fault>, NoMemory>
-    ensures kept { AreByFileOver known.entry.types.now known.entry.readings.now found.old → AreByFileOver known.entry.types.now known.entry.readings.now found.new }
-    ensures faults { IfOk result (λ faults. IsKnown known.entry → AreByFileOver known.entry.types.now known.entry.readings.now found.old
+    ensures kept { AreByDocumentOver known.entry.types.now known.entry.readings.now found.old → AreByDocumentOver known.entry.types.now known.entry.readings.now found.new }
+    ensures faults { IfOk result (λ faults. IsKnown known.entry → AreByDocumentOver known.entry.types.now known.entry.readings.now found.old
         → ((fault : Fault) → IsToldFirst (readings_view known.entry.readings.now) fault → ⊥)
         → (fault : Fault) → Contains faults.items fault ↔ IsFaultOf (readings_view known.entry.readings.now) fault) }
 {
@@ -32,9 +32,9 @@ fn faults_by_files(
 }
 
 /// The faults of a project, in no order.
-fn faults(alloc: Global, known: Known<'_>, found: &mut ByFile) -> Result<Vec<Fault>, NoMemory>
-    ensures kept { AreByFileOver known.entry.types.now known.entry.readings.now found.old → AreByFileOver known.entry.types.now known.entry.readings.now found.new }
-    ensures faults { IfOk result (λ faults. IsKnown known.entry → AreByFileOver known.entry.types.now known.entry.readings.now found.old
+fn faults(alloc: Global, known: Known<'_>, found: &mut ByDocument) -> Result<Vec<Fault>, NoMemory>
+    ensures kept { AreByDocumentOver known.entry.types.now known.entry.readings.now found.old → AreByDocumentOver known.entry.types.now known.entry.readings.now found.new }
+    ensures faults { IfOk result (λ faults. IsKnown known.entry → AreByDocumentOver known.entry.types.now known.entry.readings.now found.old
         → (fault : Fault) → Contains faults.items fault ↔ IsFaultOf (readings_view known.entry.readings.now) fault) }
 {
     let first = first_faults(alloc, known)?;
@@ -48,11 +48,11 @@ fn faults(alloc: Global, known: Known<'_>, found: &mut ByFile) -> Result<Vec<Fau
 pub(crate) fn report_if_any(
     alloc: Global,
     known: Known<'_>,
-    found: &mut ByFile,
+    found: &mut ByDocument,
 ) -> Result<Option<Report>, NoMemory>
-    ensures kept { AreByFileOver known.entry.types.now known.entry.readings.now found.old → AreByFileOver known.entry.types.now known.entry.readings.now found.new }
-    ensures valid { IfOk result (λ report. IsKnown known.entry → AreByFileOver known.entry.types.now known.entry.readings.now found.old → IfNone report (IsValid known.entry.project.now)) }
-    ensures invalid { IfOk result (λ report. IsKnown known.entry → AreByFileOver known.entry.types.now known.entry.readings.now found.old
+    ensures kept { AreByDocumentOver known.entry.types.now known.entry.readings.now found.old → AreByDocumentOver known.entry.types.now known.entry.readings.now found.new }
+    ensures valid { IfOk result (λ report. IsKnown known.entry → AreByDocumentOver known.entry.types.now known.entry.readings.now found.old → IfNone report (IsValid known.entry.project.now)) }
+    ensures invalid { IfOk result (λ report. IsKnown known.entry → AreByDocumentOver known.entry.types.now known.entry.readings.now found.old
         → IfSome report (λ r. IsReportOf known.entry.project.now r.found.items × IsInvalid known.entry.project.now)) }
 {
     let mut faults = faults(alloc, known, found)?;

@@ -22,7 +22,7 @@ use crate::typed::{
     retype, typed_less, typed_more,
 };
 use crate::unseen::{is_forgotten, keep_unseen};
-use gq_by_file::ByFile;
+use crate::by_document::ByDocument;
 use gq_by_file::laws::numbers_of_entries_are_unseen;
 use gq_index::Index;
 use gq_known::{Known, Learned};
@@ -54,7 +54,7 @@ pub struct Kept {
     readings: Vec<Arc<Parsed>>,
     typed: Typed,
     /// What is known of the faults of documents, each by itself and together.
-    found: ByFile,
+    found: ByDocument,
     index: Option<Index>,
     past: Past,
 }
@@ -107,7 +107,7 @@ impl Kept {
             judged: Judged::unjudged(copy),
             readings,
             typed: Typed { types, has_schema },
-            found: ByFile::new(alloc),
+            found: ByDocument::new(alloc),
             index: None,
             past: Past {
                 types: None,
@@ -335,7 +335,7 @@ impl Kept {
             judged: Judged::unjudged(copy),
             readings,
             typed,
-            found: ByFile::new(alloc),
+            found: ByDocument::new(alloc),
             index: None,
             past: Past {
                 types: None,

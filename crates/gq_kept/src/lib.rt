@@ -2,7 +2,10 @@
 #![tactic(auto)]
 
 mod alike;
+mod by_document;
 mod differing;
+mod field_lists;
+mod field_names;
 mod gathering;
 mod indexed;
 mod judged;
@@ -11,7 +14,6 @@ pub mod kept;
 mod pieces;
 mod places;
 mod sameness;
-mod selecting;
 mod typed;
 mod unseen;
 

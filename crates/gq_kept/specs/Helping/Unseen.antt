@@ -1,9 +1,9 @@
 -- What a type system was, and which documents see where it becomes another one.
 use Rattle.std.specs.Prelude.{◌≡◌, Bool, List, Option, None, Some, map}
-use Rattle.std.specs.List.{list_any}
-use Rattle.gq_tree.specs.Readings.{ParsedOf, definitions_read}
+use Rattle.gq_tree.specs.Readings.{ParsedOf}
 use Rattle.gq_types.specs.Entries.{Text, EntryOf}
-use Rattle.gq_laws.specs.Placing.OtherFields.{erase_without, has_selected}
+use Rattle.gq_laws.specs.Placing.OtherFields.{erase_without}
+use Rattle.gq_kept.specs.Helping.Selected.{AreMarkedFor}
 use Rattle.gq_kept.specs.declared.typed.Typed.{Typed}
 use Rattle.gq_kept.specs.declared.typed.Was.{Was}
 use Rattle.gq_kept.specs.declared.typed.Was.TheVariants as was
@@ -24,4 +24,4 @@ IsIfWholly (Some (was.Entries entries)) typed = Unit {0}
 pub record AreMarkedBy (es us : List EntryOf) (rs : List ParsedOf) (marks : List Bool) : Type 0 where
   pub names : List Text
   pub same : map (erase_without names) es ≡ map (erase_without names) us
-  pub are : marks ≡ map (λ r. list_any (has_selected names) (definitions_read r)) rs
+  pub are : AreMarkedFor names rs marks

@@ -2,7 +2,7 @@
 use Rattle.gq_kept.proofs.UnseenLemmas.{marked_by, some_of}
 use Rattle.gq_kept.proofs.unseen.seeing.Goals as goal
 
-pub returns-in_ok-selecting-in-Some : goal.returns-in_ok-selecting-in-Some
-returns-in_ok-selecting-in-Some c =
+pub returns-in_ok-marks-in-Some-clause-marks : goal.returns-in_ok-marks-in-Some-clause-marks
+returns-in_ok-marks-in-Some-clause-marks c are =
     marked_by _ _ _ _ _ c.in-Some.names.items c.deref.result.now _ c.entries.ensures c.entries-2.ensures c.deref.ensures.value
-    (some_of _ c.in_ok-names.field-0 c.in-Some.names c.in-Some.is c.in_ok-names.ensures) c.in_ok-selecting-in-Some.ensures
+    (some_of _ c.in_ok-names.field-0 c.in-Some.names c.in-Some.is c.in_ok-names.ensures) (c.in_ok-marks-in-Some.ensures.marks are)

@@ -12,7 +12,7 @@ use Rattle.gq_types.specs.Entries.{EntryOf}
 use Rattle.gq_types.specs.Look.{types_view}
 use Rattle.gq_document.specs.Definitions.{entries_of}
 use Rattle.gq_by_file.specs.OneFile.Laws.{AreAlikeToRules}
-use Rattle.gq_by_file.specs.ByFile.{AreByFile}
+use Rattle.gq_kept.specs.Helping.ByDocument.{AreByDocument}
 use Rattle.gq_kept.specs.Helping.Unindexed.{AddNothing}
 use Rattle.gq_kept.specs.KeptOf.{KeptOf, JudgedOf}
 use Rattle.gq_kept.proofs.AlikeLemmas.{replaced_alike, same_kept, told_kept, told_of_both}
@@ -96,9 +96,11 @@ invariant_of-self-2 c =
     (λ alike. replaced_on c.self.inside.found c.keep_unseen-unseen.new.found c.replace.new.self c.self.inside.typed c.retype.new.typed (readings_view c.self.inside.readings.items) c.args.at (shared_view c.args.reading)
     c.in_ok-types.types changes c.keep_unseen-unseen.result c.in_ok-types.ensures.was
     (subst (λ (rs : List SharedParsed). c.keep_unseen-unseen.result ≡ true → IfWholly c.in_ok-types.types (λ old.
-    AreByFile (types_view old.types) (readings_view rs) c.self.inside.found → AreByFile (types_view c.retype.new.typed.types) (readings_view rs) c.keep_unseen-unseen.new.found)) is c.keep_unseen-unseen.ensures.kept)
-    c.keep_unseen-unseen.ensures.same (subst (λ (b : Bool). (es us : List EntryOf) (qs : List ParsedOf) → (b ≡ false → AreAlikeToRules es us) →
-    AreByFile es qs c.keep_unseen-unseen.new.found → AreByFile us (set qs c.args.at (shared_view c.args.reading)) c.replace.new.self) c.is_forgotten-forgets.ensures c.replace.ensures) alike)
+    AreByDocument (types_view old.types) (readings_view rs) c.self.inside.found → AreByDocument (types_view c.retype.new.typed.types) (readings_view rs) c.keep_unseen-unseen.new.found)) is c.keep_unseen-unseen.ensures.kept)
+    (subst (λ (rs : List SharedParsed). c.keep_unseen-unseen.result ≡ false → (es : List EntryOf) →
+    AreByDocument es (readings_view rs) c.self.inside.found → AreByDocument es (readings_view rs) c.keep_unseen-unseen.new.found) is c.keep_unseen-unseen.ensures.same)
+    (subst (λ (b : Bool). (es us : List EntryOf) (qs : List ParsedOf) → (b ≡ false → AreAlikeToRules es us) →
+    AreByDocument es qs c.keep_unseen-unseen.new.found → AreByDocument us (set qs c.args.at (shared_view c.args.reading)) c.replace.new.self) c.is_forgotten-forgets.ensures c.replace.ensures) alike)
     c.one_tree.ensures c.stays_indexed-stays.result
     (subst (λ (rs : List SharedParsed).
     c.stays_indexed-stays.result ≡ true → AddNothing (get_or (map definitions_read (readings_view rs)) c.args.at []) × AddNothing (definitions_read (shared_view c.args.reading)))

@@ -1,0 +1,8 @@
+-- Both stay.
+use Rattle.gq_kept.proofs.by_document.ByDocument.close_room.Goals as goal
+
+pub returns : goal.returns
+returns c es us rs alike are = record {
+  faults = c.close_room.ensures es us rs alike are.faults;
+  fields = c.keep_before.ensures.taken rs are.fields;
+}
