@@ -75,8 +75,8 @@ field_has s f set before after is below has grows has_below texts h =
     ap (λ (t : Selection). list_any (selects_in texts) (labels_in (sel_view t))) is
     ∙ ap (λ (t : Sel Span). list_any (selects_in texts) (labels_in t)) (view_field f)
     ∙ both_false (is_one_of texts (out-Field f).name.text) (list_any (selects_in texts) (labels (below_of (out-Field f).set)))
-        (is_other before texts (out-Field f).name.text has (grows texts h))
-        (ap (λ (t : Sels Span). list_any (selects_in texts) (labels t)) below ∙ has_below texts h)
+    (is_other before texts (out-Field f).name.text has (grows texts h))
+    (ap (λ (t : Sels Span). list_any (selects_in texts) (labels t)) below ∙ has_below texts h)
 
 -- a spread
 pub spread_has : (s : Selection) (one : Spread) (names : List Text) → s ≡ variant.Spread one → HasNamesIn (labels_in (sel_view s)) names

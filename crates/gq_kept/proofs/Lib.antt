@@ -1,6 +1,7 @@
 pub mod AlikeLemmas
 pub mod Brought
 pub mod FieldLemmas
+pub mod FieldListsLemmas
 pub mod FieldNamesLemmas
 pub mod GatheredLemmas
 pub mod IndexLemmas

@@ -12,6 +12,7 @@ ghost use Rattle.gq_rules.specs.Validity.{IsInvalid, IsReportOf, IsValid};
 ghost use Rattle.gq_kept.specs.Helping.Gone.{AreGone, AreDropped, IsPut, ArePut};
 
 use crate::alike::changes_types;
+use crate::by_document::ByDocument;
 use crate::indexed::{forget_unless, stays_indexed};
 use crate::judged::Judged;
 use crate::judging::report_if_any;
@@ -22,7 +23,6 @@ use crate::typed::{
     retype, typed_less, typed_more,
 };
 use crate::unseen::{is_forgotten, keep_unseen};
-use crate::by_document::ByDocument;
 use gq_by_file::laws::numbers_of_entries_are_unseen;
 use gq_index::Index;
 use gq_known::{Known, Learned};

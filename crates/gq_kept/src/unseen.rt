@@ -7,10 +7,10 @@ ghost use Rattle.gq_kept.specs.Helping.ByDocument.{AreByDocument};
 ghost use Rattle.gq_kept.specs.Helping.Selected.{AreSelected};
 ghost use Rattle.gq_kept.specs.Helping.Unseen.{AreMarkedBy, IfWholly};
 
+use crate::by_document::ByDocument;
 use crate::differing::differing_fields;
 use crate::field_lists::FieldLists;
 use crate::typed::{Typed, Was};
-use crate::by_document::ByDocument;
 use gq_laws::places::{other_fields_do_not_matter_to_rules, types_look_alike_but};
 use gq_text::NoMemory;
 use gq_tree::Parsed;
@@ -71,13 +71,8 @@ pub(crate) fn keep_unseen(
     let Some(old) = wholly(was) else {
         return false;
     };
-    let Ok(Some(marks)) = seeing(
-        alloc,
-        &old.types,
-        &typed.types,
-        readings,
-        &mut found.fields,
-    ) else {
+    let Ok(Some(marks)) = seeing(alloc, &old.types, &typed.types, readings, &mut found.fields)
+    else {
         return false;
     };
     found.faults.keep_unmarked(&marks);
