@@ -106,14 +106,15 @@ module _ (documents : List Doc) (readings : List SharedParsed) (typed : Typed) (
     pub kept_inserted : NumbersOfEntriesAreUnseen → (at : ℕ) (doc : Doc) (reading : SharedParsed) (made : Typed) (left : ByDocument) (changes : Bool) → IsGapFor (λ d. d.key) doc.key told at → ∥ IsParsed doc.text (shared_view reading) ∥₁
         → (AreTypesOf (readings_view given) typed → AreTypesOf (insert (readings_view given) at (shared_view reading)) made)
         → (changes ≡ false → types_defined (shared_view reading) ≡ [])
-        → ((es us : List EntryOf) (rs : List ParsedOf) → (changes ≡ false → AreAlikeToRules es us) → AreByDocument es rs found → AreByDocument us (insert rs at (shared_view reading)) left)
+        → ((es us : List EntryOf) (rs : List ParsedOf) → at ≤ length rs → (changes ≡ false → AreAlikeToRules es us) → AreByDocument es rs found → AreByDocument us (insert rs at (shared_view reading)) left)
         → AreKept (with_doc documents doc) (insert readings at reading) made left None
     kept_inserted unseen at doc reading made left changes gap merely types defines opens =
         kept_by _ _ _ left (∥∥₁_elim merely ∥∥₁_prop (λ (parsed : IsParsed doc.text (shared_view reading)). both_known kept.known kept.owned (λ known owned.
         let was : AreTypesOf (readings_view given) typed = rw is_given (types_known documents readings typed known) in
         let are : AreTypesOf (insert (readings_view given) at (shared_view reading)) made = types was in
         let one = systems (readings_view given) (insert (readings_view given) at (shared_view reading)) typed made changes was are (λ e. unseen _ _ (system_inserted (readings_view given) at (shared_view reading) (defines e))) in
-        let there : AreByDocument (types_view made.types) (insert (readings_view readings) at (shared_view reading)) left = opens (types_view typed.types) (types_view made.types) (readings_view readings) one owned in
+        let within : at ≤ length (readings_view readings) = subst (λ (n : ℕ). at ≤ n) (sym (length-map readings shared_view)) (gap_in_range at doc.key gap) in
+        let there : AreByDocument (types_view made.types) (insert (readings_view readings) at (shared_view reading)) left = opens (types_view typed.types) (types_view made.types) (readings_view readings) within one owned in
         let same : readings_view (insert readings at reading) ≡ insert (readings_view readings) at (shared_view reading) = simp (map-append, take-map, drop-map) in
         (inserted documents readings typed known at doc reading made (rw is_told gap) parsed (rw (← is_given) are), rw same there))))
 

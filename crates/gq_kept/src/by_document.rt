@@ -1,5 +1,5 @@
 //! What is known of the faults of documents, each by itself and together, and of the fields that are selected in each.
-ghost use Rattle.std.specs.Prelude.{◌≡◌, ◌↔◌, ◌⊎◌, false, Contains, List, IfOk, remove, slice_set};
+ghost use Rattle.std.specs.Prelude.{◌≡◌, ◌↔◌, ◌⊎◌, ◌≤◌, false, Contains, List, IfOk, length, remove, slice_set};
 ghost use Rattle.std.specs.List.{insert};
 ghost use Rattle.gq_tree.specs.Readings.{ParsedOf, readings_view, shared_view};
 ghost use Rattle.gq_types.specs.Entries.{EntryOf};
@@ -75,7 +75,7 @@ impl ByDocument {
         reading: &Arc<Parsed>,
         changes_types: bool,
     )
-        ensures { (es us : List EntryOf) (rs : List ParsedOf) → (changes_types ≡ false → AreAlikeToRules es us)
+        ensures { (es us : List EntryOf) (rs : List ParsedOf) → at ≤ length rs → (changes_types ≡ false → AreAlikeToRules es us)
             → AreByDocument es rs self.old → AreByDocument us (insert rs at (shared_view reading.now)) self.new }
     {
         self.faults.make_room(alloc, at, reading, changes_types);

@@ -27,7 +27,7 @@ invariant_of-self c =
     (kept_inserted _ _ _ _ _ c.self.invariant c.args.self.now.documents c.deref.result.now same c.deref.ensures.value
     c.numbers_of_entries_are_unseen.ensures c.args.at c.args.doc c.args.reading (unwrap_or c.in_ok-made.made c.self.inside.typed) c.make_room.new.self c.has_types-changes_types.result
     c.requires.gap c.requires.parsed c.in_ok-made.ensures c.has_types-changes_types.ensures
-    (λ es us rs one are. subst (λ (p : Parsed). AreByDocument us (insert rs c.args.at (parsed_view p)) c.make_room.new.self) c.in_ok-shared.ensures (c.make_room.ensures es us rs one are)))
+    (λ es us rs within one are. subst (λ (p : Parsed). AreByDocument us (insert rs c.args.at (parsed_view p)) c.make_room.new.self) c.in_ok-shared.ensures (c.make_room.ensures es us rs within one are)))
 
 pub returns-in-Ok-clause-ok : goal.returns-in-Ok-clause-ok
 returns-in-Ok-clause-ok c = ap (λ (j : JudgedOf). j.documents) c.in-Ok.ensures.document ∙ ap (λ (k : KeptOf). with_doc k.documents c.args.doc) c.self.view_is
