@@ -278,7 +278,7 @@ const SCHEMAS: [&str; 13] = [
 
 /// Replaces the schema by the text of that number.
 fn change_schema(alloc: Global, kept: &mut Kept, number: usize) -> Result<(), NoMemory> {
-    let schema = SCHEMAS[(number * 5 + number / 13 * 7) % 13];
+    let schema = SCHEMAS[(number % 13 * 5 + number / 13 % 13 * 7) % 13];
     kept.replace_file(alloc, file(alloc, "s", schema)?, None)
 }
 
