@@ -38,6 +38,8 @@ CAPABILITIES = {
     "workspace": {"workspaceEdit": {"documentChanges": True}},
     "textDocument": {"codeAction": {"codeActionLiteralSupport": {"codeActionKind": {"valueSet": ["refactor"]}}}},
 }
+MERGING = (["OverlappingFieldsCanBeMergedRule"], [])
+BUILT_IN = re.compile(r"directive\s*@\s*(skip|include|deprecated|specifiedBy)\b")
 URIS = ["file:///w/%s.graphql" % name for name in "sab"]
 NEW_NAMES = ["Zz", "F1", "v0", "a", "on", "A"]
 
@@ -134,10 +136,31 @@ def differs(ours, theirs):
         theirs, mine = theirs & mine, theirs & mine
     if "V24" in ours:
         mine -= {"VariablesInAllowedPositionRule"} - theirs
-    # The argument of an unknown directive at a field is no argument of that field.
-    if "V21" in ours:
+    # The argument of an unknown directive at a field is no argument of that field. In a value that does not fit no variable is tested.
+    if ours & {"V17", "V21"}:
         theirs -= {"VariablesInAllowedPositionRule"} - mine
+    if "V21" in ours:
+        theirs -= {"ValuesOfCorrectTypeRule"} - mine
+    # A mutation without a root type is a fault by itself.
+    mine.discard("P2")
     return None if mine == theirs else (sorted(mine - theirs), sorted(theirs - mine))
+
+
+def inlined(text):
+    """The text with an inline fragment in the place of each spread, without its directives. graphql-js compares what is spread behind a fragment
+    with one set that spreads this, and with no other."""
+    fragments = {}
+    for match in re.finditer(r"fragment (\w+) on (\w+)[^{]*", text):
+        tokens = [(token.start(), token.end(), token[0]) for token in TOKEN.finditer(text, match.end())]
+        if tokens:
+            fragments[match[1]] = " on %s %s" % (match[2], text[match.end() : end_of_group(tokens, match.end())])
+
+    def spread(match):
+        return "..." + fragments.get(match[1], match[1])
+
+    for _ in fragments:
+        text = re.sub(r"\.\.\.\s*(?!on\b)(\w+)((\s*@\w+(\([^()]*\))?)*)", spread, text)
+    return text
 
 
 def project(seed, wrong):
@@ -159,14 +182,17 @@ def verdicts(folder, other, seeds, counts):
         for _ in range(numbers.choice([0, 1, 1, 1, 2, 3])):
             name = "s.graphql" if numbers.random() < 0.4 else "q.graphql"
             files[name] = changed(numbers, files[name])
-        theirs = other.judged(files)
+        # What a schema defines in the place of a built-in directive has no effect here, and is that directive there.
+        theirs = None if BUILT_IN.search(files["s.graphql"]) else other.judged(files)
         if theirs is None:
             continue
         ours = folder.judged(files)
         counts["projects"] += 1
         counts[kind(ours)] += 1
         found = differs(ours, theirs)
-        if found:
+        if found == MERGING and MERGING[0][0] in (other.judged({**files, "q.graphql": inlined(files["q.graphql"])}) or ()):
+            counts["where graphql-js sees no fields that do not merge before all spreads are inlined"] += 1
+        elif found:
             yield "verdicts %d: only gqls %s, only graphql-js %s" % (seed, *found)
 
 

@@ -39,7 +39,7 @@ function literal(node) {
 }
 function plain(value) {
   if (Array.isArray(value)) return value.map(plain);
-  if (value === null || typeof value !== 'object' || value.num) return value;
+  if (value === null || typeof value !== 'object') return value;
   return { object: Object.fromEntries(Object.entries(value).map(([name, one]) => [name, plain(one)])) };
 }
 function written(value, type) {
@@ -71,6 +71,13 @@ function makeStrict(schema) {
     parseValue: plain,
     serialize: (value) => (['string', 'boolean'].includes(typeof value) ? value : number(value)),
   });
+  // Default values were read before that. Each may take in those of other input objects.
+  const defaulted = Object.values(schema.getTypeMap()).filter((one) => !one.name.startsWith('__') && one.getFields)
+    .flatMap((one) => Object.values(one.getFields()).flatMap((field) => [field, ...(field.args || [])]))
+    .filter((one) => one.astNode && one.astNode.defaultValue);
+  for (let round = 0; round < 3; round++) {
+    for (const one of defaulted) one.defaultValue = graphql.valueFromAST(one.astNode.defaultValue, one.type);
+  }
 }
 
 // What the resolvers answer: it depends on a text alone, fits most often, and is an error, null or something else now and then.

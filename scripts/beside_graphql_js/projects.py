@@ -176,7 +176,9 @@ class Schema:
     def text(self):
         """The text of the schema, its definitions in any order."""
         some = self.random.random
-        lines = ["scalar Date", "enum E {X Y%s}" % self.random.choice(["", " Z", " @deprecated"]), "enum G {X W}"]
+        # graphql-js does not know a built-in scalar that the schema does not name.
+        lines = ["input All {i: Int s: String b: Boolean d: ID f: Float}"]
+        lines += ["scalar Date", "enum E {X Y%s}" % self.random.choice(["", " Z", " @deprecated"]), "enum G {X W}"]
         lines.append("union U = " + " | ".join(self.members))
         if some() < 0.2:
             lines.append("schema {query: Query%s}" % (" mutation: Mutation" if "Mutation" in self.fields else ""))
