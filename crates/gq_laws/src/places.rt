@@ -9,7 +9,8 @@ ghost use Rattle.gq_laws.specs.Placing.Names.{FragmentRenamesKeepFaultless, Name
 ghost use Rattle.gq_laws.specs.Placing.OtherFields.{OtherFieldsDoNotMatter, TypesLookAlikeBut};
 ghost use Rattle.gq_laws.specs.Placing.Places.{DocumentsAreSameButPlaces, PlacesDoNotMatter};
 ghost use Rattle.gq_laws.specs.Placing.Tokens.{LinesReadApart, SameTokensDefineAlike};
-ghost use Rattle.gq_laws.specs.Placing.Types.{DocumentsOfTypesDoNotMatterToTypes, NoPlacesMatter, PlacesOfTypesDoNotMatter, PlacesOfTypesDoNotMatterToTypes, ProjectsAreSameButPlaces, TreesSayWhatIsFaultless, TypesLookAlike};
+ghost use Rattle.gq_laws.specs.Placing.Types.{DocumentsOfTypesDoNotMatterToTypes, NoPlacesMatter, PlacesOfTypesDoNotMatter, PlacesOfTypesDoNotMatterToTypes};
+ghost use Rattle.gq_laws.specs.Placing.Types.{ProjectsAreSameButPlaces, TreesSayWhatIsFaultless, TypesLookAlike};
 ghost use Rattle.gq_merging.specs.FieldsMerge.{IsMergingFault};
 ghost use Rattle.gq_rules.specs.RuleFaults.{IsRuleFault};
 ghost use Rattle.gq_spreads.specs.SpreadFaults.{IsSpreadFault};
