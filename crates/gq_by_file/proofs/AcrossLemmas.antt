@@ -1,24 +1,23 @@
 -- What rests on several files: what covers come to, and what stays of them where a file is replaced or put in.
-use Rattle.std.proofs.Common.{◌≡◌, ◌↔◌, ◌⊎◌, ⊎_elim, inl, inr, ℕ, ◌<◌, ◌≤◌, Bool, true, false, List, [], ◌∷◌, ◌++◌, Contains, filter, flat_map, set, slice_index_or, length}
+use Rattle.std.proofs.Common.{◌≡◌, ◌↔◌, ◌⊎◌, ⊎_elim, inl, inr, ℕ, ◌<◌, Bool, true, false, List, [], ◌∷◌, ◌++◌, Contains, filter, flat_map, set, slice_index_or, length}
 use Rattle.std.proofs.Common.{refl, sym, ap, ◌∙◌, subst, arith}
-use Rattle.std.specs.Prelude.{not, nat_le, ◌==◌, ◌||◌}
+use Rattle.std.specs.Prelude.{not, ◌==◌}
 use Rattle.std.specs.Cmp.{unsigned_Decides}
-use Rattle.std.specs.List.{insert, list_any}
+use Rattle.std.specs.List.{list_any}
 use Rattle.std.specs.declared.vec.Vec.{Vec}
 use Rattle.std.specs.declared.alloc.Global.{Global}
-use Rattle.std.proofs.lemmas.Bool.Decides.{nat_tests}
 use Rattle.std.proofs.lemmas.List.Elements.{Contains-append_left, Contains-append_right, Contains-append_cases}
 use Rattle.gq_fault.specs.declared.fault.Fault.{Fault}
 use Rattle.gq_tree.specs.Readings.{ParsedOf}
 use Rattle.gq_types.specs.Entries.{EntryOf}
-use Rattle.gq_types.proofs.Gathered.{nothing_in, first, from_filter, from_flat, to_flat, not_true, or_left, or_right}
+use Rattle.gq_types.proofs.Gathered.{nothing_in, first, from_filter, from_flat, to_flat, not_true}
 use Rattle.gq_document.specs.Definitions.{OperationOf, FragmentOf}
 use Rattle.gq_document.specs.Executable.{ExecutableOf}
 use Rattle.gq_rules.specs.Files.{together, IsFaultAcross}
 use Rattle.gq_by_file.specs.OneFile.Laws.{AreAlikeToRules}
 use Rattle.gq_by_file.specs.Closed.Closed.{within}
 use Rattle.gq_by_file.specs.Closed.RestsOnNames.{IsFaultByNames, IsFaultBySpreads}
-use Rattle.gq_by_file.specs.Closed.Laws.{AreBefore, AreNotSpread, ClosedSetsStay, ClosedSetsStayBefore, LaterFilesAreUnseen, OtherFilesAreUnseen}
+use Rattle.gq_by_file.specs.Closed.Laws.{AreNotSpread, ClosedSetsStay, OtherFilesAreUnseen}
 use Rattle.gq_by_file.specs.Closed.Laws.{FaultsAcrossAreByNamesOrSpreads, FaultsAreOfClosedSets, FaultsOfClosedSetsAreFaults}
 use Rattle.gq_by_file.specs.declared.across.Across.{Across}
 use Rattle.gq_by_file.specs.declared.covers.Cover.{Cover}
@@ -101,31 +100,6 @@ module _ (stays : ClosedSetsStay) (others : OtherFilesAreUnseen) (es : List Entr
       let clean : list_any (λ n. n == at) c.files.items ≡ false = not_true (list_any (λ n. n == at) c.files.items) t.1 in
       let outside : Contains c.files.items at → ⊥ = λ h. none_of (λ n. n == at) c.files.items at clean h ((unsigned_Decides at at).1 refl) in
       cover_stays c outside (none c t.0 outside) (are c t.0)
-
--- a file is put in
-module _ (stays : ClosedSetsStayBefore) (later : LaterFilesAreUnseen) (es : List EntryOf) (rs : List ParsedOf) (at : ℕ) (r : ParsedOf) (inside : at ≤ length rs) where
-  cover_before : (c : Cover) → AreBefore at c.files.items → AreNotSpread rs c.files.items r → IsCover (together es rs) c → IsCover (together es (insert rs at r)) c
-  cover_before c below none is = record {
-    closed = stays es rs at r c.files.items inside below none is.closed;
-    exact = λ f. subst (λ (z : ExecutableOf). Contains c.faults.items f ↔ IsFaultBySpreads z f) (sym (later es rs at r c.files.items inside below)) (is.exact f);
-  }
-
-  -- a file at the place or behind, or with a mark
-  abbrev refused : List Bool → ℕ → Bool
-  refused marks n = nat_le at n || slice_index_or marks n false
-
-  pub covers_before : (marks : List Bool) (covers : List Cover) → ((n : ℕ) → slice_index_or marks n false ≡ false → AreNotSpread rs (n ∷ []) r) →
-      AreCovers (together es rs) covers →
-      AreCovers (together es (insert rs at r)) (filter (λ (c : Cover). not (list_any (λ n. nat_le at n || slice_index_or marks n false) c.files.items)) covers)
-  covers_before marks covers none are c stands =
-      let t = from_filter (λ (d : Cover). not (list_any (refused marks) d.files.items)) covers c stands in
-      let clean : list_any (refused marks) c.files.items ≡ false = not_true (list_any (refused marks) c.files.items) t.1 in
-      let neither : (n : ℕ) → Contains c.files.items n → refused marks n ≡ true → ⊥ = λ n i. none_of (refused marks) c.files.items n clean i in
-      let below : AreBefore at c.files.items = λ n i. (
-      let low : nat_le at n ≡ false = is_no (nat_le at n) (λ e. neither n i (or_left (nat_le at n) (slice_index_or marks n false) e)) in grind (arith, nat_tests)) in
-      cover_before c below
-      (λ n q i. none n (is_no (slice_index_or marks n false) (λ e. neither n i (or_right (nat_le at n) (slice_index_or marks n false) e))) n q (first n n [] refl))
-      (are c t.0)
 
 -- what is known of an executable that is the same
 pub kept_over : (x y : ExecutableOf) → x ≡ y → (rows given : List (Vec ℕ Global)) → given ≡ rows → (old new : List Cover) → AreLinks y rows →

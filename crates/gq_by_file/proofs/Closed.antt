@@ -5,5 +5,10 @@ pub mod Spreading
 pub mod Variables
 pub mod ByNames
 pub mod Replaced
-pub mod PutIn
+pub mod Renumbered
+pub mod RenumberedMerging
+pub mod RenumberedSpreads
+pub mod RenumberedVariables
+pub mod RenumberedRules
+pub mod Inserted
 pub mod Rules

@@ -5,6 +5,7 @@ pub mod LinkLemmas
 pub mod CoverLemmas
 pub mod AcrossLemmas
 pub mod SpreadingLemmas
+pub mod MovedLemmas
 pub mod PartLemmas
 pub mod HeldLemmas
 pub mod ByNamesLemmas

@@ -5,5 +5,6 @@ pub mod Covers
 pub mod Learned
 pub mod Links
 pub mod Marks
+pub mod Moved
 pub mod SameNames
 pub mod Told

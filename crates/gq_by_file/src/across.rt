@@ -1,5 +1,5 @@
 //! What rests on several files, kept by closed sets of them.
-ghost use Rattle.std.specs.Prelude.{◌≡◌, ◌↔◌, ◌<◌, ◌≤◌, Bool, false, true, List, Contains, IfOk, OnOk, Some, length, map, slice_get, slice_set};
+ghost use Rattle.std.specs.Prelude.{◌≡◌, ◌↔◌, ◌<◌, ◌≤◌, Bool, false, true, List, Contains, IfOk, OnOk, Some, length, map, remove, slice_get, slice_index_or, slice_set};
 ghost use Rattle.std.specs.List.{insert};
 ghost use Rattle.gq_fault.specs.declared.fault.Fault.{Fault};
 ghost use Rattle.gq_text.specs.declared.place.Span.{Span};
@@ -7,28 +7,29 @@ ghost use Rattle.gq_tree.specs.Plain.{Sels};
 ghost use Rattle.gq_tree.specs.Readings.{ParsedOf, parsed_view, readings_view};
 ghost use Rattle.gq_types.specs.Entries.{EntryOf};
 ghost use Rattle.gq_types.specs.Look.{types_view};
-ghost use Rattle.gq_document.specs.Executable.{executable_view};
+ghost use Rattle.gq_document.specs.Executable.{ExecutableOf, executable_view};
 ghost use Rattle.gq_rules.specs.Files.{together, IsFaultAcross};
 ghost use Rattle.gq_by_file.specs.OneFile.Laws.{AreAlikeToRules};
 ghost use Rattle.gq_by_file.specs.Closed.RestsOnNames.{IsFaultByNames};
-ghost use Rattle.gq_by_file.specs.Across.{AreAcross, AreClean, AreLinksOf};
+ghost use Rattle.gq_by_file.specs.Across.{AreAcross, AreClean, AreCovers, AreLinksOf};
 ghost use Rattle.gq_by_file.specs.Names.{AreNames, AreNamesIn};
 ghost use Rattle.gq_by_file.specs.declared.names.FileNames.{FileNames};
 ghost use Rattle.gq_by_file.specs.Helping.Covers.{has_one_of};
 ghost use Rattle.gq_by_file.specs.Helping.Learned.{AreLearned};
+ghost use Rattle.gq_by_file.specs.Helping.Moved.{GoOver, number_after_remove};
 ghost use Rattle.gq_by_file.specs.Own.{AreOwnOver};
 ghost use Rattle.gq_by_file.specs.Unseen.{AreAlikeUnseen, SeeNothing};
 
 use crate::by_names::{found_by_names, put_names};
 use crate::closed_sets::{
-    closed_sets_stay, closed_sets_stay_before, faults_across_are_by_names_or_spreads,
-    faults_are_of_closed_sets, faults_of_closed_sets_are_faults, later_files_are_unseen,
-    other_files_are_unseen,
+    closed_sets_move, closed_sets_move_back, closed_sets_stay,
+    faults_across_are_by_names_or_spreads, faults_are_of_closed_sets,
+    faults_of_closed_sets_are_faults, numbers_of_sets_are_unseen, other_files_are_unseen,
 };
-use crate::covers::{
-    Cover, SharedFiles, cover_rest, keep_before, keep_unmarked, keep_without, put_faults,
-};
+use crate::covers::{Cover, SharedFiles, cover_rest, keep_unmarked, keep_without, put_faults};
 use crate::links::{Links, links_of};
+use crate::marks::marked;
+use crate::moved::{Change, covers_after};
 use crate::names::{FileNames, names_of_all};
 use gq_document::{Definitions, Executable};
 use gq_fault::Fault;
@@ -298,8 +299,8 @@ impl Across {
         }
     }
 
-    /// What is known stays where a file is put in at that place, but of the closed sets with a file at it or behind, whose numbers change,
-    /// and of those in which a fragment of the new one is spread; where that changes the type system, of no closed set.
+    /// What is known stays where a file is put in at that place, but of the closed sets of which something is told, and of those in which a
+    /// fragment of the new one is spread; where that changes the type system, of no closed set.
     pub fn make_room(&mut self, alloc: Global, at: usize, reading: &Parsed, changes_types: bool)
         ensures { (es us : List EntryOf) (rs : List ParsedOf) → (changes_types ≡ false → AreAlikeToRules es us)
             → AreAcross es rs self.old → AreAcross us (insert rs at (parsed_view reading.now)) self.new }
@@ -326,27 +327,72 @@ impl Across {
             return;
         }
         match spreading(alloc, &self.names, &names.fragments) {
-            Ok(marks) => self.put_marked(at, names, &marks),
+            Ok(marks) => self.put_marked(alloc, at, names, &marks),
             Err(NoMemory) => self.forget(),
         }
     }
 
     /// The same where the files are marked in which a fragment of the new one is spread.
-    fn put_marked(&mut self, at: usize, names: FileNames, marks: &[bool])
+    fn put_marked(&mut self, alloc: Global, at: usize, names: FileNames, marks: &[bool])
         requires some { 0 < length self.old.names.items }
         requires range { at ≤ length self.old.names.items }
         ensures { marks.now ≡ map (λ one. has_one_of names.fragments.items one.spreads.items) self.old.names.items
             → (es : List EntryOf) (rs : List ParsedOf) (r : ParsedOf) → AreNamesIn r names → AreAcross es rs self.old → AreAcross es (insert rs at r) self.new }
     {
-        closed_sets_stay_before();
-        later_files_are_unseen();
+        closed_sets_move();
+        numbers_of_sets_are_unseen();
+        let Ok(covers) = covers_after(alloc, Change::PutIn(at), marks, &self.covers) else {
+            self.forget();
+            return;
+        };
         if self.names.insert(at, names).is_err() {
             self.forget();
             return;
         }
-        keep_before(&mut self.covers, at, marks);
+        self.covers = covers;
         self.is_clean = false;
         self.links.forget();
+    }
+
+    /// What is known stays where the file at that place is taken out, but of the closed sets of which something is told, and of those with this
+    /// file; where that changes the type system, nothing is known any more.
+    pub fn close_room(&mut self, alloc: Global, at: usize, changes_types: bool)
+        ensures { (es us : List EntryOf) (rs : List ParsedOf) → (changes_types ≡ false → AreAlikeToRules es us)
+            → AreAcross es rs self.old → AreAcross us (remove rs at) self.new }
+    {
+        if changes_types || at >= self.names.len() {
+            self.forget();
+            return;
+        }
+        self.take_names(alloc, at);
+    }
+
+    /// The same where the type system stays.
+    fn take_names(&mut self, alloc: Global, at: usize)
+        requires { at < length self.old.names.items }
+        ensures { (es : List EntryOf) (rs : List ParsedOf) → AreAcross es rs self.old → AreAcross es (remove rs at) self.new }
+    {
+        closed_sets_move_back();
+        numbers_of_sets_are_unseen();
+        match self.covers_without(alloc, at) {
+            Ok(covers) => {
+                let _ = self.names.remove(at);
+                self.covers = covers;
+                self.is_clean = false;
+                self.links.forget();
+            }
+            Err(NoMemory) => self.forget(),
+        }
+    }
+
+    /// The covers without the file at that place of which nothing is told, under the numbers that their files have once it is taken out.
+    fn covers_without(&self, alloc: Global, at: usize) -> Result<Vec<Cover>, NoMemory>
+        requires { at < length self.now.names.items }
+        ensures { IfOk result (λ covers. (x y : ExecutableOf) → ((marks : List Bool) → slice_index_or marks at false ≡ true → GoOver (number_after_remove at) marks x y)
+            → AreCovers x self.now.covers.items → AreCovers y covers.items) }
+    {
+        let marks = marked(alloc, self.names.len(), &[at])?;
+        covers_after(alloc, Change::TakenOut(at), &marks, &self.covers)
     }
 
     /// What is known stays of closed sets in which no file has a mark, where the type system becomes another one in what no

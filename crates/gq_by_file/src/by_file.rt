@@ -78,7 +78,8 @@ impl ByFile {
         self.across.replace(alloc, at, reading, changes_types);
     }
 
-    /// What is known of each other file by itself stays where a file is put in at that place, and what is known of those before it together.
+    /// What is known of the other files stays where a file is put in at that place, each by itself and together, but of closed sets of which something
+    /// is told, and of those that it belongs to.
     pub fn make_room(
         &mut self,
         alloc: Global,
@@ -94,12 +95,12 @@ impl ByFile {
     }
 
     /// The same where the file at that place is taken out.
-    pub fn close_room(&mut self, at: usize, changes_types: bool)
+    pub fn close_room(&mut self, alloc: Global, at: usize, changes_types: bool)
         ensures { (es us : List EntryOf) (rs : List ParsedOf) → (changes_types ≡ false → AreAlikeToRules es us)
             → AreByFile es rs self.old → AreByFile us (remove rs at) self.new }
     {
         close_room(&mut self.own, at, changes_types);
-        self.across.forget();
+        self.across.close_room(alloc, at, changes_types);
     }
 
     /// What is known stays of files without a mark, each by itself and together, where the type system becomes another one in what no operation and

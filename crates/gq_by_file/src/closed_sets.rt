@@ -1,6 +1,6 @@
 //! Laws of the faults that rest on names and on spreads.
 ghost use Rattle.gq_by_file.specs.Closed.Laws.{ClosedSetsStay, FaultsAreOfClosedSets, FaultsOfClosedSetsAreFaults, FaultsStayInLargerSets, OtherFilesAreUnseen};
-ghost use Rattle.gq_by_file.specs.Closed.Laws.{ClosedSetsStayBefore, LaterFilesAreUnseen};
+ghost use Rattle.gq_by_file.specs.Closed.Laws.{ClosedSetsMove, ClosedSetsMoveBack, NumbersOfSetsAreUnseen};
 ghost use Rattle.gq_by_file.specs.Closed.Laws.{FaultsAcrossAreByNamesOrSpreads, FaultsByNamesAreByRules};
 
 /// What rests on several files rests on names alone, or on what spreads lead to.
@@ -38,12 +38,17 @@ pub fn closed_sets_stay()
     ensures { ClosedSetsStay }
 {}
 
-/// A file that is put in behind those of a set is not seen in it, nor that those behind get other numbers.
-pub fn later_files_are_unseen()
-    ensures { LaterFilesAreUnseen }
+/// A closed set stays so where a file is put in, if no fragment of the new one is spread in the set.
+pub fn closed_sets_move()
+    ensures { ClosedSetsMove }
 {}
 
-/// A closed set stays so where a file is put in behind it, if no fragment of the new one is spread in the set.
-pub fn closed_sets_stay_before()
-    ensures { ClosedSetsStayBefore }
+/// So it does where that file is taken out again.
+pub fn closed_sets_move_back()
+    ensures { ClosedSetsMoveBack }
+{}
+
+/// Whether something that rests on spreads is told of a set of files does not depend on the numbers that they have.
+pub fn numbers_of_sets_are_unseen()
+    ensures { NumbersOfSetsAreUnseen }
 {}

@@ -1,5 +1,5 @@
 //! Closed sets of files, each with what is told of it by itself.
-ghost use Rattle.std.specs.Prelude.{◌≡◌, ◌==◌, ◌<◌, ◌++◌, ◌∷◌, [], ◌||◌, ℕ, true, false, List, All, Contains, IfOk, OnOk, filter, flat_map, length, nat_le, not, slice_index_or};
+ghost use Rattle.std.specs.Prelude.{◌≡◌, ◌==◌, ◌<◌, ◌++◌, ◌∷◌, [], ◌||◌, ℕ, true, false, List, All, Contains, IfOk, OnOk, filter, flat_map, length, not, slice_index_or};
 ghost use Rattle.std.specs.List.{list_any};
 ghost use Rattle.gq_fault.specs.declared.fault.Fault.{Fault};
 ghost use Rattle.gq_graph.specs.Reach.{InRange};
@@ -11,7 +11,7 @@ ghost use Rattle.gq_by_file.specs.Own.{AreOwnOver};
 ghost use Rattle.gq_by_file.specs.Links.{AreLinks};
 
 use crate::closed_sets::{faults_of_closed_sets_are_faults, faults_stay_in_larger_sets};
-use crate::marks::{has_behind_or_marked, has_file, has_marked, is_marked, mark, marked};
+use crate::marks::{has_file, has_marked, is_marked, mark, marked};
 use crate::own::find_own_of;
 use crate::part::{found_within, fragments_in, operations_in};
 use gq_document::Executable;
@@ -291,11 +291,4 @@ pub(crate) fn keep_unmarked(covers: &mut Vec<Cover>, marks: &[bool])
     ensures { covers.new.items ≡ filter (λ c. not (list_any (λ n. slice_index_or marks.now n false) c.files.items)) covers.old.items }
 {
     covers.retain(|cover| !has_marked(marks, &cover.files));
-}
-
-/// Keeps the covers of which each file stands before that place, and none is marked.
-pub(crate) fn keep_before(covers: &mut Vec<Cover>, at: usize, marks: &[bool])
-    ensures { covers.new.items ≡ filter (λ c. not (list_any (λ n. nat_le at n || slice_index_or marks.now n false) c.files.items)) covers.old.items }
-{
-    covers.retain(|cover| !has_behind_or_marked(marks, at, &cover.files));
 }

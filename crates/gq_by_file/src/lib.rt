@@ -14,6 +14,7 @@ mod halves;
 pub mod laws;
 pub mod links;
 mod marks;
+mod moved;
 pub mod names;
 mod own;
 mod part;

@@ -1,5 +1,5 @@
 //! Sets of files as marks.
-ghost use Rattle.std.specs.Prelude.{◌≡◌, ◌==◌, ◌<◌, ◌||◌, ℕ, false, IfOk, length, nat_le, slice_index_or};
+ghost use Rattle.std.specs.Prelude.{◌≡◌, ◌==◌, ◌+◌, ◌<◌, ◌^◌, ℕ, true, false, IfOk, Some, length, slice_get, slice_index_or};
 ghost use Rattle.std.specs.List.{list_any};
 ghost use Rattle.gq_by_file.specs.Closed.Closed.{is_among};
 ghost use Rattle.gq_by_file.specs.Helping.Marks.{AreMarked};
@@ -53,18 +53,13 @@ pub(crate) fn has_marked(marks: &[bool], files: &[usize]) -> bool
     files.iter().any(|file| is_marked(marks, *file))
 }
 
-/// Whether the file of that number stands at that place or behind, or is marked.
-pub(crate) fn is_behind_or_marked(marks: &[bool], at: usize, file: usize) -> bool
-    ensures { result ≡ (nat_le at file || slice_index_or marks.now file false) }
+/// Whether the file of that number has a place, and no mark there.
+pub(crate) fn has_no_mark(marks: &[bool], file: usize) -> bool
+    ensures mark { result ≡ true → slice_get marks.now file ≡ Some false }
+    ensures place { result ≡ true → file + 1 < 2 ^ 64 }
 {
-    at <= file || is_marked(marks, file)
-}
-
-/// Whether one of these files does, or is.
-pub(crate) fn has_behind_or_marked(marks: &[bool], at: usize, files: &[usize]) -> bool
-    ensures { result ≡ list_any (λ n. nat_le at n || slice_index_or marks.now n false) files.now }
-{
-    files
-        .iter()
-        .any(|file| is_behind_or_marked(marks, at, *file))
+    match marks.get(file) {
+        Some(mark) => !*mark,
+        None => false,
+    }
 }

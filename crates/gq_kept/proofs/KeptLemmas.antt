@@ -119,13 +119,14 @@ module _ (documents : List Doc) (readings : List SharedParsed) (typed : Typed) (
         (inserted documents readings typed known at doc reading made (rw is_told gap) parsed (rw (← is_given) are), rw same there))))
 
     pub kept_removed : NumbersOfEntriesAreUnseen → (at : ℕ) (key : List ℕ) (made : Typed) (left : ByDocument) (changes : Bool) → IsPlaceOf (λ d. d.key) key told at
-        → AreTypesOf (remove (readings_view given) at) made
+        → (AreTypesOf (readings_view given) typed → AreTypesOf (remove (readings_view given) at) made)
         → (changes ≡ false → get_or (map types_defined (readings_view given)) at [] ≡ [])
         → ((es us : List EntryOf) (rs : List ParsedOf) → (changes ≡ false → AreAlikeToRules es us) → AreByDocument es rs found → AreByDocument us (remove rs at) left)
         → AreKept (without documents key) (remove readings at) made left None
-    kept_removed unseen at key made left changes place are defines closes =
+    kept_removed unseen at key made left changes place types defines closes =
         kept_by _ _ _ left (both_known kept.known kept.owned (λ known owned.
         let was : AreTypesOf (readings_view given) typed = rw is_given (types_known documents readings typed known) in
+        let are : AreTypesOf (remove (readings_view given) at) made = types was in
         let one = systems (readings_view given) (remove (readings_view given) at) typed made changes was are (λ e. unseen _ _ (system_removed (readings_view given) at (defines e))) in
         let there : AreByDocument (types_view made.types) (remove (readings_view readings) at) left = closes (types_view typed.types) (types_view made.types) (readings_view readings) one owned in
         let same : readings_view (remove readings at) ≡ remove (readings_view readings) at = simp (map-append, take-map, drop-map) in

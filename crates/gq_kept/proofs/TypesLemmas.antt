@@ -15,7 +15,9 @@ use Rattle.gq_types.specs.Look.{types_view}
 use Rattle.gq_document.specs.Definitions.{entry_in, entries_of}
 use Rattle.gq_laws.specs.Placing.Tokens.{erased_types, types_in}
 use Rattle.gq_types.specs.ErasedEntries.{erase_entry}
-use Rattle.gq_laws.specs.Placing.Types.{erase_filed}
+use Rattle.gq_laws.specs.Placing.Types.{erase_filed, DocumentsOfTypesDoNotMatterToTypes}
+use Rattle.gq_schema.specs.SchemaOf.{HasNoFault}
+use Rattle.gq_type_system.specs.SchemaFaults.{IsSchemaFault}
 use Rattle.gq_index.proofs.Parallel.{map_insert, map_remove}
 use Rattle.gq_kept.specs.declared.typed.Typed.{Typed}
 use Rattle.gq_kept.specs.Helping.TypesOf.{AreTypesOf, IsOneTypeSystem, types_defined}
@@ -276,3 +278,27 @@ filed_replaced rs at r was there alike =
     ∙ ap (λ (l : List (ℕ × TypeSystemOf (Unit {0}))). map erase_filed built_in ++ l)
     (ap (map erase_filed) (entries_from 0 rs) ∙ filed_gathered 0 (map types_defined rs) (map types_defined (set rs at r)) each ∙ ap (map erase_filed) (sym (entries_from 0 (set rs at r))))
     ∙ sym (map-append erase_filed built_in (entries_of (set rs at r)))
+
+-- ---- whether a rule is broken does not depend on the numbers of documents
+
+erased_one : (rs ss : List ParsedOf) → IsOneTypeSystem rs ss → map erase_entry (built_in ++ entries_of rs) ≡ map erase_entry (built_in ++ entries_of ss)
+erased_one rs ss one =
+    sym (map_of_map (place_type_system no_place) (λ (e : EntryOf). e.definition) (built_in ++ entries_of rs))
+    ∙ ap (map (place_type_system no_place)) one
+    ∙ map_of_map (place_type_system no_place) (λ (e : EntryOf). e.definition) (built_in ++ entries_of ss)
+
+pub types_told : DocumentsOfTypesDoNotMatterToTypes → (rs ss : List ParsedOf) → IsOneTypeSystem rs ss → (typed made : Typed) → types_view made.types ≡ built_in ++ entries_of ss → made.has_schema ≡ typed.has_schema
+    → AreTypesOf rs typed → AreTypesOf ss made
+types_told unseen rs ss one typed made is flag are =
+    let same = erased_one rs ss one in
+    let back : HasNoFault (types_view typed.types) → HasNoFault (types_view made.types) = λ none f h. (
+    let t = unseen (built_in ++ entries_of ss) (built_in ++ entries_of rs) (sym same) f (subst (λ (es : List EntryOf). IsSchemaFault es f) is h) in
+    none t.0 (subst (λ (es : List EntryOf). IsSchemaFault es t.0) (sym are.is_type_system) t.1)) in
+    let forth : HasNoFault (types_view made.types) → HasNoFault (types_view typed.types) = λ none f h. (
+    let t = unseen (built_in ++ entries_of rs) (built_in ++ entries_of ss) same f (subst (λ (es : List EntryOf). IsSchemaFault es f) are.is_type_system h) in
+    none t.0 (subst (λ (es : List EntryOf). IsSchemaFault es t.0) (sym is) t.1)) in
+    record {
+      is_type_system = is;
+      sound = λ e. back (are.sound (sym flag ∙ e));
+      faulty = λ e none. are.faulty (sym flag ∙ e) (forth none);
+    }

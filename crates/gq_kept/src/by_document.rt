@@ -83,11 +83,11 @@ impl ByDocument {
     }
 
     /// The same where the document at that place is taken out.
-    pub(crate) fn close_room(&mut self, at: usize, changes_types: bool)
+    pub(crate) fn close_room(&mut self, alloc: Global, at: usize, changes_types: bool)
         ensures { (es us : List EntryOf) (rs : List ParsedOf) → (changes_types ≡ false → AreAlikeToRules es us)
             → AreByDocument es rs self.old → AreByDocument us (remove rs at) self.new }
     {
-        self.faults.close_room(at, changes_types);
+        self.faults.close_room(alloc, at, changes_types);
         self.fields.keep_before(at);
     }
 }

@@ -276,11 +276,11 @@ impl Kept {
     {
         numbers_of_entries_are_unseen();
         let changes_types = defines_types_at(&self.readings, at);
-        let made = typed_less(alloc, &self.readings, at)?;
+        let made = typed_less(alloc, &self.readings, at, &self.typed)?;
         self.judged.take(alloc, key);
         take_out(&mut self.readings, at);
         settle(&mut self.typed, made);
-        self.found.close_room(at, changes_types);
+        self.found.close_room(alloc, at, changes_types);
         forget(&mut self.index);
         Ok(())
     }

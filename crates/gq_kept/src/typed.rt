@@ -12,6 +12,7 @@ ghost use Rattle.gq_kept.specs.declared.typed.Typed.{Typed};
 
 use gq_document::type_system_entries;
 use gq_known::learned::{defines_types, type_system};
+use gq_laws::places::documents_of_types_do_not_matter_to_types;
 use gq_text::NoMemory;
 use gq_tree::Parsed;
 use gq_type_system::schema_faults;
@@ -40,6 +41,15 @@ pub(crate) fn made_of(alloc: Global, readings: &[Arc<Parsed>]) -> Result<Typed, 
 {
     let types = type_system(alloc, readings)?;
     let has_schema = schema_faults(alloc, &types)?.is_empty();
+    Ok(Typed { types, has_schema })
+}
+
+/// The same, where it is known whether a rule of it is broken.
+fn made_as(alloc: Global, readings: &[Arc<Parsed>], has_schema: bool) -> Result<Typed, NoMemory>
+    ensures types { IfOk result (λ made. types_view made.types ≡ built_in ++ entries_of (readings_view readings.now)) }
+    ensures flag { IfOk result (λ made. made.has_schema ≡ has_schema) }
+{
+    let types = type_system(alloc, readings)?;
     Ok(Typed { types, has_schema })
 }
 
@@ -148,7 +158,7 @@ fn stand_before(types: &Types, at: usize) -> bool
 }
 
 /// The type system, where a document that reads so is put in at that place. None is made where it stays as it is: the document defines
-/// no types, and neither do those behind it, whose numbers change.
+/// no types, and neither do those behind it, whose numbers change. Where only numbers change, no rule is looked at.
 pub(crate) fn typed_more(
     alloc: Global,
     readings: &[Arc<Parsed>],
@@ -159,28 +169,51 @@ pub(crate) fn typed_more(
     requires { at ≤ length readings.now }
     ensures { IfOk result (λ made. AreTypesOf (readings_view readings.now) typed.now → AreTypesOf (insert (readings_view readings.now) at (shared_view reading.now)) (unwrap_or made typed.now)) }
 {
-    if !has_types(reading) && stand_before(&typed.types, at) {
+    documents_of_types_do_not_matter_to_types();
+    let is_more = has_types(reading);
+    if !is_more && stand_before(&typed.types, at) {
         return Ok(None);
     }
     let all = readings_around(alloc, readings, at, reading, at)?;
-    let made = made_of(alloc, &all)?;
+    if is_more {
+        return Ok(Some(made_of(alloc, &all)?));
+    }
+    let made = made_as(alloc, &all, typed.has_schema)?;
     Ok(Some(made))
 }
 
-/// The type system, where the document at that place is taken out.
+/// The type system, where the document at that place is taken out. Where that defines no types, no rule is looked at.
 pub(crate) fn typed_less(
     alloc: Global,
     readings: &[Arc<Parsed>],
     at: usize,
+    typed: &Typed,
 ) -> Result<Typed, NoMemory>
     requires { at < length readings.now }
-    ensures { IfOk result (AreTypesOf (remove (readings_view readings.now) at)) }
+    ensures { IfOk result (λ made. AreTypesOf (readings_view readings.now) typed.now → AreTypesOf (remove (readings_view readings.now) at) made) }
+{
+    documents_of_types_do_not_matter_to_types();
+    let all = readings_without(alloc, readings, at)?;
+    if has_types(&readings[at]) {
+        return Ok(made_of(alloc, &all)?);
+    }
+    let made = made_as(alloc, &all, typed.has_schema)?;
+    Ok(made)
+}
+
+/// The readings but for the one at that place.
+fn readings_without(
+    alloc: Global,
+    readings: &[Arc<Parsed>],
+    at: usize,
+) -> Result<Vec<Arc<Parsed>>, NoMemory>
+    requires { at < length readings.now }
+    ensures { IfOk result (λ all. readings_view all.items ≡ remove (readings_view readings.now) at) }
 {
     let mut all = Vec::with_capacity(alloc, readings.len())?;
     add_shared(&readings[..at], &mut all)?;
     add_shared(&readings[at + 1..], &mut all)?;
-    let made = made_of(alloc, &all)?;
-    Ok(made)
+    Ok(all)
 }
 
 /// The number of the last document that defines types, or 0.

@@ -36,6 +36,7 @@ pub mod OtherNamesVariables
 pub mod OtherNamesMerging
 pub mod OtherNamesRead
 pub mod Judged
+pub mod Elsewhere
 pub mod TypeNamesAlike
 pub mod TypePartsAlike
 pub mod TypeGraphsAlike

@@ -9,7 +9,8 @@ ghost use Rattle.gq_laws.specs.Placing.Names.{FragmentRenamesKeepFaultless, Name
 ghost use Rattle.gq_laws.specs.Placing.OtherFields.{OtherFieldsDoNotMatter, TypesLookAlikeBut};
 ghost use Rattle.gq_laws.specs.Placing.Places.{DocumentsAreSameButPlaces, PlacesDoNotMatter};
 ghost use Rattle.gq_laws.specs.Placing.Tokens.{LinesReadApart, SameTokensDefineAlike};
-ghost use Rattle.gq_laws.specs.Placing.Types.{NoPlacesMatter, PlacesOfTypesDoNotMatter, PlacesOfTypesDoNotMatterToTypes, ProjectsAreSameButPlaces, TreesSayWhatIsFaultless, TypesLookAlike};
+ghost use Rattle.gq_laws.specs.Placing.Types.{DocumentsOfTypesDoNotMatterToTypes, NoPlacesMatter, PlacesOfTypesDoNotMatter, PlacesOfTypesDoNotMatterToTypes};
+ghost use Rattle.gq_laws.specs.Placing.Types.{ProjectsAreSameButPlaces, TreesSayWhatIsFaultless, TypesLookAlike};
 ghost use Rattle.gq_merging.specs.FieldsMerge.{IsMergingFault};
 ghost use Rattle.gq_rules.specs.RuleFaults.{IsRuleFault};
 ghost use Rattle.gq_spreads.specs.SpreadFaults.{IsSpreadFault};
@@ -98,6 +99,11 @@ pub fn other_fields_do_not_matter_to_rules()
 /// Of type systems that are equal but for their places, the one breaks a rule of the type system in a document where the other does.
 pub fn places_of_types_do_not_matter_to_types()
     ensures { PlacesOfTypesDoNotMatterToTypes }
+{}
+
+/// So it does where the documents that they stand in have other numbers, in some document.
+pub fn documents_of_types_do_not_matter_to_types()
+    ensures { DocumentsOfTypesDoNotMatterToTypes }
 {}
 
 /// Where lines in a text are exchanged for others with the same tokens, and these lines and what stands before them read by themselves,

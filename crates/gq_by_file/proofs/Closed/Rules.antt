@@ -26,7 +26,7 @@ use Rattle.gq_by_file.proofs.Closed.Variables.{variable_faults_sound, variable_f
 use Rattle.gq_by_file.proofs.Closed.Within.{from_among, to_among, operation_from, fragment_from}
 
 -- one of the five
-data IsSpreading (x : ExecutableOf) (f : Fault) : Type 0 where
+pub data IsSpreading (x : ExecutableOf) (f : Fault) : Type 0 where
   unknown : IsUnknownFragment x f → IsSpreading x f
   cycle : IsFragmentCycle x f → IsSpreading x f
   impossible : IsSpreadNotPossible x f → IsSpreading x f
@@ -58,7 +58,7 @@ module _ (x : ExecutableOf) (f : Fault) (file : rests_on_file f.code ≡ false) 
   of_spread (spreads.unknown_fragment h) = unknown h
   of_spread (spreads.fragment_cycle h) = cycle h
 
-  of_rule : IsRuleFault x f → IsSpreading x f
+  pub of_rule : IsRuleFault x f → IsSpreading x f
   of_rule (of_operations h) = of_operation h
   of_rule (of_fields h) = let e : rests_on_file f.code ≡ true = field_rests x f h in absurd (cc)
   of_rule (of_fragments h) = of_fragment h
@@ -66,7 +66,7 @@ module _ (x : ExecutableOf) (f : Fault) (file : rests_on_file f.code ≡ false) 
   of_rule (of_variables h) = variable h
   of_rule (of_merging h) = merging h
 
-from_spreading : (x : ExecutableOf) (f : Fault) → IsSpreading x f → IsRuleFault x f
+pub from_spreading : (x : ExecutableOf) (f : Fault) → IsSpreading x f → IsRuleFault x f
 from_spreading x f (unknown h) = of_spreads (spreads.unknown_fragment h)
 from_spreading x f (cycle h) = of_spreads (spreads.fragment_cycle h)
 from_spreading x f (impossible h) = of_fragments (fragments.spread_not_possible h)

@@ -1,5 +1,5 @@
 -- What is told of closed sets of files, and what of all files.
-use Rattle.std.specs.Prelude.{◌≡◌, ◌↔◌, ◌⊎◌, ◌<◌, ◌≤◌, ℕ, List, [], Some, Contains, flat_map, length, slice_get, slice_set}
+use Rattle.std.specs.Prelude.{◌≡◌, ◌↔◌, ◌⊎◌, ◌≤◌, ℕ, suc, List, [], Some, Contains, flat_map, if◌then◌else◌, length, map, nat_le, slice_get, slice_set}
 use Rattle.std.specs.List.{insert}
 use Rattle.gq_text.specs.declared.place.Span.{Span}
 use Rattle.gq_tree.specs.Names.{spread_names}
@@ -68,16 +68,25 @@ abbrev pub ClosedSetsStay : Type 0
 ClosedSetsStay = (es : List EntryOf) (rs : List ParsedOf) (at : ℕ) (r : ParsedOf) (files : List ℕ) → (Contains files at → ⊥) → AreNotSpread rs files r →
     IsClosed files (together es rs) → IsClosed files (together es (slice_set rs at r))
 
--- all of those files stand before that place
-abbrev pub AreBefore : ℕ → List ℕ → Type 0
-AreBefore at files = (n : ℕ) → Contains files n → n < at
+-- the number that a file has once another one is put in at that place
+abbrev pub number_after_insert : ℕ → ℕ → ℕ
+number_after_insert at n = if nat_le at n then suc n else n
 
--- A file that is put in behind those of a set is not seen in it, and no more are those behind it, whose numbers change.
-abbrev pub LaterFilesAreUnseen : Type 0
-LaterFilesAreUnseen = (es : List EntryOf) (rs : List ParsedOf) (at : ℕ) (r : ParsedOf) (files : List ℕ) → at ≤ length rs → AreBefore at files →
-    within files (together es (insert rs at r)) ≡ within files (together es rs)
+-- A closed set stays so where a file is put in of which no fragment is spread in the set, under the numbers that its files have then.
+abbrev pub ClosedSetsMove : Type 0
+ClosedSetsMove = (es : List EntryOf) (rs : List ParsedOf) (at : ℕ) (r : ParsedOf) (files : List ℕ) → at ≤ length rs → AreNotSpread rs files r →
+    IsClosed files (together es rs) → IsClosed (map (number_after_insert at) files) (together es (insert rs at r))
 
--- A closed set stays so where a file is put in behind it of which no fragment is spread in the set.
-abbrev pub ClosedSetsStayBefore : Type 0
-ClosedSetsStayBefore = (es : List EntryOf) (rs : List ParsedOf) (at : ℕ) (r : ParsedOf) (files : List ℕ) → at ≤ length rs → AreBefore at files → AreNotSpread rs files r →
-    IsClosed files (together es rs) → IsClosed files (together es (insert rs at r))
+-- So it does where that file is taken out again.
+abbrev pub ClosedSetsMoveBack : Type 0
+ClosedSetsMoveBack = (es : List EntryOf) (rs : List ParsedOf) (at : ℕ) (r : ParsedOf) (files : List ℕ) → at ≤ length rs →
+    IsClosed (map (number_after_insert at) files) (together es (insert rs at r)) → IsClosed files (together es rs)
+
+-- nothing that rests on spreads is told
+abbrev pub TellsNothing : ExecutableOf → Type 0
+TellsNothing x = (f : Fault) → IsFaultBySpreads x f → ⊥
+
+-- Whether something is told of a set of files does not depend on the numbers that they have.
+abbrev pub NumbersOfSetsAreUnseen : Type 0
+NumbersOfSetsAreUnseen = (es : List EntryOf) (rs : List ParsedOf) (at : ℕ) (r : ParsedOf) (files : List ℕ) → at ≤ length rs →
+    TellsNothing (within files (together es rs)) ↔ TellsNothing (within (map (number_after_insert at) files) (together es (insert rs at r)))

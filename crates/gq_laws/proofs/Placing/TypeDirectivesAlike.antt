@@ -17,9 +17,8 @@ use Rattle.gq_values.specs.Literals.{default_at}
 use Rattle.gq_values.specs.LiteralFaults.{IsLiteralFault}
 use Rattle.gq_values.specs.DirectiveFaults.{IsDirectiveFault}
 use Rattle.gq_type_system.specs.DirectivesAndDefaults.{Site, argument_site, field_sites, value_site, input_field_site, sites_in_body, sites_in, type_location, own_site, directive_names, own_names, all_inputs, told, IsBadDirectiveOrDefault, in_site, in_entry, in_default}
-use Rattle.gq_laws.specs.Placing.Places.{HasLike}
+use Rattle.gq_rules.specs.Files.{in_file}
 use Rattle.gq_laws.specs.Placing.Names.{forgotten, bare_value, bare_directive}
-use Rattle.gq_laws.specs.Placing.Types.{erase_filed}
 use Rattle.gq_laws.specs.Placing.OtherFields.{LooksAlikeBut}
 use Rattle.gq_types.proofs.Placing.Alike.{back, seen, contains}
 use Rattle.gq_types.proofs.Placing.Lists.{gathered, weaken}
@@ -27,7 +26,8 @@ use Rattle.gq_laws.proofs.Placing.Literals.{erase_expected, default_alike, liter
 use Rattle.gq_laws.proofs.Placing.Arguments.{option_too, texts_alike, directive_too}
 use Rattle.gq_laws.proofs.Placing.Lookups.{all_fields, defaults, literal, directive}
 use Rattle.gq_laws.proofs.Placing.Bare.{value_placed, directive_placed}
-use Rattle.gq_laws.proofs.Placing.Judged.{erase_judged, built_in_alike, entries_too, judged_too, joined_filed}
+use Rattle.gq_laws.proofs.Placing.Elsewhere.{literal_elsewhere, directive_elsewhere}
+use Rattle.gq_laws.proofs.Placing.Judged.{erase_marked, HasAlike, erase_judged, built_in_alike, entries_too, judged_too, joined_marked}
 use Rattle.gq_types.proofs.Placing.Entries.{fields_alike, values_alike, inputs_alike, owners}
 use Rattle.gq_laws.proofs.Placing.Entries.{looks_alike}
 
@@ -117,20 +117,21 @@ names_step (Some s) (Some t) e =
     let sites : erase_site s ≡ erase_site t = cc in
     texts_alike s.directives t.directives (site_alike s t sites)
 
-own_names_alike : (n m : Numbered) → erase_judged n ≡ erase_judged m → own_names n.entry ≡ own_names m.entry
-own_names_alike n m e = names_step (own_site n.entry.definition) (own_site m.entry.definition) (own_site_alike n.entry.definition m.entry.definition (ap (λ z. z.1.1) e))
-
 abbrev names_of : List Numbered → List Text
 names_of ns = flat_map (λ m. own_names m.entry) ns
 
-names_before_alike : (ns ms : List Numbered) → map erase_judged ns ≡ map erase_judged ms → names_of ns ≡ names_of ms
-names_before_alike [] [] e = refl
-names_before_alike [] (m ∷ ms) e = absurd (cc)
-names_before_alike (n ∷ ns) [] e = absurd (cc)
-names_before_alike (n ∷ ns) (m ∷ ms) e =
-    let one : erase_judged n ≡ erase_judged m = cc in
-    let rest : map erase_judged ns ≡ map erase_judged ms = cc in
-    ap (λ z. z ++ names_of ns) (own_names_alike n m one) ∙ ap (λ z. own_names m.entry ++ z) (names_before_alike ns ms rest)
+module _ {M : Type 0} (mark : ℕ → M) where
+  own_names_alike : (n m : Numbered) → erase_judged mark n ≡ erase_judged mark m → own_names n.entry ≡ own_names m.entry
+  own_names_alike n m e = names_step (own_site n.entry.definition) (own_site m.entry.definition) (own_site_alike n.entry.definition m.entry.definition (ap (λ z. z.1.1) e))
+
+  names_before_alike : (ns ms : List Numbered) → map (erase_judged mark) ns ≡ map (erase_judged mark) ms → names_of ns ≡ names_of ms
+  names_before_alike [] [] e = refl
+  names_before_alike [] (m ∷ ms) e = absurd (cc)
+  names_before_alike (n ∷ ns) [] e = absurd (cc)
+  names_before_alike (n ∷ ns) (m ∷ ms) e =
+      let one : erase_judged mark n ≡ erase_judged mark m = cc in
+      let rest : map (erase_judged mark) ns ≡ map (erase_judged mark) ms = cc in
+      ap (λ z. z ++ names_of ns) (own_names_alike n m one) ∙ ap (λ z. own_names m.entry ++ z) (names_before_alike ns ms rest)
 
 -- the arguments and input fields of a definition
 arguments_alike : (fs gs : List (FieldDefinitionOf Span)) → map (place_field no_place) fs ≡ map (place_field no_place) gs →
@@ -174,59 +175,59 @@ split_too h (b ∷ before) x after (y ∷ ys) e =
     let rest : map h (before ++ x ∷ after) ≡ map h ys = cc in
     split_step h b y before x ys head (split_too h before x after ys rest)
 
-module _ (es us : List EntryOf) (same : map erase_filed es ≡ map erase_filed us) where
+module _ {M : Type 0} (mark : ℕ → M) (es us : List EntryOf) (same : map (erase_marked mark) es ≡ map (erase_marked mark) us) where
   looks : LooksAlikeBut [] es us
-  looks = all_fields es us (looks_alike es us (entries_too es us same))
+  looks = all_fields es us (looks_alike es us (entries_too mark es us same))
 
-  -- the same faults of directives and of literals, but for their places
-  directives_too : (f : Fault) (file file2 : ℕ) (s t : Site) (names names2 : List Text) → file ≡ file2 → erase_site s ≡ erase_site t → names ≡ names2 →
-      IsDirectiveFault es file s.location names s.directives f → HasLike (IsDirectiveFault us file2 t.location names2 t.directives) f
+  -- the same faults of directives and of literals, but for their places and for the numbers of their documents
+  directives_too : (f : Fault) (file file2 : ℕ) (s t : Site) (names names2 : List Text) → mark file2 ≡ mark file → erase_site s ≡ erase_site t → names ≡ names2 →
+      IsDirectiveFault es file s.location names s.directives f → HasAlike mark (IsDirectiveFault us file2 t.location names2 t.directives) f
   directives_too f file file2 s t names names2 files sites before h =
       let g = directive_too us file f s.location names s.directives t.directives (site_alike s t sites) (directive [] es us looks h) in
       let at_location = subst (λ l. IsDirectiveFault us file l names t.directives g.0) (ap (λ z. z.0) sites) g.1 in
       let at_names = subst (λ l. IsDirectiveFault us file t.location l t.directives g.0) before at_location in
-      (g.0, subst (λ n. IsDirectiveFault us n t.location names2 t.directives g.0) files at_names, g.2, g.3)
+      (in_file file2 g.0, (directive_elsewhere at_names).1 file2, files ∙ ap mark (sym (directive_elsewhere h).0), g.3)
 
-  default_too : (f : Fault) (file file2 : ℕ) (i j : InputOf Span) (v w : Val Span) → file ≡ file2 → place_input no_place i ≡ place_input no_place j → place_value no_place v ≡ place_value no_place w →
-      IsLiteralFault es file (default_at es i.type_ref) v f → HasLike (IsLiteralFault us file2 (default_at us j.type_ref) w) f
+  default_too : (f : Fault) (file file2 : ℕ) (i j : InputOf Span) (v w : Val Span) → mark file2 ≡ mark file → place_input no_place i ≡ place_input no_place j →
+      place_value no_place v ≡ place_value no_place w → IsLiteralFault es file (default_at es i.type_ref) v f → HasAlike mark (IsLiteralFault us file2 (default_at us j.type_ref) w) f
   default_too f file file2 i j v w files inputs values h =
       let expected = default_alike es i.type_ref j.type_ref (ap (λ z. z.type_ref) inputs) ∙ ap erase_expected (defaults [] es us looks j.type_ref) in
       let there = literal [] es us looks (default_at us j.type_ref) expected h in
       let g = literal_too us file f (default_at us j.type_ref) (default_at us j.type_ref) v w refl (value_alike v w values) there in
-      (g.0, subst (λ n. IsLiteralFault us n (default_at us j.type_ref) w g.0) files g.1, g.2, g.3)
+      (in_file file2 g.0, (literal_elsewhere g.1).1 file2, files ∙ ap mark (sym (literal_elsewhere h).0), g.3)
 
   -- an entry that is judged among those that belong to the same, of the one and of the other
   abbrev EntryToo : (before : List Numbered) → Numbered → Type 0
   EntryToo before n =
       (earlier : List Numbered) × (m : Numbered) × (later : List Numbered) × Contains (judged us) m
-      × (joined us (owner us m) ≡ earlier ++ m ∷ later) × (map erase_judged before ≡ map erase_judged earlier) × (erase_judged n ≡ erase_judged m)
+      × (joined us (owner us m) ≡ earlier ++ m ∷ later) × (map (erase_judged mark) before ≡ map (erase_judged mark) earlier) × (erase_judged mark n ≡ erase_judged mark m)
 
   entry_too : (before : List Numbered) (n : Numbered) (after : List Numbered) → Contains (judged es) n → joined es (owner es n) ≡ before ++ n ∷ after → EntryToo before n
   entry_too before n after c are =
-      let r = split_too erase_judged before n after (joined us (owner es n)) (ap (map erase_judged) (sym are) ∙ joined_filed es us same (owner es n)) in
+      let r = split_too (erase_judged mark) before n after (joined us (owner es n)) (ap (map (erase_judged mark)) (sym are) ∙ joined_marked mark es us same (owner es n)) in
       let stands = subst (λ z. Contains z r.one) (sym r.are) (Contains-append_right r.earlier (r.one ∷ r.later) r.one (first r.one r.one r.later refl)) in
       let there = from_filter (λ m. nat_eq (owner us m) (owner es n)) (numbered us) r.one stands in
       let passes = from_filter (λ n. not (defines_built_in n.entry.definition)) (numbered es) n c in
-      let is_judged = to_filter (λ n. not (defines_built_in n.entry.definition)) (numbered us) r.one there.0 (sym (built_in_alike n r.one r.same_one) ∙ passes.1) in
-      let belongs = owners es us (entries_too es us same) n r.one (ap (λ z. (z.0, z.1.1)) r.same_one) in
+      let is_judged = to_filter (λ n. not (defines_built_in n.entry.definition)) (numbered us) r.one there.0 (sym (built_in_alike mark n r.one r.same_one) ∙ passes.1) in
+      let belongs = owners es us (entries_too mark es us same) n r.one (ap (λ z. (z.0, z.1.1)) r.same_one) in
       (r.earlier, r.one, r.later, is_judged, ap (joined us) (sym belongs) ∙ r.are, r.same_earlier, r.same_one)
 
-  pub bad_directive_or_default_too : (f : Fault) → IsBadDirectiveOrDefault es f → HasLike (IsBadDirectiveOrDefault us) f
+  pub bad_directive_or_default_too : (f : Fault) → IsBadDirectiveOrDefault es f → HasAlike mark (IsBadDirectiveOrDefault us) f
   bad_directive_or_default_too f (in_site {n = n} {site = site} {fault = fault} c s h is) =
-      let m = judged_too es us same n c in
+      let m = judged_too mark es us same n c in
       let t = contains erase_site (sites_in n.entry.definition) (sites_in m.0.entry.definition) (sites_alike n.entry.definition m.0.entry.definition m.4) site s in
-      let g = directives_too fault n.entry.file m.0.entry.file site t.0 [] [] (sym m.3) t.2 refl h in
-      (told g.0, in_site {n = m.0} {site = t.0} {fault = g.0} m.1 t.1 g.1 refl, g.2 ∙ ap (λ z. z.file) (sym is), ap (λ z. z.code) (sym is))
+      let g = directives_too fault n.entry.file m.0.entry.file site t.0 [] [] m.3 t.2 refl h in
+      (told g.0, in_site {n = m.0} {site = t.0} {fault = g.0} m.1 t.1 g.1 refl, g.2 ∙ ap (λ z. mark z.file) (sym is), ap (λ z. z.code) (sym is))
   bad_directive_or_default_too f (in_entry before n after {site = site} {fault = fault} c are own h is) =
       let r = entry_too before n after c are in
       let m = r.1 in
       let t = option_too erase_site (own_site m.entry.definition) site (ap (option_map erase_site) (sym own) ∙ own_site_alike n.entry.definition m.entry.definition (ap (λ z. z.1.1) r.6)) in
-      let names = names_before_alike before r.0 r.5 in
-      let g = directives_too fault n.entry.file m.entry.file site t.0 (names_of before) (names_of r.0) (ap (λ z. z.1.0) r.6) t.2 names h in
-      (told g.0, in_entry r.0 m r.2 {site = t.0} {fault = g.0} r.3 r.4 t.1 g.1 refl, g.2 ∙ ap (λ z. z.file) (sym is), ap (λ z. z.code) (sym is))
+      let names = names_before_alike mark before r.0 r.5 in
+      let g = directives_too fault n.entry.file m.entry.file site t.0 (names_of before) (names_of r.0) (ap (λ z. z.1.0) (sym r.6)) t.2 names h in
+      (told g.0, in_entry r.0 m r.2 {site = t.0} {fault = g.0} r.3 r.4 t.1 g.1 refl, g.2 ∙ ap (λ z. mark z.file) (sym is), ap (λ z. z.code) (sym is))
   bad_directive_or_default_too f (in_default {n = n} {input = input} {default = default} {fault = fault} c s d h is) =
-      let m = judged_too es us same n c in
+      let m = judged_too mark es us same n c in
       let i = contains (place_input no_place) (all_inputs n.entry.definition) (all_inputs m.0.entry.definition) (all_inputs_alike n.entry.definition m.0.entry.definition m.4) input s in
       let v = option_too (place_value no_place) i.0.default default (ap (option_map (place_value no_place)) (sym d) ∙ ap (λ z. z.default) i.2) in
-      let g = default_too fault n.entry.file m.0.entry.file input i.0 default v.0 (sym m.3) i.2 v.2 h in
-      (told g.0, in_default {n = m.0} {input = i.0} {default = v.0} {fault = g.0} m.1 i.1 v.1 g.1 refl, g.2 ∙ ap (λ z. z.file) (sym is), ap (λ z. z.code) (sym is))
+      let g = default_too fault n.entry.file m.0.entry.file input i.0 default v.0 m.3 i.2 v.2 h in
+      (told g.0, in_default {n = m.0} {input = i.0} {default = v.0} {fault = g.0} m.1 i.1 v.1 g.1 refl, g.2 ∙ ap (λ z. mark z.file) (sym is), ap (λ z. z.code) (sym is))

@@ -21,13 +21,12 @@ use Rattle.gq_types.specs.Subtypes.{MayBeSubtypeName, unknown_sub, unknown_super
 use Rattle.gq_values.specs.Literals.{at_type, is_object_literal, Holds}
 use Rattle.gq_type_system.specs.Implementations.{Implements, Inherits, BreaksField, has_no_subtype, lacks_argument, has_other_type, requires_argument, BreaksImplementation, declares_itself, lacks_interface, lacks_field, breaks_field, IsBadImplementation}
 use Rattle.gq_type_system.specs.EndlessInputs.{Way, step, further, LeadsByNonNull, InputField, has_key, LeadsByDefault, IsEndless, by_non_null, by_default, input_object_in, IsEndlessInput}
-use Rattle.gq_laws.specs.Placing.Places.{HasLike}
 use Rattle.gq_laws.specs.Placing.Names.{bare_says, bare_part, bare_value}
 use Rattle.gq_types.specs.ErasedEntries.{erase_entry}
-use Rattle.gq_laws.specs.Placing.Types.{LooksAlike, erase_filed}
+use Rattle.gq_laws.specs.Placing.Types.{LooksAlike}
 use Rattle.gq_types.proofs.Placing.Lists.{any, found, map_twice}
 use Rattle.gq_types.proofs.Placing.Alike.{back, seen}
-use Rattle.gq_laws.proofs.Placing.Judged.{entries_too, judged_too}
+use Rattle.gq_laws.proofs.Placing.Judged.{erase_marked, HasAlike, entries_too, judged_too}
 use Rattle.gq_types.proofs.Placing.Entries.{blind, kind_erased, fields_alike, interfaces_alike, definition_kinds, type_numbers, parts_alike}
 use Rattle.gq_laws.proofs.Placing.Entries.{looks_alike}
 use Rattle.gq_laws.proofs.Placing.Arguments.{option_too}
@@ -298,12 +297,12 @@ input_object_erased (type_definition false description name directives (input_ty
 input_object_erased (directive_definition description name arguments repeatable locations place) = refl
 
 -- the rules
-module _ (es us : List EntryOf) (same : map erase_filed es ≡ map erase_filed us) where
-  pub bad_implementation_too : (f : Fault) → IsBadImplementation es f → HasLike (IsBadImplementation us) f
+module _ {M : Type 0} (mark : ℕ → M) (es us : List EntryOf) (same : map (erase_marked mark) es ≡ map (erase_marked mark) us) where
+  pub bad_implementation_too : (f : Fault) → IsBadImplementation es f → HasAlike mark (IsBadImplementation us) f
   bad_implementation_too f b =
-      let m = judged_too es us same b.at b.is_judged in
+      let m = judged_too mark es us same b.at b.is_judged in
       let d = definition_too b.description b.name b.directives b.body b.place m.0.entry.definition (ap (place_type_system no_place) (sym b.defines) ∙ m.4) in
-      let number = subst (λ z. BreaksImplementation us z b.name.text) (sym m.2) (breaks_too es us (entries_too es us same) b.at.number b.name.text b.breaks) in (
+      let number = subst (λ z. BreaksImplementation us z b.name.text) (sym m.2) (breaks_too es us (entries_too mark es us same) b.at.number b.name.text b.breaks) in (
         fault_at m.0.entry.file BadImplementation d.1,
         record {
           at = m.0;
@@ -318,13 +317,13 @@ module _ (es us : List EntryOf) (same : map erase_filed es ≡ map erase_filed u
           breaks = subst (BreaksImplementation us m.0.number) (ap (λ z. z.text) d.6) number;
           is = refl;
         },
-        m.3 ∙ ap (λ z. z.file) (sym b.is),
+        m.3 ∙ ap (λ z. mark z.file) (sym b.is),
         ap (λ z. z.code) (sym b.is),
       )
 
-  pub endless_input_too : (f : Fault) → IsEndlessInput es f → HasLike (IsEndlessInput us) f
+  pub endless_input_too : (f : Fault) → IsEndlessInput es f → HasAlike mark (IsEndlessInput us) f
   endless_input_too f b =
-      let m = judged_too es us same b.entry b.is_judged in
+      let m = judged_too mark es us same b.entry b.is_judged in
       let inputs = blind (λ d. option_map (place_name no_place) (input_object_in d)) input_object_erased b.entry.entry m.0.entry m.4 in
       let n = option_too (place_name no_place) (input_object_in m.0.entry.definition) b.name (ap (option_map (place_name no_place)) (sym b.defines) ∙ inputs) in
       let texts = ap (λ z. z.text) n.2 in (
@@ -334,10 +333,10 @@ module _ (es us : List EntryOf) (same : map erase_filed es ≡ map erase_filed u
           is_judged = m.1;
           name = n.0;
           defines = n.1;
-          is_meant = ap (type_number us) (sym texts) ∙ sym (type_numbers es us (entries_too es us same) b.name.text) ∙ b.is_meant ∙ ap (λ z. Some z) (sym m.2);
-          is_endless = subst (IsEndless us) texts (endless_too es us (looks_alike es us (entries_too es us same)) b.name.text b.is_endless);
+          is_meant = ap (type_number us) (sym texts) ∙ sym (type_numbers es us (entries_too mark es us same) b.name.text) ∙ b.is_meant ∙ ap (λ z. Some z) (sym m.2);
+          is_endless = subst (IsEndless us) texts (endless_too es us (looks_alike es us (entries_too mark es us same)) b.name.text b.is_endless);
           is = refl;
         },
-        m.3 ∙ ap (λ z. z.file) (sym b.is),
+        m.3 ∙ ap (λ z. mark z.file) (sym b.is),
         ap (λ z. z.code) (sym b.is),
       )

@@ -1,5 +1,5 @@
 -- Rules on the entries of type systems that are equal but for their places: names that are defined, extended and used.
-use Rattle.std.proofs.Common.{◌≡◌, ◌<◌, true, false, List, ◌∷◌, ◌++◌, Option, Some, map, flat_map, refl, sym, ap, ◌∙◌, subst, Contains}
+use Rattle.std.proofs.Common.{◌≡◌, ℕ, ◌<◌, true, false, List, ◌∷◌, ◌++◌, Option, Some, map, flat_map, refl, sym, ap, ◌∙◌, subst, Contains}
 use Rattle.gq_text.specs.declared.place.Span.{Span}
 use Rattle.gq_fault.specs.FaultPlaces.{fault_at, fault_over}
 use Rattle.gq_fault.specs.declared.code.Code.TheVariants.{DefinedTwice, BadExtension, ReservedName, UnknownType, WrongKindOfType}
@@ -19,11 +19,9 @@ use Rattle.gq_type_system.specs.BadExtension.{IsBadExtension}
 use Rattle.gq_type_system.specs.ReservedName.{IsReservedName}
 use Rattle.gq_type_system.specs.UnknownType.{IsUnknownType}
 use Rattle.gq_type_system.specs.WrongKind.{suits, IsWrongKind}
-use Rattle.gq_laws.specs.Placing.Places.{HasLike}
-use Rattle.gq_laws.specs.Placing.Types.{erase_filed}
 use Rattle.gq_types.proofs.Placing.Alike.{back, seen, contains}
 use Rattle.gq_types.proofs.Placing.Lists.{gathered}
-use Rattle.gq_laws.proofs.Placing.Judged.{mapped, in_a_row, entries_too, numbered_too, judged_too}
+use Rattle.gq_laws.proofs.Placing.Judged.{mapped, in_a_row, erase_marked, HasAlike, entries_too, numbered_too, judged_too}
 use Rattle.gq_types.proofs.Placing.Entries.{blind, kind_erased, definition_kinds, fields_alike, interfaces_alike, members_alike, values_alike, inputs_alike}
 
 -- the texts of the names that a definition defines
@@ -148,10 +146,10 @@ extension_of (type_definition true a2 n2 ds2 b2 p2) a n ds b p h =
     }
 extension_of _ a n ds b p h = absurd (cc)
 
-module _ (es us : List EntryOf) (same : map erase_filed es ≡ map erase_filed us) where
+module _ {M : Type 0} (mark : ℕ → M) (es us : List EntryOf) (same : map (erase_marked mark) es ≡ map (erase_marked mark) us) where
   -- what a name means
   kinds : (text : Text) → kind_named es text ≡ kind_named us text
-  kinds text = definition_kinds es us (entries_too es us same) text
+  kinds text = definition_kinds es us (entries_too mark es us same) text
 
   -- what a definition uses, in the definition that is equal but for places
   used_too : (d u : TypeSystemOf Span) → place_type_system no_place d ≡ place_type_system no_place u → (one : UseOf) → Contains (used_types d) one →
@@ -159,9 +157,9 @@ module _ (es us : List EntryOf) (same : map erase_filed es ≡ map erase_filed u
   used_too d u e one c = contains erase_use (used_types d) (used_types u) (uses_alike d u e) one c
 
   -- the rules
-  pub unknown_type_too : (f : Fault) → IsUnknownType es f → HasLike (IsUnknownType us) f
+  pub unknown_type_too : (f : Fault) → IsUnknownType es f → HasAlike mark (IsUnknownType us) f
   unknown_type_too f h =
-      let m = judged_too es us same h.entry h.is_judged in
+      let m = judged_too mark es us same h.entry h.is_judged in
       let o = used_too h.entry.entry.definition m.0.entry.definition m.4 h.one h.is_used in (
         fault_at m.0.entry.file UnknownType o.0.name,
         record {
@@ -172,13 +170,13 @@ module _ (es us : List EntryOf) (same : map erase_filed es ≡ map erase_filed u
           is_unknown = sym (kinds o.0.name.text) ∙ ap (λ z. kind_named es z.0) (sym o.2) ∙ h.is_unknown;
           is = refl;
         },
-        m.3 ∙ sym (ap (λ z. z.file) h.is),
+        m.3 ∙ sym (ap (λ z. mark z.file) h.is),
         sym (ap (λ z. z.code) h.is),
       )
 
-  pub wrong_kind_too : (f : Fault) → IsWrongKind es f → HasLike (IsWrongKind us) f
+  pub wrong_kind_too : (f : Fault) → IsWrongKind es f → HasAlike mark (IsWrongKind us) f
   wrong_kind_too f h =
-      let m = judged_too es us same h.entry h.is_judged in
+      let m = judged_too mark es us same h.entry h.is_judged in
       let o = used_too h.entry.entry.definition m.0.entry.definition m.4 h.one h.is_used in (
         fault_at m.0.entry.file WrongKindOfType o.0.name,
         record {
@@ -191,13 +189,13 @@ module _ (es us : List EntryOf) (same : map erase_filed es ≡ map erase_filed u
           is_wrong = ap (λ z. suits z.1 h.of_kind) (sym o.2) ∙ h.is_wrong;
           is = refl;
         },
-        m.3 ∙ sym (ap (λ z. z.file) h.is),
+        m.3 ∙ sym (ap (λ z. mark z.file) h.is),
         sym (ap (λ z. z.code) h.is),
       )
 
-  pub reserved_name_too : (f : Fault) → IsReservedName es f → HasLike (IsReservedName us) f
+  pub reserved_name_too : (f : Fault) → IsReservedName es f → HasAlike mark (IsReservedName us) f
   reserved_name_too f h =
-      let m = judged_too es us same h.entry h.is_judged in
+      let m = judged_too mark es us same h.entry h.is_judged in
       let o = contains name_text (defined_names h.entry.entry.definition) (defined_names m.0.entry.definition) (names_alike h.entry.entry.definition m.0.entry.definition m.4) h.name h.is_defined in (
         fault_at m.0.entry.file ReservedName o.0,
         record {
@@ -209,13 +207,13 @@ module _ (es us : List EntryOf) (same : map erase_filed es ≡ map erase_filed u
           is_reserved = sym o.2 ∙ h.is_reserved;
           is = refl;
         },
-        m.3 ∙ sym (ap (λ z. z.file) h.is),
+        m.3 ∙ sym (ap (λ z. mark z.file) h.is),
         sym (ap (λ z. z.code) h.is),
       )
 
-  pub bad_extension_too : (f : Fault) → IsBadExtension es f → HasLike (IsBadExtension us) f
+  pub bad_extension_too : (f : Fault) → IsBadExtension es f → HasAlike mark (IsBadExtension us) f
   bad_extension_too f h =
-      let m = judged_too es us same h.entry h.is_judged in
+      let m = judged_too mark es us same h.entry h.is_judged in
       let x = extension_of m.0.entry.definition h.description h.name h.directives h.body h.place (sym (ap (place_type_system no_place) h.extends) ∙ m.4) in (
         fault_at m.0.entry.file BadExtension x.name,
         record {
@@ -230,14 +228,14 @@ module _ (es us : List EntryOf) (same : map erase_filed es ≡ map erase_filed u
           is_not_of_that_kind = λ e. h.is_not_of_that_kind (kinds h.name.text ∙ ap (kind_named us) x.same_text ∙ e ∙ ap (λ k. Some k) (sym x.same_kind));
           is = refl;
         },
-        m.3 ∙ sym (ap (λ z. z.file) h.is),
+        m.3 ∙ sym (ap (λ z. mark z.file) h.is),
         sym (ap (λ z. z.code) h.is),
       )
 
-  pub defined_twice_too : (f : Fault) → IsDefinedTwice es f → HasLike (IsDefinedTwice us) f
+  pub defined_twice_too : (f : Fault) → IsDefinedTwice es f → HasAlike mark (IsDefinedTwice us) f
   defined_twice_too f h =
-      let m = judged_too es us same h.entry h.is_judged in
-      let o = numbered_too es us same h.earlier h.stands in (
+      let m = judged_too mark es us same h.entry h.is_judged in
+      let o = numbered_too mark es us same h.earlier h.stands in (
         fault_over m.0.entry.file DefinedTwice (definition_place m.0.entry.definition),
         record {
           entry = m.0;
@@ -250,6 +248,6 @@ module _ (es us : List EntryOf) (same : map erase_filed es ≡ map erase_filed u
           defines_the_same = sym (blind defined_by defined_erased h.earlier.entry o.0.entry o.4) ∙ h.defines_the_same;
           is = refl;
         },
-        m.3 ∙ sym (ap (λ z. z.file) h.is),
+        m.3 ∙ sym (ap (λ z. mark z.file) h.is),
         sym (ap (λ z. z.code) h.is),
       )

@@ -19,11 +19,9 @@ use Rattle.gq_type_system.specs.Parts.{names_of_part, part_names, required_part}
 use Rattle.gq_type_system.specs.EmptyOrRepeated.{IsEmptyType, IsRepeatedPart, argument_lists, IsRepeatedArgument}
 use Rattle.gq_type_system.specs.RootTypes.{HasRoot, has_default, has_entry, IsFirstRoot, IsRoot, is_default, is_entry, IsRepeatedRoot, IsNoObject, IsSharedRoot}
 use Rattle.gq_type_system.specs.QueryRoot.{no_query_root_fault, HasNoQueryRoot}
-use Rattle.gq_laws.specs.Placing.Places.{HasLike}
-use Rattle.gq_laws.specs.Placing.Types.{erase_filed}
 use Rattle.gq_types.proofs.Placing.Alike.{back, seen, stands, contains, repeated}
 use Rattle.gq_types.proofs.Placing.Lists.{lengths, gathered, weaken}
-use Rattle.gq_laws.proofs.Placing.Judged.{mapped, erase_judged, entries_too, judged_too, joined_filed}
+use Rattle.gq_laws.proofs.Placing.Judged.{mapped, erase_marked, HasAlike, erase_judged, entries_too, judged_too, joined_marked}
 use Rattle.gq_types.proofs.Placing.Entries.{body_alike, roots_alike, PartsAlike, fields_alike, interfaces_alike, members_alike, values_alike, inputs_alike}
 use Rattle.gq_types.proofs.Placing.Entries.{definition_kinds, schema_numbers, default_roots}
 
@@ -43,16 +41,18 @@ repeated_seen h text sees xs ys e x c =
       r.2,
     )
 
--- a part with its document, its places forgotten
-abbrev erase_in : {A K : Type 0} → (A → K) → In A → ℕ × K
-erase_in h p = (p.file, h p.it)
+-- a part with what is seen of its document, its places forgotten
+abbrev erase_in : {M A K : Type 0} → (ℕ → M) → (A → K) → In A → M × K
+erase_in mark h p = (mark p.file, h p.it)
 
-put_filed : {A K : Type 0} (h : A → K) (file : ℕ) (xs : List A) → map (erase_in h) (put_in file xs) ≡ map (λ z. (file, z)) (map h xs)
-put_filed h file [] = refl
-put_filed h file (x ∷ xs) = ap (λ z. (file, h x) ∷ z) (put_filed h file xs)
+put_marked : {M A K : Type 0} (mark : ℕ → M) (h : A → K) (file : ℕ) (xs : List A) → map (erase_in mark h) (put_in file xs) ≡ map (λ z. (mark file, z)) (map h xs)
+put_marked mark h file [] = refl
+put_marked mark h file (x ∷ xs) = ap (λ z. (mark file, h x) ∷ z) (put_marked mark h file xs)
 
-put_too : {A K : Type 0} (h : A → K) (k l : ℕ) → k ≡ l → (xs ys : List A) → map h xs ≡ map h ys → map (erase_in h) (put_in k xs) ≡ map (erase_in h) (put_in l ys)
-put_too h k l files xs ys e = put_filed h k xs ∙ ap (λ zs. map (λ z. (k, z)) zs) e ∙ ap (λ n. map (λ z. (n, z)) (map h ys)) files ∙ sym (put_filed h l ys)
+put_too : {M A K : Type 0} (mark : ℕ → M) (h : A → K) (k l : ℕ) → mark k ≡ mark l → (xs ys : List A) → map h xs ≡ map h ys →
+    map (erase_in mark h) (put_in k xs) ≡ map (erase_in mark h) (put_in l ys)
+put_too mark h k l files xs ys e =
+    put_marked mark h k xs ∙ ap (λ zs. map (λ z. (mark k, z)) zs) e ∙ ap (λ n. map (λ z. (n, z)) (map h ys)) files ∙ sym (put_marked mark h l ys)
 
 -- the names of the parts, and which part is required
 abbrev text_of : NameOf Span → Text
@@ -114,27 +114,30 @@ argument_lists_alike (directive_definition a b c d e g) (directive_definition a2
     ap (λ z. z ∷ []) those
 argument_lists_alike _ _ h = absurd (cc)
 
--- roots with their documents, their places forgotten
-abbrev erase_filed_root : In (RootOf Span) → ℕ × RootOf (Unit {0})
-erase_filed_root r = erase_in (place_root no_place) r
+-- roots with what is seen of their documents, their places forgotten
+abbrev erase_marked_root : {M : Type 0} → (ℕ → M) → In (RootOf Span) → M × RootOf (Unit {0})
+erase_marked_root mark r = erase_in mark (place_root no_place) r
 
-abbrev RootsAlike : List (In (RootOf Span)) → List (In (RootOf Span)) → Type 0
-RootsAlike rs qs = map erase_filed_root rs ≡ map erase_filed_root qs
+abbrev RootsAlike : {M : Type 0} → (ℕ → M) → List (In (RootOf Span)) → List (In (RootOf Span)) → Type 0
+RootsAlike mark rs qs = map (erase_marked_root mark) rs ≡ map (erase_marked_root mark) qs
 
 -- what is a root before a place of the one is so before the same place of the other
-module _ (es us : List EntryOf) (defaults : (operation : OperationKind) → default_root es operation ≡ default_root us operation) (rs qs : List (In (RootOf Span))) (same : RootsAlike rs qs) where
+module _ {M : Type 0} (mark : ℕ → M) (es us : List EntryOf) (defaults : (operation : OperationKind) → default_root es operation ≡ default_root us operation)
+    (rs qs : List (In (RootOf Span))) (same : RootsAlike mark rs qs) where
   has_root_too : (place : ℕ) (operation : OperationKind) → HasRoot es rs place operation → HasRoot us qs place operation
   has_root_too place operation (has_default is) = has_default (sym (defaults operation) ∙ is)
   has_root_too place operation (has_entry {earlier} {other} s b k) =
-      let o = stands erase_filed_root rs qs same earlier other s in
+      let o = stands (erase_marked_root mark) rs qs same earlier other s in
       has_entry o.1 b (ap (λ z. z.1.kind) (sym o.2) ∙ k)
 
-module _ (es us : List EntryOf) (defaults : (operation : OperationKind) → default_root es operation ≡ default_root us operation) (rs qs : List (In (RootOf Span))) (same : RootsAlike rs qs) where
-  first_root_too : (place : ℕ) (root : In (RootOf Span)) → IsFirstRoot es rs place root → (other : In (RootOf Span)) × IsFirstRoot us qs place other × (erase_filed_root root ≡ erase_filed_root other)
+module _ {M : Type 0} (mark : ℕ → M) (es us : List EntryOf) (defaults : (operation : OperationKind) → default_root es operation ≡ default_root us operation)
+    (rs qs : List (In (RootOf Span))) (same : RootsAlike mark rs qs) where
+  first_root_too : (place : ℕ) (root : In (RootOf Span)) → IsFirstRoot es rs place root →
+      (other : In (RootOf Span)) × IsFirstRoot us qs place other × (erase_marked_root mark root ≡ erase_marked_root mark other)
   first_root_too place root c =
-      let o = stands erase_filed_root rs qs same place root c.stands in
+      let o = stands (erase_marked_root mark) rs qs same place root c.stands in
       let back_again : HasRoot us qs place o.0.it.kind → HasRoot es rs place root.it.kind =
-      λ h. subst (HasRoot es rs place) (ap (λ z. z.1.kind) (sym o.2)) (has_root_too us es (λ k. sym (defaults k)) qs rs (sym same) place o.0.it.kind h) in
+      λ h. subst (HasRoot es rs place) (ap (λ z. z.1.kind) (sym o.2)) (has_root_too mark us es (λ k. sym (defaults k)) qs rs (sym same) place o.0.it.kind h) in
       (o.0, record { stands = o.1; is_first = λ h. c.is_first (back_again h) }, o.2)
 
   is_root_too : (place : ℕ) (text : Text) → IsRoot es rs place text → IsRoot us qs place text
@@ -143,35 +146,35 @@ module _ (es us : List EntryOf) (defaults : (operation : OperationKind) → defa
       let o = first_root_too earlier other c in
       is_entry o.1 b (ap (λ z. z.1.name.text) (sym o.2) ∙ n)
 
-module _ (es us : List EntryOf) (same : map erase_filed es ≡ map erase_filed us) where
+module _ {M : Type 0} (mark : ℕ → M) (es us : List EntryOf) (same : map (erase_marked mark) es ≡ map (erase_marked mark) us) where
   -- parts and roots with their documents
-  parts_filed : {A K : Type 0} (h : A → K) (parts : BodyOf Span → List A) → PartsAlike h parts → (number : ℕ) →
-      map (erase_in h) (parts_of parts es number) ≡ map (erase_in h) (parts_of parts us number)
-  parts_filed h parts alike number = gathered erase_judged (erase_in h) (λ n. parts_in parts n.entry)
-      (λ n m e. put_too h n.entry.file m.entry.file (ap (λ z. z.1.0) e) (parts (body_in n.entry.definition)) (parts (body_in m.entry.definition))
+  parts_marked : {A K : Type 0} (h : A → K) (parts : BodyOf Span → List A) → PartsAlike h parts → (number : ℕ) →
+      map (erase_in mark h) (parts_of parts es number) ≡ map (erase_in mark h) (parts_of parts us number)
+  parts_marked h parts alike number = gathered (erase_judged mark) (erase_in mark h) (λ n. parts_in parts n.entry)
+      (λ n m e. put_too mark h n.entry.file m.entry.file (ap (λ z. z.1.0) e) (parts (body_in n.entry.definition)) (parts (body_in m.entry.definition))
       (alike (body_in n.entry.definition) (body_in m.entry.definition) (body_alike n.entry.definition m.entry.definition (ap (λ z. z.1.1) e))))
-      (joined es number) (joined us number) (joined_filed es us same number)
+      (joined es number) (joined us number) (joined_marked mark es us same number)
 
-  roots_filed : (number : ℕ) → RootsAlike (roots_of es number) (roots_of us number)
-  roots_filed number = gathered erase_judged erase_filed_root (λ n. put_in n.entry.file (roots_in n.entry.definition))
-      (λ n m e. put_too (place_root no_place) n.entry.file m.entry.file (ap (λ z. z.1.0) e) (roots_in n.entry.definition) (roots_in m.entry.definition)
+  roots_marked : (number : ℕ) → RootsAlike mark (roots_of es number) (roots_of us number)
+  roots_marked number = gathered (erase_judged mark) (erase_marked_root mark) (λ n. put_in n.entry.file (roots_in n.entry.definition))
+      (λ n m e. put_too mark (place_root no_place) n.entry.file m.entry.file (ap (λ z. z.1.0) e) (roots_in n.entry.definition) (roots_in m.entry.definition)
       (roots_alike n.entry.definition m.entry.definition (ap (λ z. z.1.1) e)))
-      (joined es number) (joined us number) (joined_filed es us same number)
+      (joined es number) (joined us number) (joined_marked mark es us same number)
 
   number_too : (number : ℕ) → number < length es → number < length us
-  number_too number l = subst (λ n. number < n) (lengths erase_filed es us same) l
+  number_too number l = subst (λ n. number < n) (lengths (erase_marked mark) es us same) l
 
   last_number_too : (number : ℕ) → number ≤ length es → number ≤ length us
-  last_number_too number l = subst (λ n. number ≤ n) (lengths erase_filed es us same) l
+  last_number_too number l = subst (λ n. number ≤ n) (lengths (erase_marked mark) es us same) l
 
   -- types without parts, and parts and arguments of one name
-  pub empty_type_too : (f : Fault) → IsEmptyType es f → HasLike (IsEmptyType us) f
+  pub empty_type_too : (f : Fault) → IsEmptyType es f → HasAlike mark (IsEmptyType us) f
   empty_type_too f c =
-      let m = judged_too es us same c.entry c.is_judged in
+      let m = judged_too mark es us same c.entry c.is_judged in
       let d = type_like false c.description c.name c.directives c.body c.place m.0.entry.definition (ap (place_type_system no_place) (sym c.defines) ∙ m.4) in
       let names : part_names c.part us m.0.number ≡ [] = subst (λ n. part_names c.part us n ≡ []) (sym m.2)
-      (empty_too (erase_in text_of) (part_names c.part es c.entry.number) (part_names c.part us c.entry.number)
-      (parts_filed text_of (names_of_part c.part) (part_names_alike c.part) c.entry.number) c.is_empty) in (
+      (empty_too (erase_in mark text_of) (part_names c.part es c.entry.number) (part_names c.part us c.entry.number)
+      (parts_marked text_of (names_of_part c.part) (part_names_alike c.part) c.entry.number) c.is_empty) in (
         fault_at m.0.entry.file EmptyOrRepeated d.name,
         record {
           entry = m.0;
@@ -187,37 +190,40 @@ module _ (es us : List EntryOf) (same : map erase_filed es ≡ map erase_filed u
           is_empty = names;
           is = refl;
         },
-        m.3 ∙ ap (λ z. z.file) (sym c.is),
+        m.3 ∙ ap (λ z. mark z.file) (sym c.is),
         ap (λ z. z.code) (sym c.is),
       )
 
-  pub repeated_part_too : (f : Fault) → IsRepeatedPart es f → HasLike (IsRepeatedPart us) f
+  pub repeated_part_too : (f : Fault) → IsRepeatedPart es f → HasAlike mark (IsRepeatedPart us) f
   repeated_part_too f c =
-      let o = repeated_seen (erase_in text_of) (λ name. name.it.text) (λ a b e. ap (λ z. z.1) e) (part_names c.part es c.number) (part_names c.part us c.number)
-      (parts_filed text_of (names_of_part c.part) (part_names_alike c.part) c.number) c.one c.is_repeated in (
+      let o = repeated_seen (erase_in mark text_of) (λ name. name.it.text) (λ a b e. ap (λ z. z.1) e) (part_names c.part es c.number) (part_names c.part us c.number)
+      (parts_marked text_of (names_of_part c.part) (part_names_alike c.part) c.number) c.one c.is_repeated in (
         fault_at o.0.file EmptyOrRepeated o.0.it,
         record { number = c.number; is_number = number_too c.number c.is_number; part = c.part; one = o.0; is_repeated = o.1; is = refl },
-        ap (λ z. z.0) (sym o.2) ∙ ap (λ z. z.file) (sym c.is),
+        ap (λ z. z.0) (sym o.2) ∙ ap (λ z. mark z.file) (sym c.is),
         ap (λ z. z.code) (sym c.is),
       )
 
-  pub repeated_argument_too : (f : Fault) → IsRepeatedArgument es f → HasLike (IsRepeatedArgument us) f
+  pub repeated_argument_too : (f : Fault) → IsRepeatedArgument es f → HasAlike mark (IsRepeatedArgument us) f
   repeated_argument_too f c =
-      let m = judged_too es us same c.entry c.is_judged in
+      let m = judged_too mark es us same c.entry c.is_judged in
       let has = contains erase_arguments (argument_lists c.entry.entry.definition) (argument_lists m.0.entry.definition)
       (argument_lists_alike c.entry.entry.definition m.0.entry.definition m.4) c.arguments c.has in
       let o = repeated (λ a. a.name.text) c.arguments has.0 (weaken (place_input no_place) (λ a. a.name.text) (λ a b e. ap (λ z. z.name.text) e) c.arguments has.0 has.2) c.one c.is_repeated in (
         fault_at m.0.entry.file EmptyOrRepeated o.0.name,
         record { entry = m.0; is_judged = m.1; arguments = has.0; has = has.1; one = o.0; is_repeated = o.1; is = refl },
-        m.3 ∙ ap (λ z. z.file) (sym c.is),
+        m.3 ∙ ap (λ z. mark z.file) (sym c.is),
         ap (λ z. z.code) (sym c.is),
       )
 
   -- roots
-  pub repeated_root_too : (f : Fault) → IsRepeatedRoot es f → HasLike (IsRepeatedRoot us) f
+  defaults_alike : (operation : OperationKind) → default_root es operation ≡ default_root us operation
+  defaults_alike operation = default_roots es us (entries_too mark es us same) operation
+
+  pub repeated_root_too : (f : Fault) → IsRepeatedRoot es f → HasAlike mark (IsRepeatedRoot us) f
   repeated_root_too f c =
-      let o = stands erase_filed_root (roots_of es c.number) (roots_of us c.number) (roots_filed c.number) c.place c.root c.stands in
-      let before = has_root_too es us (default_roots es us (entries_too es us same)) (roots_of es c.number) (roots_of us c.number) (roots_filed c.number) c.place c.root.it.kind c.has_root in (
+      let o = stands (erase_marked_root mark) (roots_of es c.number) (roots_of us c.number) (roots_marked c.number) c.place c.root c.stands in
+      let before = has_root_too mark es us defaults_alike (roots_of es c.number) (roots_of us c.number) (roots_marked c.number) c.place c.root.it.kind c.has_root in (
         fault_at o.0.file EmptyOrRepeated o.0.it.name,
         record {
           number = c.number;
@@ -228,13 +234,13 @@ module _ (es us : List EntryOf) (same : map erase_filed es ≡ map erase_filed u
           has_root = subst (HasRoot us (roots_of us c.number) c.place) (ap (λ z. z.1.kind) o.2) before;
           is = refl;
         },
-        ap (λ z. z.0) (sym o.2) ∙ ap (λ z. z.file) (sym c.is),
+        ap (λ z. z.0) (sym o.2) ∙ ap (λ z. mark z.file) (sym c.is),
         ap (λ z. z.code) (sym c.is),
       )
 
-  pub no_object_too : (f : Fault) → IsNoObject es f → HasLike (IsNoObject us) f
+  pub no_object_too : (f : Fault) → IsNoObject es f → HasAlike mark (IsNoObject us) f
   no_object_too f c =
-      let o = first_root_too es us (default_roots es us (entries_too es us same)) (roots_of es c.number) (roots_of us c.number) (roots_filed c.number) c.place c.root c.counts in (
+      let o = first_root_too mark es us defaults_alike (roots_of es c.number) (roots_of us c.number) (roots_marked c.number) c.place c.root c.counts in (
         fault_at o.0.file WrongKindOfType o.0.it.name,
         record {
           number = c.number;
@@ -243,18 +249,18 @@ module _ (es us : List EntryOf) (same : map erase_filed es ≡ map erase_filed u
           root = o.0;
           counts = o.1;
           of_kind = c.of_kind;
-          is_known = ap (λ z. kind_named us z.1.name.text) (sym o.2) ∙ sym (definition_kinds es us (entries_too es us same) c.root.it.name.text) ∙ c.is_known;
+          is_known = ap (λ z. kind_named us z.1.name.text) (sym o.2) ∙ sym (definition_kinds es us (entries_too mark es us same) c.root.it.name.text) ∙ c.is_known;
           is_no_object = c.is_no_object;
           is = refl;
         },
-        ap (λ z. z.0) (sym o.2) ∙ ap (λ z. z.file) (sym c.is),
+        ap (λ z. z.0) (sym o.2) ∙ ap (λ z. mark z.file) (sym c.is),
         ap (λ z. z.code) (sym c.is),
       )
 
-  pub shared_root_too : (f : Fault) → IsSharedRoot es f → HasLike (IsSharedRoot us) f
+  pub shared_root_too : (f : Fault) → IsSharedRoot es f → HasAlike mark (IsSharedRoot us) f
   shared_root_too f c =
-      let o = first_root_too es us (default_roots es us (entries_too es us same)) (roots_of es c.number) (roots_of us c.number) (roots_filed c.number) c.place c.root c.counts in
-      let shared = is_root_too es us (default_roots es us (entries_too es us same)) (roots_of es c.number) (roots_of us c.number) (roots_filed c.number) c.place c.root.it.name.text c.is_shared in (
+      let o = first_root_too mark es us defaults_alike (roots_of es c.number) (roots_of us c.number) (roots_marked c.number) c.place c.root c.counts in
+      let shared = is_root_too mark es us defaults_alike (roots_of es c.number) (roots_of us c.number) (roots_marked c.number) c.place c.root.it.name.text c.is_shared in (
         fault_at o.0.file WrongKindOfType o.0.it.name,
         record {
           number = c.number;
@@ -263,22 +269,23 @@ module _ (es us : List EntryOf) (same : map erase_filed es ≡ map erase_filed u
           root = o.0;
           counts = o.1;
           of_kind = c.of_kind;
-          is_known = ap (λ z. kind_named us z.1.name.text) (sym o.2) ∙ sym (definition_kinds es us (entries_too es us same) c.root.it.name.text) ∙ c.is_known;
+          is_known = ap (λ z. kind_named us z.1.name.text) (sym o.2) ∙ sym (definition_kinds es us (entries_too mark es us same) c.root.it.name.text) ∙ c.is_known;
           is_shared = subst (IsRoot us (roots_of us c.number) c.place) (ap (λ z. z.1.name.text) o.2) shared;
           is = refl;
         },
-        ap (λ z. z.0) (sym o.2) ∙ ap (λ z. z.file) (sym c.is),
+        ap (λ z. z.0) (sym o.2) ∙ ap (λ z. mark z.file) (sym c.is),
         ap (λ z. z.code) (sym c.is),
       )
 
-  pub no_query_root_too : (f : Fault) → HasNoQueryRoot es f → HasLike (HasNoQueryRoot us) f
+  pub no_query_root_too : (f : Fault) → HasNoQueryRoot es f → HasAlike mark (HasNoQueryRoot us) f
   no_query_root_too f c =
-      let roots : RootsAlike (roots_of us (schema_number us)) (roots_of es (schema_number es)) =
-      sym (roots_filed (schema_number us)) ∙ ap (λ n. map erase_filed_root (roots_of es n)) (sym (schema_numbers es us (entries_too es us same))) in
+      let roots : RootsAlike mark (roots_of us (schema_number us)) (roots_of es (schema_number es)) =
+      sym (roots_marked (schema_number us)) ∙ ap (λ n. map (erase_marked_root mark) (roots_of es n)) (sym (schema_numbers es us (entries_too mark es us same))) in
       let none : (root : In (RootOf Span)) → Contains (roots_of us (schema_number us)) root → root.it.kind ≢ Query =
-      λ root h k. (let o = contains erase_filed_root (roots_of us (schema_number us)) (roots_of es (schema_number es)) roots root h in c.no_entry o.0 o.1 (ap (λ z. z.1.kind) (sym o.2) ∙ k)) in (
+      λ root h k. (let o = contains (erase_marked_root mark) (roots_of us (schema_number us)) (roots_of es (schema_number es)) roots root h in
+      c.no_entry o.0 o.1 (ap (λ z. z.1.kind) (sym o.2) ∙ k)) in (
         no_query_root_fault,
-        record { no_default = sym (default_roots es us (entries_too es us same) Query) ∙ c.no_default; no_entry = none; is = refl },
-        ap (λ z. z.file) (sym c.is),
+        record { no_default = sym (defaults_alike Query) ∙ c.no_default; no_entry = none; is = refl },
+        ap (λ z. mark z.file) (sym c.is),
         ap (λ z. z.code) (sym c.is),
       )

@@ -2,68 +2,34 @@
 use Rattle.std.proofs.Common.{◌≡◌, ℕ, true, List, [], ◌∷◌, ◌++◌, Option, Some, None, Contains, inl, inr, refl, sym, ap, ◌∙◌, subst}
 use Rattle.std.specs.Prelude.{codes}
 use Rattle.std.specs.List.{list_any}
-use Rattle.std.specs.Option.{option_map}
 use Rattle.std.proofs.lemmas.Option.{same_Some}
 use Rattle.gq_text.specs.declared.place.Span.{Span}
 use Rattle.gq_fault.specs.declared.fault.Fault.{Fault}
-use Rattle.gq_fault.specs.FaultPlaces.{fault_at, fault_over}
+use Rattle.gq_fault.specs.FaultPlaces.{fault_at}
 use Rattle.gq_fault.specs.declared.code.Code.TheVariants as code
-use Rattle.gq_tree.specs.declared.type_system.DirectiveLocation.{DirectiveLocation}
 use Rattle.gq_tree.specs.declared.type_system.DirectiveLocation.TheVariants as location
-use Rattle.gq_tree.specs.Plain.{NameOf, Val, DirectiveOf, InputOf, TypeSystemOf, non_null, named, field, Sels}
+use Rattle.gq_tree.specs.Plain.{NameOf, Val, DirectiveOf, TypeSystemOf, non_null, named, field, Sels}
 use Rattle.gq_tree.specs.Same.{same_locations}
 use Rattle.gq_types.specs.Entries.{Text, EntryOf}
 use Rattle.gq_types.specs.BuiltIn.{built_in, nowhere}
 use Rattle.gq_types.specs.BuiltIn as built
 use Rattle.gq_types.specs.Directives.{locations_in}
 use Rattle.gq_types.specs.Names.{directive_named}
-use Rattle.gq_document.specs.Selections.{SelectedOf, selected_field}
+use Rattle.gq_document.specs.Selections.{SelectedOf}
 use Rattle.gq_document.specs.Executable.{ExecutableOf, Selects}
-use Rattle.gq_values.specs.Literals.{Expected, default_at}
-use Rattle.gq_values.specs.LiteralFaults.{literal_place, first_byte, IsFaultOf, IsLiteralFault}
-use Rattle.gq_values.specs.LiteralFaults as literals
-use Rattle.gq_values.specs.ArgumentFaults.{IsArgumentFault, unknown_argument, argument_not_unique, argument_missing, fault_in_value}
+use Rattle.gq_values.specs.Literals.{default_at}
+use Rattle.gq_values.specs.LiteralFaults.{IsLiteralFault}
 use Rattle.gq_values.specs.DirectiveFaults.{IsDirectiveFault, unknown_directive, directive_in_wrong_place, directive_repeated, fault_in_arguments}
 use Rattle.gq_fields.specs.SelectedFields.{SelectsField}
 use Rattle.gq_fields.specs.Directives.{Site, operation_site, variable_site, fragment_site, selection_location, selection_directives, selection_site, IsSite, HasWrongDirective}
 use Rattle.gq_fields.specs.Directives as sites
 use Rattle.gq_fields.specs.FieldFaults.{IsFieldFault, unknown_field, wrong_selections, wrong_argument, wrong_directive, wrong_default}
+use Rattle.gq_rules.specs.Files.{in_file}
 use Rattle.gq_laws.specs.Rewriting.Edits.{SpreadAt}
 use Rattle.gq_laws.specs.RewrittenValid.InlinedSpread.{IsCondition}
+use Rattle.gq_laws.proofs.Placing.Elsewhere.{argument_elsewhere, directive_elsewhere}
 use Rattle.gq_laws.proofs.RewrittenValid.InlinedProject.{inlined_executable}
 use Rattle.gq_laws.proofs.RewrittenValid.InlinedFacts.{CanBeInlined, was_operation, was_fragment, CameSelected, was_there, was_spread, was_in_fragment, came_selected}
-
--- The same is wrong in another document.
-fault_elsewhere : (es : List EntryOf) (file other : ℕ) (reading : Expected) (value : Val Span) (item : Fault) → IsFaultOf es file reading value item →
-    (g : Fault) × IsFaultOf es other reading value g
-fault_elsewhere es file other reading value item (literals.wrong_value a b c) = (fault_over other code.WrongValue (literal_place value.label.says), literals.wrong_value a b refl)
-fault_elsewhere es file other reading value item (literals.unknown_field {name = name} a b c d e f) = (fault_at other code.UnknownInputField name, literals.unknown_field a b c d e refl)
-fault_elsewhere es file other reading value item (literals.field_not_unique {name = name} a b c) = (fault_at other code.InputFieldNotUnique name, literals.field_not_unique a b refl)
-fault_elsewhere es file other reading value item (literals.field_missing {place = place} a b c d e f g) =
-    (fault_over other code.InputFieldMissing (first_byte place), literals.field_missing a b c d e f refl)
-
-literal_elsewhere : (es : List EntryOf) (file other : ℕ) (reading : Expected) (value : Val Span) (item : Fault) → IsLiteralFault es file reading value item →
-    (g : Fault) × IsLiteralFault es other reading value g
-literal_elsewhere es file other reading value item h =
-    let g = fault_elsewhere es file other h.inner h.part item h.fault in
-    (g.0, record { inner = h.inner; part = h.part; stands = h.stands; fault = g.1 })
-
-argument_elsewhere : (es : List EntryOf) (file other : ℕ) (definitions : Option (List (InputOf Span))) (name : NameOf Span) (arguments : List (Val Span)) (item : Fault) →
-    IsArgumentFault es file definitions name arguments item →
-    (g : Fault) × IsArgumentFault es other definitions name arguments g
-argument_elsewhere es file other definitions name arguments item (unknown_argument {argument = argument} a b c d) = (fault_at other code.UnknownArgument argument, unknown_argument a b c refl)
-argument_elsewhere es file other definitions name arguments item (argument_not_unique {argument = argument} a b) = (fault_at other code.ArgumentNotUnique argument, argument_not_unique a refl)
-argument_elsewhere es file other definitions name arguments item (argument_missing a b c d e) = (fault_at other code.ArgumentMissing name, argument_missing a b c d refl)
-argument_elsewhere es file other definitions name arguments item (fault_in_value {argument = argument} a b c) =
-    let g = literal_elsewhere es file other _ argument item c in (g.0, fault_in_value a b g.1)
-
-directive_elsewhere : (es : List EntryOf) (file other : ℕ) (at : DirectiveLocation) (directives : List (DirectiveOf Span)) (item : Fault) → IsDirectiveFault es file at [] directives item →
-    (g : Fault) × IsDirectiveFault es other at [] directives g
-directive_elsewhere es file other at directives item (unknown_directive {d = d} a b c) = (fault_at other code.UnknownDirective d.name, unknown_directive a b refl)
-directive_elsewhere es file other at directives item (directive_in_wrong_place {d = d} a b c e) = (fault_at other code.DirectiveInWrongPlace d.name, directive_in_wrong_place a b c refl)
-directive_elsewhere es file other at directives item (directive_repeated {d = d} a b c e) = (fault_at other code.DirectiveRepeated d.name, directive_repeated a b c refl)
-directive_elsewhere es file other at directives item (fault_in_arguments {d = d} a b) =
-    let g = argument_elsewhere es file other _ d.name d.arguments item b in (g.0, fault_in_arguments a g.1)
 
 -- what is built in
 abbrev condition_definition : Text → TypeSystemOf Span
@@ -133,8 +99,7 @@ module _ (s : SpreadAt) (x : ExecutableOf) (k : CanBeInlined s x) (none : (f : F
       let at_inline = subst (λ z. IsDirectiveFault x.entries t.file (selection_location z) [] (selection_directives z) item) l h in
       none item (wrong_directive (record { site = _; stands = sites.of_selection c; fault = at_spread x.entries k.own k.is_entries t.file k.directives k.conditions item at_inline }))
   at_selection t item h (was_in_fragment c) =
-      let g = directive_elsewhere x.entries t.file k.its.fragment.file (selection_location t.selection.label) (selection_directives t.selection.label) item h in
-      none g.0 (wrong_directive (record { site = _; stands = sites.of_selection c; fault = g.1 }))
+      none (in_file k.its.fragment.file item) (wrong_directive (record { site = _; stands = sites.of_selection c; fault = (directive_elsewhere h).1 k.its.fragment.file }))
 
   at_site : {site : Site} (item : Fault) → IsSite y site → IsDirectiveFault x.entries site.file site.location [] site.directives item → ⊥
   at_site item (sites.of_operation {o = p} c) h =
@@ -185,9 +150,7 @@ module _ (s : SpreadAt) (x : ExecutableOf) (k : CanBeInlined s x) (none : (f : F
       }))
   no_field_fault f (wrong_argument h) =
       let w = stood_field h.one in
-      let definitions = option_map (λ d. d.arguments) (selected_field x.entries h.one.selected.parent h.one.name.text) in
-      let g = argument_elsewhere x.entries h.one.selected.file w.file definitions h.one.name h.one.arguments f h.fault in
-      none g.0 (wrong_argument (record { one = field_before h.one w; fault = g.1 }))
+      none (in_file w.file f) (wrong_argument (record { one = field_before h.one w; fault = (argument_elsewhere h.fault).1 w.file }))
   no_field_fault f (wrong_directive h) = at_site f h.stands h.fault
   no_field_fault f (wrong_default h) =
       let w = was_operation s x h.operation h.stands in

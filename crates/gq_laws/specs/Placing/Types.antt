@@ -44,6 +44,14 @@ TypesLookAlike = (es us : List EntryOf) → map erase_entry es ≡ map erase_ent
 abbrev pub PlacesOfTypesDoNotMatterToTypes : Type 0
 PlacesOfTypesDoNotMatterToTypes = (es us : List EntryOf) → map erase_filed es ≡ map erase_filed us → (f : Fault) → IsSchemaFault es f → HasLike (IsSchemaFault us) f
 
+-- some fault of that code
+abbrev pub HasOfCode : (Fault → Type 0) → Fault → Type 0
+HasOfCode IsFault f = (g : Fault) × IsFault g × (g.code ≡ f.code)
+
+-- Of two type systems that are equal but for their places and for the documents that they stand in, the one breaks a rule of section 3 where the other does.
+abbrev pub DocumentsOfTypesDoNotMatterToTypes : Type 0
+DocumentsOfTypesDoNotMatterToTypes = (es us : List EntryOf) → map erase_entry es ≡ map erase_entry us → (f : Fault) → IsSchemaFault es f → HasOfCode (IsSchemaFault us) f
+
 -- equal but for the places in the executable definitions and in the type system
 pub record SameButAllPlaces (x y : ExecutableOf) : Type 0 where
   pub entries : map erase_entry x.entries ≡ map erase_entry y.entries

@@ -1,21 +1,18 @@
--- What stands before a place, and what stands behind it.
-use Rattle.std.proofs.Common.{◌≡◌, ◌+◌, List, ◌++◌, ap, drop, subst, take, ◌∙◌}
+-- Where the document defines no types, what the rules tell stays.
+use Rattle.std.proofs.Common.{◌≡◌, ◌++◌, ◌∙◌, [], List, ap, get_or, map}
 use Rattle.std.specs.List.{remove}
-use Rattle.gq_tree.specs.Readings.{ParsedOf, SharedParsed, readings_view}
-use Rattle.gq_kept.specs.Helping.TypesOf.{AreTypesOf}
-use Rattle.gq_kept.proofs.TypesLemmas.{read_before, read_behind, removed_between}
+use Rattle.gq_tree.specs.Readings.{ParsedOf, readings_view}
+use Rattle.gq_types.specs.BuiltIn.{built_in}
+use Rattle.gq_document.specs.Definitions.{entries_of}
+use Rattle.gq_kept.specs.Helping.TypesOf.{types_defined}
+use Rattle.gq_kept.proofs.TypesLemmas.{nothing_at, system_removed, types_told}
 use Rattle.gq_kept.proofs.typed.typed_less.Goals as goal
 
 pub returns : goal.returns
-returns c =
-    let readings = c.args.readings.now in
-    let rs = readings_view readings in
-    let before : readings_view c.add_shared.new.all.items ≡ take c.args.at rs =
-    c.in_ok-add_shared.ensures ∙ ap (λ (all : List SharedParsed). readings_view all ++ readings_view (take c.args.at readings)) c.in_ok-all.ensures.items ∙ read_before readings c.args.at in
-    let all : readings_view c.deref.result.now ≡ remove rs c.args.at =
-    ap readings_view c.deref.ensures.value
-    ∙ c.in_ok-add_shared-2.ensures
-    ∙ ap (λ (others : List ParsedOf). readings_view c.add_shared.new.all.items ++ others) (read_behind readings (c.args.at + 1))
-    ∙ ap (λ (others : List ParsedOf). others ++ drop (c.args.at + 1) rs) before
-    ∙ removed_between rs c.args.at in
-    subst (λ (others : List ParsedOf). AreTypesOf others c.in_ok-made.made) all c.in_ok-made.ensures
+returns c are =
+    let rs : List ParsedOf = readings_view c.args.readings.now in
+    let at = c.args.at in
+    let all : readings_view c.deref-2.result.now ≡ remove rs at = ap readings_view c.deref-2.ensures.value ∙ c.in_ok-all.ensures in
+    let none : get_or (map types_defined rs) at [] ≡ [] = nothing_at c.args.readings.now at c.index-readings-at.result c.index-readings-at.is (c.has_types.ensures c.if-has_types.false) in
+    types_told c.documents_of_types_do_not_matter_to_types.ensures rs (remove rs at) (system_removed rs at none) c.args.typed.now c.in_ok-made.made
+    (c.in_ok-made.ensures.types ∙ ap (λ (ps : List ParsedOf). built_in ++ entries_of ps) all) c.in_ok-made.ensures.flag are
