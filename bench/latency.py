@@ -27,6 +27,8 @@ NOTHING_WRONG = b'"diagnostics":[]'
 OPERATIONS, SCHEMA = "q0.graphql", "s.graphql"
 CHECK, CHECK_MEMORY, MEMORY = "check", "memory of the check", "memory of the server, at the end"
 ASKED = 3  # how often a question is asked, or a key is struck, in a round
+TAB = "query Mm{n{id}}\n"
+BEHIND = "references"  # asked once more right behind a keystroke, which makes void what was known of where names stand
 FIELD = "zz:Int "  # a field more, which no file uses, so that the type system is another one
 CAPABILITIES = {
     "workspace": {"workspaceEdit": {"documentChanges": True}},
@@ -150,6 +152,12 @@ class Client:
         self.tell("textDocument/didChange", {"textDocument": {"uri": uri, "version": self.versions[uri]}, "contentChanges": [change]})
         return self.diagnosed(len(self.versions))
 
+    def close(self, uri):
+        """Closes a document: it is told of once more, with nothing wrong, and then all others are."""
+        del self.versions[uri]
+        self.tell("textDocument/didClose", {"textDocument": {"uri": uri}})
+        self.pass_over(len(self.versions) + 1)
+
     def memory(self):
         """The most memory that it had, in MB."""
         with open("/proc/%d/status" % self.server.pid, encoding="ascii") as status:
@@ -221,6 +229,16 @@ class Project:
             if wrong:
                 sys.exit("something is wrong after a keystroke: %s" % wrong[:1])
 
+    def tab(self, program, client):
+        """A file of operations that sorts before the schema is opened, and closed."""
+        uri = "file:///project/m.graphql"
+        spent, wrong = timed(lambda: client.open(uri, TAB))
+        self.note(program, "a file more is opened", spent)
+        if wrong:
+            sys.exit("something is wrong with a file more: %s" % wrong[:1])
+        spent, _ = timed(lambda: client.close(uri))
+        self.note(program, "that file is closed", spent)
+
     def serve(self, program, is_last):
         """A session in which all files are opened, and asked about. The last one goes on, and tells the memory that it takes."""
         client = Client(program)
@@ -230,9 +248,10 @@ class Project:
         spent, _ = timed(lambda: client.open_all(frames))
         self.note(program, "opening all files one after the other", spent)
         text, schema = self.files[OPERATIONS], self.files[SCHEMA]
-        for what, method, params in questions(self.uri[OPERATIONS], text):
+        asked = {what: (method, params) for what, method, params in questions(self.uri[OPERATIONS], text)}
+        for what, question in asked.items():
             for _ in range(ASKED):
-                spent, answer = timed(lambda: client.ask(method, params))
+                spent, answer = timed(lambda: client.ask(*question))
                 if not answer.get("result"):
                     sys.exit("no answer to %s: %s" % (what, str(answer)[:300]))
                 self.note(program, what, spent)
@@ -240,12 +259,18 @@ class Project:
         for _ in range(100 if is_last else ASKED):
             self.type(program, client, OPERATIONS, "a keystroke in a file of operations", brace)
         for _ in range(ASKED):
+            self.type(program, client, OPERATIONS, "a keystroke in a file of operations", brace)
+            spent, _ = timed(lambda: client.ask(*asked[BEHIND]))
+            self.note(program, BEHIND + ", right behind a keystroke", spent)
+        for _ in range(ASKED):
+            self.tab(program, client)
+        for _ in range(ASKED):
             self.type(program, client, SCHEMA, "a space in the schema", schema.index("{"))
         for _ in range(ASKED):
             self.type(program, client, SCHEMA, "a field in the schema, or none", schema.index("{") + 1, FIELD)
         if is_last:
             for _ in range(20):
-                client.ask(method, params)
+                client.ask(*asked["code actions"])
             self.note(program, MEMORY, client.memory())
         client.end()
 
@@ -264,7 +289,7 @@ class Project:
 
 
 def questions(uri, text):
-    """What is asked about a file of operations: of each its name, its method and its parameters. Code actions are the last."""
+    """What is asked about a file of operations: of each its name, its method and its parameters."""
     brace = text.index("{", text.index("fragment F0_0"))
     start, end = text.index("id", brace), text.index("size", brace)
 
