@@ -13,7 +13,7 @@ use Rattle.gq_tree.specs.Plain.{NameOf, Def, operation, fragment, type_system}
 use Rattle.gq_tree.specs.Readings.{ParsedOf, definitions_read, in_document}
 use Rattle.gq_types.specs.Entries.{Text}
 use Rattle.gq_index.specs.declared.files.File.{File}
-use Rattle.gq_index.specs.declared.index.Variables.{Variables}
+use Rattle.gq_index.proofs.VariableLemmas.{SharedVariables}
 use Rattle.gq_index.specs.declared.occurrence.Occurrence.{Occurrence}
 use Rattle.gq_index.specs.Occurrences.{DefinitionOf, executable_in, executables, is_operation, fragment_name, spreads_in, place_of, called, occurrences_of, fragment_definitions, fragment_spreads, fragment_occurrences, definition_places}
 use Rattle.gq_index.specs.Parts.{PartOf, part_of, part_in, parts_in}
@@ -68,7 +68,7 @@ part_there [] n d at = absurd (none-some d at)
 part_there (e ∷ ds) zero d at = ap (λ (x : DefinitionOf). Some (part_at x)) (same_Some e d at)
 part_there (e ∷ ds) (suc n) d at = part_there ds n d at
 
-pub variables_same : (ds : List DefinitionOf) (vs : List Variables) → AreVariablesAt (parts_at ds) vs → AreVariables ds vs
+pub variables_same : (ds : List DefinitionOf) (vs : List SharedVariables) → AreVariablesAt (parts_at ds) vs → AreVariables ds vs
 variables_same ds vs are = record {
   count = are.count ∙ length-map ds part_at;
   each = λ n d v at there. let one = are.each n (part_at d) v (part_there ds n d at) there in record { uses = one.uses; definitions = one.definitions };

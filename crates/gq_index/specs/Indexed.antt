@@ -1,5 +1,8 @@
 -- What an index of a project holds.
 use Rattle.std.specs.Prelude.{◌≡◌, ◌↔◌, ℕ, List, Some, Contains, length, map, slice_get}
+use Rattle.std.specs.Arc.{arc_value}
+use Rattle.std.specs.declared.alloc.Global.{Global}
+use Rattle.std.specs.declared.sync.Arc.{Arc}
 use Rattle.gq_names.specs.UnderNames.{items_under}
 use Rattle.gq_project.specs.declared.document.Doc.{Doc}
 use Rattle.gq_graph.specs.Reach.{row}
@@ -21,9 +24,9 @@ pub record AreVariablesOf (d : DefinitionOf) (v : Variables) : Type 0 where
   pub definitions : (text : Text) → items_under v.definitions text ≡ definitions_in d.definition text
 
 -- those of all definitions, one after the other
-pub record AreVariables (ds : List DefinitionOf) (vs : List Variables) : Type 0 where
+pub record AreVariables (ds : List DefinitionOf) (vs : List (Arc Variables Global)) : Type 0 where
   pub count : length vs ≡ length ds
-  pub each : (n : ℕ) (d : DefinitionOf) (v : Variables) → slice_get ds n ≡ Some d → slice_get vs n ≡ Some v → AreVariablesOf d v
+  pub each : (n : ℕ) (d : DefinitionOf) (v : Arc Variables Global) → slice_get ds n ≡ Some d → slice_get vs n ≡ Some v → AreVariablesOf d (arc_value v)
 
 -- what the tables hold of these definitions
 pub record AreTablesOf (ds : List DefinitionOf) (tables : Tables) : Type 0 where

@@ -1,11 +1,15 @@
 -- What the code's definitions and parts stand for.
 use Rattle.std.specs.Prelude.{List, map}
+use Rattle.std.specs.Arc.{arc_value}
+use Rattle.std.specs.declared.alloc.Global.{Global}
+use Rattle.std.specs.declared.sync.Arc.{Arc}
 use Rattle.gq_text.specs.declared.place.Span.{Span}
 use Rattle.gq_tree.specs.declared.tree.Name.{Name}
 use Rattle.gq_tree.specs.Plain.{NameOf}
 use Rattle.gq_tree.specs.Views.{name_of, def_view}
 use Rattle.gq_index.specs.declared.definitions.Executable.{Executable}
-use Rattle.gq_index.specs.declared.parts.Part.{Part}
+use Rattle.gq_index.specs.declared.part.Part.{Part}
+use Rattle.gq_index.specs.declared.parts.Parts.{Parts}
 use Rattle.gq_index.specs.declared.files.File.{File}
 use Rattle.gq_index.specs.Occurrences.{DefinitionOf}
 use Rattle.gq_index.specs.Parts.{PartOf}
@@ -32,6 +36,12 @@ part_view p = record {
 abbrev pub parts_view : List Part → List PartOf
 parts_view parts = map part_view parts
 
--- the parts that are kept of a document
+-- the parts that are kept of a document, and of each of several
+abbrev pub parts_held : Parts → List PartOf
+parts_held p = parts_view p.parts.items
+
+abbrev pub parts_shared : List (Arc Parts Global) → List (List PartOf)
+parts_shared all = map (λ p. parts_held (arc_value p)) all
+
 abbrev pub parts_kept : File → List PartOf
-parts_kept file = parts_view file.parts.items
+parts_kept file = parts_held (arc_value file.parts)

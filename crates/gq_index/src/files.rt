@@ -1,19 +1,19 @@
 //! What an index keeps of each document, in the order of the keys.
-ghost use Rattle.std.specs.Prelude.{◌≡◌, ◌<◌, ◌≤◌, IfOk, OnOk, OnErr, length, remove, slice_set};
+ghost use Rattle.std.specs.Arc.{arc_value};
+ghost use Rattle.std.specs.Prelude.{◌≡◌, ◌<◌, ◌≤◌, List, IfOk, OnOk, OnErr, length, map, remove, slice_set};
 ghost use Rattle.std.specs.List.{insert};
 ghost use Rattle.std.specs.List.Sorted.{IsBinarySearchResult, IsSearchInRange};
 ghost use Rattle.std.specs.Cmp.Lexicographic.{slice_cmp};
 ghost use Rattle.std.specs.Ordering.{nat_cmp};
-ghost use Rattle.gq_tree.specs.Readings.{parsed_view, readings_view};
+ghost use Rattle.gq_tree.specs.Readings.{ParsedOf};
 ghost use Rattle.gq_parse.specs.Parsed.{AreParsed};
 ghost use Rattle.gq_index.specs.Indexed.{AreFilesOf};
 ghost use Rattle.gq_index.specs.Parts.{parts_in};
-ghost use Rattle.gq_index.specs.Views.{parts_kept};
+ghost use Rattle.gq_index.specs.Views.{parts_held, parts_kept, parts_shared};
 
-use crate::parts::{Part, parts_in};
+use crate::parts::Parts;
 use gq_project::Doc;
 use gq_text::{NoMemory, OwnedText};
-use gq_tree::Parsed;
 use std::alloc::Global;
 use std::marker::Model;
 use std::sync::Arc;
@@ -22,7 +22,7 @@ use std::sync::Arc;
 #[derive(Drop)]
 pub struct File {
     pub(crate) key: OwnedText,
-    pub(crate) parts: Vec<Part>,
+    pub(crate) parts: Arc<Parts>,
 }
 
 /// What an index keeps of each document, in the order of the keys.
@@ -41,30 +41,32 @@ impl Model for Files {
 }
 
 impl File {
-    /// What is kept of the document of that key, which is read so.
-    pub(crate) fn of(alloc: Global, key: &str, reading: &Parsed) -> Result<File, NoMemory>
+    /// What is kept of the document of that key.
+    pub(crate) fn of(alloc: Global, key: &str, parts: Arc<Parts>) -> Result<File, NoMemory>
         ensures key { IfOk result (λ file. file.key ≡ key.now) }
-        ensures parts { IfOk result (λ file. parts_kept file ≡ parts_in (parsed_view reading.now)) }
+        ensures parts { IfOk result (λ file. parts_kept file ≡ parts_held (arc_value parts)) }
     {
         Ok(File {
             key: OwnedText::from_str(alloc, key)?,
-            parts: parts_in(alloc, reading)?,
+            parts,
         })
     }
 }
 
 impl Files {
-    /// What is kept of these documents, which are read so.
+    /// What is kept of these documents, one for each.
     pub(crate) fn of(
         alloc: Global,
         documents: &[Doc],
-        readings: &[Arc<Parsed>],
+        parts: &[Arc<Parts>],
     ) -> Result<Files, NoMemory>
-        ensures { IfOk result (λ files. AreParsed documents.now (readings_view readings.now) → AreFilesOf documents.now (readings_view readings.now) files) }
+        ensures { IfOk result (λ files. (readings : List ParsedOf) → AreParsed documents.now readings → parts_shared parts.now ≡ map parts_in readings
+            → AreFilesOf documents.now readings files) }
     {
         let mut files = Vec::with_capacity(alloc, documents.len())?;
-        for (document, reading) in documents.iter().zip(readings) {
-            files.push(File::of(alloc, document.key.as_str(), reading)?)?;
+        for (document, one) in documents.iter().zip(parts) {
+            let shared = Arc::try_clone(one)?;
+            files.push(File::of(alloc, document.key.as_str(), shared)?)?;
         }
         Ok(Files { files })
     }

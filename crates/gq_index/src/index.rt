@@ -6,6 +6,7 @@ use crate::files::Files;
 use crate::occurrence::Occurrence;
 use gq_names::ByName;
 use gq_text::Span;
+use std::sync::Arc;
 
 /// The places of the variables of one definition, by their names.
 #[derive(Drop)]
@@ -25,7 +26,8 @@ pub struct Tables {
     pub(crate) occurrences: ByName<Occurrence>,
     /// Where each definition stands.
     pub(crate) places: Vec<Occurrence>,
-    pub(crate) variables: Vec<Variables>,
+    /// The variables of each definition, shared with what is kept of its document.
+    pub(crate) variables: Vec<Arc<Variables>>,
     /// For each definition, the fragments that it spreads.
     pub(crate) spread_in: Vec<Vec<usize>>,
     /// For each definition, those that spread it.

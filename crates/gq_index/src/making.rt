@@ -1,16 +1,17 @@
 //! The index of a project.
 ghost use Rattle.std.specs.Prelude.{◌≡◌, ◌++◌, IfOk, List, OnOk, map};
 ghost use Rattle.gq_parse.specs.Parsed.{AreParsed};
-ghost use Rattle.gq_tree.specs.Readings.{readings_view};
+ghost use Rattle.gq_tree.specs.Readings.{ParsedOf, readings_view};
 ghost use Rattle.gq_index.specs.Helping.Made.{AreTablesFor};
-ghost use Rattle.gq_index.specs.Helping.PlacedParts.{AreVariablesIn, AreVariablesAt, placed_view, parts_at};
+ghost use Rattle.gq_index.specs.Helping.PlacedParts.{AreVariablesAt, placed_view, parts_at};
 ghost use Rattle.gq_index.specs.Indexed.{AreTablesOf, IsIndexOfProject};
 ghost use Rattle.gq_index.specs.Occurrences.{DefinitionOf};
-ghost use Rattle.gq_index.specs.Views.{part_view};
+ghost use Rattle.gq_index.specs.Parts.{parts_in};
+ghost use Rattle.gq_index.specs.Views.{parts_shared};
 
 use crate::files::{File, Files};
 use crate::index::{Index, Tables, Variables};
-use crate::parts::Part;
+use crate::parts::{Parts, all_kept};
 use crate::placed::{Placed, all_parts};
 use crate::places::{
     definition_places, fragment_definitions, fragment_occurrences, fragment_spreads, places_of,
@@ -24,23 +25,13 @@ use gq_tree::Parsed;
 use std::alloc::Global;
 use std::sync::Arc;
 
-/// The places of the variables of a part.
-fn variables_of(alloc: Global, part: &Part) -> Result<Variables, NoMemory>
-    ensures { IfOk result (λ variables. AreVariablesIn (part_view part.now) variables) }
-{
-    Ok(Variables {
-        uses: places_of(alloc, &part.used)?,
-        definitions: places_of(alloc, &part.defined)?,
-    })
-}
-
-/// Those of each part.
-fn all_variables(alloc: Global, parts: &[Placed<'_>]) -> Result<Vec<Variables>, NoMemory>
+/// The variables of each part.
+fn all_variables(alloc: Global, parts: &[Placed<'_>]) -> Result<Vec<Arc<Variables>>, NoMemory>
     ensures { IfOk result (λ all. AreVariablesAt (placed_view parts.now) all.items) }
 {
     let mut all = Vec::new(alloc);
     for one in parts {
-        all.push(variables_of(alloc, one.part)?)?;
+        all.push(Arc::try_clone(&one.part.variables)?)?;
     }
     Ok(all)
 }
@@ -111,7 +102,21 @@ impl Index {
     ) -> Result<Index, NoMemory>
         ensures { IfOk result (λ index. AreParsed documents.now (readings_view readings.now) → IsIndexOfProject documents.now index) }
     {
-        let files = Files::of(alloc, documents, readings)?;
+        let parts = all_kept(alloc, readings)?;
+        let index = Index::of_parts(alloc, documents, &parts)?;
+        Ok(index)
+    }
+
+    /// The index of documents of which this is kept, one for each. No tree is gone over.
+    pub fn of_parts(
+        alloc: Global,
+        documents: &[Doc],
+        parts: &[Arc<Parts>],
+    ) -> Result<Index, NoMemory>
+        ensures { IfOk result (λ index. (readings : List ParsedOf) → AreParsed documents.now readings → parts_shared parts.now ≡ map parts_in readings
+            → IsIndexOfProject documents.now index) }
+    {
+        let files = Files::of(alloc, documents, parts)?;
         let tables = tables_of(alloc, files.as_slice(), &[], &[])?;
         Ok(Index { tables, files })
     }

@@ -12,6 +12,7 @@ ghost use Rattle.gq_index.specs.Indexed.{IsIndexOfProject};
 use crate::files::File;
 use crate::index::Index;
 use crate::making::tables_of;
+use crate::parts::Parts;
 use gq_parse::reader::read_text;
 use gq_project::Doc;
 use gq_text::NoMemory;
@@ -39,7 +40,8 @@ impl Index {
             IsInOrder documents → IsIndexOfProject documents self.old → IsIndexOfProject (with_doc documents doc) self.new) }
         ensures err { OnErr result (self.new ≡ self.old) }
     {
-        let file = File::of(alloc, key, reading)?;
+        let parts = Parts::shared_of(alloc, reading)?;
+        let file = File::of(alloc, key, parts)?;
         match self.files.place_or_gap(key) {
             Ok(at) => self.replace_at(alloc, at, file),
             Err(at) => self.insert_at(alloc, at, file),

@@ -4,7 +4,7 @@ ghost use Rattle.gq_index.specs.Helping.PlacedParts.{placed_view, placed, placed
 ghost use Rattle.gq_index.specs.Views.{parts_view, parts_kept};
 
 use crate::files::File;
-use crate::parts::Part;
+use crate::part::Part;
 use gq_text::NoMemory;
 use std::alloc::Global;
 
@@ -22,7 +22,7 @@ pub(crate) fn all_parts<'a>(alloc: Global, files: &[&'a File]) -> Result<Vec<Pla
 {
     let mut all = Vec::new(alloc);
     for (number, file) in files.iter().enumerate() {
-        put_parts(number, &file.parts, &mut all)?;
+        put_parts(number, &file.parts.parts, &mut all)?;
     }
     Ok(all)
 }

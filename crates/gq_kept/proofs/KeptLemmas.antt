@@ -66,11 +66,12 @@ module _ (documents : List Doc) (readings : List SharedParsed) (typed : Typed) (
   kept_count : length documents ≡ length readings
   kept_count = ∥∥₁_elim kept.known (ℕ_set _ _) (λ known. as_many known.are_readings ∙ length-map readings shared_view)
 
-  pub kept_indexed : (made : Index) → (AreParsed documents (readings_view readings) → IsIndexOfProject documents made) → AreKept documents readings typed found (Some made)
-  kept_indexed made of = record {
+  pub kept_indexed : (others : ByDocument) (made : Index) → (AreByDocument (types_view typed.types) (readings_view readings) found → AreByDocument (types_view typed.types) (readings_view readings) others)
+      → (AreParsed documents (readings_view readings) → AreByDocument (types_view typed.types) (readings_view readings) found → IsIndexOfProject documents made) → AreKept documents readings typed others (Some made)
+  kept_indexed others made goes_on of = record {
     known = kept.known;
-    owned = kept.owned;
-    indexed = ∥∥₁_map kept.known (λ known. of known.are_readings);
+    owned = ∥∥₁_map kept.owned goes_on;
+    indexed = both_known kept.known kept.owned (λ known owned. of known.are_readings owned);
   }
 
   -- more is known of the files each by itself

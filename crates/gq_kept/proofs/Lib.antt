@@ -4,10 +4,12 @@ pub mod FieldLemmas
 pub mod FieldListsLemmas
 pub mod FieldNamesLemmas
 pub mod GatheredLemmas
+pub mod HeldLemmas
 pub mod IndexLemmas
 pub mod JudgingLemmas
 pub mod KeptLemmas
 pub mod KnownLemmas
+pub mod NotedLemmas
 pub mod RemadeLemmas
 pub mod SamenessLemmas
 pub mod TypesLemmas

@@ -3,7 +3,9 @@ pub mod ByDocument
 pub mod Facts
 pub mod Gathered
 pub mod Gone
+pub mod Held
 pub mod Judgements
+pub mod Noted
 pub mod ReadsOn
 pub mod Selected
 pub mod Texts

@@ -1,4 +1,4 @@
-//! What is known of the faults of documents, each by itself and together, and of the fields that are selected in each.
+//! What is known of the faults of documents, each by itself and together, and what else was made of each.
 ghost use Rattle.std.specs.Prelude.{◌≡◌, ◌↔◌, ◌⊎◌, ◌≤◌, false, Contains, List, IfOk, length, remove, slice_set};
 ghost use Rattle.std.specs.List.{insert};
 ghost use Rattle.gq_tree.specs.Readings.{ParsedOf, readings_view, shared_view};
@@ -10,19 +10,22 @@ ghost use Rattle.gq_by_file.specs.OneFile.Laws.{AreAlikeToRules};
 ghost use Rattle.gq_kept.specs.Helping.ByDocument.{AreByDocument, AreByDocumentOver};
 
 use crate::field_lists::FieldLists;
+use crate::noted::Noted;
 use gq_by_file::ByFile;
 use gq_fault::Fault;
+use gq_index::Parts;
 use gq_text::NoMemory;
 use gq_tree::Parsed;
 use gq_types::Types;
 use std::alloc::Global;
 use std::sync::Arc;
 
-/// What is known of documents: their faults, and the fields that are selected in them.
+/// What is known of documents: their faults, the fields that are selected in each, and what an index keeps of each.
 #[derive(Drop)]
 pub(crate) struct ByDocument {
     pub(crate) faults: ByFile,
     pub(crate) fields: FieldLists,
+    pub(crate) parts: Noted<Arc<Parts>>,
 }
 
 impl ByDocument {
@@ -33,6 +36,7 @@ impl ByDocument {
         ByDocument {
             faults: ByFile::new(alloc),
             fields: FieldLists::new(alloc),
+            parts: Noted::new(alloc),
         }
     }
 
@@ -65,6 +69,7 @@ impl ByDocument {
     {
         self.faults.replace(alloc, at, reading, changes_types);
         self.fields.replace(at);
+        self.parts.forget(at);
     }
 
     /// The same where a document is put in at that place. Of fields, what is known of the documents before it stays.
@@ -80,6 +85,7 @@ impl ByDocument {
     {
         self.faults.make_room(alloc, at, reading, changes_types);
         self.fields.keep_before(at);
+        self.parts.make_room(at);
     }
 
     /// The same where the document at that place is taken out.
@@ -89,5 +95,6 @@ impl ByDocument {
     {
         self.faults.close_room(alloc, at, changes_types);
         self.fields.keep_before(at);
+        self.parts.close_room(at);
     }
 }

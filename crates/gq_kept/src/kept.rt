@@ -13,6 +13,7 @@ ghost use Rattle.gq_kept.specs.Helping.Gone.{AreGone, AreDropped, IsPut, ArePut}
 
 use crate::alike::changes_types;
 use crate::by_document::ByDocument;
+use crate::held::all_parts;
 use crate::indexed::{forget_unless, stays_indexed};
 use crate::judged::Judged;
 use crate::judging::report_if_any;
@@ -53,7 +54,7 @@ pub struct Kept {
     /// What the documents read as, one for each, in their order.
     readings: Vec<Arc<Parsed>>,
     typed: Typed,
-    /// What is known of the faults of documents, each by itself and together.
+    /// What is known of documents, each by itself and together.
     found: ByDocument,
     index: Option<Index>,
     past: Past,
@@ -428,14 +429,15 @@ impl Kept {
         Ok(())
     }
 
-    /// Makes the index, where there is none.
+    /// Makes the index, where there is none, of what is kept for it of each document. No tree is gone over but those of documents that came or changed.
     pub fn make_index(&mut self, alloc: Global) -> Result<(), NoMemory>
         ensures ok { OnOk result (self.new ≡ record self.old { is_indexed = true }) }
         ensures err { OnErr result (self.new ≡ self.old) }
     {
         if self.index.is_none() {
             let documents = self.judged.project().documents();
-            let index = Index::of_readings(alloc, documents, &self.readings)?;
+            let parts = all_parts(alloc, &self.readings, &mut self.found.parts)?;
+            let index = Index::of_parts(alloc, documents, &parts)?;
             self.index = Some(index);
         }
         Ok(())

@@ -1,15 +1,18 @@
 -- Parts of all documents, and what the tables hold of them, computed.
 use Rattle.std.specs.Prelude.{◌≡◌, ℕ, ◌+◌, Bool, List, [], ◌∷◌, ◌++◌, Some, length, map, slice_get}
+use Rattle.std.specs.Arc.{arc_value}
 use Rattle.std.specs.List.{flat_map}
+use Rattle.std.specs.declared.alloc.Global.{Global}
+use Rattle.std.specs.declared.sync.Arc.{Arc}
 use Rattle.gq_text.specs.declared.place.Span.{Span}
-use Rattle.gq_names.specs.UnderNames.{items_under}
 use Rattle.gq_tree.specs.Plain.{NameOf}
 use Rattle.gq_types.specs.Entries.{Text}
 use Rattle.gq_index.specs.declared.index.Variables.{Variables}
 use Rattle.gq_index.specs.declared.occurrence.Occurrence.{Occurrence}
 use Rattle.gq_index.specs.declared.placed.Placed.{Placed}
 use Rattle.gq_index.specs.Parts.{PartOf, part_of}
-use Rattle.gq_index.specs.Occurrences.{DefinitionOf, occurrences_of, places_called}
+use Rattle.gq_index.specs.Occurrences.{DefinitionOf, occurrences_of}
+use Rattle.gq_index.specs.Helping.PartVariables.{AreVariablesNamed}
 use Rattle.gq_index.specs.Views.{part_view}
 
 -- a part, and the number of its document
@@ -58,12 +61,7 @@ places_at ps = map (λ p. record { file = p.file; span = p.part.place }) ps
 abbrev pub operations_at : List PartAt → List Bool
 operations_at ps = map (λ p. p.part.is_operation) ps
 
--- the places of the variables of a part, by their names
-pub record AreVariablesIn (p : PartOf) (v : Variables) : Type 0 where
-  pub uses : (text : Text) → items_under v.uses text ≡ places_called text p.used
-  pub definitions : (text : Text) → items_under v.definitions text ≡ places_called text p.defined
-
--- those of all parts, one after the other
-pub record AreVariablesAt (ps : List PartAt) (vs : List Variables) : Type 0 where
+-- the variables of all parts, one after the other
+pub record AreVariablesAt (ps : List PartAt) (vs : List (Arc Variables Global)) : Type 0 where
   pub count : length vs ≡ length ps
-  pub each : (n : ℕ) (p : PartAt) (v : Variables) → slice_get ps n ≡ Some p → slice_get vs n ≡ Some v → AreVariablesIn p.part v
+  pub each : (n : ℕ) (p : PartAt) (v : Arc Variables Global) → slice_get ps n ≡ Some p → slice_get vs n ≡ Some v → AreVariablesNamed p.part.used p.part.defined (arc_value v)

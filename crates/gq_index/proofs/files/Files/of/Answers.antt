@@ -5,11 +5,13 @@ use Rattle.std.proofs.lemmas.List.{map-append}
 use Rattle.std.proofs.lemmas.Iterator.{YieldsList-from_slice, YieldsList-from_zip}
 use Rattle.std.proofs.lemmas.Iterator.Consumers.{YieldsList-end}
 use Rattle.gq_project.specs.declared.document.Doc.{Doc}
-use Rattle.gq_tree.specs.declared.parsed.Parsed.{Parsed}
-use Rattle.gq_tree.specs.Readings.{SharedParsed, parsed_view}
-use Rattle.gq_index.specs.Parts.{parts_in}
+use Rattle.gq_tree.specs.Readings.{ParsedOf}
+use Rattle.gq_parse.specs.Parsed.{AreParsed}
 use Rattle.gq_index.specs.declared.files.File.{File}
-use Rattle.gq_index.proofs.FileLemmas.{AreKept, kept_none, kept_more, kept_all}
+use Rattle.gq_index.specs.declared.parts.Parts.{Parts}
+use Rattle.gq_index.specs.Parts.{parts_in}
+use Rattle.gq_index.specs.Views.{parts_held, parts_shared}
+use Rattle.gq_index.proofs.FileLemmas.{AreKept, SharedParts, kept_none, kept_more, kept_all}
 use Rattle.gq_index.proofs.files.Files.of.Goals as goal
 
 pub loop-document-init : goal.loop-document-init
@@ -18,17 +20,17 @@ loop-document-init c = subst (λ (files : List File). AreKept [] files) (sym c.i
 pub loop-document-preserved : goal.loop-document-preserved
 loop-document-preserved c =
     let document = c.in-Some.document in
-    let reading = c.in-Some.reading in
+    let one = c.in-Some.one in
     let file = c.in_ok-of.field-0 in
     let before = c.loop-document.yielded in
-    subst (λ (ps : List (Doc × SharedParsed)). AreKept ps c.push.new.self.items) (sym {A = List (Doc × SharedParsed)} (map-append deref_pair before ((document, reading) ∷ [])))
-    (subst (λ (files : List File). AreKept (map deref_pair before ++ (document.now, reading.now) ∷ []) files) (sym {A = List File} c.in_ok-push.ensures.items)
-    (kept_more (map deref_pair before) c.loop-document.files.items (document.now, reading.now) file (c.in_ok-of.ensures.key ∙ c.as_str.ensures) (c.in_ok-of.ensures.parts ∙ ap (λ (r : Parsed). parts_in (parsed_view r)) c.deref.ensures) c.loop-document.invariant))
+    subst (λ (ps : List (Doc × SharedParts)). AreKept ps c.push.new.self.items) (sym {A = List (Doc × SharedParts)} (map-append deref_pair before ((document, one) ∷ [])))
+    (subst (λ (files : List File). AreKept (map deref_pair before ++ (document.now, one.now) ∷ []) files) (sym {A = List File} c.in_ok-push.ensures.items)
+    (kept_more (map deref_pair before) c.loop-document.files.items (document.now, one.now) file (c.in_ok-of.ensures.key ∙ c.as_str.ensures) (c.in_ok-of.ensures.parts ∙ ap (λ (p : Parts). parts_held p) c.in_ok-shared.ensures) c.loop-document.invariant))
 
 pub returns : goal.returns
-returns c =
+returns c readings are same =
     let documents : List Doc = c.args.documents.now in
-    let readings : List SharedParsed = c.args.readings.now in
+    let parts : List SharedParts = c.args.parts.now in
     let files : List File = c.loop-document.files.items in
-    let t = YieldsList-end (YieldsList-from_zip (YieldsList-from_slice documents (cc)) (YieldsList-from_slice readings (cc))) c.loop-document.yielded c.loop-document.document-iterator c.loop-document.yielded_by c.next.result c.next.new.self c.in-None.is c.next.ensures.steps in
-    kept_all documents readings files (subst (λ (ps : List (Doc × SharedParsed)). AreKept ps files) t.0 c.loop-document.invariant)
+    let t = YieldsList-end (YieldsList-from_zip (YieldsList-from_slice documents (cc)) (YieldsList-from_slice parts (cc))) c.loop-document.yielded c.loop-document.document-iterator c.loop-document.yielded_by c.next.result c.next.new.self c.in-None.is c.next.ensures.steps in
+    kept_all documents parts readings files (subst (λ (ps : List (Doc × SharedParts)). AreKept ps files) t.0 c.loop-document.invariant) are same
