@@ -6,6 +6,7 @@ ghost use Rattle.gq_kept.specs.Helping.Unindexed.{AddNothing};
 
 use gq_index::Index;
 use gq_tree::{Definition, Parsed};
+use std::mem;
 use std::sync::Arc;
 
 /// Whether it is an operation or a fragment.
@@ -51,11 +52,13 @@ pub(crate) fn stays_indexed(readings: &[Arc<Parsed>], at: usize, after: &Arc<Par
     !has_executables(&readings[at]) && !has_executables(after)
 }
 
-/// Forgets the index, where it does not stay what it is.
-pub(crate) fn forget_unless(stays: bool, index: &mut Option<Index>)
+/// Takes the index away, where it does not stay what it is, and answers it.
+pub(crate) fn forget_unless(stays: bool, index: &mut Option<Index>) -> Option<Index>
     ensures { index.new ≡ (if stays then index.old else None) }
 {
-    if !stays {
-        *index = None;
+    if stays {
+        None
+    } else {
+        mem::replace(index, None)
     }
 }

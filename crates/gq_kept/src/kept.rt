@@ -78,6 +78,7 @@ impl Drop for Kept {
 struct Past {
     types: Option<Was>,
     reading: Option<Arc<Parsed>>,
+    index: Option<Index>,
 }
 
 impl Model for Kept {
@@ -113,6 +114,7 @@ impl Kept {
             past: Past {
                 types: None,
                 reading: None,
+                index: None,
             },
         })
     }
@@ -207,8 +209,12 @@ impl Kept {
         let forgets = is_forgotten(changes, unseen);
         self.found.replace(alloc, at, &reading, forgets);
         let reading = Some(write_over(&mut self.readings, at, reading));
-        self.past = Past { types, reading };
-        forget_unless(stays, &mut self.index);
+        let index = forget_unless(stays, &mut self.index);
+        self.past = Past {
+            types,
+            reading,
+            index,
+        };
         Ok(())
     }
 
@@ -219,6 +225,7 @@ impl Kept {
         self.past = Past {
             types: None,
             reading: None,
+            index: None,
         };
     }
 
@@ -341,6 +348,7 @@ impl Kept {
             past: Past {
                 types: None,
                 reading: None,
+                index: None,
             },
         };
         Ok(())

@@ -85,7 +85,7 @@ invariant_of-self-2 c =
     let there : slice_get (readings_view given) c.args.at ≡ Some (shared_view was) =
     slice_get-map shared_view given c.args.at ∙ ap (option_map shared_view) (slice_get_read given (length given) c.args.at was refl within c.index-readings-at.is) in
     let told = told_of_both c.args.at (shared_view was) changes is_made (c.documents-documents.ensures.all ∙ c.project.ensures ∙ same) c.as_str-text.ensures c.changes_types-changes.ensures in
-    rw (ap (λ (j : JudgedOf). j.documents) c.in_ok-put.ensures.ok, c.write_over.ensures, c.forget_unless.ensures)
+    rw (ap (λ (j : JudgedOf). j.documents) c.in_ok-put.ensures.ok, c.write_over.ensures, c.forget_unless-index.ensures)
     (kept_replaced _ _ _ _ _ c.self.invariant c.args.self.now.documents given same is c.args.at c.args.doc c.args.reading c.retype.new.typed c.replace.new.self changes
     c.requires.place c.requires.parsed
     (λ read parsed types. c.in_ok-types.ensures.ok
