@@ -2,6 +2,7 @@ pub mod GroupLemmas
 pub mod VariableLemmas
 pub mod PartLemmas
 pub mod SpreadLemmas
+pub mod StandLemmas
 pub mod GroupMeaning
 pub mod SharedLemmas
 pub mod Parallel

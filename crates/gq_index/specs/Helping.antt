@@ -5,3 +5,4 @@ pub mod PartVariables
 pub mod PlacedParts
 pub mod Shared
 pub mod SpreadNumbers
+pub mod StandingParts

@@ -14,6 +14,7 @@ use Rattle.gq_index.specs.declared.index.Variables.{Variables}
 use Rattle.gq_index.specs.declared.index.Tables.{Tables}
 use Rattle.gq_index.specs.declared.index.Index.{Index}
 use Rattle.gq_index.specs.Parts.{parts_in}
+use Rattle.gq_index.specs.Standing.{stands}
 use Rattle.gq_index.specs.VariableGroups.{SpreadsFragment}
 use Rattle.gq_index.specs.Views.{parts_kept}
 use Rattle.gq_index.specs.Occurrences.{DefinitionOf, AreExecutables, is_operation, fragment_definitions, fragment_spreads, fragment_occurrences, definition_places, uses_in, definitions_in}
@@ -30,9 +31,9 @@ pub record AreVariables (ds : List DefinitionOf) (vs : List (Arc Variables Globa
 
 -- what the tables hold of these definitions
 pub record AreTablesOf (ds : List DefinitionOf) (tables : Tables) : Type 0 where
-  pub definitions : (text : Text) → items_under tables.definitions text ≡ fragment_definitions ds text
-  pub spreads : (text : Text) → items_under tables.spreads text ≡ fragment_spreads ds text
-  pub occurrences : (text : Text) → items_under tables.occurrences text ≡ fragment_occurrences ds text
+  pub definitions : (text : Text) → (stands tables.fragments text).definitions ≡ fragment_definitions ds text
+  pub spreads : (text : Text) → (stands tables.fragments text).spreads ≡ fragment_spreads ds text
+  pub occurrences : (text : Text) → (stands tables.fragments text).occurrences ≡ fragment_occurrences ds text
   pub places : tables.places.items ≡ definition_places ds
   pub variables : AreVariables ds tables.variables.items
   pub count : length tables.spread_in.items ≡ length ds

@@ -1,5 +1,6 @@
 -- What the code's definitions and parts stand for.
-use Rattle.std.specs.Prelude.{List, map}
+use Rattle.std.specs.Prelude.{List, [], ◌∷◌, Option, map}
+use Rattle.std.specs.Option.{option_map_or}
 use Rattle.std.specs.Arc.{arc_value}
 use Rattle.std.specs.declared.alloc.Global.{Global}
 use Rattle.std.specs.declared.sync.Arc.{Arc}
@@ -23,11 +24,15 @@ definitions_view es = map definition_view es
 abbrev pub names_view : List Name → List (NameOf Span)
 names_view names = map name_of names
 
+-- the name that a definition has, if it is a fragment
+abbrev pub own_names : Option Name → List (NameOf Span)
+own_names name = option_map_or (λ n. name_of n ∷ []) name []
+
 abbrev pub part_view : Part → PartOf
 part_view p = record {
   is_operation = p.is_operation;
   place = p.place;
-  own_name = names_view p.own_name.items;
+  own_name = own_names p.own_name;
   spreads = names_view p.spreads.items;
   used = names_view p.used.items;
   defined = names_view p.defined.items;

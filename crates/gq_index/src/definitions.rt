@@ -1,10 +1,10 @@
 //! The executable definitions of documents (GraphQL, October 2021, section 2.2).
 ghost use Rattle.std.specs.Prelude.{◌≡◌, ◌++◌, IfOk, OnOk, flat_map, length, map};
 ghost use Rattle.gq_tree.specs.Names.{names_at, spread_names};
-ghost use Rattle.gq_tree.specs.Views.{def_view, type_system_view};
+ghost use Rattle.gq_tree.specs.Views.{def_view, name_of, type_system_view};
 ghost use Rattle.gq_tree.specs.Readings.{definitions_read, in_document, parsed_view, readings_view};
 ghost use Rattle.gq_index.specs.Occurrences.{executable_in, executables, is_operation, fragment_name, spreads_in, place_of, type_system_place};
-ghost use Rattle.gq_index.specs.Views.{definitions_view};
+ghost use Rattle.gq_index.specs.Views.{definitions_view, own_names};
 
 use gq_text::{NoMemory, Span};
 use gq_tree::{Definition, Name, Parsed, TypeSystemDefinition, spread_names};
@@ -101,18 +101,28 @@ pub(crate) fn is_operation(definition: &Definition) -> bool
     matches!(definition, Definition::Operation(_))
 }
 
-/// The name that a fragment is defined under.
-pub(crate) fn fragment_name<'a>(
+/// A copy of the name that a fragment is defined under.
+pub(crate) fn fragment_name(
     alloc: Global,
-    definition: &'a Definition,
-) -> Result<Vec<&'a Name>, NoMemory>
-    ensures { IfOk result (λ names. names_at names.items ≡ fragment_name (def_view definition.now)) }
+    definition: &Definition,
+) -> Result<Option<Name>, NoMemory>
+    ensures { IfOk result (λ name. own_names name ≡ fragment_name (def_view definition.now)) }
 {
-    let mut names = Vec::new(alloc);
-    if let Definition::Fragment(fragment) = definition {
-        names.push(&fragment.name)?;
+    match definition {
+        Definition::Operation(_) => Ok(None),
+        Definition::Fragment(fragment) => Ok(Some(copy_of(alloc, &fragment.name)?)),
+        Definition::TypeSystem(_) => Ok(None),
     }
-    Ok(names)
+}
+
+/// A copy of a name.
+pub(crate) fn copy_of(alloc: Global, name: &Name) -> Result<Name, NoMemory>
+    ensures { IfOk result (λ copy. name_of copy ≡ name_of name.now) }
+{
+    Ok(Name {
+        text: name.text.copied(alloc)?,
+        span: name.span,
+    })
 }
 
 /// The names in the spreads of a definition, in the order of the text.

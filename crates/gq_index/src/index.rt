@@ -3,6 +3,7 @@ ghost use Rattle.std.specs.Prelude.{◌≡◌, length};
 ghost use Rattle.gq_graph.specs.Reach.{InRange};
 
 use crate::files::Files;
+use crate::fragments::Fragments;
 use crate::occurrence::Occurrence;
 use gq_names::ByName;
 use gq_text::Span;
@@ -20,10 +21,7 @@ pub struct Variables {
 /// An operation or fragment has a number: its place among all of them, in the order of documents and places, from 0.
 #[derive(Drop)]
 pub struct Tables {
-    pub(crate) definitions: ByName<Occurrence>,
-    pub(crate) spreads: ByName<Occurrence>,
-    /// The definitions and the spreads of each name, in the order of the texts.
-    pub(crate) occurrences: ByName<Occurrence>,
+    pub(crate) fragments: Fragments,
     /// Where each definition stands.
     pub(crate) places: Vec<Occurrence>,
     /// The variables of each definition, shared with what is kept of its document.

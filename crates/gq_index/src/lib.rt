@@ -3,6 +3,7 @@
 
 pub mod definitions;
 pub mod files;
+pub mod fragments;
 mod group;
 pub mod index;
 pub mod laws;
@@ -15,6 +16,7 @@ pub mod parts;
 mod placed;
 mod places;
 mod spreads;
+mod standing;
 mod variables;
 
 pub use definitions::{Executable, executables};

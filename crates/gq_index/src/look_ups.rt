@@ -12,14 +12,14 @@ impl Index {
     pub fn definitions(&self, name: &str) -> &[Occurrence]
         ensures { (ds : List DefinitionOf) → IsIndexOf ds self.now → result.now ≡ fragment_definitions ds name.now }
     {
-        self.tables.definitions.get(name)
+        self.tables.fragments.definitions(name)
     }
 
     /// Where the fragment of that name is spread: the places of its name, in the order of documents and places. It takes no memory.
     pub fn spreads(&self, name: &str) -> &[Occurrence]
         ensures { (ds : List DefinitionOf) → IsIndexOf ds self.now → result.now ≡ fragment_spreads ds name.now }
     {
-        self.tables.spreads.get(name)
+        self.tables.fragments.spreads(name)
     }
 
     /// Where the name of that fragment stands: the places of its name at its definitions and in its spreads, in the order of documents and places. It takes no
@@ -27,7 +27,7 @@ impl Index {
     pub fn occurrences(&self, name: &str) -> &[Occurrence]
         ensures { (ds : List DefinitionOf) → IsIndexOf ds self.now → result.now ≡ fragment_occurrences ds name.now }
     {
-        self.tables.occurrences.get(name)
+        self.tables.fragments.occurrences(name)
     }
 
     /// Where each operation and fragment stands, by its number: the place of all its tokens. It takes no memory.

@@ -13,10 +13,9 @@ use crate::files::{File, Files};
 use crate::index::{Index, Tables, Variables};
 use crate::parts::{Parts, all_kept};
 use crate::placed::{Placed, all_parts};
-use crate::places::{
-    definition_places, fragment_definitions, fragment_occurrences, fragment_spreads, places_of,
-};
+use crate::places::definition_places;
 use crate::spreads::{are_operations, spread_rows};
+use crate::standing::fragments_of;
 use gq_graph::transposed::transposed;
 use gq_parse::read_shared;
 use gq_project::{Doc, Project};
@@ -29,7 +28,7 @@ use std::sync::Arc;
 fn all_variables(alloc: Global, parts: &[Placed<'_>]) -> Result<Vec<Arc<Variables>>, NoMemory>
     ensures { IfOk result (λ all. AreVariablesAt (placed_view parts.now) all.items) }
 {
-    let mut all = Vec::new(alloc);
+    let mut all = Vec::with_capacity(alloc, parts.len())?;
     for one in parts {
         all.push(Arc::try_clone(&one.part.variables)?)?;
     }
@@ -41,12 +40,11 @@ fn all_variables(alloc: Global, parts: &[Placed<'_>]) -> Result<Vec<Arc<Variable
 fn made_of(alloc: Global, parts: &[Placed<'_>]) -> Result<Tables, NoMemory>
     ensures { IfOk result (λ tables. (ds : List DefinitionOf) → placed_view parts.now ≡ parts_at ds → AreTablesOf ds tables) }
 {
-    let spread_in = spread_rows(alloc, parts)?;
+    let fragments = fragments_of(alloc, parts)?;
+    let spread_in = spread_rows(alloc, parts, &fragments)?;
     let spreading = transposed(alloc, &spread_in)?;
     Ok(Tables {
-        definitions: fragment_definitions(alloc, parts)?,
-        spreads: fragment_spreads(alloc, parts)?,
-        occurrences: fragment_occurrences(alloc, parts)?,
+        fragments,
         places: definition_places(alloc, parts)?,
         variables: all_variables(alloc, parts)?,
         spread_in,

@@ -16,7 +16,7 @@ pub struct Part {
     /// The place of all its tokens.
     pub(crate) place: Span,
     /// The name that a fragment is defined under. For an operation there is none.
-    pub(crate) own_name: Vec<Name>,
+    pub(crate) own_name: Option<Name>,
     /// The names in its spreads, in the order of the text.
     pub(crate) spreads: Vec<Name>,
     /// The names of the variables that it uses, in the order of the text.

@@ -8,7 +8,7 @@ ghost use Rattle.gq_index.specs.Helping.PartVariables.{AreVariablesNamed};
 ghost use Rattle.gq_index.specs.Parts.{part_of, part_in, parts_in};
 ghost use Rattle.gq_index.specs.Views.{names_view, part_view, parts_view, parts_held, parts_shared};
 
-use crate::definitions::{fragment_name, is_operation, place_of, spreads_in};
+use crate::definitions::{copy_of, fragment_name, is_operation, place_of, spreads_in};
 use crate::index::Variables;
 use crate::part::Part;
 use crate::places::places_of;
@@ -43,10 +43,7 @@ impl Parts {
 }
 
 /// What is kept of each of these documents.
-pub(crate) fn all_kept(
-    alloc: Global,
-    readings: &[Arc<Parsed>],
-) -> Result<Vec<Arc<Parts>>, NoMemory>
+pub(crate) fn all_kept(alloc: Global, readings: &[Arc<Parsed>]) -> Result<Vec<Arc<Parts>>, NoMemory>
     ensures { IfOk result (λ all. parts_shared all.items ≡ map parts_in (readings_view readings.now)) }
 {
     let mut all = Vec::with_capacity(alloc, readings.len())?;
@@ -90,7 +87,6 @@ fn put_part(alloc: Global, definition: &Definition, parts: &mut Vec<Part>) -> Re
 fn part_of(alloc: Global, definition: &Definition) -> Result<Part, NoMemory>
     ensures { IfOk result (λ part. part_view part ≡ part_of (def_view definition.now)) }
 {
-    let own_name = fragment_name(alloc, definition)?;
     let spreads = spreads_in(alloc, definition)?;
     let used = copied(alloc, &used_variables(alloc, definition)?)?;
     let defined = copied(alloc, &defined_variables(alloc, definition)?)?;
@@ -98,7 +94,7 @@ fn part_of(alloc: Global, definition: &Definition) -> Result<Part, NoMemory>
     Ok(Part {
         is_operation: is_operation(definition),
         place: place_of(definition),
-        own_name: copied(alloc, &own_name)?,
+        own_name: fragment_name(alloc, definition)?,
         spreads: copied(alloc, &spreads)?,
         used,
         defined,
@@ -122,10 +118,7 @@ fn copied(alloc: Global, names: &[&Name]) -> Result<Vec<Name>, NoMemory>
 {
     let mut copies = Vec::with_capacity(alloc, names.len())?;
     for name in names {
-        copies.push(Name {
-            text: name.text.copied(alloc)?,
-            span: name.span,
-        })?;
+        copies.push(copy_of(alloc, name)?)?;
     }
     Ok(copies)
 }

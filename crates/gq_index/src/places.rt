@@ -1,9 +1,9 @@
 //! Names by their text, with the places where they stand.
-ghost use Rattle.std.specs.Prelude.{◌≡◌, ◌++◌, IfOk, OnOk};
+ghost use Rattle.std.specs.Prelude.{◌≡◌, IfOk};
 ghost use Rattle.gq_names.specs.UnderNames.{items_under};
 ghost use Rattle.gq_types.specs.Entries.{Text};
-ghost use Rattle.gq_index.specs.Helping.PlacedParts.{placed_view, definitions_at, spreads_at, names_at_all, places_at};
-ghost use Rattle.gq_index.specs.Occurrences.{occurrences_of, places_called};
+ghost use Rattle.gq_index.specs.Helping.PlacedParts.{placed_view, places_at};
+ghost use Rattle.gq_index.specs.Occurrences.{places_called};
 ghost use Rattle.gq_index.specs.Views.{names_view};
 
 use crate::occurrence::Occurrence;
@@ -24,64 +24,6 @@ pub(crate) fn places_of(alloc: Global, names: &[Name]) -> Result<ByName<Span>, N
     Ok(places)
 }
 
-/// Puts where these names of a document stand behind the others.
-fn put_occurrences(
-    file: usize,
-    names: &[Name],
-    occurrences: &mut ByName<Occurrence>,
-) -> Result<(), NoMemory>
-    ensures { OnOk result ((text : Text) → items_under occurrences.new text ≡ items_under occurrences.old text ++ occurrences_of file text (names_view names.now)) }
-{
-    for name in names {
-        let span = name.span;
-        occurrences.put(name.text.as_str(), Occurrence { file, span })?;
-    }
-    Ok(())
-}
-
-/// Where fragments are defined, by their names.
-pub(crate) fn fragment_definitions(
-    alloc: Global,
-    parts: &[Placed<'_>],
-) -> Result<ByName<Occurrence>, NoMemory>
-    ensures { IfOk result (λ all. (text : Text) → items_under all text ≡ definitions_at (placed_view parts.now) text) }
-{
-    let mut all = ByName::new(alloc);
-    for one in parts {
-        put_occurrences(one.file, &one.part.own_name, &mut all)?;
-    }
-    Ok(all)
-}
-
-/// Where fragments are spread, by their names.
-pub(crate) fn fragment_spreads(
-    alloc: Global,
-    parts: &[Placed<'_>],
-) -> Result<ByName<Occurrence>, NoMemory>
-    ensures { IfOk result (λ all. (text : Text) → items_under all text ≡ spreads_at (placed_view parts.now) text) }
-{
-    let mut all = ByName::new(alloc);
-    for one in parts {
-        put_occurrences(one.file, &one.part.spreads, &mut all)?;
-    }
-    Ok(all)
-}
-
-/// Where the names of fragments stand, at their definitions and in their spreads, by their texts.
-pub(crate) fn fragment_occurrences(
-    alloc: Global,
-    parts: &[Placed<'_>],
-) -> Result<ByName<Occurrence>, NoMemory>
-    ensures { IfOk result (λ all. (text : Text) → items_under all text ≡ names_at_all (placed_view parts.now) text) }
-{
-    let mut all = ByName::new(alloc);
-    for one in parts {
-        put_occurrences(one.file, &one.part.own_name, &mut all)?;
-        put_occurrences(one.file, &one.part.spreads, &mut all)?;
-    }
-    Ok(all)
-}
-
 /// Where each definition stands.
 pub(crate) fn definition_places(
     alloc: Global,
@@ -89,7 +31,7 @@ pub(crate) fn definition_places(
 ) -> Result<Vec<Occurrence>, NoMemory>
     ensures { IfOk result (λ all. all.items ≡ places_at (placed_view parts.now)) }
 {
-    let mut all = Vec::new(alloc);
+    let mut all = Vec::with_capacity(alloc, parts.len())?;
     for one in parts {
         all.push(Occurrence {
             file: one.file,

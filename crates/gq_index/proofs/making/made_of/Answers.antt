@@ -2,20 +2,29 @@
 use Rattle.std.proofs.Common.{◌≡◌, ℕ, Vec, Global, List, ◌∙◌, map, subst, ap}
 use Rattle.std.proofs.lemmas.List.{length-map}
 use Rattle.gq_graph.specs.Transposed.{Transposed}
-use Rattle.gq_index.specs.Helping.PlacedParts.{PartAt, part_at, parts_at, definitions_at, spreads_at, names_at_all, places_at, operations_at, AreVariablesAt}
-use Rattle.gq_index.specs.Helping.SpreadNumbers.{spread_rows}
+use Rattle.gq_types.specs.Entries.{Text}
+use Rattle.gq_index.specs.Helping.PlacedParts.{PartAt, part_at, parts_at, placed_view, definitions_at, spreads_at, names_at_all, places_at, operations_at, AreVariablesAt}
+use Rattle.gq_index.specs.Helping.SpreadNumbers.{fragment_numbers, spread_rows}
+use Rattle.gq_index.specs.Helping.StandingParts.{parts_stand}
+use Rattle.gq_index.specs.Standing.{StandsOf, stands}
 use Rattle.gq_index.proofs.PartLemmas.{definitions_same, spreads_same, names_same, places_same, operations_same, variables_same}
 use Rattle.gq_index.proofs.SpreadLemmas.{rows_count, rows_hold}
+use Rattle.gq_index.proofs.StandLemmas.{parts_are}
 use Rattle.gq_index.proofs.making.made_of.Goals as goal
+
+pub spread_rows-requires : goal.spread_rows-requires
+spread_rows-requires c text = ap (λ (s : StandsOf). s.numbers) (c.in_ok-fragments.ensures text ∙ parts_are 0 (placed_view c.args.parts.now) text)
 
 pub returns : goal.returns
 returns c ds are =
+    let stand : (text : Text) → stands c.in_ok-fragments.fragments text ≡ record { definitions = definitions_at (parts_at ds) text; spreads = spreads_at (parts_at ds) text; occurrences = names_at_all (parts_at ds) text; numbers = fragment_numbers 0 (parts_at ds) text } =
+    λ text. c.in_ok-fragments.ensures text ∙ ap (λ (ps : List PartAt). parts_stand 0 ps text) are ∙ parts_are 0 (parts_at ds) text in
     let rows = c.in_ok-spread_in.spread_in.items in
     let rows_are : map (λ v. v.items) rows ≡ spread_rows (parts_at ds) = c.in_ok-spread_in.ensures.rows ∙ ap (λ (ps : List PartAt). spread_rows ps) are in
     record {
-      definitions = λ text. c.in_ok-fragment_definitions.ensures text ∙ ap (λ (ps : List PartAt). definitions_at ps text) are ∙ definitions_same ds text;
-      spreads = λ text. c.in_ok-fragment_spreads.ensures text ∙ ap (λ (ps : List PartAt). spreads_at ps text) are ∙ spreads_same ds text;
-      occurrences = λ text. c.in_ok-fragment_occurrences.ensures text ∙ ap (λ (ps : List PartAt). names_at_all ps text) are ∙ names_same ds text;
+      definitions = λ text. ap (λ (s : StandsOf). s.definitions) (stand text) ∙ definitions_same ds text;
+      spreads = λ text. ap (λ (s : StandsOf). s.spreads) (stand text) ∙ spreads_same ds text;
+      occurrences = λ text. ap (λ (s : StandsOf). s.occurrences) (stand text) ∙ names_same ds text;
       places = c.in_ok-definition_places.ensures ∙ ap (λ (ps : List PartAt). places_at ps) are ∙ places_same ds;
       variables = variables_same ds _ (subst (λ (ps : List PartAt). AreVariablesAt ps c.in_ok-all_variables.field-0.items) are c.in_ok-all_variables.ensures);
       count = rows_count (parts_at ds) rows rows_are ∙ length-map ds part_at;

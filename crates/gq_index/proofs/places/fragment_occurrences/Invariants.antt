@@ -1,8 +1,0 @@
-use Rattle.std.proofs.Common.{◌≡◌, ◌++◌, drop}
-use Rattle.gq_names.specs.UnderNames.{items_under}
-use Rattle.gq_types.specs.Entries.{Text}
-use Rattle.gq_index.specs.Helping.PlacedParts.{placed_view, names_at_all}
-use Rattle.gq_index.proofs.places.fragment_occurrences.Given as goal
-
-abbrev pub invariant-loop-one : goal.invariant-loop-one
-invariant-loop-one l = (text : Text) → items_under l.all text ++ names_at_all (placed_view (drop l.one-index l.parts)) text ≡ names_at_all (placed_view l.parts) text

@@ -1,0 +1,193 @@
+//! Where names of fragments stand, name by name.
+ghost use Rattle.std.specs.Prelude.{◌≡◌, Some, OnOk, IfOk, position};
+ghost use Rattle.std.specs.Option.{option_map_or};
+ghost use Rattle.std.specs.Str.{bytes_eq};
+ghost use Rattle.gq_types.specs.Entries.{Text};
+ghost use Rattle.gq_index.specs.Helping.PlacedParts.{placed_part, placed_view};
+ghost use Rattle.gq_index.specs.Helping.StandingParts.{both, defined_at, if_so, spread_at, owns_stand, spreads_stand, part_stands, parts_stand};
+ghost use Rattle.gq_index.specs.Standing.{named_view, nowhere, stands};
+ghost use Rattle.gq_index.specs.Views.{names_view, own_names};
+
+use crate::fragments::{Fragments, Named};
+use crate::occurrence::Occurrence;
+use crate::placed::Placed;
+use gq_names::NameList;
+use gq_text::NoMemory;
+use gq_tree::Name;
+use std::alloc::Global;
+
+impl Named {
+    /// Of a name that stands nowhere.
+    fn new(alloc: Global) -> Named
+        ensures { named_view result ≡ nowhere }
+    {
+        Named {
+            definitions: Vec::new(alloc),
+            spreads: Vec::new(alloc),
+            occurrences: Vec::new(alloc),
+            numbers: Vec::new(alloc),
+        }
+    }
+
+    /// The name stands at one more definition, of the fragment of that number.
+    fn define(&mut self, place: Occurrence, number: usize) -> Result<(), NoMemory>
+        ensures { OnOk result (named_view self.new ≡ both (named_view self.old) (defined_at place number)) }
+    {
+        self.definitions.push(place)?;
+        self.occurrences.push(place)?;
+        self.numbers.push(number)?;
+        Ok(())
+    }
+
+    /// The name stands in one more spread.
+    fn spread(&mut self, place: Occurrence) -> Result<(), NoMemory>
+        ensures { OnOk result (named_view self.new ≡ both (named_view self.old) (spread_at place)) }
+    {
+        self.spreads.push(place)?;
+        self.occurrences.push(place)?;
+        Ok(())
+    }
+}
+
+impl Fragments {
+    /// No names. It takes no memory.
+    fn new(alloc: Global) -> Fragments
+        ensures { (text : Text) → stands result text ≡ nowhere }
+    {
+        Fragments {
+            alloc,
+            names: NameList::new(alloc),
+            named: Vec::new(alloc),
+        }
+    }
+
+    /// The place of a name among the others. It is put behind them where it is new.
+    fn place_of(&mut self, name: &str) -> Result<usize, NoMemory>
+        ensures at { IfOk result (λ at. position (bytes_eq name.now) self.new.names ≡ Some at) }
+        ensures same { OnOk result ((text : Text) → stands self.new text ≡ stands self.old text) }
+    {
+        if let Some(at) = self.names.place(name) {
+            return Ok(at);
+        }
+        let at = self.names.len();
+        let named = Named::new(self.alloc);
+        self.named.reserve(1)?;
+        self.names.add(name)?;
+        self.named.push_reserved(named);
+        Ok(at)
+    }
+
+    /// The name stands at one more definition, of the fragment of that number.
+    fn define(&mut self, name: &str, place: Occurrence, number: usize) -> Result<(), NoMemory>
+        ensures { OnOk result ((text : Text) → stands self.new text ≡ both (stands self.old text) (if_so (bytes_eq text name.now) (defined_at place number))) }
+    {
+        let at = self.place_of(name)?;
+        self.named[at].define(place, number)
+    }
+
+    /// The name stands in one more spread.
+    fn spread(&mut self, name: &str, place: Occurrence) -> Result<(), NoMemory>
+        ensures { OnOk result ((text : Text) → stands self.new text ≡ both (stands self.old text) (if_so (bytes_eq text name.now) (spread_at place))) }
+    {
+        let at = self.place_of(name)?;
+        self.named[at].spread(place)
+    }
+
+    /// Where a name stands, if it stands somewhere. It takes no memory.
+    fn get(&self, name: &str) -> Option<&Named>
+        ensures { option_map_or (λ named. named_view named.now) result nowhere ≡ stands self.now name.now }
+    {
+        match self.names.place(name) {
+            Some(at) => Some(&self.named[at]),
+            None => None,
+        }
+    }
+
+    /// Where it is defined. It takes no memory, nor do the next.
+    pub(crate) fn definitions(&self, name: &str) -> &[Occurrence]
+        ensures { result.now ≡ (stands self.now name.now).definitions }
+    {
+        match self.get(name) {
+            Some(named) => named.definitions.as_slice(),
+            None => &[],
+        }
+    }
+
+    /// Where it is spread.
+    pub(crate) fn spreads(&self, name: &str) -> &[Occurrence]
+        ensures { result.now ≡ (stands self.now name.now).spreads }
+    {
+        match self.get(name) {
+            Some(named) => named.spreads.as_slice(),
+            None => &[],
+        }
+    }
+
+    /// Both, in the order of the texts.
+    pub(crate) fn occurrences(&self, name: &str) -> &[Occurrence]
+        ensures { result.now ≡ (stands self.now name.now).occurrences }
+    {
+        match self.get(name) {
+            Some(named) => named.occurrences.as_slice(),
+            None => &[],
+        }
+    }
+
+    /// The numbers of the fragments that have it.
+    pub(crate) fn numbers(&self, name: &str) -> &[usize]
+        ensures { result.now ≡ (stands self.now name.now).numbers }
+    {
+        match self.get(name) {
+            Some(named) => named.numbers.as_slice(),
+            None => &[],
+        }
+    }
+}
+
+/// Puts in where a definition of that number defines a fragment, if it does.
+fn put_own(
+    file: usize,
+    number: usize,
+    name: &Option<Name>,
+    all: &mut Fragments,
+) -> Result<(), NoMemory>
+    ensures { OnOk result ((text : Text) → stands all.new text ≡ both (stands all.old text) (owns_stand file number text (own_names name.now))) }
+{
+    match name {
+        Some(name) => {
+            let span = name.span;
+            all.define(name.text.as_str(), Occurrence { file, span }, number)
+        }
+        None => Ok(()),
+    }
+}
+
+/// Puts in where these names stand in spreads of a document.
+fn put_spreads(file: usize, names: &[Name], all: &mut Fragments) -> Result<(), NoMemory>
+    ensures { OnOk result ((text : Text) → stands all.new text ≡ both (stands all.old text) (spreads_stand file text (names_view names.now))) }
+{
+    for name in names {
+        let span = name.span;
+        all.spread(name.text.as_str(), Occurrence { file, span })?;
+    }
+    Ok(())
+}
+
+/// Puts in what stands in the definition of that number.
+fn put_part(number: usize, one: &Placed<'_>, all: &mut Fragments) -> Result<(), NoMemory>
+    ensures { OnOk result ((text : Text) → stands all.new text ≡ both (stands all.old text) (part_stands number text (placed_part one.now))) }
+{
+    put_own(one.file, number, &one.part.own_name, all)?;
+    put_spreads(one.file, &one.part.spreads, all)
+}
+
+/// Where the names of fragments stand in these parts, of which the first has the number 0.
+pub(crate) fn fragments_of(alloc: Global, parts: &[Placed<'_>]) -> Result<Fragments, NoMemory>
+    ensures { IfOk result (λ all. (text : Text) → stands all text ≡ parts_stand 0 (placed_view parts.now) text) }
+{
+    let mut all = Fragments::new(alloc);
+    for (number, one) in parts.iter().enumerate() {
+        put_part(number, one, &mut all)?;
+    }
+    Ok(all)
+}
