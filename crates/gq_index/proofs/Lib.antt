@@ -1,6 +1,6 @@
 pub mod GroupLemmas
-pub mod VariableLemmas
 pub mod PartLemmas
+pub mod VariableLemmas
 pub mod SpreadLemmas
 pub mod StandLemmas
 pub mod GroupMeaning

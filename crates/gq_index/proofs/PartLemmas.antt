@@ -13,13 +13,11 @@ use Rattle.gq_tree.specs.Plain.{NameOf, Def, operation, fragment, type_system}
 use Rattle.gq_tree.specs.Readings.{ParsedOf, definitions_read, in_document}
 use Rattle.gq_types.specs.Entries.{Text}
 use Rattle.gq_index.specs.declared.files.File.{File}
-use Rattle.gq_index.proofs.VariableLemmas.{SharedVariables}
 use Rattle.gq_index.specs.declared.occurrence.Occurrence.{Occurrence}
 use Rattle.gq_index.specs.Occurrences.{DefinitionOf, executable_in, executables, is_operation, fragment_name, spreads_in, place_of, called, occurrences_of, fragment_definitions, fragment_spreads, fragment_occurrences, definition_places}
 use Rattle.gq_index.specs.Parts.{PartOf, part_of, part_in, parts_in}
-use Rattle.gq_index.specs.Indexed.{AreVariables}
 use Rattle.gq_index.specs.Views.{parts_kept}
-use Rattle.gq_index.specs.Helping.PlacedParts.{PartAt, part_at, parts_at, placed, placed_from, definitions_at, spreads_at, names_at_all, places_at, operations_at, AreVariablesAt}
+use Rattle.gq_index.specs.Helping.PlacedParts.{PartAt, part_at, parts_at, placed, placed_from, definitions_at, spreads_at, names_at_all, places_at, operations_at}
 
 pub definitions_same : (ds : List DefinitionOf) (text : Text) → definitions_at (parts_at ds) text ≡ fragment_definitions ds text
 definitions_same [] text = refl
@@ -67,12 +65,6 @@ pub part_there : (ds : List DefinitionOf) (n : ℕ) (d : DefinitionOf) → slice
 part_there [] n d at = absurd (none-some d at)
 part_there (e ∷ ds) zero d at = ap (λ (x : DefinitionOf). Some (part_at x)) (same_Some e d at)
 part_there (e ∷ ds) (suc n) d at = part_there ds n d at
-
-pub variables_same : (ds : List DefinitionOf) (vs : List SharedVariables) → AreVariablesAt (parts_at ds) vs → AreVariables ds vs
-variables_same ds vs are = record {
-  count = are.count ∙ length-map ds part_at;
-  each = λ n d v at there. let one = are.each n (part_at d) v (part_there ds n d at) there in record { uses = one.uses; definitions = one.definitions };
-}
 
 -- the parts of documents are those of their definitions
 placed_in_one : (file : ℕ) (ds : List (Def Span)) → placed file (flat_map part_in ds) ≡ parts_at (flat_map (executable_in file) ds)

@@ -1,7 +1,6 @@
 -- What the tables of an index tell of a variable.
 use Rattle.std.proofs.Common.{◌≡◌, ℕ, zero, suc, ◌<◌, Bool, true, false, List, [], ◌∷◌, length, map, refl, sym, ◌∙◌, ap, subst, arith, Contains, Option, Some, None, nat_eq}
 use Rattle.std.specs.Prelude.{slice_get, not}
-use Rattle.std.specs.Arc.{arc_value}
 use Rattle.std.specs.Option.{option_map_or}
 use Rattle.std.specs.Str.{bytes_eq}
 use Rattle.std.specs.Cmp.Lexicographic.{bytes_decides, nat_list_eq_equiv}
@@ -19,6 +18,7 @@ use Rattle.gq_types.specs.Entries.{Text}
 use Rattle.gq_types.proofs.Gathered.{from_map, to_map, from_filter, to_filter}
 use Rattle.gq_spreads.proofs.RowLemmas.{at_number}
 use Rattle.gq_index.specs.declared.index.Tables.{Tables}
+use Rattle.gq_index.specs.declared.index.Variables.{Variables}
 use Rattle.gq_index.specs.VariableNames.{used_variables}
 use Rattle.gq_index.specs.Occurrences.{DefinitionOf, called, places_called, uses_in, is_operation}
 use Rattle.gq_index.specs.VariableGroups.{UsesVariable, VariableGroup, itself, with_operation, with_fragment}
@@ -27,7 +27,6 @@ use Rattle.gq_index.specs.Indexed.{AreTablesOf}
 use Rattle.gq_index.specs.Helping.Shared.{operation_at, uses_at, shared}
 use Rattle.gq_index.proofs.GroupLemmas.{InCount, group_is}
 use Rattle.gq_index.proofs.GroupMeaning.{Tells, fragment_is, same_group}
-use Rattle.gq_index.proofs.VariableLemmas.{SharedVariables}
 
 pub in_count : (tables : Tables) (text : Text) → InRange tables.spread_in.items → InRange tables.spreading.items → length tables.spreading.items ≡ length tables.spread_in.items → InCount (shared tables text)
 in_count tables text forth back same = record {
@@ -57,24 +56,18 @@ to_places text names n there same =
     to_map (λ (n : NameOf Span). n.place) (called text names) n (to_filter (λ (n : NameOf Span). bytes_eq text n.text) names n there test)
 
 module _ (ds : List DefinitionOf) (tables : Tables) (is : AreTablesOf ds tables) (text : Text) where
-  -- what is kept at the number of a definition
-  at_definition : (n : ℕ) (d : DefinitionOf) → slice_get ds n ≡ Some d → (v : SharedVariables) × (slice_get tables.variables.items n ≡ Some v) × (items_under (arc_value v).uses text ≡ uses_in d.definition text)
-  at_definition n d at =
-      let below : n < length tables.variables.items = subst (λ k. n < k) (sym is.variables.count) (slice_get_within ds n d at) in
-      let v = at_number tables.variables.items n below in
-      (v.0, v.1, (is.variables.each n d v.0 at v.1).uses text)
-
+  -- whether the definition of a number uses the variable
   uses_is : (n : ℕ) (d : DefinitionOf) → slice_get ds n ≡ Some d → uses_at tables text n ≡ not (nat_eq (length (uses_in d.definition text)) 0)
   uses_is n d at =
-      let v = at_definition n d at in
-      ap (λ o. option_map_or (λ (v : SharedVariables). not (nat_eq (length (items_under (arc_value v).uses text)) 0)) o false) v.1 ∙ ap (λ (l : List Span). not (nat_eq (length l) 0)) v.2
+      let v = is.variables.each n d at in
+      ap (λ o. option_map_or (λ (v : Variables). not (nat_eq (length (items_under v.uses text)) 0)) o false) v.1 ∙ ap (λ (l : List Span). not (nat_eq (length l) 0)) (v.2.uses text)
 
   some_variable : (n : ℕ) → uses_at tables text n ≡ true → (d : DefinitionOf) × (slice_get ds n ≡ Some d)
-  some_variable n used = at_number ds n (subst (λ k. n < k) is.variables.count (within (slice_get tables.variables.items n) refl used))
+  some_variable n used = by (slice_get ds n) refl
     where
-      within : (o : Option SharedVariables) → slice_get tables.variables.items n ≡ o → option_map_or (λ (v : SharedVariables). not (nat_eq (length (items_under (arc_value v).uses text)) 0)) o false ≡ true → n < length tables.variables.items
-      within None at used = absurd (false≢true used)
-      within (Some v) at used = slice_get_within tables.variables.items n v at
+      by : (o : Option DefinitionOf) → slice_get ds n ≡ o → (d : DefinitionOf) × (slice_get ds n ≡ Some d)
+      by None at = absurd (false≢true (sym (ap (λ o. option_map_or (λ (v : Variables). not (nat_eq (length (items_under v.uses text)) 0)) o false) (is.variables.past n at)) ∙ used))
+      by (Some d) at = (d, at)
 
   to_uses : (n : ℕ) → uses_at tables text n ≡ true → UsesVariable ds text n
   to_uses n used =

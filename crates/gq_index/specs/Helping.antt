@@ -3,6 +3,7 @@ pub mod GroupGraphs
 pub mod Made
 pub mod PartVariables
 pub mod PlacedParts
+pub mod Seats
 pub mod Shared
 pub mod SpreadNumbers
 pub mod StandingParts

@@ -1,8 +1,5 @@
 -- What an index of a project holds.
-use Rattle.std.specs.Prelude.{◌≡◌, ◌↔◌, ℕ, List, Some, Contains, length, map, slice_get}
-use Rattle.std.specs.Arc.{arc_value}
-use Rattle.std.specs.declared.alloc.Global.{Global}
-use Rattle.std.specs.declared.sync.Arc.{Arc}
+use Rattle.std.specs.Prelude.{◌≡◌, ◌↔◌, ℕ, List, Some, None, Contains, length, map, slice_get}
 use Rattle.gq_names.specs.UnderNames.{items_under}
 use Rattle.gq_project.specs.declared.document.Doc.{Doc}
 use Rattle.gq_graph.specs.Reach.{row}
@@ -14,6 +11,7 @@ use Rattle.gq_index.specs.declared.index.Variables.{Variables}
 use Rattle.gq_index.specs.declared.index.Tables.{Tables}
 use Rattle.gq_index.specs.declared.index.Index.{Index}
 use Rattle.gq_index.specs.Parts.{parts_in}
+use Rattle.gq_index.specs.Seats.{variables_at}
 use Rattle.gq_index.specs.Standing.{stands}
 use Rattle.gq_index.specs.VariableGroups.{SpreadsFragment}
 use Rattle.gq_index.specs.Views.{parts_kept}
@@ -24,10 +22,10 @@ pub record AreVariablesOf (d : DefinitionOf) (v : Variables) : Type 0 where
   pub uses : (text : Text) → items_under v.uses text ≡ uses_in d.definition text
   pub definitions : (text : Text) → items_under v.definitions text ≡ definitions_in d.definition text
 
--- those of all definitions, one after the other
-pub record AreVariables (ds : List DefinitionOf) (vs : List (Arc Variables Global)) : Type 0 where
-  pub count : length vs ≡ length ds
-  pub each : (n : ℕ) (d : DefinitionOf) (v : Arc Variables Global) → slice_get ds n ≡ Some d → slice_get vs n ≡ Some v → AreVariablesOf d (arc_value v)
+-- those of all definitions, by their numbers
+pub record AreVariables (ds : List DefinitionOf) (tables : Tables) : Type 0 where
+  pub each : (n : ℕ) (d : DefinitionOf) → slice_get ds n ≡ Some d → (v : Variables) × (variables_at tables n ≡ Some v) × AreVariablesOf d v
+  pub past : (n : ℕ) → slice_get ds n ≡ None → variables_at tables n ≡ None
 
 -- what the tables hold of these definitions
 pub record AreTablesOf (ds : List DefinitionOf) (tables : Tables) : Type 0 where
@@ -35,7 +33,7 @@ pub record AreTablesOf (ds : List DefinitionOf) (tables : Tables) : Type 0 where
   pub spreads : (text : Text) → (stands tables.fragments text).spreads ≡ fragment_spreads ds text
   pub occurrences : (text : Text) → (stands tables.fragments text).occurrences ≡ fragment_occurrences ds text
   pub places : tables.places.items ≡ definition_places ds
-  pub variables : AreVariables ds tables.variables.items
+  pub variables : AreVariables ds tables
   pub count : length tables.spread_in.items ≡ length ds
   pub spread_in : (n k : ℕ) → Contains (row tables.spread_in.items n) k ↔ SpreadsFragment ds n k
   pub spreading : Transposed tables.spread_in.items tables.spreading.items

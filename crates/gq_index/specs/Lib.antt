@@ -2,6 +2,7 @@ pub mod VariableNames
 pub mod Occurrences
 pub mod Parts
 pub mod Views
+pub mod Seats
 pub mod Standing
 pub mod VariableGroups
 pub mod Indexed

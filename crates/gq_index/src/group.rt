@@ -57,7 +57,7 @@ impl Shared<'_> {
     fn uses(&self, number: usize) -> bool
         ensures { result ≡ uses_at self.now.tables.now self.now.name.now number }
     {
-        match self.tables.variables.get(number) {
+        match self.tables.variables(number) {
             Some(variables) => !variables.uses.get(self.name).is_empty(),
             None => false,
         }

@@ -5,6 +5,7 @@ ghost use Rattle.gq_graph.specs.Reach.{InRange};
 use crate::files::Files;
 use crate::fragments::Fragments;
 use crate::occurrence::Occurrence;
+use crate::parts::Parts;
 use gq_names::ByName;
 use gq_text::Span;
 use std::sync::Arc;
@@ -16,6 +17,13 @@ pub struct Variables {
     pub(crate) definitions: ByName<Span>,
 }
 
+/// Where a definition is kept: the number of its document, and its number in what is kept of that, each from 0.
+#[derive(Clone, Copy)]
+pub struct Seat {
+    pub(crate) file: usize,
+    pub(crate) offset: usize,
+}
+
 /// Where fragments and variables stand in all documents.
 ///
 /// An operation or fragment has a number: its place among all of them, in the order of documents and places, from 0.
@@ -24,8 +32,10 @@ pub struct Tables {
     pub(crate) fragments: Fragments,
     /// Where each definition stands.
     pub(crate) places: Vec<Occurrence>,
-    /// The variables of each definition, shared with what is kept of its document.
-    pub(crate) variables: Vec<Arc<Variables>>,
+    /// What is kept of each document, the variables of its definitions with it.
+    pub(crate) kept: Vec<Arc<Parts>>,
+    /// Where each definition is kept there.
+    pub(crate) seats: Vec<Seat>,
     /// For each definition, the fragments that it spreads.
     pub(crate) spread_in: Vec<Vec<usize>>,
     /// For each definition, those that spread it.

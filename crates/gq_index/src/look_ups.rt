@@ -42,10 +42,9 @@ impl Index {
     pub fn variable_uses(&self, definition: usize, name: &str) -> &[Span]
         ensures { (ds : List DefinitionOf) → IsIndexOf ds self.now → result.now ≡ variable_uses ds definition name.now }
     {
-        if definition < self.tables.variables.len() {
-            self.tables.variables[definition].uses.get(name)
-        } else {
-            &[]
+        match self.tables.variables(definition) {
+            Some(variables) => variables.uses.get(name),
+            None => &[],
         }
     }
 
@@ -54,10 +53,9 @@ impl Index {
     pub fn variable_definitions(&self, definition: usize, name: &str) -> &[Span]
         ensures { (ds : List DefinitionOf) → IsIndexOf ds self.now → result.now ≡ variable_definitions ds definition name.now }
     {
-        if definition < self.tables.variables.len() {
-            self.tables.variables[definition].definitions.get(name)
-        } else {
-            &[]
+        match self.tables.variables(definition) {
+            Some(variables) => variables.definitions.get(name),
+            None => &[],
         }
     }
 }

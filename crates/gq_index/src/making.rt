@@ -1,16 +1,18 @@
 //! The index of a project.
+ghost use Rattle.std.specs.Arc.{arc_value};
 ghost use Rattle.std.specs.Prelude.{◌≡◌, ◌++◌, IfOk, List, OnOk, map};
 ghost use Rattle.gq_parse.specs.Parsed.{AreParsed};
 ghost use Rattle.gq_tree.specs.Readings.{ParsedOf, readings_view};
 ghost use Rattle.gq_index.specs.Helping.Made.{AreTablesFor};
-ghost use Rattle.gq_index.specs.Helping.PlacedParts.{AreVariablesAt, placed_view, parts_at};
+ghost use Rattle.gq_index.specs.Helping.PlacedParts.{placed_view, parts_at};
+ghost use Rattle.gq_index.specs.Helping.Seats.{AreFound, parts_of_files, seat_of};
 ghost use Rattle.gq_index.specs.Indexed.{AreTablesOf, IsIndexOfProject};
 ghost use Rattle.gq_index.specs.Occurrences.{DefinitionOf};
 ghost use Rattle.gq_index.specs.Parts.{parts_in};
 ghost use Rattle.gq_index.specs.Views.{parts_shared};
 
 use crate::files::{File, Files};
-use crate::index::{Index, Tables, Variables};
+use crate::index::{Index, Seat, Tables};
 use crate::parts::{Parts, all_kept};
 use crate::placed::{Placed, all_parts};
 use crate::places::definition_places;
@@ -24,20 +26,35 @@ use gq_tree::Parsed;
 use std::alloc::Global;
 use std::sync::Arc;
 
-/// The variables of each part.
-fn all_variables(alloc: Global, parts: &[Placed<'_>]) -> Result<Vec<Arc<Variables>>, NoMemory>
-    ensures { IfOk result (λ all. AreVariablesAt (placed_view parts.now) all.items) }
+/// What is kept of each of these files.
+fn kept_of(alloc: Global, files: &[&File]) -> Result<Vec<Arc<Parts>>, NoMemory>
+    ensures { IfOk result (λ kept. map arc_value kept.items ≡ parts_of_files files.now) }
 {
-    let mut all = Vec::with_capacity(alloc, parts.len())?;
-    for one in parts {
-        all.push(Arc::try_clone(&one.part.variables)?)?;
+    let mut kept = Vec::with_capacity(alloc, files.len())?;
+    for file in files {
+        kept.push(Arc::try_clone(&file.parts)?)?;
     }
-    Ok(all)
+    Ok(kept)
 }
 
-/// The tables that are made of these parts.
+/// Where each part is kept.
+fn seats_of(alloc: Global, parts: &[Placed<'_>]) -> Result<Vec<Seat>, NoMemory>
+    ensures { IfOk result (λ seats. seats.items ≡ map seat_of parts.now) }
+{
+    let mut seats = Vec::with_capacity(alloc, parts.len())?;
+    for one in parts {
+        seats.push(Seat {
+            file: one.file,
+            offset: one.offset,
+        })?;
+    }
+    Ok(seats)
+}
+
+/// The tables that are made of the parts of these files.
 #[tactic(auto, using(gq_graph::proofs::Turning::turned_in_range))]
-fn made_of(alloc: Global, parts: &[Placed<'_>]) -> Result<Tables, NoMemory>
+fn made_of(alloc: Global, files: &[&File], parts: &[Placed<'_>]) -> Result<Tables, NoMemory>
+    requires { AreFound (parts_of_files files.now) parts.now }
     ensures { IfOk result (λ tables. (ds : List DefinitionOf) → placed_view parts.now ≡ parts_at ds → AreTablesOf ds tables) }
 {
     let fragments = fragments_of(alloc, parts)?;
@@ -46,7 +63,8 @@ fn made_of(alloc: Global, parts: &[Placed<'_>]) -> Result<Tables, NoMemory>
     Ok(Tables {
         fragments,
         places: definition_places(alloc, parts)?,
-        variables: all_variables(alloc, parts)?,
+        kept: kept_of(alloc, files)?,
+        seats: seats_of(alloc, parts)?,
         spread_in,
         spreading,
         operations: are_operations(alloc, parts)?,
@@ -77,7 +95,7 @@ pub(crate) fn tables_of<'a>(
     files.extend_from_slice(between)?;
     lend(back, &mut files)?;
     let parts = all_parts(alloc, &files)?;
-    let tables = made_of(alloc, &parts)?;
+    let tables = made_of(alloc, &files, &parts)?;
     Ok(tables)
 }
 

@@ -1,5 +1,4 @@
 //! What an index keeps of an operation or a fragment: neither a tree nor a text.
-ghost use Rattle.std.specs.Arc.{arc_value};
 ghost use Rattle.std.specs.Prelude.{map};
 ghost use Rattle.gq_tree.specs.Views.{name_of};
 ghost use Rattle.gq_index.specs.Helping.PartVariables.{AreVariablesNamed};
@@ -7,7 +6,6 @@ ghost use Rattle.gq_index.specs.Helping.PartVariables.{AreVariablesNamed};
 use crate::index::Variables;
 use gq_text::Span;
 use gq_tree::Name;
-use std::sync::Arc;
 
 /// What an index keeps of an operation or a fragment.
 #[derive(Drop)]
@@ -24,6 +22,6 @@ pub struct Part {
     /// The names of the variables that it defines, in the order of the text.
     pub(crate) defined: Vec<Name>,
     /// The places of both, by their names.
-    pub(crate) variables: Arc<Variables>,
-    ghost are_places: { AreVariablesNamed (map name_of used.items) (map name_of defined.items) (arc_value variables) },
+    pub(crate) variables: Variables,
+    ghost are_places: { AreVariablesNamed (map name_of used.items) (map name_of defined.items) variables },
 }

@@ -98,7 +98,7 @@ fn part_of(alloc: Global, definition: &Definition) -> Result<Part, NoMemory>
         spreads: copied(alloc, &spreads)?,
         used,
         defined,
-        variables: Arc::new(alloc, variables)?,
+        variables,
     })
 }
 

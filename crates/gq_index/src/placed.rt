@@ -1,6 +1,8 @@
 //! The operations and fragments of all documents, by what is kept of them.
-ghost use Rattle.std.specs.Prelude.{◌≡◌, ◌++◌, IfOk, OnOk, map};
+ghost use Rattle.std.specs.Prelude.{◌≡◌, ◌++◌, List, Some, IfOk, OnOk, map, slice_get};
 ghost use Rattle.gq_index.specs.Helping.PlacedParts.{placed_view, placed, placed_from};
+ghost use Rattle.gq_index.specs.Helping.Seats.{AreFound, parts_of_files};
+ghost use Rattle.gq_index.specs.declared.parts.Parts.{Parts};
 ghost use Rattle.gq_index.specs.Views.{parts_view, parts_kept};
 
 use crate::files::File;
@@ -13,12 +15,15 @@ use std::alloc::Global;
 pub(crate) struct Placed<'a> {
     /// The number of the document in the project, from 0.
     pub(crate) file: usize,
+    /// The number of the part in what is kept of that document, from 0.
+    pub(crate) offset: usize,
     pub(crate) part: &'a Part,
 }
 
 /// The parts of these documents, in their order.
 pub(crate) fn all_parts<'a>(alloc: Global, files: &[&'a File]) -> Result<Vec<Placed<'a>>, NoMemory>
-    ensures { IfOk result (λ all. placed_view all.items ≡ placed_from 0 (map (λ f. parts_kept f.now) files.now)) }
+    ensures parts { IfOk result (λ all. placed_view all.items ≡ placed_from 0 (map (λ f. parts_kept f.now) files.now)) }
+    ensures found { IfOk result (λ all. AreFound (parts_of_files files.now) all.items) }
 {
     let mut all = Vec::new(alloc);
     for (number, file) in files.iter().enumerate() {
@@ -28,10 +33,11 @@ pub(crate) fn all_parts<'a>(alloc: Global, files: &[&'a File]) -> Result<Vec<Pla
 }
 
 fn put_parts<'a>(file: usize, parts: &'a [Part], all: &mut Vec<Placed<'a>>) -> Result<(), NoMemory>
-    ensures { OnOk result (placed_view all.new.items ≡ placed_view all.old.items ++ placed file (parts_view parts.now)) }
+    ensures parts { OnOk result (placed_view all.new.items ≡ placed_view all.old.items ++ placed file (parts_view parts.now)) }
+    ensures found { OnOk result ((kept : List Parts) (one : Parts) → slice_get kept file ≡ Some one → one.parts.items ≡ parts.now → AreFound kept all.old.items → AreFound kept all.new.items) }
 {
-    for part in parts {
-        all.push(Placed { file, part })?;
+    for (offset, part) in parts.iter().enumerate() {
+        all.push(Placed { file, offset, part })?;
     }
     Ok(())
 }

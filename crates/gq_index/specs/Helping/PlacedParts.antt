@@ -1,18 +1,13 @@
 -- Parts of all documents, and what the tables hold of them, computed.
 use Rattle.std.specs.Prelude.{◌≡◌, ℕ, ◌+◌, Bool, List, [], ◌∷◌, ◌++◌, Some, length, map, slice_get}
-use Rattle.std.specs.Arc.{arc_value}
 use Rattle.std.specs.List.{flat_map}
-use Rattle.std.specs.declared.alloc.Global.{Global}
-use Rattle.std.specs.declared.sync.Arc.{Arc}
 use Rattle.gq_text.specs.declared.place.Span.{Span}
 use Rattle.gq_tree.specs.Plain.{NameOf}
 use Rattle.gq_types.specs.Entries.{Text}
-use Rattle.gq_index.specs.declared.index.Variables.{Variables}
 use Rattle.gq_index.specs.declared.occurrence.Occurrence.{Occurrence}
 use Rattle.gq_index.specs.declared.placed.Placed.{Placed}
 use Rattle.gq_index.specs.Parts.{PartOf, part_of}
 use Rattle.gq_index.specs.Occurrences.{DefinitionOf, occurrences_of}
-use Rattle.gq_index.specs.Helping.PartVariables.{AreVariablesNamed}
 use Rattle.gq_index.specs.Views.{part_view}
 
 -- a part, and the number of its document
@@ -60,8 +55,3 @@ places_at ps = map (λ p. record { file = p.file; span = p.part.place }) ps
 
 abbrev pub operations_at : List PartAt → List Bool
 operations_at ps = map (λ p. p.part.is_operation) ps
-
--- the variables of all parts, one after the other
-pub record AreVariablesAt (ps : List PartAt) (vs : List (Arc Variables Global)) : Type 0 where
-  pub count : length vs ≡ length ps
-  pub each : (n : ℕ) (p : PartAt) (v : Arc Variables Global) → slice_get ps n ≡ Some p → slice_get vs n ≡ Some v → AreVariablesNamed p.part.used p.part.defined (arc_value v)

@@ -1,15 +1,18 @@
 -- The tables are those of the definitions of which these are the parts.
-use Rattle.std.proofs.Common.{◌≡◌, ℕ, Vec, Global, List, ◌∙◌, map, subst, ap}
+use Rattle.std.proofs.Common.{◌≡◌, ℕ, Vec, Global, List, ◌∙◌, map, subst, sym, ap}
 use Rattle.std.proofs.lemmas.List.{length-map}
 use Rattle.gq_graph.specs.Transposed.{Transposed}
 use Rattle.gq_types.specs.Entries.{Text}
-use Rattle.gq_index.specs.Helping.PlacedParts.{PartAt, part_at, parts_at, placed_view, definitions_at, spreads_at, names_at_all, places_at, operations_at, AreVariablesAt}
+use Rattle.gq_index.specs.Helping.PlacedParts.{PartAt, part_at, parts_at, placed_view, definitions_at, spreads_at, names_at_all, places_at, operations_at}
 use Rattle.gq_index.specs.Helping.SpreadNumbers.{fragment_numbers, spread_rows}
 use Rattle.gq_index.specs.Helping.StandingParts.{parts_stand}
 use Rattle.gq_index.specs.Standing.{StandsOf, stands}
-use Rattle.gq_index.proofs.PartLemmas.{definitions_same, spreads_same, names_same, places_same, operations_same, variables_same}
+use Rattle.gq_index.proofs.PartLemmas.{definitions_same, spreads_same, names_same, places_same, operations_same}
 use Rattle.gq_index.proofs.SpreadLemmas.{rows_count, rows_hold}
+use Rattle.gq_index.specs.declared.parts.Parts.{Parts}
+use Rattle.gq_index.specs.Helping.Seats.{AreFound}
 use Rattle.gq_index.proofs.StandLemmas.{parts_are}
+use Rattle.gq_index.proofs.VariableLemmas.{variables_same}
 use Rattle.gq_index.proofs.making.made_of.Goals as goal
 
 pub spread_rows-requires : goal.spread_rows-requires
@@ -26,7 +29,7 @@ returns c ds are =
       spreads = λ text. ap (λ (s : StandsOf). s.spreads) (stand text) ∙ spreads_same ds text;
       occurrences = λ text. ap (λ (s : StandsOf). s.occurrences) (stand text) ∙ names_same ds text;
       places = c.in_ok-definition_places.ensures ∙ ap (λ (ps : List PartAt). places_at ps) are ∙ places_same ds;
-      variables = variables_same ds _ (subst (λ (ps : List PartAt). AreVariablesAt ps c.in_ok-all_variables.field-0.items) are c.in_ok-all_variables.ensures);
+      variables = variables_same ds c.args.parts.now _ are (subst (λ (kept : List Parts). AreFound kept c.args.parts.now) (sym c.in_ok-kept_of.ensures) c.requires) c.in_ok-seats_of.ensures;
       count = rows_count (parts_at ds) rows rows_are ∙ length-map ds part_at;
       spread_in = rows_hold ds rows rows_are;
       spreading = subst (λ (table : List (Vec ℕ Global)). Transposed table c.in_ok-spreading.spreading.items) c.deref.ensures.value c.in_ok-spreading.ensures;
