@@ -35,6 +35,13 @@ from_entry es n fault j (type_definition true description name directives body p
 from_entry es n fault j (type_definition false description name directives body place) e c = absurd (contains_none fault c)
 from_entry es n fault j (directive_definition description name arguments repeatable locations place) e c = absurd (contains_none fault c)
 
+-- what is told of the entry that breaks the rule
+pub told_bad_extension : (es : List EntryOf) (fault : Fault) (w : IsBadExtension es fault) → Contains (bad_extension_at es w.entry) fault
+told_bad_extension es fault w =
+    let test = option_map_or (same_kind (kind_of w.body)) (kind_named es w.name.text) false in
+    let told = to_not test (fault_at w.entry.entry.file BadExtension w.name) fault (not_true test (λ t. w.is_not_of_that_kind (of_kind (kind_named es w.name.text) (kind_of w.body) t))) w.is in
+    subst (λ d. Contains (bad_extension es w.entry.entry.file d) fault) (sym w.extends) told
+
 pub bad_extensions_are : (es : List EntryOf) (fault : Fault) → Contains (bad_extensions es) fault ↔ IsBadExtension es fault
 bad_extensions_are es fault = (from, to)
   where
@@ -42,7 +49,4 @@ bad_extensions_are es fault = (from, to)
     from c = let r = from_flat (bad_extension_at es) (judged es) fault c in from_entry es r.0 fault r.1 r.0.entry.definition refl r.2
 
     to : IsBadExtension es fault → Contains (bad_extensions es) fault
-    to w =
-        let test = option_map_or (same_kind (kind_of w.body)) (kind_named es w.name.text) false in
-        let told = to_not test (fault_at w.entry.entry.file BadExtension w.name) fault (not_true test (λ t. w.is_not_of_that_kind (of_kind (kind_named es w.name.text) (kind_of w.body) t))) w.is in
-        to_flat (bad_extension_at es) (judged es) w.entry fault w.is_judged (subst (λ d. Contains (bad_extension es w.entry.entry.file d) fault) (sym w.extends) told)
+    to w = to_flat (bad_extension_at es) (judged es) w.entry fault w.is_judged (told_bad_extension es fault w)

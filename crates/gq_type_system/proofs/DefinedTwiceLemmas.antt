@@ -77,6 +77,14 @@ to_test_of es number (directive_definition description name arguments repeatable
     let is : what ≡ a_directive name.text = cc in
     subst (λ w. is_before (position (defines w) es) number ≡ true) is h
 
+-- what is told of the entry that breaks the rule
+pub told_defined_twice : (es : List EntryOf) (fault : Fault) (w : IsDefinedTwice es fault) → Contains (defined_twice_at es w.entry) fault
+told_defined_twice es fault w =
+    let passes = to_defines w.what w.earlier.entry.file w.earlier.entry.definition w.defines_the_same in
+    let before = to_before (defines w.what) es w.entry.number w.earlier w.stands w.is_earlier passes in
+    let test = to_test_of es w.entry.number w.entry.entry.definition w.what w.defines before in
+    to_test (is_defined_before es w.entry.number w.entry.entry.definition) (fault_over w.entry.entry.file DefinedTwice (definition_place w.entry.entry.definition)) fault test w.is
+
 pub all_defined_twice_are : (es : List EntryOf) (fault : Fault) → Contains (all_defined_twice es) fault ↔ IsDefinedTwice es fault
 all_defined_twice_are es fault = (from, to)
   where
@@ -102,9 +110,4 @@ all_defined_twice_are es fault = (from, to)
     from c = let r = from_flat (defined_twice_at es) (judged es) fault c in from_entry r.0 r.1 r.2
 
     to : IsDefinedTwice es fault → Contains (all_defined_twice es) fault
-    to w =
-        let passes = to_defines w.what w.earlier.entry.file w.earlier.entry.definition w.defines_the_same in
-        let before = to_before (defines w.what) es w.entry.number w.earlier w.stands w.is_earlier passes in
-        let test = to_test_of es w.entry.number w.entry.entry.definition w.what w.defines before in
-        to_flat (defined_twice_at es) (judged es) w.entry fault w.is_judged
-        (to_test (is_defined_before es w.entry.number w.entry.entry.definition) (fault_over w.entry.entry.file DefinedTwice (definition_place w.entry.entry.definition)) fault test w.is)
+    to w = to_flat (defined_twice_at es) (judged es) w.entry fault w.is_judged (told_defined_twice es fault w)

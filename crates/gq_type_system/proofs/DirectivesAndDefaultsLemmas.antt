@@ -143,6 +143,27 @@ module _ (es : List EntryOf) (fault : Fault) where
           let same : number ≡ length es = omega (arith, last, le) in
           Contains-append_right (at_each_number (group_faults_of es) 0 es) (group_faults_of es (length es)) fault (subst (λ n. Contains (group_faults_of es n) fault) same c)
 
+  -- what is told of an entry alone, and of those that belong to its number
+  pub told_site : (n : Numbered) (site : Site) → Contains (sites_in n.entry.definition) site → IsDirectiveFault es n.entry.file site.location [] site.directives fault → Contains (inner_faults_at es n) fault
+  told_site n site stands wrong =
+      Contains-append_left (site_faults es n.entry.file (sites_in n.entry.definition)) (default_faults es n.entry.file (all_inputs n.entry.definition)) fault
+      (to_flat (site_fault es n.entry.file) (sites_in n.entry.definition) site fault stands ((directive_faults_are es n.entry.file site.location [] site.directives fault).1 wrong))
+
+  pub told_default : (n : Numbered) (input : InputOf Span) (default : Val Span) → Contains (all_inputs n.entry.definition) input → input.default ≡ Some default →
+      IsLiteralFault es n.entry.file (default_at es input.type_ref) default fault → Contains (inner_faults_at es n) fault
+  told_default n input default stands has wrong =
+      let told_there = (literal_faults_are es n.entry.file fault (default_at es input.type_ref) default).1 wrong in
+      Contains-append_right (site_faults es n.entry.file (sites_in n.entry.definition)) (default_faults es n.entry.file (all_inputs n.entry.definition)) fault
+      (to_flat (default_fault es n.entry.file) (all_inputs n.entry.definition) input fault stands
+      (subst (λ o. Contains (option_map_or (λ value. literal_faults es n.entry.file (default_at es input.type_ref) value) o []) fault) (sym has) told_there))
+
+  pub told_own : (before : List Numbered) (n : Numbered) (after : List Numbered) (site : Site) → Contains (judged es) n → joined es (owner es n) ≡ before ++ n ∷ after → own_site n.entry.definition ≡ Some site →
+      IsDirectiveFault es n.entry.file site.location (names_of before) site.directives fault → Contains (group_faults_of es (owner es n)) fault
+  told_own before n after site j are has wrong =
+      let kept = from_filter (λ m. not (defines_built_in m.entry.definition)) (numbered es) n j in
+      let own = to_own (names_of before) n.entry site (not_false (defines_built_in n.entry.definition) kept.1) has ((directive_faults_are es n.entry.file site.location (names_of before) site.directives fault).1 wrong) in
+      subst (λ ns. Contains (group_faults es [] (entries_of ns)) fault) (sym are) (to_group [] before n after own)
+
   module _ (item : Fault) (is : item ≡ told fault) where
     from_entry : (number : ℕ) → Contains (group_faults_of es number) fault → IsBadDirectiveOrDefault es item
     from_entry number c =
@@ -188,26 +209,18 @@ module _ (es : List EntryOf) (fault : Fault) where
     to_inner n j c = to_told (Contains-append_left (inner_faults es) (outer_faults es) fault (to_flat (inner_faults_at es) (judged es) n fault j c))
 
     to_site : (n : Numbered) (site : Site) → Contains (judged es) n → Contains (sites_in n.entry.definition) site → IsDirectiveFault es n.entry.file site.location [] site.directives fault → Contains (bad_directives_and_defaults es) item
-    to_site n site j stands wrong =
-        to_inner n j (Contains-append_left (site_faults es n.entry.file (sites_in n.entry.definition)) (default_faults es n.entry.file (all_inputs n.entry.definition)) fault
-        (to_flat (site_fault es n.entry.file) (sites_in n.entry.definition) site fault stands ((directive_faults_are es n.entry.file site.location [] site.directives fault).1 wrong)))
+    to_site n site j stands wrong = to_inner n j (told_site n site stands wrong)
 
     to_default : (n : Numbered) (input : InputOf Span) (default : Val Span) → Contains (judged es) n → Contains (all_inputs n.entry.definition) input → input.default ≡ Some default →
         IsLiteralFault es n.entry.file (default_at es input.type_ref) default fault → Contains (bad_directives_and_defaults es) item
-    to_default n input default j stands has wrong =
-        let told_there = (literal_faults_are es n.entry.file fault (default_at es input.type_ref) default).1 wrong in
-        to_inner n j (Contains-append_right (site_faults es n.entry.file (sites_in n.entry.definition)) (default_faults es n.entry.file (all_inputs n.entry.definition)) fault
-        (to_flat (default_fault es n.entry.file) (all_inputs n.entry.definition) input fault stands
-        (subst (λ o. Contains (option_map_or (λ value. literal_faults es n.entry.file (default_at es input.type_ref) value) o []) fault) (sym has) told_there)))
+    to_default n input default j stands has wrong = to_inner n j (told_default n input default stands has wrong)
 
     to_entry : (before : List Numbered) (n : Numbered) (after : List Numbered) (site : Site) → Contains (judged es) n → joined es (owner es n) ≡ before ++ n ∷ after → own_site n.entry.definition ≡ Some site →
         IsDirectiveFault es n.entry.file site.location (names_of before) site.directives fault → Contains (bad_directives_and_defaults es) item
     to_entry before n after site j are has wrong =
         let kept = from_filter (λ m. not (defines_built_in m.entry.definition)) (numbered es) n j in
         let inside = (stands_at_number es n kept.0).0 in
-        let own = to_own (names_of before) n.entry site (not_false (defines_built_in n.entry.definition) kept.1) has ((directive_faults_are es n.entry.file site.location (names_of before) site.directives fault).1 wrong) in
-        let grouped = to_group [] before n after own in
-        let there = subst (λ ns. Contains (group_faults es [] (entries_of ns)) fault) (sym are) grouped in
+        let there = told_own before n after site j are has wrong in
         to_told (Contains-append_right (inner_faults es) (outer_faults es) fault (to_outer (owner es n) (owner_within es n.entry n.number inside n.entry.definition) there))
 
 pub bad_directives_and_defaults_are : (es : List EntryOf) (item : Fault) → Contains (bad_directives_and_defaults es) item ↔ IsBadDirectiveOrDefault es item

@@ -49,6 +49,13 @@ from_entry es n fault j (type_definition true description name directives body p
 from_entry es n fault j (type_definition false description name directives body place) e c = from_part es n fault j description name directives body place e (required_part body) refl c
 from_entry es n fault j (directive_definition description name arguments repeatable locations place) e c = absurd (contains_none fault c)
 
+-- what is told of the entry that breaks the rule
+pub told_empty_type : (es : List EntryOf) (fault : Fault) (w : IsEmptyType es fault) → Contains (empty_type_at es w.entry) fault
+told_empty_type es fault w =
+    let told = to_test (is_nothing (part_names w.part es w.entry.number)) (fault_at w.entry.entry.file EmptyOrRepeated w.name) fault (ap is_nothing w.is_empty) w.is in
+    let by_part = subst (λ o. Contains (empty_part es w.entry.number w.entry.entry.file w.name o) fault) (sym w.is_required) told in
+    subst (λ d. Contains (empty_type es w.entry.number w.entry.entry.file d) fault) (sym w.defines) by_part
+
 pub empty_types_are : (es : List EntryOf) (fault : Fault) → Contains (empty_types es) fault ↔ IsEmptyType es fault
 empty_types_are es fault = (from, to)
   where
@@ -56,10 +63,7 @@ empty_types_are es fault = (from, to)
     from c = let r = from_flat (empty_type_at es) (judged es) fault c in from_entry es r.0 fault r.1 r.0.entry.definition refl r.2
 
     to : IsEmptyType es fault → Contains (empty_types es) fault
-    to w =
-        let told = to_test (is_nothing (part_names w.part es w.entry.number)) (fault_at w.entry.entry.file EmptyOrRepeated w.name) fault (ap is_nothing w.is_empty) w.is in
-        let by_part = subst (λ o. Contains (empty_part es w.entry.number w.entry.entry.file w.name o) fault) (sym w.is_required) told in
-        to_flat (empty_type_at es) (judged es) w.entry fault w.is_judged (subst (λ d. Contains (empty_type es w.entry.number w.entry.entry.file d) fault) (sym w.defines) by_part)
+    to w = to_flat (empty_type_at es) (judged es) w.entry fault w.is_judged (told_empty_type es fault w)
 
 -- parts that stand twice
 every_part : (part : Part) → Contains all_parts part
@@ -68,6 +72,12 @@ every_part Interfaces = (1, omega arith, refl)
 every_part Members = (2, omega arith, refl)
 every_part Values = (3, omega arith, refl)
 every_part InputFields = (4, omega arith, refl)
+
+-- what is told of the number at which the rule is broken
+pub told_repeated_part : (es : List EntryOf) (fault : Fault) (w : IsRepeatedPart es fault) → Contains (repeated_parts_of es w.number) fault
+told_repeated_part es fault w =
+    let twice = (repeated_is (λ name. name.it.text) (part_names w.part es w.number) w.one).1 w.is_repeated in
+    to_flat (repeated_part es w.number) all_parts w.part fault (every_part w.part) (to_map repeated_fault (repeated (λ name. name.it.text) (part_names w.part es w.number)) w.one fault twice w.is)
 
 pub repeated_parts_are : (es : List EntryOf) (fault : Fault) → Contains (repeated_parts es) fault ↔ IsRepeatedPart es fault
 repeated_parts_are es fault = (from, to)
@@ -88,13 +98,16 @@ repeated_parts_are es fault = (from, to)
 
     to : IsRepeatedPart es fault → Contains (repeated_parts es) fault
     to w =
-        let twice = (repeated_is (λ name. name.it.text) (part_names w.part es w.number) w.one).1 w.is_repeated in
-        let told = to_map repeated_fault (repeated (λ name. name.it.text) (part_names w.part es w.number)) w.one fault twice w.is in
-        let of_number = to_flat (repeated_part es w.number) all_parts w.part fault (every_part w.part) told in
         let same : w.number ≡ w.number + 0 = omega arith in
-        to_numbers (repeated_parts_of es) 0 es fault w.number w.is_number (subst (λ n. Contains (repeated_parts_of es n) fault) same of_number)
+        to_numbers (repeated_parts_of es) 0 es fault w.number w.is_number (subst (λ n. Contains (repeated_parts_of es n) fault) same (told_repeated_part es fault w))
 
--- arguments that stand twice
+-- Arguments that stand twice: what is told of the entry that breaks the rule.
+pub told_repeated_argument : (es : List EntryOf) (fault : Fault) (w : IsRepeatedArgument es fault) → Contains (repeated_arguments_at w.entry) fault
+told_repeated_argument es fault w =
+    let twice = (repeated_is (λ a. a.name.text) w.arguments w.one).1 w.is_repeated in
+    let told = to_map (repeated_argument w.entry.entry.file) (repeated (λ a. a.name.text) w.arguments) w.one fault twice w.is in
+    to_flat (repeated_arguments_in w.entry.entry.file) (argument_lists w.entry.entry.definition) w.arguments fault w.has told
+
 pub repeated_arguments_are : (es : List EntryOf) (fault : Fault) → Contains (repeated_arguments es) fault ↔ IsRepeatedArgument es fault
 repeated_arguments_are es fault = (from, to)
   where
@@ -114,10 +127,7 @@ repeated_arguments_are es fault = (from, to)
         }
 
     to : IsRepeatedArgument es fault → Contains (repeated_arguments es) fault
-    to w =
-        let twice = (repeated_is (λ a. a.name.text) w.arguments w.one).1 w.is_repeated in
-        let told = to_map (repeated_argument w.entry.entry.file) (repeated (λ a. a.name.text) w.arguments) w.one fault twice w.is in
-        to_flat repeated_arguments_at (judged es) w.entry fault w.is_judged (to_flat (repeated_arguments_in w.entry.entry.file) (argument_lists w.entry.entry.definition) w.arguments fault w.has told)
+    to w = to_flat repeated_arguments_at (judged es) w.entry fault w.is_judged (told_repeated_argument es fault w)
 
 pub empty_or_repeated_are : (es : List EntryOf) (fault : Fault) → Contains (empty_or_repeated es) fault ↔ IsEmptyType es fault ⊎ (IsRepeatedPart es fault ⊎ IsRepeatedArgument es fault)
 empty_or_repeated_are es fault = (from, to)

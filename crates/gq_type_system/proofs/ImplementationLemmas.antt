@@ -227,11 +227,16 @@ module _ (es : List EntryOf) (fault : Fault) where
   by_body number file description name directives (enum_type values) place k c = absurd (⊎_elim (λ e. cc) (λ e. cc) k)
   by_body number file description name directives (input_type fields) place k c = absurd (⊎_elim (λ e. cc) (λ e. cc) k)
 
+  -- what is told of the entry that breaks the rule
+  pub told_bad_implementation : (w : IsBadImplementation es fault) → Contains (bad_implementation_at es w.at) fault
+  told_bad_implementation w =
+      let here = by_body w.at.number w.at.entry.file w.description w.name w.directives w.body w.place w.implements (told w.at.number w.at.entry.file w.name w.breaks w.is) in
+      subst (λ d. Contains (bad_implementation es w.at.number w.at.entry.file d) fault) (sym w.defines) here
+
   from_relation : IsBadImplementation es fault → Contains (bad_implementations es) fault
   from_relation w =
       let there = from_filter (λ (m : Numbered). not (defines_built_in m.entry.definition)) (numbered es) w.at w.is_judged in
-      let here = by_body w.at.number w.at.entry.file w.description w.name w.directives w.body w.place w.implements (told w.at.number w.at.entry.file w.name w.breaks w.is) in
-      to_flat (bad_implementation_at es) (numbered es) w.at fault there.0 (subst (λ d. Contains (bad_implementation es w.at.number w.at.entry.file d) fault) (sym w.defines) here)
+      to_flat (bad_implementation_at es) (numbered es) w.at fault there.0 (told_bad_implementation w)
 
 pub bad_implementations_are : (es : List EntryOf) (fault : Fault) → Contains (bad_implementations es) fault ↔ IsBadImplementation es fault
 bad_implementations_are es fault = (to_relation es fault, from_relation es fault)

@@ -26,3 +26,4 @@ pub mod SchemaFaultLemmas
 pub mod ImplementationLemmas
 pub mod DirectivesAndDefaultsLemmas
 pub mod EachEntryLemmas
+pub mod FaultlessLemmas

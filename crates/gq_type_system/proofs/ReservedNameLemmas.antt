@@ -15,6 +15,13 @@ use Rattle.gq_type_system.specs.ReservedName.{IsReservedName}
 use Rattle.gq_type_system.specs.Helping.ReservedNamePlaces.{reserved_name, reserved_names_at, reserved_names}
 use Rattle.gq_types.proofs.Gathered.{from_flat, to_flat, from_if as from_test, to_if as to_test}
 
+-- what is told of the entry that breaks the rule
+pub told_reserved_name : (es : List EntryOf) (fault : Fault) (w : IsReservedName es fault) → Contains (reserved_names_at w.entry) fault
+told_reserved_name es fault w =
+    let test = (starts_is Decides-eqb w.name.text (codes "__") (starts_with nat_eq w.name.text (codes "__")) refl).1 w.rest w.is_reserved in
+    to_flat (reserved_name w.entry.entry.file) (defined_names w.entry.entry.definition) w.name fault w.is_defined
+    (to_test (starts_with nat_eq w.name.text (codes "__")) (fault_at w.entry.entry.file ReservedName w.name) fault test w.is)
+
 pub reserved_names_are : (es : List EntryOf) (fault : Fault) → Contains (reserved_names es) fault ↔ IsReservedName es fault
 reserved_names_are es fault = (from, to)
   where
@@ -31,8 +38,4 @@ reserved_names_are es fault = (from, to)
         from_name r.0 q.0 r.1 q.1 q.2
 
     to : IsReservedName es fault → Contains (reserved_names es) fault
-    to w =
-        let test = (starts_is Decides-eqb w.name.text (codes "__") (starts_with nat_eq w.name.text (codes "__")) refl).1 w.rest w.is_reserved in
-        to_flat reserved_names_at (judged es) w.entry fault w.is_judged
-        (to_flat (reserved_name w.entry.entry.file) (defined_names w.entry.entry.definition) w.name fault w.is_defined
-        (to_test (starts_with nat_eq w.name.text (codes "__")) (fault_at w.entry.entry.file ReservedName w.name) fault test w.is))
+    to w = to_flat reserved_names_at (judged es) w.entry fault w.is_judged (told_reserved_name es fault w)

@@ -11,6 +11,12 @@ use Rattle.gq_type_system.specs.Helping.UnknownTypePlaces.{unknown_type, unknown
 use Rattle.gq_type_system.proofs.KindLemmas.{none_found}
 use Rattle.gq_types.proofs.Gathered.{from_flat, to_flat, from_if as from_test, to_if as to_test}
 
+-- what is told of the entry that breaks the rule
+pub told_unknown_type : (es : List EntryOf) (fault : Fault) (w : IsUnknownType es fault) → Contains (unknown_types_at es w.entry) fault
+told_unknown_type es fault w =
+    to_flat (unknown_type es w.entry.entry.file) (used_types w.entry.entry.definition) w.one fault w.is_used
+    (to_test (is_none (kind_named es w.one.name.text)) (fault_at w.entry.entry.file UnknownType w.one.name) fault (ap is_none w.is_unknown) w.is)
+
 pub unknown_types_are : (es : List EntryOf) (fault : Fault) → Contains (unknown_types es) fault ↔ IsUnknownType es fault
 unknown_types_are es fault = (from, to)
   where
@@ -26,7 +32,4 @@ unknown_types_are es fault = (from, to)
         from_use r.0 q.0 r.1 q.1 q.2
 
     to : IsUnknownType es fault → Contains (unknown_types es) fault
-    to w =
-        to_flat (unknown_types_at es) (judged es) w.entry fault w.is_judged
-        (to_flat (unknown_type es w.entry.entry.file) (used_types w.entry.entry.definition) w.one fault w.is_used
-        (to_test (is_none (kind_named es w.one.name.text)) (fault_at w.entry.entry.file UnknownType w.one.name) fault (ap is_none w.is_unknown) w.is))
+    to w = to_flat (unknown_types_at es) (judged es) w.entry fault w.is_judged (told_unknown_type es fault w)

@@ -12,6 +12,13 @@ use Rattle.gq_type_system.specs.Helping.WrongKindPlaces.{wrong_kind, wrong_kinds
 use Rattle.gq_type_system.proofs.KindLemmas.{fails}
 use Rattle.gq_types.proofs.Gathered.{from_flat, to_flat, from_not, to_not}
 
+-- what is told of the entry that breaks the rule
+pub told_wrong_kind : (es : List EntryOf) (fault : Fault) (w : IsWrongKind es fault) → Contains (wrong_kinds_at es w.entry) fault
+told_wrong_kind es fault w =
+    to_flat (wrong_kind es w.entry.entry.file) (used_types w.entry.entry.definition) w.one fault w.is_used
+    (to_not (option_map_or (suits w.one.wants) (kind_named es w.one.name.text) true) (fault_at w.entry.entry.file WrongKindOfType w.one.name) fault
+    (ap (λ o. option_map_or (suits w.one.wants) o true) w.is_known ∙ w.is_wrong) w.is)
+
 pub wrong_kinds_are : (es : List EntryOf) (fault : Fault) → Contains (wrong_kinds es) fault ↔ IsWrongKind es fault
 wrong_kinds_are es fault = (from, to)
   where
@@ -28,8 +35,4 @@ wrong_kinds_are es fault = (from, to)
         from_use r.0 q.0 r.1 q.1 q.2
 
     to : IsWrongKind es fault → Contains (wrong_kinds es) fault
-    to w =
-        to_flat (wrong_kinds_at es) (judged es) w.entry fault w.is_judged
-        (to_flat (wrong_kind es w.entry.entry.file) (used_types w.entry.entry.definition) w.one fault w.is_used
-        (to_not (option_map_or (suits w.one.wants) (kind_named es w.one.name.text) true) (fault_at w.entry.entry.file WrongKindOfType w.one.name) fault
-        (ap (λ o. option_map_or (suits w.one.wants) o true) w.is_known ∙ w.is_wrong) w.is))
+    to w = to_flat (wrong_kinds_at es) (judged es) w.entry fault w.is_judged (told_wrong_kind es fault w)

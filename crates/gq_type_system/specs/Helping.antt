@@ -13,6 +13,7 @@ pub mod ReservedNamePlaces
 pub mod RootTypesPlaces
 pub mod SchemaFaultsPlaces
 pub mod UnknownTypePlaces
+pub mod Untold
 pub mod UsesViews
 pub mod Walk
 pub mod WrongKindPlaces

@@ -12,4 +12,5 @@ pub mod EndlessInputs
 pub mod SchemaFaults
 pub mod Implementations
 pub mod DirectivesAndDefaults
+pub mod FaultsAt
 pub mod Helping

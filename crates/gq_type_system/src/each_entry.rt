@@ -1,6 +1,6 @@
 //! What the rules tell of single definitions and extensions, and of these with what belongs to them. Each is looked at once, by all such rules,
 //! so that it comes from memory once.
-ghost use Rattle.std.specs.Prelude.{◌≡◌, ◌++◌, [], IfOk, OnOk};
+ghost use Rattle.std.specs.Prelude.{◌≡◌, ◌++◌, true, [], IfOk, OnOk};
 ghost use Rattle.std.specs.Arc.{arc_value};
 ghost use Rattle.gq_tree.specs.Views.{type_system_view};
 ghost use Rattle.gq_types.specs.Entries.{entry_view};
@@ -15,6 +15,7 @@ ghost use Rattle.gq_type_system.specs.Helping.EmptyOrRepeatedPlaces.{empty_type,
 ghost use Rattle.gq_type_system.specs.Helping.ImplementationsPlaces.{bad_implementation, bad_implementations};
 ghost use Rattle.gq_type_system.specs.Helping.ReservedNamePlaces.{reserved_names, reserved_names_in};
 ghost use Rattle.gq_type_system.specs.Helping.UnknownTypePlaces.{unknown_types, unknown_types_in};
+ghost use Rattle.gq_type_system.specs.Helping.Untold.{IsUntold, IsUntoldAlone, IsUntoldTogether, NothingAlone, NothingTogether};
 ghost use Rattle.gq_type_system.specs.Helping.WrongKindPlaces.{wrong_kinds, wrong_kinds_in};
 
 use crate::bad_extension::add_bad_extension;
@@ -69,6 +70,20 @@ impl EntryFaults {
             inner: Vec::new(alloc),
         }
     }
+
+    /// Whether nothing is told.
+    fn is_empty(&self) -> bool
+        ensures { result ≡ true → NothingAlone self.now }
+    {
+        self.defined_twice.is_empty()
+            && self.extensions.is_empty()
+            && self.reserved.is_empty()
+            && self.unknown.is_empty()
+            && self.wrong.is_empty()
+            && self.empty.is_empty()
+            && self.arguments.is_empty()
+            && self.inner.is_empty()
+    }
 }
 
 /// What is told of entries with those that belong to them, rule by rule.
@@ -92,6 +107,13 @@ impl GroupFaults {
             outer: Vec::new(alloc),
         }
     }
+
+    /// Whether nothing is told.
+    fn is_empty(&self) -> bool
+        ensures { result ≡ true → NothingTogether self.now }
+    {
+        self.repeated.is_empty() && self.implementations.is_empty() && self.outer.is_empty()
+    }
 }
 
 /// What is told of entries, singly and with those that belong to them.
@@ -108,6 +130,23 @@ struct Lists<'a> {
     uses: Vec<Use<'a>>,
     sites: Vec<DirectiveSite<'a>>,
     inputs: Vec<&'a InputValueDefinition>,
+}
+
+impl<'a> Lists<'a> {
+    /// Nothing stands in them. They take no memory.
+    fn nothing(alloc: Global) -> Lists<'a>
+        ensures names { result.names.items ≡ [] }
+        ensures uses { result.uses.items ≡ [] }
+        ensures sites { result.sites.items ≡ [] }
+        ensures inputs { result.inputs.items ≡ [] }
+    {
+        Lists {
+            names: Vec::new(alloc),
+            uses: Vec::new(alloc),
+            sites: Vec::new(alloc),
+            inputs: Vec::new(alloc),
+        }
+    }
 }
 
 /// What is told of an entry that is judged.
@@ -186,12 +225,7 @@ fn look_at_all(
     ensures implementations { OnOk result (groups.new.implementations.items ≡ groups.old.implementations.items ++ bad_implementations (types_view types.now)) }
     ensures outer { OnOk result (groups.new.outer.items ≡ groups.old.outer.items ++ faults_of_groups (types_view types.now)) }
 {
-    let mut lists = Lists {
-        names: Vec::new(alloc),
-        uses: Vec::new(alloc),
-        sites: Vec::new(alloc),
-        inputs: Vec::new(alloc),
-    };
+    let mut lists = Lists::nothing(alloc);
     let entries = types.entries();
     for number in 0..entries.len() {
         if is_judged(&entries[number].definition) {
@@ -210,4 +244,48 @@ pub(crate) fn told_of_entries(alloc: Global, types: &Types) -> Result<Told, NoMe
     let mut groups = GroupFaults::nothing(alloc);
     look_at_all(alloc, types, &mut entries, &mut groups)?;
     Ok(Told { entries, groups })
+}
+
+/// Whether nothing is told of an entry that is judged.
+fn is_untold_alone(
+    alloc: Global,
+    types: &Types,
+    number: usize,
+    entry: &Entry,
+) -> Result<bool, NoMemory>
+    ensures { IfOk result (λ untold. untold ≡ true → IsUntoldAlone (types_view types.now) (record { number = number; entry = entry_view entry.now })) }
+{
+    let mut lists = Lists::nothing(alloc);
+    let mut told = EntryFaults::nothing(alloc);
+    look_at(alloc, types, number, entry, &mut lists, &mut told)?;
+    Ok(told.is_empty())
+}
+
+/// Whether nothing is told of an entry with those that belong to its number.
+fn is_untold_together(
+    alloc: Global,
+    types: &Types,
+    number: usize,
+    entry: &Entry,
+) -> Result<bool, NoMemory>
+    ensures { IfOk result (λ untold. untold ≡ true → IsUntoldTogether (types_view types.now) (record { number = number; entry = entry_view entry.now })) }
+{
+    let mut groups = GroupFaults::nothing(alloc);
+    look_at_group(alloc, types, number, entry, &mut groups)?;
+    Ok(groups.is_empty())
+}
+
+/// Whether nothing is told of an entry, alone or with those that belong to its number.
+pub(crate) fn is_untold(
+    alloc: Global,
+    types: &Types,
+    number: usize,
+    entry: &Entry,
+) -> Result<bool, NoMemory>
+    ensures { IfOk result (λ untold. untold ≡ true → IsUntold (types_view types.now) (record { number = number; entry = entry_view entry.now })) }
+{
+    if is_judged(&entry.definition) && !is_untold_alone(alloc, types, number, entry)? {
+        return Ok(false);
+    }
+    is_untold_together(alloc, types, number, entry)
 }

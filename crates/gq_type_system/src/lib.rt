@@ -9,6 +9,7 @@ mod directives_and_defaults;
 mod each_entry;
 mod empty_or_repeated;
 mod endless_inputs;
+pub mod faultless;
 pub mod faults;
 mod implementations;
 mod input_fields;
@@ -24,4 +25,5 @@ mod used_types;
 mod uses;
 
 pub use defined_twice::definition_place;
+pub use faultless::are_faultless;
 pub use faults::schema_faults;
