@@ -11,6 +11,8 @@ pub mod Schema
 pub mod Lookups
 pub mod Entries
 pub mod OtherFields
+pub mod ObjectTypes
+pub mod ObjectRules
 pub mod Operations
 pub mod DefinitionFaults
 pub mod LookupDefinitions

@@ -2,6 +2,7 @@
 pub mod Places
 pub mod Types
 pub mod OtherFields
+pub mod ObjectTypes
 pub mod Tokens
 pub mod Names
 pub mod Merging

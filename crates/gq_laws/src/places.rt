@@ -6,6 +6,7 @@ ghost use Rattle.gq_fragments.specs.FragmentsOnCompositeTypes.{IsConditionNotCom
 ghost use Rattle.gq_fragments.specs.OperationFaults.{IsOperationFault};
 ghost use Rattle.gq_laws.specs.Placing.Merging.{DifferingIsSymmetric, FieldsThatAreKeptMerge, MeetingIsSymmetric};
 ghost use Rattle.gq_laws.specs.Placing.Names.{FragmentRenamesKeepFaultless, NamesDoNotMatter, RenamedAreSameButNames, RenamesKeepFaultless, VariableRenamesKeepFaultless};
+ghost use Rattle.gq_laws.specs.Placing.ObjectTypes.{OtherObjectsKeepTypes};
 ghost use Rattle.gq_laws.specs.Placing.OtherFields.{OtherFieldsDoNotMatter, TypesLookAlikeBut};
 ghost use Rattle.gq_laws.specs.Placing.Places.{DocumentsAreSameButPlaces, PlacesDoNotMatter};
 ghost use Rattle.gq_laws.specs.Placing.Tokens.{LinesReadApart, SameTokensDefineAlike};
@@ -94,6 +95,11 @@ pub fn types_look_alike_but()
 /// Over such type systems operations and fragments that select no field of these names have the same faults.
 pub fn other_fields_do_not_matter_to_rules()
     ensures { OtherFieldsDoNotMatter IsRuleFault }
+{}
+
+/// Where a type system breaks no rule, one that differs from it in fields of object types alone breaks none, if it breaks none at these types.
+pub fn other_objects_keep_types()
+    ensures { OtherObjectsKeepTypes }
 {}
 
 /// Of type systems that are equal but for their places, the one breaks a rule of the type system in a document where the other does.

@@ -75,10 +75,10 @@ is_sought text f = bytes_eq text f.it.name.text
 
 module _ (names : List Text) where
   -- an entry without the fields of those names
-  abbrev without : EntryOf → EntryOf
+  abbrev pub without : EntryOf → EntryOf
   without e = record { file = e.file; definition = definition_without names e.definition }
 
-  abbrev renumbered : Numbered → Numbered
+  abbrev pub renumbered : Numbered → Numbered
   renumbered n = record { number = n.number; entry = without n.entry }
 
   -- what those fields have no part in
@@ -206,7 +206,7 @@ module _ (names : List Text) where
   directives_left text (e ∷ es) =
       directive_step text e.file e.definition (find (λ e. is_directive_named text e.definition) (map without es)) (find (λ e. is_directive_named text e.definition) es) (directives_left text es)
 
-  numbered_without : (k : ℕ) (es : List EntryOf) → numbered_from k (map without es) ≡ map renumbered (numbered_from k es)
+  pub numbered_without : (k : ℕ) (es : List EntryOf) → numbered_from k (map without es) ≡ map renumbered (numbered_from k es)
   numbered_without k [] = refl
   numbered_without k (e ∷ es) = ap (λ z. renumbered (record { number = k; entry = e }) ∷ z) (numbered_without (k + 1) es)
 
@@ -214,19 +214,19 @@ module _ (names : List Text) where
     abbrev left_over : List EntryOf
     left_over = map without es
 
-    kind_same : (text : Text) → kind_named left_over text ≡ kind_named es text
+    pub kind_same : (text : Text) → kind_named left_over text ≡ kind_named es text
     kind_same text =
         ap (λ o. option_and_then (λ e. kind_in e.definition) o)
         (found without (λ e. is_type_named text e.definition) (λ e. is_type_named text e.definition) (λ e. type_named_stays text e.definition) es)
         ∙ and_then_changed without (λ e. kind_in e.definition) (λ e. kind_in e.definition) (λ e. kind_in_stays e.definition) (find (λ e. is_type_named text e.definition) es)
 
-    number_same : (text : Text) → type_number left_over text ≡ type_number es text
+    pub number_same : (text : Text) → type_number left_over text ≡ type_number es text
     number_same text = positions without (λ e. is_type_named text e.definition) (λ e. is_type_named text e.definition) (λ e. type_named_stays text e.definition) es
 
     schema_same : position (λ e. is_schema e.definition) left_over ≡ position (λ e. is_schema e.definition) es
     schema_same = positions without (λ e. is_schema e.definition) (λ e. is_schema e.definition) (λ e. schema_stays e.definition) es
 
-    schema_number_same : schema_number left_over ≡ schema_number es
+    pub schema_number_same : schema_number left_over ≡ schema_number es
     schema_number_same = ap (λ o. unwrap_or o (length left_over)) schema_same ∙ ap (λ n. unwrap_or (position (λ e. is_schema e.definition) es) n) (length-map es without)
 
     directive_same : (text : Text) → directive_named left_over text ≡ directive_named es text
@@ -293,7 +293,7 @@ module _ (names : List Text) where
     object_same : (text : Text) → is_object left_over text ≡ is_object es text
     object_same text = ap (λ k. option_map_or (same_kind kinds.Object) k false) (kind_same text)
 
-    default_same : (kind : OperationKind) → default_root left_over kind ≡ default_root es kind
+    pub default_same : (kind : OperationKind) → default_root left_over kind ≡ default_root es kind
     default_same kind =
         ap (λ o. if is_some o then None else if is_object left_over (default_name kind) then Some (default_name kind) else None) schema_same
         ∙ ap (λ b. if is_some (position (λ e. is_schema e.definition) es) then None else if b then Some (default_name kind) else None) (object_same (default_name kind))

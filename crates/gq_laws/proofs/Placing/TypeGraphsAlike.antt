@@ -23,7 +23,7 @@ use Rattle.gq_type_system.specs.Implementations.{Implements, Inherits, BreaksFie
 use Rattle.gq_type_system.specs.EndlessInputs.{Way, step, further, LeadsByNonNull, InputField, has_key, LeadsByDefault, IsEndless, by_non_null, by_default, input_object_in, IsEndlessInput}
 use Rattle.gq_laws.specs.Placing.Names.{bare_says, bare_part, bare_value}
 use Rattle.gq_types.specs.ErasedEntries.{erase_entry}
-use Rattle.gq_laws.specs.Placing.Types.{LooksAlike}
+use Rattle.gq_laws.specs.Placing.OtherFields.{LooksAlikeBut}
 use Rattle.gq_types.proofs.Placing.Lists.{any, found, map_twice}
 use Rattle.gq_types.proofs.Placing.Alike.{back, seen}
 use Rattle.gq_laws.proofs.Placing.Judged.{erase_marked, HasAlike, entries_too, judged_too}
@@ -65,7 +65,7 @@ covers_too R S each (without_null {sub = sub} c) (non_null x) u2 e h =
 covers_too R S each _ t2 u2 e h = absurd (cc)
 
 -- names of subtypes
-module _ (es us : List EntryOf) (looks : LooksAlike es us) where
+module _ (names : List Text) (es us : List EntryOf) (looks : LooksAlikeBut names es us) where
   possible_too : {super thing : Text} → IsPossible es super thing → IsPossible us super thing
   possible_too (itself {object = thing} a) = itself (sym (looks.kind thing) ∙ a)
   possible_too (member {union = whole} {object = thing} a b c) = member (sym (looks.kind whole) ∙ a) (sym (looks.member whole thing) ∙ b) (sym (looks.kind thing) ∙ c)
@@ -86,7 +86,7 @@ abbrev InputToo : Option (InputOf Span) → InputOf Span → Type 0
 InputToo o i = (j : InputOf Span) × (o ≡ Some j) × (place_input no_place i ≡ place_input no_place j)
 
 -- what an interface wants of a field
-module _ (es us : List EntryOf) (looks : LooksAlike es us) (wanted own wanted2 own2 : FieldDefinitionOf Span)
+module _ (names : List Text) (es us : List EntryOf) (looks : LooksAlikeBut names es us) (wanted own wanted2 own2 : FieldDefinitionOf Span)
     (wanteds : place_field no_place wanted ≡ place_field no_place wanted2) (owns : place_field no_place own ≡ place_field no_place own2) where
   wanted_arguments : (text : Text) → option_map (place_input no_place) (argument_named wanted.arguments text) ≡ option_map (place_input no_place) (argument_named wanted2.arguments text)
   wanted_arguments text = argument_named_alike text wanted.arguments wanted2.arguments (ap (λ z. z.arguments) wanteds)
@@ -100,10 +100,10 @@ module _ (es us : List EntryOf) (looks : LooksAlike es us) (wanted own wanted2 o
   own_too : (text : Text) (i : InputOf Span) → argument_named own.arguments text ≡ Some i → InputToo (argument_named own2.arguments text) i
   own_too text i a = option_too (place_input no_place) (argument_named own2.arguments text) i (ap (option_map (place_input no_place)) (sym a) ∙ own_arguments text)
 
-  breaks_field_too : BreaksField es wanted own → BreaksField us wanted2 own2
+  pub breaks_field_too : BreaksField es wanted own → BreaksField us wanted2 own2
   breaks_field_too (has_no_subtype n) =
-      let back_again = lookups.each_field us es (lookups.turned [] es us (lookups.all_fields es us looks)) in
-      has_no_subtype (λ c. n (covers_too (MayBeSubtypeName us) (MayBeSubtypeName es) (may_be_subtype_too us es back_again) c own.type_ref wanted.type_ref
+      let back_again = lookups.turned names es us looks in
+      has_no_subtype (λ c. n (covers_too (MayBeSubtypeName us) (MayBeSubtypeName es) (may_be_subtype_too names us es back_again) c own.type_ref wanted.type_ref
       (sym (ap (λ z. z.type_ref) owns)) (sym (ap (λ z. z.type_ref) wanteds))))
   breaks_field_too (lacks_argument text argument a b) =
       let w = wanted_too text argument a in
@@ -154,7 +154,7 @@ module _ (es us : List EntryOf) (entries : map erase_entry es ≡ map erase_entr
   breaks_too number name (breaks_field text wanted own a b c) =
       let w = inherits_too number text wanted a in
       let o = option_too (place_field no_place) (field_in us number text) own (ap (option_map (place_field no_place)) (sym b) ∙ field_in_alike number text) in
-      breaks_field text w.0 o.0 w.1 o.1 (breaks_field_too es us (looks_alike es us entries) wanted own w.0 o.0 w.2 o.2 c)
+      breaks_field text w.0 o.0 w.1 o.1 (breaks_field_too [] es us (lookups.all_fields es us (looks_alike es us entries)) wanted own w.0 o.0 w.2 o.2 c)
 
 -- kinds that implement interfaces
 kinds_too : (k l : TypeKind) → k ≡ l → (k ≡ kinds.Object) ⊎ (k ≡ kinds.Interface) → (l ≡ kinds.Object) ⊎ (l ≡ kinds.Interface)
@@ -238,7 +238,7 @@ named_too n (non_null (non_null inner)) e = absurd (cc)
 named_too n (named m) e = absurd (cc)
 named_too n (list_of item) e = absurd (cc)
 
-module _ (es us : List EntryOf) (looks : LooksAlike es us) where
+module _ (names : List Text) (es us : List EntryOf) (looks : LooksAlikeBut names es us) where
   input_too : (type_name text : Text) (i : InputOf Span) → input_named es type_name text ≡ Some i → InputToo (input_named us type_name text) i
   input_too type_name text i a = option_too (place_input no_place) (input_named us type_name text) i (ap (option_map (place_input no_place)) (sym a) ∙ looks.input type_name text)
 
@@ -253,7 +253,7 @@ module _ (es us : List EntryOf) (looks : LooksAlike es us) where
       (u2 : TypeOf Span) × (w : Val Span) × Holds us (at_type t2) d2 (at_type u2) w × (place_type no_place u ≡ place_type no_place u2) × (bare_value v ≡ bare_value w)
   holds_too t t2 u d d2 v types defaults h =
       let i = in_alike es h (λ k. at_type t2) (λ k l z. ap (λ z. Some z) types) (alone d2) (bare_alone d d2 defaults) in
-      let o = lookups.stands [] es us (lookups.all_fields es us looks) i.2 (λ k. at_type t2) (λ k. refl) in
+      let o = lookups.stands names es us looks i.2 (λ k. at_type t2) (λ k. refl) in
       let q = type_too o.0 u (i.3 ∙ o.2) in
       (q.0, i.1, subst (λ z. Holds us (at_type t2) d2 z i.1) q.1 o.1, q.2, i.4)
 
@@ -272,14 +272,14 @@ module _ (es us : List EntryOf) (looks : LooksAlike es us) where
         literal_type = h.0;
         holds = h.2;
         is_object = object_too l.literal.label.says h.1.label.says (ap (λ z. z.label.says) h.4) l.is_object;
-        is_at = lookups.objects [] es us (lookups.all_fields es us looks) l.literal_type h.0 h.3 ∙ l.is_at;
+        is_at = lookups.objects names es us looks l.literal_type h.0 h.3 ∙ l.is_at;
         is_absent = absent_too to.name l.literal.below h.1.below (ap (λ z. z.below) h.4) l.is_absent;
         other = o.0;
         is_other = o.1;
         other_has_default = some_too (place_value no_place) l.other.default o.0.default (ap (λ z. z.default) o.2) l.other_has_default;
       }
 
-  endless_too : (type_name : Text) → IsEndless es type_name → IsEndless us type_name
+  pub endless_too : (type_name : Text) → IsEndless es type_name → IsEndless us type_name
   endless_too type_name (by_non_null w) = by_non_null (way_too (LeadsByNonNull es) (LeadsByNonNull us) non_null_too w)
   endless_too type_name (by_default {field = field} e w) = by_default {field = field} e (way_too (LeadsByDefault es) (LeadsByDefault us) default_too w)
 
@@ -334,7 +334,7 @@ module _ {M : Type 0} (mark : ℕ → M) (es us : List EntryOf) (same : map (era
           name = n.0;
           defines = n.1;
           is_meant = ap (type_number us) (sym texts) ∙ sym (type_numbers es us (entries_too mark es us same) b.name.text) ∙ b.is_meant ∙ ap (λ z. Some z) (sym m.2);
-          is_endless = subst (IsEndless us) texts (endless_too es us (looks_alike es us (entries_too mark es us same)) b.name.text b.is_endless);
+          is_endless = subst (IsEndless us) texts (endless_too [] es us (lookups.all_fields es us (looks_alike es us (entries_too mark es us same))) b.name.text b.is_endless);
           is = refl;
         },
         m.3 ∙ ap (λ z. mark z.file) (sym b.is),
