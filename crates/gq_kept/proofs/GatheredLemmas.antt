@@ -26,7 +26,7 @@ one_more : (texts : List Text) (es us rest others : List Entry) (e u : Entry) �
     AreAlike texts rest others → AreAlike texts es us
 one_more texts es us rest others e u p q alike h = rw (p, q) (ap (λ d. d ∷ map (erase_without texts) (entries_view rest)) alike ∙ ap (λ r. erase_without texts (entry_view u) ∷ r) h)
 
-at_place : {A : Type 0} (xs : List A) (i : ℕ) (x : A) → i < length xs → x ≡ get_or xs i x → drop i xs ≡ x ∷ drop (i + 1) xs
+pub at_place : {A : Type 0} (xs : List A) (i : ℕ) (x : A) → i < length xs → x ≡ get_or xs i x → drop i xs ≡ x ∷ drop (i + 1) xs
 at_place xs i x h e = rw add-one (drop-cons xs i x h ∙ ap (λ y. y ∷ drop (suc i) xs) (sym e))
 
 pub gathered_more : (es us : List Entry) (i : ℕ) (e u : Entry) (d c : TypeSystemDefinition) (before after : List Text) →

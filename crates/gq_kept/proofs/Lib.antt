@@ -1,5 +1,6 @@
 pub mod AlikeLemmas
 pub mod Brought
+pub mod ComparedLemmas
 pub mod FieldLemmas
 pub mod FieldListsLemmas
 pub mod FieldNamesLemmas

@@ -1,5 +1,6 @@
 -- What only helps to prove that the code does what the definitions say. No contract of a public call is about it.
 pub mod ByDocument
+pub mod Compared
 pub mod Facts
 pub mod Gathered
 pub mod Gone

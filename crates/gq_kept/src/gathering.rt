@@ -8,11 +8,11 @@ ghost use Rattle.gq_laws.specs.Placing.OtherFields.{body_without, definition_wit
 ghost use Rattle.gq_kept.specs.Helping.Gathered.{Gathered};
 ghost use Rattle.gq_kept.specs.Helping.Texts.{texts_at};
 
-use crate::sameness::{Alike, are_alike, are_both_alike, common_back, common_front};
+use crate::same_definitions::{is_same_directive, is_same_schema};
+use crate::sameness::{Alike, are_alike, common_back, common_front};
 use gq_text::NoMemory;
 use gq_tree::{
-    DirectiveDefinition, FieldDefinition, FieldsAndInterfaces, Name, SchemaDefinition, TypeBody,
-    TypeDefinition, TypeSystemDefinition,
+    FieldDefinition, FieldsAndInterfaces, Name, TypeBody, TypeDefinition, TypeSystemDefinition,
 };
 
 /// So many names are gathered at most.
@@ -41,41 +41,6 @@ pub(crate) fn gather_differing<'a>(
             _ => Ok(false),
         },
     }
-}
-
-/// Whether the two are the same but for places.
-fn is_same_schema(one: &SchemaDefinition, other: &SchemaDefinition) -> bool
-    ensures { result ≡ true → place_type_system no_place (type_system_view (definition.Schema one.now)) ≡ place_type_system no_place (type_system_view (definition.Schema other.now)) }
-{
-    if one.extends != other.extends {
-        return false;
-    }
-    if !are_alike(&one.roots, &other.roots) {
-        return false;
-    }
-    if !are_alike(&one.directives, &other.directives) {
-        return false;
-    }
-    are_both_alike(&one.description, &other.description)
-}
-
-/// Whether the two are the same but for places.
-fn is_same_directive(one: &DirectiveDefinition, other: &DirectiveDefinition) -> bool
-    ensures { result ≡ true → place_type_system no_place (type_system_view (definition.Directive one.now)) ≡ place_type_system no_place (type_system_view (definition.Directive other.now)) }
-{
-    if one.repeatable != other.repeatable {
-        return false;
-    }
-    if !one.name.is_alike(&other.name) {
-        return false;
-    }
-    if !are_alike(&one.locations, &other.locations) {
-        return false;
-    }
-    if !are_alike(&one.arguments, &other.arguments) {
-        return false;
-    }
-    are_both_alike(&one.description, &other.description)
 }
 
 /// So of two types, the descriptions of which may differ.

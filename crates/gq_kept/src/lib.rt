@@ -15,6 +15,7 @@ pub mod kept;
 mod noted;
 mod pieces;
 mod places;
+mod same_definitions;
 mod sameness;
 mod typed;
 mod unseen;

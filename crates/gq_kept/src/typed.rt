@@ -6,16 +6,18 @@ ghost use Rattle.gq_tree.specs.Readings.{shared_view, readings_view};
 ghost use Rattle.gq_types.specs.BuiltIn.{built_in};
 ghost use Rattle.gq_types.specs.Look.{types_view};
 ghost use Rattle.gq_document.specs.Definitions.{entries_of};
-ghost use Rattle.gq_kept.specs.Helping.TypesOf.{AreTypesOf, TellsOf, IsSameOf, IsOneTypeSystem, types_defined};
+ghost use Rattle.gq_schema.specs.SchemaOf.{HasNoFault};
+ghost use Rattle.gq_kept.specs.Helping.TypesOf.{AreTypesOf, Tells, TellsOf, IsSameOf, IsOneTypeSystem, types_defined};
 ghost use Rattle.gq_kept.specs.Helping.Unseen.{IsIfWholly};
 ghost use Rattle.gq_kept.specs.declared.typed.Typed.{Typed};
 
+use crate::differing::compare_types;
 use gq_document::type_system_entries;
 use gq_known::learned::{defines_types, type_system};
-use gq_laws::places::documents_of_types_do_not_matter_to_types;
+use gq_laws::places::{documents_of_types_do_not_matter_to_types, other_objects_keep_types};
 use gq_text::NoMemory;
 use gq_tree::Parsed;
-use gq_type_system::schema_faults;
+use gq_type_system::{are_faultless, schema_faults};
 use gq_types::{Entry, Types};
 use std::alloc::Global;
 use std::mem;
@@ -41,6 +43,40 @@ pub(crate) fn made_of(alloc: Global, readings: &[Arc<Parsed>]) -> Result<Typed, 
 {
     let types = type_system(alloc, readings)?;
     let has_schema = schema_faults(alloc, &types)?.is_empty();
+    Ok(Typed { types, has_schema })
+}
+
+/// Whether a type system breaks no rule where the other one breaks none, since it differs from it in fields of object types alone and breaks none at these; it may
+/// where this answers false.
+fn keeps_rules(alloc: Global, was: &Types, types: &Types) -> Result<bool, NoMemory>
+    ensures { IfOk result (λ keeps. keeps ≡ true → HasNoFault (types_view was.now) → HasNoFault (types_view types.now)) }
+{
+    other_objects_keep_types();
+    let Some(found) = compare_types(alloc, was.entries(), types.entries())? else {
+        return Ok(false);
+    };
+    if !found.are_objects {
+        return Ok(false);
+    }
+    are_faultless(alloc, types, &found.numbers)
+}
+
+/// Whether no rule of a type system is broken, beside one of which that is known.
+fn holds_beside(alloc: Global, was: &Typed, types: &Types) -> Result<bool, NoMemory>
+    ensures { IfOk result (λ holds. (was.now.has_schema ≡ true → HasNoFault (types_view was.now.types)) → Tells holds (types_view types.now)) }
+{
+    if was.has_schema && keeps_rules(alloc, &was.types, types)? {
+        return Ok(true);
+    }
+    Ok(schema_faults(alloc, types)?.is_empty())
+}
+
+/// The type system of documents that are read so, beside that of others. Rules are looked at where it differs, if it does so in fields of object types alone.
+fn made_beside(alloc: Global, readings: &[Arc<Parsed>], was: &Typed) -> Result<Typed, NoMemory>
+    ensures { IfOk result (λ made. (was.now.has_schema ≡ true → HasNoFault (types_view was.now.types)) → AreTypesOf (readings_view readings.now) made) }
+{
+    let types = type_system(alloc, readings)?;
+    let has_schema = holds_beside(alloc, was, &types)?;
     Ok(Typed { types, has_schema })
 }
 
@@ -102,7 +138,7 @@ pub(crate) fn retype(
         let was = replace_entries(alloc, &all, typed)?;
         return Ok(Some(Was::Entries(was)));
     }
-    let made = made_of(alloc, &all)?;
+    let made = made_beside(alloc, &all, typed)?;
     Ok(Some(Was::Typed(mem::replace(typed, made))))
 }
 

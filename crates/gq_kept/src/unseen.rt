@@ -8,7 +8,7 @@ ghost use Rattle.gq_kept.specs.Helping.Selected.{AreSelected};
 ghost use Rattle.gq_kept.specs.Helping.Unseen.{AreMarkedBy, IfWholly};
 
 use crate::by_document::ByDocument;
-use crate::differing::differing_fields;
+use crate::differing::compare_types;
 use crate::field_lists::FieldLists;
 use crate::typed::{Typed, Was};
 use gq_laws::places::{other_fields_do_not_matter_to_rules, types_look_alike_but};
@@ -30,8 +30,8 @@ fn seeing(
     ensures marks { IfOk result (λ marks. IfSome marks (λ some. AreSelected (readings_view readings.now) fields.old.lists.items
         → AreMarkedBy (types_view was.now) (types_view types.now) (readings_view readings.now) some.items)) }
 {
-    match differing_fields(alloc, was.entries(), types.entries())? {
-        Some(names) => Ok(Some(fields.marks(alloc, readings, &names)?)),
+    match compare_types(alloc, was.entries(), types.entries())? {
+        Some(found) => Ok(Some(fields.marks(alloc, readings, &found.names)?)),
         None => Ok(None),
     }
 }

@@ -20,9 +20,13 @@ pub record AreTypesOf (readings : List ParsedOf) (made : Typed) : Type 0 where
   pub sound : made.has_schema ≡ true → HasNoFault (types_view made.types)
   pub faulty : made.has_schema ≡ false → HasNoFault (types_view made.types) → ⊥
 
--- the flag tells whether no rule of the type system of documents that are read so is broken
+-- the flag tells whether no rule of the type system is broken
+abbrev pub Tells : Bool → List EntryOf → Type 0
+Tells holds es = (holds ≡ true → HasNoFault es) × (holds ≡ false → HasNoFault es → ⊥)
+
+-- so of the type system of documents that are read so
 abbrev pub TellsOf : Bool → List ParsedOf → Type 0
-TellsOf holds readings = (holds ≡ true → HasNoFault (built_in ++ entries_of readings)) × (holds ≡ false → HasNoFault (built_in ++ entries_of readings) → ⊥)
+TellsOf holds readings = Tells holds (built_in ++ entries_of readings)
 
 -- it is the type system of the documents but for places
 abbrev pub IsSameOf : Typed → List ParsedOf → Type 0

@@ -1,7 +1,7 @@
 use Rattle.gq_tree.specs.Plain.{no_place, place_name, place_input}
 use Rattle.gq_tree.specs.Views.{literal_view, input_view}
 use Rattle.gq_kept.proofs.SamenessLemmas.{directives_alike, alike_lists, same_lists, alike_options, same_flags}
-use Rattle.gq_kept.proofs.gathering.is_same_directive.Goals as goal
+use Rattle.gq_kept.proofs.same_definitions.is_same_directive.Goals as goal
 
 pub returns : goal.returns
 returns c = λ h. directives_alike c.args.one.now c.args.other.now (alike_options (place_name no_place) literal_view _ _ _ c.are_both_alike.ensures h)

@@ -1,7 +1,7 @@
 use Rattle.gq_tree.specs.Plain.{no_place, place_name, place_directive, place_root}
 use Rattle.gq_tree.specs.Views.{literal_view, directive_view, root_view}
 use Rattle.gq_kept.proofs.SamenessLemmas.{schemas_alike, alike_lists, alike_options, same_flags}
-use Rattle.gq_kept.proofs.gathering.is_same_schema.Goals as goal
+use Rattle.gq_kept.proofs.same_definitions.is_same_schema.Goals as goal
 
 pub returns : goal.returns
 returns c = λ h. schemas_alike c.args.one.now c.args.other.now (same_flags c.args.one.now.extends c.args.other.now.extends c.if-one-other.false)

@@ -30,5 +30,5 @@ returns-then-keeps_names-clause-ok c tells types =
 pub returns-clause-ok : goal.returns-clause-ok
 returns-clause-ok c tells types =
     let all = among c.args.readings.now c.args.at (shared_view c.args.reading.now) c.requires.at (readings_view c.deref-2.result.now) (ap readings_view c.deref-2.ensures.value ∙ c.in_ok-all.ensures) in
-    let are : AreTypesOf (readings_view c.deref-2.result.now) c.in_ok-made.made = c.in_ok-made.ensures in
+    let are : AreTypesOf (readings_view c.deref-2.result.now) c.in_ok-made.made = c.in_ok-made.ensures types.sound in
     rw c.replace.ensures.after (subst (λ (xs : List ParsedOf). AreTypesOf xs c.in_ok-made.made) all are)
