@@ -1,6 +1,6 @@
 -- Type systems that are compared, definition by definition.
-use Rattle.std.proofs.Common.{◌≡◌, ℕ, suc, ◌+◌, ◌<◌, ◌≤◌, List, [], ◌∷◌, ◌++◌, map, length, drop, get_or, refl, sym, ◌∙◌, ap, subst, append-nil, append_assoc, arith, Vec, Global}
-use Rattle.std.specs.Prelude.{All, filter, not, true, false}
+use Rattle.std.proofs.Common.{◌≡◌, ℕ, ◌+◌, ◌<◌, ◌≤◌, List, [], ◌∷◌, ◌++◌, map, length, drop, get_or, sym, ◌∙◌, ap, subst, append-nil, append_assoc, arith, Vec, Global}
+use Rattle.std.specs.Prelude.{All, not, true}
 use Rattle.std.specs.Option.{option_map}
 use Rattle.std.specs.Arc.{arc_value}
 use Rattle.std.proofs.Math.ListN.{drop_of_length-le}
@@ -23,7 +23,9 @@ use Rattle.gq_type_system.specs.FaultsAt.{IsFaultlessAt}
 use Rattle.gq_schema.specs.SchemaOf.{HasNoFault}
 use Rattle.gq_laws.specs.Placing.ObjectTypes.{DifferInObjects, nowhere, not_here, here, OtherObjectsKeepTypes}
 use Rattle.gq_laws.specs.Placing.OtherFields.{is_one_of, fields_without, body_without, definition_without, erase_without}
-use Rattle.gq_kept.specs.Helping.Compared.{IsCompared, alike, objects}
+use Rattle.gq_kept.specs.Helping.Compared.{IsCompared, alike, objects, DiffersFrom}
+use Rattle.gq_kept.specs.Helping.Texts.{texts_at}
+use Rattle.gq_kept.specs.declared.differing.Differing.{Differing}
 use Rattle.gq_kept.proofs.GatheredLemmas.{at_place}
 
 -- definitions of types that are the same in each part
@@ -124,9 +126,16 @@ all_compared es us i numbers h same so_far =
     subst (λ z. Differ 0 es us z) (append-nil numbers) (so_far [] none_left)
 
 -- what comes of the numbers at which no rule is broken
-pub keeps : OtherObjectsKeepTypes → (texts : List Text) (es us given_es given_us : List EntryOf) (numbers given : List ℕ) → given_es ≡ es → given_us ≡ us → given ≡ numbers →
-    map (erase_without texts) given_es ≡ map (erase_without texts) given_us → DifferInObjects 0 given_es given_us numbers → HasNoFault es → All (IsFaultlessAt us) given → HasNoFault us
-keeps law texts es us given_es given_us numbers given are were is same differ sound faultless =
-    law texts es us numbers (ap (map (erase_without texts)) (sym are) ∙ same ∙ ap (map (erase_without texts)) were)
-    (subst (λ z. DifferInObjects 0 z us numbers) are (subst (λ z. DifferInObjects 0 given_es z numbers) were differ)) sound
-    (subst (λ z. All (IsFaultlessAt us) z) is faultless)
+pub keeps : OtherObjectsKeepTypes → (es us : List EntryOf) (found : Differing) (given : List ℕ) → given ≡ found.numbers.items → found.are_objects ≡ true → DiffersFrom es us found →
+    HasNoFault es → All (IsFaultlessAt us) given → HasNoFault us
+keeps law es us found given is are differs sound faultless =
+    law (texts_at found.names.items) es us found.numbers.items differs.names (differs.objects are) sound (subst (λ z. All (IsFaultlessAt us) z) is faultless)
+
+-- what was found of entries that are lent
+pub differs_from : (es us given_es given_us : List EntryOf) (found : Differing) → given_es ≡ es → given_us ≡ us →
+    map (erase_without (texts_at found.names.items)) given_es ≡ map (erase_without (texts_at found.names.items)) given_us →
+    (found.are_objects ≡ true → DifferInObjects 0 given_es given_us found.numbers.items) → DiffersFrom es us found
+differs_from es us given_es given_us found are were names all = record {
+  names = ap (map (erase_without (texts_at found.names.items))) (sym are) ∙ names ∙ ap (map (erase_without (texts_at found.names.items))) were;
+  objects = λ only. subst (λ z. DifferInObjects 0 z us found.numbers.items) are (subst (λ z. DifferInObjects 0 given_es z found.numbers.items) were (all only));
+}

@@ -1,5 +1,5 @@
 -- What is noted of documents, where one is replaced, put in or taken out.
-use Rattle.std.proofs.Common.{◌≡◌, ℕ, zero, suc, ◌<◌, ◌≤◌, List, [], ◌∷◌, Option, Some, None, IfSome, set, get_or, slice_get, length, sym, ap, subst, arith}
+use Rattle.std.proofs.Common.{◌≡◌, ℕ, zero, suc, ◌<◌, ◌≤◌, List, [], ◌∷◌, Option, Some, None, IfSome, set, get_or, slice_get, length, sym, ap, arith}
 use Rattle.std.specs.List.{insert, remove}
 use Rattle.std.proofs.lemmas.Option.{none-some}
 use Rattle.gq_tree.specs.Readings.{ParsedOf}

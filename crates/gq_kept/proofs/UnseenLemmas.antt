@@ -1,6 +1,6 @@
 -- What stays known where the type system becomes another one in fields that are not selected.
-use Rattle.std.proofs.Common.{◌≡◌, ◌⊎◌, ⊎_elim, ℕ, zero, suc, Bool, true, false, List, [], ◌∷◌, Contains, Some, Option, None, map, flat_map, set, slice_get, slice_index_or, refl, sym, ◌∙◌, ap, subst}
-use Rattle.std.specs.Prelude.{◌&&◌, ◌||◌, IfSome, not}
+use Rattle.std.proofs.Common.{◌≡◌, ⊎_elim, ℕ, Bool, true, false, List, [], ◌∷◌, Vec, Global, Contains, Some, Option, None, map, flat_map, set, refl, sym, ◌∙◌, ap, subst}
+use Rattle.std.specs.Prelude.{◌&&◌, ◌||◌, IfSome, is_some, not}
 use Rattle.std.specs.Borrow.{Bor}
 use Rattle.std.specs.List.{list_any}
 use Rattle.gq_text.specs.declared.place.Span.{Span}
@@ -18,11 +18,12 @@ use Rattle.gq_by_file.specs.declared.by_file.ByFile.{ByFile}
 use Rattle.gq_kept.specs.Helping.Texts.{texts_at}
 use Rattle.gq_laws.specs.Placing.OtherFields.{OtherFieldsDoNotMatter, SelectNone, TypesLookAlikeBut, erase_without, has_selected, selects_one_of}
 use Rattle.gq_kept.specs.declared.by_document.ByDocument.{ByDocument}
+use Rattle.gq_kept.specs.declared.field_lists.FieldLists.{FieldLists}
 use Rattle.gq_kept.specs.declared.typed.Typed.{Typed}
 use Rattle.gq_kept.specs.declared.typed.Was.{Was}
 use Rattle.gq_kept.specs.declared.typed.Was.TheVariants as was
 use Rattle.gq_kept.specs.Helping.ByDocument.{AreByDocument}
-use Rattle.gq_kept.specs.Helping.Selected.{AreMarkedFor}
+use Rattle.gq_kept.specs.Helping.Selected.{AreMarkedFor, AreSelected}
 use Rattle.gq_kept.specs.Helping.Unseen.{AreMarkedBy, IfWholly, IsIfWholly}
 
 or_parts : (a b : Bool) → (a || b) ≡ false → (a ≡ false) × (b ≡ false)
@@ -69,11 +70,36 @@ marked_by es us old new rs found given marks were are is same told =
     let one : erase old ≡ erase new = subst (λ (ns : List (Bor Name)). map (erase_without (texts_at ns)) old ≡ map (erase_without (texts_at ns)) new) (sym is) same in
     record { names = texts_at given; same = ap erase (sym were) ∙ one ∙ ap erase are; are = told }
 
--- what holds of one that all of it is
-pub wholly_is : (w : Option Was) (old : Typed) (P : Typed → Type 0) → IfWholly w (λ typed. typed ≡ old) → P old → IfWholly w P
-wholly_is None old P h p = h
-wholly_is (Some (was.Typed typed)) old P h p = subst P (sym h) p
-wholly_is (Some (was.Entries entries)) old P h p = h
+-- what holds of all of it, where something else follows
+wholly_on : (w : Option Was) (P Q : Typed → Type 0) → ((t : Typed) → P t → Q t) → IfWholly w P → IfWholly w Q
+wholly_on None P Q follows h = h
+wholly_on (Some (was.Typed typed)) P Q follows h = follows typed h
+wholly_on (Some (was.Entries entries)) P Q follows h = h
+
+-- what is known of documents, where more is known of the fields that are selected
+abbrev pub with_fields : ByDocument → FieldLists → ByDocument
+with_fields found fields = record { faults = found.faults; fields = fields; parts = found.parts }
+
+pub fields_on : (found : ByDocument) (fields : FieldLists) (es : List EntryOf) (rs : List ParsedOf) → (AreSelected rs found.fields.lists.items → AreSelected rs fields.lists.items) →
+    AreByDocument es rs found → AreByDocument es rs (with_fields found fields)
+fields_on found fields es rs kept are = record { faults = are.faults; fields = kept are.fields; parts = are.parts }
+
+-- where documents are marked, what is known stays over the type system that is made
+pub unseen_on : (found middle : ByDocument) (fields : FieldLists) (made : Typed) (rs : List ParsedOf) (whole : Option Was) (marks : Option (Vec Bool Global)) (unseen : Bool) → unseen ≡ is_some marks →
+    (AreSelected rs found.fields.lists.items → AreSelected rs fields.lists.items) →
+    IfSome marks (λ some. IfWholly whole (λ old. AreSelected rs found.fields.lists.items → AreMarkedBy (types_view old.types) (types_view made.types) rs some.items)) →
+    (unseen ≡ true → (es us : List EntryOf) (qs : List ParsedOf) → IfSome marks (λ some. AreMarkedBy es us qs some.items) → AreByDocument es qs (with_fields found fields) → AreByDocument us qs middle) →
+    unseen ≡ true → IfWholly whole (λ typed. AreByDocument (types_view typed.types) rs found → AreByDocument (types_view made.types) rs middle)
+unseen_on found middle fields made rs whole None is_unseen is kept marked keeps told = absurd (cc)
+unseen_on found middle fields made rs whole (Some some) is_unseen is kept marked keeps told =
+    wholly_on whole (λ old. AreSelected rs found.fields.lists.items → AreMarkedBy (types_view old.types) (types_view made.types) rs some.items)
+    (λ typed. AreByDocument (types_view typed.types) rs found → AreByDocument (types_view made.types) rs middle)
+    (λ typed sees are. keeps told (types_view typed.types) (types_view made.types) rs (sees are.fields) (fields_on found fields (types_view typed.types) rs kept are)) marked
+
+-- where none is marked, it stays over any
+pub seen_on : (found middle : ByDocument) (fields : FieldLists) (rs : List ParsedOf) (unseen : Bool) → (AreSelected rs found.fields.lists.items → AreSelected rs fields.lists.items) →
+    (unseen ≡ false → middle ≡ with_fields found fields) → unseen ≡ false → (es : List EntryOf) → AreByDocument es rs found → AreByDocument es rs middle
+seen_on found middle fields rs is_unseen kept stays told es are = subst (AreByDocument es rs) (sym (stays told)) (fields_on found fields es rs kept are)
 
 -- ---- a document is replaced
 

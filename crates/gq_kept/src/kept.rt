@@ -203,15 +203,16 @@ impl Kept {
         let text = doc.text.as_str();
         let changes = changes_types(alloc, documents, at, &readings[at], text, is_made);
         let same = keeps_names(is_made, changes);
-        let types = retype(alloc, readings, at, &reading, same, &mut self.typed)?;
+        let fields = &mut self.found.fields;
+        let made = retype(alloc, readings, at, &reading, same, &mut self.typed, fields)?;
         self.judged.put(alloc, doc)?;
-        let unseen = keep_unseen(alloc, &types, &self.typed, readings, &mut self.found);
+        let unseen = keep_unseen(&made.marks, &mut self.found);
         let forgets = is_forgotten(changes, unseen);
         self.found.replace(alloc, at, &reading, forgets);
         let reading = Some(write_over(&mut self.readings, at, reading));
         let index = forget_unless(stays, &mut self.index);
         self.past = Past {
-            types,
+            types: made.was,
             reading,
             index,
         };

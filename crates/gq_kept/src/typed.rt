@@ -1,17 +1,21 @@
 //! The type system of documents, made anew where one of them changes.
-ghost use Rattle.std.specs.Prelude.{◌≡◌, ◌<◌, ◌≤◌, ◌++◌, [], ◌∷◌, true, false, All, IfOk, OnOk, OnErr, drop, length, map, remove, slice_index_or, slice_set, take};
+ghost use Rattle.std.specs.Prelude.{◌≡◌, ◌<◌, ◌≤◌, ◌++◌, [], ◌∷◌, true, false, All, List, IfOk, IfSome, OnOk, OnErr, drop, length, map, remove, slice_index_or, slice_set, take};
 ghost use Rattle.std.specs.Option.{unwrap_or};
 ghost use Rattle.std.specs.List.{insert};
 ghost use Rattle.gq_tree.specs.Readings.{shared_view, readings_view};
 ghost use Rattle.gq_types.specs.BuiltIn.{built_in};
+ghost use Rattle.gq_types.specs.Entries.{EntryOf};
 ghost use Rattle.gq_types.specs.Look.{types_view};
 ghost use Rattle.gq_document.specs.Definitions.{entries_of};
 ghost use Rattle.gq_schema.specs.SchemaOf.{HasNoFault};
 ghost use Rattle.gq_kept.specs.Helping.TypesOf.{AreTypesOf, Tells, TellsOf, IsSameOf, IsOneTypeSystem, types_defined};
-ghost use Rattle.gq_kept.specs.Helping.Unseen.{IsIfWholly};
+ghost use Rattle.gq_kept.specs.Helping.Compared.{DiffersFrom};
+ghost use Rattle.gq_kept.specs.Helping.Selected.{AreSelected};
+ghost use Rattle.gq_kept.specs.Helping.Unseen.{AreMarkedBy, IfWholly, IsIfWholly};
 ghost use Rattle.gq_kept.specs.declared.typed.Typed.{Typed};
 
-use crate::differing::compare_types;
+use crate::differing::{Differing, compare_types};
+use crate::field_lists::FieldLists;
 use gq_document::type_system_entries;
 use gq_known::learned::{defines_types, type_system};
 use gq_laws::places::{documents_of_types_do_not_matter_to_types, other_objects_keep_types};
@@ -46,38 +50,73 @@ pub(crate) fn made_of(alloc: Global, readings: &[Arc<Parsed>]) -> Result<Typed, 
     Ok(Typed { types, has_schema })
 }
 
-/// Whether a type system breaks no rule where the other one breaks none, since it differs from it in fields of object types alone and breaks none at these; it may
+/// Whether a type system breaks no rule where another one breaks none, since it differs from it in fields of object types alone and breaks none at these; it may
 /// where this answers false.
-fn keeps_rules(alloc: Global, was: &Types, types: &Types) -> Result<bool, NoMemory>
-    ensures { IfOk result (λ keeps. keeps ≡ true → HasNoFault (types_view was.now) → HasNoFault (types_view types.now)) }
+fn keeps_rules(alloc: Global, types: &Types, found: &Differing<'_>) -> Result<bool, NoMemory>
+    ensures { IfOk result (λ keeps. keeps ≡ true → (es : List EntryOf) → DiffersFrom es (types_view types.now) found.now → HasNoFault es → HasNoFault (types_view types.now)) }
 {
     other_objects_keep_types();
-    let Some(found) = compare_types(alloc, was.entries(), types.entries())? else {
-        return Ok(false);
-    };
     if !found.are_objects {
         return Ok(false);
     }
     are_faultless(alloc, types, &found.numbers)
 }
 
-/// Whether no rule of a type system is broken, beside one of which that is known.
-fn holds_beside(alloc: Global, was: &Typed, types: &Types) -> Result<bool, NoMemory>
-    ensures { IfOk result (λ holds. (was.now.has_schema ≡ true → HasNoFault (types_view was.now.types)) → Tells holds (types_view types.now)) }
+/// Whether no rule of a type system is broken.
+fn holds(alloc: Global, types: &Types) -> Result<bool, NoMemory>
+    ensures { IfOk result (λ holds. Tells holds (types_view types.now)) }
 {
-    if was.has_schema && keeps_rules(alloc, &was.types, types)? {
-        return Ok(true);
-    }
     Ok(schema_faults(alloc, types)?.is_empty())
 }
 
-/// The type system of documents that are read so, beside that of others. Rules are looked at where it differs, if it does so in fields of object types alone.
-fn made_beside(alloc: Global, readings: &[Arc<Parsed>], was: &Typed) -> Result<Typed, NoMemory>
-    ensures { IfOk result (λ made. (was.now.has_schema ≡ true → HasNoFault (types_view was.now.types)) → AreTypesOf (readings_view readings.now) made) }
+/// The same beside one that differs from it so, of which it is known.
+fn holds_beside(
+    alloc: Global,
+    held: bool,
+    types: &Types,
+    found: &Differing<'_>,
+) -> Result<bool, NoMemory>
+    ensures { IfOk result (λ holds. (es : List EntryOf) → DiffersFrom es (types_view types.now) found.now → (held ≡ true → HasNoFault es) → Tells holds (types_view types.now)) }
 {
-    let types = type_system(alloc, readings)?;
-    let has_schema = holds_beside(alloc, was, &types)?;
-    Ok(Typed { types, has_schema })
+    if held && keeps_rules(alloc, types, found)? {
+        return Ok(true);
+    }
+    holds(alloc, types)
+}
+
+/// What is told of a type system beside another one: whether no rule of it is broken, and a mark at each document in which a field is selected in which they differ;
+/// no marks, where they may differ in something else.
+#[derive(Drop)]
+pub(crate) struct Beside {
+    pub(crate) has_schema: bool,
+    pub(crate) marks: Option<Vec<bool>>,
+}
+
+/// What is told of a type system beside the one that was, over documents that are read so. The two are compared once.
+fn told_beside(
+    alloc: Global,
+    was: &Typed,
+    types: &Types,
+    readings: &[Arc<Parsed>],
+    fields: &mut FieldLists,
+) -> Result<Beside, NoMemory>
+    ensures kept { AreSelected (readings_view readings.now) fields.old.lists.items → AreSelected (readings_view readings.now) fields.new.lists.items }
+    ensures tells { IfOk result (λ told. (was.now.has_schema ≡ true → HasNoFault (types_view was.now.types)) → Tells told.has_schema (types_view types.now)) }
+    ensures marks { IfOk result (λ told. IfSome told.marks (λ some. AreSelected (readings_view readings.now) fields.old.lists.items
+        → AreMarkedBy (types_view was.now.types) (types_view types.now) (readings_view readings.now) some.items)) }
+{
+    let Some(found) = compare_types(alloc, was.types.entries(), types.entries())? else {
+        return Ok(Beside {
+            has_schema: holds(alloc, types)?,
+            marks: None,
+        });
+    };
+    let marks = fields.marks(alloc, readings, &found.names)?;
+    let has_schema = holds_beside(alloc, was.has_schema, types, &found)?;
+    Ok(Beside {
+        has_schema,
+        marks: Some(marks),
+    })
 }
 
 /// The same, where it is known whether a rule of it is broken.
@@ -112,6 +151,13 @@ pub(crate) fn keeps_names(is_made: bool, changes: bool) -> bool
     is_made && !changes
 }
 
+/// What a type system was where it was made anew or exchanged, and the marks of documents that see where it differs, where these are known.
+#[derive(Drop)]
+pub(crate) struct Retyped {
+    pub(crate) was: Option<Was>,
+    pub(crate) marks: Option<Vec<bool>>,
+}
+
 /// Makes the type system that of documents of which the one at that place is replaced by one that reads so, and
 /// answers what it was. Where neither of the two defines types, it stays as it is, and nothing is answered. Where it is the same but for places,
 /// no name and no rule is looked at.
@@ -122,24 +168,42 @@ pub(crate) fn retype(
     reading: &Arc<Parsed>,
     keeps_names: bool,
     typed: &mut Typed,
-) -> Result<Option<Was>, NoMemory>
+    fields: &mut FieldLists,
+) -> Result<Retyped, NoMemory>
     requires at { at < length readings.now }
     requires names { keeps_names ≡ true → ∥ IsSameOf typed.old (slice_set (readings_view readings.now) at (shared_view reading.now)) ∥₁ }
-    ensures ok { IfOk result (λ was. (keeps_names ≡ true → TellsOf typed.old.has_schema (slice_set (readings_view readings.now) at (shared_view reading.now))) →
+    ensures ok { IfOk result (λ made. (keeps_names ≡ true → TellsOf typed.old.has_schema (slice_set (readings_view readings.now) at (shared_view reading.now))) →
         AreTypesOf (readings_view readings.now) typed.old → AreTypesOf (slice_set (readings_view readings.now) at (shared_view reading.now)) typed.new) }
-    ensures was { IfOk result (λ was. IsIfWholly was typed.old) }
+    ensures was { IfOk result (λ made. IsIfWholly made.was typed.old) }
+    ensures marks { IfOk result (λ made. IfSome made.marks (λ some. IfWholly made.was (λ old. AreSelected (readings_view readings.now) fields.old.lists.items
+        → AreMarkedBy (types_view old.types) (types_view typed.new.types) (readings_view readings.now) some.items))) }
+    ensures kept { AreSelected (readings_view readings.now) fields.old.lists.items → AreSelected (readings_view readings.now) fields.new.lists.items }
     ensures err { OnErr result (typed.new ≡ typed.old) }
 {
     if !is_retyped(readings, at, reading) {
-        return Ok(None);
+        return Ok(Retyped {
+            was: None,
+            marks: None,
+        });
     }
     let all = readings_around(alloc, readings, at, reading, at + 1)?;
     if keeps_names {
         let was = replace_entries(alloc, &all, typed)?;
-        return Ok(Some(Was::Entries(was)));
+        return Ok(Retyped {
+            was: Some(Was::Entries(was)),
+            marks: None,
+        });
     }
-    let made = made_beside(alloc, &all, typed)?;
-    Ok(Some(Was::Typed(mem::replace(typed, made))))
+    let types = type_system(alloc, &all)?;
+    let told = told_beside(alloc, typed, &types, readings, fields)?;
+    let made = Typed {
+        types,
+        has_schema: told.has_schema,
+    };
+    Ok(Retyped {
+        was: Some(Was::Typed(mem::replace(typed, made))),
+        marks: told.marks,
+    })
 }
 
 /// Makes the type system that of these documents, which is the same but for places, and answers the definitions and extensions that it had.

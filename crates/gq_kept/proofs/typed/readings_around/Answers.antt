@@ -3,7 +3,6 @@ use Rattle.std.proofs.Common.{◌≡◌, List, [], ◌∷◌, ◌++◌, append_a
 use Rattle.std.proofs.lemmas.List.{map-append}
 use Rattle.gq_tree.specs.declared.parsed.Parsed.{Parsed}
 use Rattle.gq_tree.specs.Readings.{ParsedOf, SharedParsed, parsed_view, readings_view, shared_view}
-use Rattle.gq_kept.specs.Helping.TypesOf.{AreTypesOf}
 use Rattle.gq_kept.proofs.TypesLemmas.{read_before, read_behind}
 use Rattle.gq_kept.proofs.typed.readings_around.Goals as goal
 

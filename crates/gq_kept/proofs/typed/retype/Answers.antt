@@ -5,6 +5,7 @@ use Rattle.gq_tree.specs.Readings.{ParsedOf, SharedParsed, readings_view, shared
 use Rattle.gq_types.specs.BuiltIn.{built_in}
 use Rattle.gq_document.specs.Definitions.{entries_of}
 use Rattle.gq_kept.specs.Helping.TypesOf.{AreTypesOf, IsSameOf}
+use Rattle.gq_kept.specs.declared.typed.Typed.{Typed}
 use Rattle.gq_kept.proofs.KnownLemmas.{types_told}
 use Rattle.gq_kept.proofs.TypesLemmas.{set_between}
 use Rattle.gq_kept.proofs.typed.retype.Goals as goal
@@ -30,5 +31,10 @@ returns-then-keeps_names-clause-ok c tells types =
 pub returns-clause-ok : goal.returns-clause-ok
 returns-clause-ok c tells types =
     let all = among c.args.readings.now c.args.at (shared_view c.args.reading.now) c.requires.at (readings_view c.deref-2.result.now) (ap readings_view c.deref-2.ensures.value ∙ c.in_ok-all.ensures) in
-    let are : AreTypesOf (readings_view c.deref-2.result.now) c.in_ok-made.made = c.in_ok-made.ensures types.sound in
-    rw c.replace.ensures.after (subst (λ (xs : List ParsedOf). AreTypesOf xs c.in_ok-made.made) all are)
+    let told = c.in_ok-told.ensures.tells types.sound in
+    let made : Typed = record { types = c.in_ok-types.types; has_schema = c.in_ok-told.told.has_schema } in
+    let are : AreTypesOf (readings_view c.deref-2.result.now) made = record { is_type_system = c.in_ok-types.ensures; sound = told.0; faulty = told.1 } in
+    rw c.replace.ensures.after (subst (λ (xs : List ParsedOf). AreTypesOf xs made) all are)
+
+pub returns-clause-marks : goal.returns-clause-marks
+returns-clause-marks c = rw (c.replace.ensures.after, c.replace.ensures.value) c.in_ok-told.ensures.marks

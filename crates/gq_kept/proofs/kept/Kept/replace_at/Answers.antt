@@ -13,13 +13,14 @@ use Rattle.gq_types.specs.Look.{types_view}
 use Rattle.gq_document.specs.Definitions.{entries_of}
 use Rattle.gq_by_file.specs.OneFile.Laws.{AreAlikeToRules}
 use Rattle.gq_kept.specs.Helping.ByDocument.{AreByDocument}
+use Rattle.gq_kept.specs.Helping.Selected.{AreSelected}
 use Rattle.gq_kept.specs.Helping.Unindexed.{AddNothing}
 use Rattle.gq_kept.specs.KeptOf.{KeptOf, JudgedOf}
 use Rattle.gq_kept.proofs.AlikeLemmas.{replaced_alike, same_kept, told_kept, told_of_both}
 use Rattle.gq_kept.proofs.Brought.{place_found}
 use Rattle.gq_kept.specs.Helping.Unseen.{IfWholly}
-use Rattle.gq_kept.proofs.KeptLemmas.{both_known, given_in_range, kept_replaced}
-use Rattle.gq_kept.proofs.UnseenLemmas.{replaced_on}
+use Rattle.gq_kept.proofs.KeptLemmas.{both_known, given_in_range, kept_owned, kept_replaced}
+use Rattle.gq_kept.proofs.UnseenLemmas.{fields_on, replaced_on, seen_on, unseen_on}
 use Rattle.gq_kept.proofs.kept.Kept.replace_at.Goals as goal
 
 pub stays_indexed-stays-requires : goal.stays_indexed-stays-requires
@@ -64,6 +65,12 @@ retype-requires-clause-names c keeps =
     c.requires.place.in_range there told (c.keeps_names-same.ensures keeps) read parsed c.self.inside.typed
     (known.is_type_system ∙ ap (λ (rs : List SharedParsed). built_in ++ entries_of (readings_view rs)) (sym is)))
 
+pub invariant_of-self : goal.invariant_of-self
+invariant_of-self c =
+    let kept = subst (λ (rs : List SharedParsed). AreSelected (readings_view rs) c.self.inside.found.fields.lists.items → AreSelected (readings_view rs) c.retype.new.fields.lists.items)
+    c.as_slice-readings.ensures.value c.in_err-made.ensures.kept in
+    rw c.in_err-made.ensures.err (kept_owned _ _ _ _ _ c.self.invariant _ (λ are. fields_on c.self.inside.found c.retype.new.fields _ _ kept are))
+
 pub invariant_of-self-in_err-put : goal.invariant_of-self-in_err-put
 invariant_of-self-in_err-put c =
     absurd (place_found c.self.inside.judged.documents c.args.doc.key c.args.at (rw (ap (λ (k : KeptOf). k.documents) c.self.view_is) c.requires.place) c.in_err-put.ensures.refused)
@@ -88,17 +95,20 @@ invariant_of-self-2 c =
     rw (ap (λ (j : JudgedOf). j.documents) c.in_ok-put.ensures.ok, c.write_over.ensures, c.forget_unless-index.ensures)
     (kept_replaced _ _ _ _ _ c.self.invariant c.args.self.now.documents given same is c.args.at c.args.doc c.args.reading c.retype.new.typed c.replace.new.self changes
     c.requires.place c.requires.parsed
-    (λ read parsed types. c.in_ok-types.ensures.ok
+    (λ read parsed types. c.in_ok-made.ensures.ok
     (λ same. told_kept c.same_tokens_define_alike.ensures c.args.self.now.documents (readings_view given) c.args.at c.args.doc.text (shared_view was) (shared_view c.args.reading) changes is_made
     c.requires.place.in_range there told (c.keeps_names-same.ensures same) read parsed c.places_of_types_do_not_matter_to_types.ensures c.self.inside.typed types) types)
     (replaced_alike c.numbers_of_entries_are_unseen.ensures c.same_tokens_define_alike.ensures c.types_look_alike.ensures c.places_of_types_do_not_matter_to_rules.ensures c.args.self.now.documents (readings_view given) c.args.at
     c.args.doc.text (shared_view was) (shared_view c.args.reading) changes is_made c.requires.place.in_range there told c.is_retyped-is_made.ensures.stays)
     (λ alike. replaced_on c.self.inside.found c.keep_unseen-unseen.new.found c.replace.new.self c.self.inside.typed c.retype.new.typed (readings_view c.self.inside.readings.items) c.args.at (shared_view c.args.reading)
-    c.in_ok-types.types changes c.keep_unseen-unseen.result c.in_ok-types.ensures.was
-    (subst (λ (rs : List SharedParsed). c.keep_unseen-unseen.result ≡ true → IfWholly c.in_ok-types.types (λ old.
-    AreByDocument (types_view old.types) (readings_view rs) c.self.inside.found → AreByDocument (types_view c.retype.new.typed.types) (readings_view rs) c.keep_unseen-unseen.new.found)) is c.keep_unseen-unseen.ensures.kept)
+    c.in_ok-made.made.was changes c.keep_unseen-unseen.result c.in_ok-made.ensures.was
+    (subst (λ (rs : List SharedParsed). c.keep_unseen-unseen.result ≡ true → IfWholly c.in_ok-made.made.was (λ old.
+    AreByDocument (types_view old.types) (readings_view rs) c.self.inside.found → AreByDocument (types_view c.retype.new.typed.types) (readings_view rs) c.keep_unseen-unseen.new.found)) is
+    (unseen_on c.self.inside.found c.keep_unseen-unseen.new.found c.retype.new.fields c.retype.new.typed (readings_view given) c.in_ok-made.made.was c.in_ok-made.made.marks c.keep_unseen-unseen.result
+    c.keep_unseen-unseen.ensures.is c.in_ok-made.ensures.kept c.in_ok-made.ensures.marks c.keep_unseen-unseen.ensures.marked))
     (subst (λ (rs : List SharedParsed). c.keep_unseen-unseen.result ≡ false → (es : List EntryOf) →
-    AreByDocument es (readings_view rs) c.self.inside.found → AreByDocument es (readings_view rs) c.keep_unseen-unseen.new.found) is c.keep_unseen-unseen.ensures.same)
+    AreByDocument es (readings_view rs) c.self.inside.found → AreByDocument es (readings_view rs) c.keep_unseen-unseen.new.found) is
+    (seen_on c.self.inside.found c.keep_unseen-unseen.new.found c.retype.new.fields (readings_view given) c.keep_unseen-unseen.result c.in_ok-made.ensures.kept c.keep_unseen-unseen.ensures.same))
     (subst (λ (b : Bool). (es us : List EntryOf) (qs : List ParsedOf) → (b ≡ false → AreAlikeToRules es us) →
     AreByDocument es qs c.keep_unseen-unseen.new.found → AreByDocument us (set qs c.args.at (shared_view c.args.reading)) c.replace.new.self) c.is_forgotten-forgets.ensures c.replace.ensures) alike)
     c.one_tree.ensures c.stays_indexed-stays.result
