@@ -22,7 +22,7 @@ use gq_laws::places::{documents_of_types_do_not_matter_to_types, other_objects_k
 use gq_text::NoMemory;
 use gq_tree::Parsed;
 use gq_type_system::{are_faultless, schema_faults};
-use gq_types::{Entry, Types};
+use gq_types::{Entry, Replacement, Types, with_built_in};
 use std::alloc::Global;
 use std::mem;
 use std::sync::Arc;
@@ -39,6 +39,7 @@ pub(crate) struct Typed {
 pub(crate) enum Was {
     Typed(Typed),
     Entries(Vec<Entry>),
+    Replaced(Replacement),
 }
 
 /// The type system of documents that are read so.
@@ -50,73 +51,11 @@ pub(crate) fn made_of(alloc: Global, readings: &[Arc<Parsed>]) -> Result<Typed, 
     Ok(Typed { types, has_schema })
 }
 
-/// Whether a type system breaks no rule where another one breaks none, since it differs from it in fields of object types alone and breaks none at these; it may
-/// where this answers false.
-fn keeps_rules(alloc: Global, types: &Types, found: &Differing<'_>) -> Result<bool, NoMemory>
-    ensures { IfOk result (λ keeps. keeps ≡ true → (es : List EntryOf) → DiffersFrom es (types_view types.now) found.now → HasNoFault es → HasNoFault (types_view types.now)) }
-{
-    other_objects_keep_types();
-    if !found.are_objects {
-        return Ok(false);
-    }
-    are_faultless(alloc, types, &found.numbers)
-}
-
 /// Whether no rule of a type system is broken.
 fn holds(alloc: Global, types: &Types) -> Result<bool, NoMemory>
     ensures { IfOk result (λ holds. Tells holds (types_view types.now)) }
 {
     Ok(schema_faults(alloc, types)?.is_empty())
-}
-
-/// The same beside one that differs from it so, of which it is known.
-fn holds_beside(
-    alloc: Global,
-    held: bool,
-    types: &Types,
-    found: &Differing<'_>,
-) -> Result<bool, NoMemory>
-    ensures { IfOk result (λ holds. (es : List EntryOf) → DiffersFrom es (types_view types.now) found.now → (held ≡ true → HasNoFault es) → Tells holds (types_view types.now)) }
-{
-    if held && keeps_rules(alloc, types, found)? {
-        return Ok(true);
-    }
-    holds(alloc, types)
-}
-
-/// What is told of a type system beside another one: whether no rule of it is broken, and a mark at each document in which a field is selected in which they differ;
-/// no marks, where they may differ in something else.
-#[derive(Drop)]
-pub(crate) struct Beside {
-    pub(crate) has_schema: bool,
-    pub(crate) marks: Option<Vec<bool>>,
-}
-
-/// What is told of a type system beside the one that was, over documents that are read so. The two are compared once.
-fn told_beside(
-    alloc: Global,
-    was: &Typed,
-    types: &Types,
-    readings: &[Arc<Parsed>],
-    fields: &mut FieldLists,
-) -> Result<Beside, NoMemory>
-    ensures kept { AreSelected (readings_view readings.now) fields.old.lists.items → AreSelected (readings_view readings.now) fields.new.lists.items }
-    ensures tells { IfOk result (λ told. (was.now.has_schema ≡ true → HasNoFault (types_view was.now.types)) → Tells told.has_schema (types_view types.now)) }
-    ensures marks { IfOk result (λ told. IfSome told.marks (λ some. AreSelected (readings_view readings.now) fields.old.lists.items
-        → AreMarkedBy (types_view was.now.types) (types_view types.now) (readings_view readings.now) some.items)) }
-{
-    let Some(found) = compare_types(alloc, was.types.entries(), types.entries())? else {
-        return Ok(Beside {
-            has_schema: holds(alloc, types)?,
-            marks: None,
-        });
-    };
-    let marks = fields.marks(alloc, readings, &found.names)?;
-    let has_schema = holds_beside(alloc, was.has_schema, types, &found)?;
-    Ok(Beside {
-        has_schema,
-        marks: Some(marks),
-    })
 }
 
 /// The same, where it is known whether a rule of it is broken.
@@ -194,16 +133,57 @@ pub(crate) fn retype(
             marks: None,
         });
     }
-    let types = type_system(alloc, &all)?;
-    let told = told_beside(alloc, typed, &types, readings, fields)?;
-    let made = Typed {
-        types,
-        has_schema: told.has_schema,
+    let entries = with_built_in(alloc, type_system_entries(alloc, &all)?)?;
+    let Some(beside) = told_beside(alloc, typed.types.entries(), &entries, readings, fields)? else {
+        let types = Types::of_entries(alloc, entries)?;
+        let has_schema = holds(alloc, &types)?;
+        let made = Typed { types, has_schema };
+        return Ok(Retyped { was: Some(Was::Typed(mem::replace(typed, made))), marks: None });
     };
-    Ok(Retyped {
-        was: Some(Was::Typed(mem::replace(typed, made))),
-        marks: told.marks,
-    })
+    let Beside { marks, numbers, are_objects } = beside;
+    let marks = Some(marks);
+    if are_objects && numbers.len() == 1 {
+        let mut other = Replacement::of(alloc, &typed.types, entries, numbers[0])?;
+        typed.types.exchange(alloc, &mut other);
+        match holds_at(alloc, typed, &numbers) {
+            Ok(has_schema) => {
+                typed.has_schema = has_schema;
+                return Ok(Retyped { was: Some(Was::Replaced(other)), marks });
+            }
+            Err(NoMemory) => {
+                typed.types.exchange(alloc, &mut other);
+                return Err(NoMemory);
+            }
+        }
+    }
+    let types = Types::of_entries(alloc, entries)?;
+    let has_schema = (typed.has_schema && are_objects && are_faultless(alloc, &types, &numbers)?) || holds(alloc, &types)?;
+    let made = Typed { types, has_schema };
+    Ok(Retyped { was: Some(Was::Typed(mem::replace(typed, made))), marks })
+}
+
+#[derive(Drop)]
+struct Beside {
+    marks: Vec<bool>,
+    numbers: Vec<usize>,
+    are_objects: bool,
+}
+
+fn told_beside(alloc: Global, was: &[Entry], entries: &[Entry], readings: &[Arc<Parsed>], fields: &mut FieldLists) -> Result<Option<Beside>, NoMemory> {
+    let Some(found) = compare_types(alloc, was, entries)? else {
+        return Ok(None);
+    };
+    let marks = fields.marks(alloc, readings, &found.names)?;
+    let Differing { names: _names, numbers, are_objects } = found;
+    Ok(Some(Beside { marks, numbers, are_objects }))
+}
+
+fn holds_at(alloc: Global, typed: &Typed, numbers: &[usize]) -> Result<bool, NoMemory>
+{
+    if typed.has_schema && are_faultless(alloc, &typed.types, numbers)? {
+        return Ok(true);
+    }
+    holds(alloc, &typed.types)
 }
 
 /// Makes the type system that of these documents, which is the same but for places, and answers the definitions and extensions that it had.

@@ -60,6 +60,7 @@ all_kept entries number tables is below =
       fields_are = record { count = below.fields_count ∙ count; each = below.fields_are };
       parts_are = record { count = below.parts_count ∙ count; each = below.parts_are };
       required_are = record { count = below.required_count ∙ count; each = below.required_are };
+      arguments_count = below.arguments_count ∙ count;
       arguments_are = below.arguments_are;
       locations_are = record { count = length-map tables.locations.items (λ v. v.items) ∙ below.locations_count ∙ count; each = below.locations_are };
     }
@@ -115,6 +116,7 @@ index_made es joined tables roots declarers of_typename fields parts uses schema
   declarers_are = subst (λ v. (text : Text) → items_under declarers text ≡ declaring_from 0 (map (λ p. p.interfaces) v.items) text) (sym same_parts) lead;
   uses_are = subst (AreUses es) (sym same_uses) (record {
     required_are = are.required_are;
+    arguments_count = are.arguments_count;
     arguments_are = are.arguments_are;
     locations_are = are.locations_are;
     roots_are = subst (λ ns. AreRoots es ns roots) (is_numbers ∙ is_joined schema ∙ ap (λ n. joined_numbers es n) is_schema) are_roots;

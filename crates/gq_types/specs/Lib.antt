@@ -1,5 +1,6 @@
 pub mod Entries
 pub mod ErasedEntries
+pub mod Outlines
 pub mod Kinds
 pub mod BuiltIn
 pub mod Typename

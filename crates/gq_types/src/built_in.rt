@@ -32,6 +32,15 @@ pub(crate) fn typename_type(alloc: Global) -> Result<TypeRef, NoMemory>
     non_null_type(alloc, "String")
 }
 
+/// These definitions and extensions behind those that are built in.
+pub fn with_built_in(alloc: Global, mut entries: Vec<Entry>) -> Result<Vec<Entry>, NoMemory>
+    ensures { IfOk result (λ all. entries_view all.items ≡ built_in ++ entries_view entries.items) }
+{
+    let mut all = built_in(alloc)?;
+    all.append(&mut entries)?;
+    Ok(all)
+}
+
 /// The scalars and directives that are built in.
 pub(crate) fn built_in(alloc: Global) -> Result<Vec<Entry>, NoMemory>
     ensures { IfOk result (λ es. entries_view es.items ≡ built_in) }

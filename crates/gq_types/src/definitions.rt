@@ -4,7 +4,7 @@ ghost use Rattle.std.specs.Arc.{arc_value};
 ghost use Rattle.std.specs.Option.{option_map};
 ghost use Rattle.gq_tree.specs.Views.{body_view, type_system_view};
 ghost use Rattle.gq_types.specs.Entries.{entry_view, entries_view};
-ghost use Rattle.gq_types.specs.ErasedEntries.{erase_entry};
+ghost use Rattle.gq_types.specs.Outlines.{outline};
 ghost use Rattle.gq_types.specs.Kinds.{kind_of};
 ghost use Rattle.gq_types.specs.Joined.{type_number, kind_in, kind_named, directive_number, is_schema, schema_number, owner_of_extension};
 ghost use Rattle.gq_types.specs.Look.{text_of, owner_at, directive_of};
@@ -72,10 +72,10 @@ impl Definitions {
         self.entries.as_slice()
     }
 
-    /// Puts other definitions and extensions in the place of these, and answers these. They are the same but for their places, so what is kept
-    /// of their names stays.
+    /// Puts other definitions and extensions in the place of these, and answers these. They are the same but for their places and the fields of types, so
+    /// what is kept of their names stays.
     pub(crate) fn replace(&mut self, entries: Vec<Entry>) -> Vec<Entry>
-        requires { ∥ map erase_entry (entries_view self.old) ≡ map erase_entry (entries_view entries.items) ∥₁ }
+        requires { ∥ map outline (entries_view self.old) ≡ map outline (entries_view entries.items) ∥₁ }
         ensures now { self.new ≡ entries.items }
         ensures was { result.items ≡ self.old }
     {

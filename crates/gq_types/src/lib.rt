@@ -17,6 +17,7 @@ mod locations;
 mod parts;
 mod places;
 pub mod possible;
+pub mod replacement;
 pub mod required;
 mod roots;
 pub mod subtype;
@@ -26,7 +27,8 @@ pub mod types;
 mod uses;
 
 pub use arguments::Arguments;
-pub use built_in::is_built_in_scalar;
+pub use built_in::{is_built_in_scalar, with_built_in};
 pub use entry::{Entry, TypeKind};
+pub use replacement::Replacement;
 pub use required::is_required;
 pub use types::{DefinedField, Types};

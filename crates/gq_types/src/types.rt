@@ -6,6 +6,7 @@ ghost use Rattle.gq_types.specs.Arguments.{directive_arguments};
 ghost use Rattle.gq_types.specs.Entries.{entries_view};
 ghost use Rattle.gq_types.specs.BuiltIn.{built_in};
 ghost use Rattle.gq_types.specs.ErasedEntries.{erase_entry};
+ghost use Rattle.gq_types.specs.Outlines.{DiffersAt};
 ghost use Rattle.gq_types.specs.Joined.{type_number, kind_named, directive_number, schema_number, fields_in_body, inputs_of};
 ghost use Rattle.gq_types.specs.Look.{types_view, owner_at, text_of, field_of, input_of, joined_numbers, directive_of};
 ghost use Rattle.gq_types.specs.LookUps.{field_in, declares_in};
@@ -21,7 +22,7 @@ ghost use Rattle.gq_types.specs.Helping.Tables.{lists_in, parts_at, stands_at};
 
 use crate::argument_names::FEW;
 use crate::arguments::Arguments;
-use crate::built_in::{built_in, typename_type};
+use crate::built_in::{typename_type, with_built_in};
 use crate::declarers::declarers_of;
 use crate::definitions::Definitions;
 use crate::entry::{Entry, TypeKind};
@@ -30,6 +31,7 @@ use crate::joined::joined_numbers;
 use crate::locations::has_location;
 use crate::parts::{Parts, Place, numbers_at};
 use crate::places::{field_at, input_at};
+use crate::replacement::Replacement;
 use crate::required::is_any_lacking;
 use crate::roots::{RootNames, default_name};
 use crate::table::Table;
@@ -43,6 +45,7 @@ use gq_tree::{
 };
 use std::alloc::Global;
 use std::marker::Model;
+use std::mem;
 
 /// The definition of a field of an object type or interface (section 3.6), and its arguments.
 #[derive(Clone, Copy)]
@@ -99,11 +102,17 @@ impl Model for Types {
 
 impl Types {
     /// The type system of these definitions and extensions, which stand in the order of their documents and places.
-    pub fn of(alloc: Global, mut entries: Vec<Entry>) -> Result<Types, NoMemory>
+    pub fn of(alloc: Global, entries: Vec<Entry>) -> Result<Types, NoMemory>
         ensures { IfOk result (λ types. types_view types ≡ built_in ++ entries_view entries.items) }
     {
-        let mut all = built_in(alloc)?;
-        all.append(&mut entries)?;
+        let all = with_built_in(alloc, entries)?;
+        Types::of_entries(alloc, all)
+    }
+
+    /// The type system of these, those that are built in among them (`with_built_in`).
+    pub fn of_entries(alloc: Global, all: Vec<Entry>) -> Result<Types, NoMemory>
+        ensures { IfOk result (λ types. types_view types ≡ entries_view all.items) }
+    {
         let definitions = Definitions::of(alloc, all)?;
         let joined = joined_numbers(alloc, &definitions)?;
         let schema = numbers_at(&joined, definitions.schema_number());
@@ -129,16 +138,41 @@ impl Types {
     pub fn replace_entries(
         &mut self,
         alloc: Global,
-        mut entries: Vec<Entry>,
+        entries: Vec<Entry>,
     ) -> Result<Vec<Entry>, NoMemory>
         requires { ∥ map erase_entry (types_view self.old) ≡ map erase_entry (built_in ++ entries_view entries.items) ∥₁ }
         ensures ok { OnOk result (types_view self.new ≡ built_in ++ entries_view entries.items) }
         ensures was { IfOk result (λ was. entries_view was.items ≡ types_view self.old) }
         ensures err { OnErr result (self.new ≡ self.old) }
     {
-        let mut all = built_in(alloc)?;
-        all.append(&mut entries)?;
+        let all = with_built_in(alloc, entries)?;
         Ok(self.definitions.replace(all))
+    }
+
+    /// Puts others in the place of its definitions and extensions, among which one type has other fields, and answers those that were there. What is
+    /// kept of that type's fields is exchanged with them, and all else that is kept stays: no name is looked at. It takes no memory, and done once more with what it
+    /// answers it is undone.
+    pub fn exchange(&mut self, other: Replacement) -> Replacement
+        requires { ∥ DiffersAt other.number (types_view self.old) (entries_view other.entries.items) ∥₁ }
+        ensures now { self.new ≡ other.entries.items }
+        ensures was { result.entries.items ≡ self.old }
+        ensures number { result.number ≡ other.number }
+    {
+        let Replacement {
+            entries,
+            number,
+            fields,
+            arguments,
+        } = other;
+        let entries = self.definitions.replace(entries);
+        let fields = mem::replace(&mut self.fields[number], fields);
+        let arguments = mem::replace(&mut self.uses.arguments[number], arguments);
+        Replacement {
+            entries,
+            number,
+            fields,
+            arguments,
+        }
     }
 
     /// The definitions and extensions, those that are built in first.

@@ -1,23 +1,25 @@
 -- What is found in type systems that are equal but for their places.
-use Rattle.std.proofs.Common.{◌≡◌, ℕ, ◌+◌, Bool, true, false, List, [], ◌∷◌, Option, Some, None, map, refl, sym, ap, ◌∙◌, unwrap_or}
-use Rattle.std.specs.Prelude.{find, position, nat_eq, is_some, length, option_and_then, if◌then◌else◌}
+use Rattle.std.proofs.Common.{◌≡◌, ℕ, ◌+◌, Bool, true, false, List, [], ◌∷◌, Option, Some, None, map, refl, sym, ap, ◌∙◌}
+use Rattle.std.specs.Prelude.{find, position, nat_eq, is_some, option_and_then, if◌then◌else◌}
 use Rattle.std.specs.List.{list_any}
 use Rattle.std.specs.Option.{option_map, option_map_or}
 use Rattle.gq_text.specs.declared.place.Span.{Span}
 use Rattle.gq_tree.specs.declared.tree.OperationKind.{OperationKind}
 use Rattle.gq_tree.specs.Plain.{RootOf, BodyOf, scalar_type, object_type, interface_type, union_type, enum_type, input_type, TypeSystemOf, schema, type_definition, directive_definition, place_name, place_input, place_field, place_enum_value, place_root, place_body, place_type_system, no_place}
 use Rattle.gq_tree.specs.Same.{same_kinds}
-use Rattle.gq_types.specs.declared.entry.TypeKind.{TypeKind}
 use Rattle.gq_types.specs.declared.entry.TypeKind.TheVariants as kinds
 use Rattle.gq_types.specs.Entries.{Text, EntryOf, Numbered, numbered_from, numbered}
 use Rattle.gq_types.specs.ErasedEntries.{erase_entry}
 use Rattle.gq_types.specs.Kinds.{kind_of, same_kind}
-use Rattle.gq_types.specs.Joined.{is_type_named, is_directive_named, is_schema, kind_in, type_number, kind_named, schema_number, owner_of_extension, owner_of, owner, joined, In, put_in, body_in, parts_in, parts_of, fields_in_body, values_in_body, inputs_in_body, members_in_body, interfaces_in_body}
+use Rattle.gq_types.specs.Joined.{is_type_named, is_directive_named, is_schema, kind_in, type_number, kind_named, schema_number, owner, joined, In, put_in, body_in, parts_in, parts_of, fields_in_body, values_in_body, inputs_in_body, members_in_body, interfaces_in_body}
 use Rattle.gq_types.specs.Names.{directive_named}
 use Rattle.gq_types.specs.Roots.{roots_in, roots_of, is_object, default_name, default_root, entry_for, named_root, root_of}
 use Rattle.gq_types.specs.ErasedEntries.{erase_entry}
+use Rattle.gq_types.specs.Outlines.{body_outline, definition_outline}
 use Rattle.gq_types.proofs.Placing.Alike.{back, seen}
-use Rattle.gq_types.proofs.Placing.Lists.{lengths, found, kept, any, positions, gathered, and_then_alike, map_twice, and_then_same, map_or_same}
+use Rattle.gq_types.proofs.Placing.Outlines as outlined
+use Rattle.gq_types.proofs.Placing.Outlines.{outlines}
+use Rattle.gq_types.proofs.Placing.Lists.{found, kept, any, gathered, map_twice, and_then_same, map_or_same}
 
 -- what is seen in a definition of the type system
 pub blind : {C : Type 0} (see : TypeSystemOf Span → C) → ((d : TypeSystemOf Span) → see d ≡ see (place_type_system back (place_type_system no_place d))) → (a b : EntryOf) → erase_entry a ≡ erase_entry b → see a.definition ≡ see b.definition
@@ -60,10 +62,7 @@ body_alike (directive_definition a b c d e g) (directive_definition a2 b2 c2 d2 
 body_alike _ _ h = absurd (cc)
 
 pub roots_alike : (d u : TypeSystemOf Span) → place_type_system no_place d ≡ place_type_system no_place u → map (place_root no_place) (roots_in d) ≡ map (place_root no_place) (roots_in u)
-roots_alike (schema a b c d e) (schema a2 b2 c2 d2 e2) h = cc
-roots_alike (type_definition a b c d e g) (type_definition a2 b2 c2 d2 e2 g2) h = refl
-roots_alike (directive_definition a b c d e g) (directive_definition a2 b2 c2 d2 e2 g2) h = refl
-roots_alike _ _ h = absurd (cc)
+roots_alike d u e = outlined.roots_alike d u (ap definition_outline e)
 
 -- parts of bodies that are equal but for their places, the places of the parts forgotten
 abbrev pub PartsAlike : {A K : Type 0} → (A → K) → (BodyOf Span → List A) → Type 0
@@ -79,40 +78,16 @@ fields_alike (input_type f) (input_type g) e = refl
 fields_alike _ _ e = absurd (cc)
 
 pub interfaces_alike : PartsAlike (place_name no_place) interfaces_in_body
-interfaces_alike scalar_type scalar_type e = refl
-interfaces_alike (object_type i f) (object_type j g) e = cc
-interfaces_alike (interface_type i f) (interface_type j g) e = cc
-interfaces_alike (union_type m) (union_type n) e = refl
-interfaces_alike (enum_type v) (enum_type w) e = refl
-interfaces_alike (input_type f) (input_type g) e = refl
-interfaces_alike _ _ e = absurd (cc)
+interfaces_alike b c e = outlined.interfaces_alike b c (ap body_outline e)
 
 pub members_alike : PartsAlike (place_name no_place) members_in_body
-members_alike scalar_type scalar_type e = refl
-members_alike (object_type i f) (object_type j g) e = refl
-members_alike (interface_type i f) (interface_type j g) e = refl
-members_alike (union_type m) (union_type n) e = cc
-members_alike (enum_type v) (enum_type w) e = refl
-members_alike (input_type f) (input_type g) e = refl
-members_alike _ _ e = absurd (cc)
+members_alike b c e = outlined.members_alike b c (ap body_outline e)
 
 pub values_alike : PartsAlike (place_enum_value no_place) values_in_body
-values_alike scalar_type scalar_type e = refl
-values_alike (object_type i f) (object_type j g) e = refl
-values_alike (interface_type i f) (interface_type j g) e = refl
-values_alike (union_type m) (union_type n) e = refl
-values_alike (enum_type v) (enum_type w) e = cc
-values_alike (input_type f) (input_type g) e = refl
-values_alike _ _ e = absurd (cc)
+values_alike b c e = outlined.values_alike b c (ap body_outline e)
 
 pub inputs_alike : PartsAlike (place_input no_place) inputs_in_body
-inputs_alike scalar_type scalar_type e = refl
-inputs_alike (object_type i f) (object_type j g) e = refl
-inputs_alike (interface_type i f) (interface_type j g) e = refl
-inputs_alike (union_type m) (union_type n) e = refl
-inputs_alike (enum_type v) (enum_type w) e = refl
-inputs_alike (input_type f) (input_type g) e = cc
-inputs_alike _ _ e = absurd (cc)
+inputs_alike b c e = outlined.inputs_alike b c (ap body_outline e)
 
 -- the same, each with its document
 pub put_erased : {A K : Type 0} (h : A → K) (file : ℕ) (xs : List A) → map (λ p. h p.it) (put_in file xs) ≡ map h xs
@@ -142,17 +117,16 @@ root_name r = r.name.text
 
 module _ (es us : List EntryOf) (same : map erase_entry es ≡ map erase_entry us) where
   pub definition_kinds : (text : Text) → kind_named es text ≡ kind_named us text
-  definition_kinds text = and_then_alike erase_entry (λ e. kind_in e.definition) (blind kind_in kind_in_erased) (find (λ e. is_type_named text e.definition) es) (find (λ e. is_type_named text e.definition) us)
-      (found erase_entry (λ e. is_type_named text e.definition) (λ e. is_type_named text e.definition) (blind (is_type_named text) (type_named_erased text)) es us same)
+  definition_kinds text = outlined.definition_kinds es us (outlines es us same) text
 
   pub type_numbers : (text : Text) → type_number es text ≡ type_number us text
-  type_numbers text = positions erase_entry (λ e. is_type_named text e.definition) (λ e. is_type_named text e.definition) (blind (is_type_named text) (type_named_erased text)) es us same
+  type_numbers text = outlined.type_numbers es us (outlines es us same) text
 
   pub schema_positions : position (λ e. is_schema e.definition) es ≡ position (λ e. is_schema e.definition) us
-  schema_positions = positions erase_entry (λ e. is_schema e.definition) (λ e. is_schema e.definition) (blind is_schema schema_erased) es us same
+  schema_positions = outlined.schema_positions es us (outlines es us same)
 
   pub schema_numbers : schema_number es ≡ schema_number us
-  schema_numbers = ap (λ o. unwrap_or o (length es)) schema_positions ∙ ap (λ n. unwrap_or (position (λ e. is_schema e.definition) us) n) (lengths erase_entry es us same)
+  schema_numbers = outlined.schema_numbers es us (outlines es us same)
 
   pub directives_named : (text : Text) → option_map (place_type_system no_place) (directive_named es text) ≡ option_map (place_type_system no_place) (directive_named us text)
   directives_named text =
@@ -160,26 +134,8 @@ module _ (es us : List EntryOf) (same : map erase_entry es ≡ map erase_entry u
       ∙ found erase_entry (λ e. is_directive_named text e.definition) (λ e. is_directive_named text e.definition) (blind (is_directive_named text) (directive_named_erased text)) es us same
       ∙ sym (map_twice (λ (e : EntryOf). e.definition) (place_type_system no_place) (find (λ e. is_directive_named text e.definition) us))
 
-  -- what belongs to a definition
-  extension : (number : ℕ) (text : Text) (kind : TypeKind) → owner_of_extension es number text kind ≡ owner_of_extension us number text kind
-  extension number text kind =
-      ap (λ k. if option_map_or (same_kind kind) k false then unwrap_or (type_number es text) number else number) (definition_kinds text)
-      ∙ ap (λ o. if option_map_or (same_kind kind) (kind_named us text) false then unwrap_or o number else number) (type_numbers text)
-
-  owner_alike : (number : ℕ) (d u : TypeSystemOf Span) → place_type_system no_place d ≡ place_type_system no_place u → owner_of es number d ≡ owner_of us number u
-  owner_alike number (schema true b c d e) (schema true b2 c2 d2 e2) h = schema_numbers
-  owner_alike number (schema false b c d e) (schema false b2 c2 d2 e2) h = refl
-  owner_alike number (type_definition true a n d b p) (type_definition true a2 n2 d2 b2 p2) h =
-      let names : place_name no_place n ≡ place_name no_place n2 = cc in
-      let bodies : place_body no_place b ≡ place_body no_place b2 = cc in
-      let kind : kind_of b ≡ kind_of b2 = seen (place_body no_place) (place_body back) (λ z. kind_of z) kind_erased b b2 bodies in
-      ap (λ z. owner_of_extension es number z.text (kind_of b)) names ∙ ap (λ z. owner_of_extension es number n2.text z) kind ∙ extension number n2.text (kind_of b2)
-  owner_alike number (type_definition false a n d b p) (type_definition false a2 n2 d2 b2 p2) h = refl
-  owner_alike number (directive_definition a b c d e g) (directive_definition a2 b2 c2 d2 e2 g2) h = refl
-  owner_alike number _ _ h = absurd (cc)
-
   pub owners : (n m : Numbered) → erase_numbered n ≡ erase_numbered m → owner es n ≡ owner us m
-  owners n m e = owner_alike n.number n.entry.definition m.entry.definition (ap (λ z. z.1) e) ∙ ap (λ k. owner_of us k m.entry.definition) (ap (λ z. z.0) e)
+  owners n m e = outlined.owners es us (outlines es us same) n m (ap (λ z. (z.0, definition_outline z.1)) e)
 
   pub joined_alike : (number : ℕ) → map erase_numbered (joined es number) ≡ map erase_numbered (joined us number)
   joined_alike number = kept erase_numbered (λ n. nat_eq (owner es n) number) (λ n. nat_eq (owner us n) number) (λ n m e. ap (λ k. nat_eq k number) (owners n m e)) (numbered es) (numbered us) (numbered_alike 0 es us same)

@@ -12,11 +12,13 @@ use Rattle.gq_types.specs.declared.table.Table.{Table}
 use Rattle.gq_types.specs.Directives.{locations_in}
 use Rattle.gq_types.specs.Entries.{Text, EntryOf}
 use Rattle.gq_types.specs.ErasedEntries.{erase_entry}
+use Rattle.gq_types.specs.Outlines.{outline}
 use Rattle.gq_types.specs.Joined.{kind_in, fields_in_body}
-use Rattle.gq_types.specs.Helping.Index.{AreArgumentNames, AreLocations, argument_lists}
+use Rattle.gq_types.specs.Helping.Index.{AreArgumentNames, AreLocations, AreNamesOfEach, argument_lists}
 use Rattle.gq_types.specs.Helping.Tables.{type_key, directive_key, at_most_one, names_in, numbers_in, AreDefinitions, AreNames}
 use Rattle.gq_types.proofs.Placing.Alike.{back}
-use Rattle.gq_types.proofs.Placing.Entries.{blind, kind_in_erased, fields_alike, schema_numbers}
+use Rattle.gq_types.proofs.Placing.Entries.{fields_alike}
+use Rattle.gq_types.proofs.Placing.Outlines.{blind, kind_seen, outline_of, schema_numbers}
 use Rattle.gq_types.proofs.Placing.Lists.{lengths, weaken}
 use Rattle.gq_types.proofs.Placing.Required.{required_alike}
 
@@ -54,67 +56,71 @@ lists_alike (directive_definition a b c d e g) (directive_definition a2 b2 c2 d2
     ap (λ z. z ∷ []) arguments
 lists_alike _ _ h = absurd (cc)
 
-pub argument_names_stay : (es us : List EntryOf) → map erase_entry es ≡ map erase_entry us → (lists : List (List ArgumentNames)) → AreArgumentNames es lists → AreArgumentNames us lists
-argument_names_stay es us same lists are k names kept e there i n inside arguments stands =
-    let d = got erase_entry es us same k e there in
-    let o = got (map (place_input no_place)) (argument_lists d.0.definition) (argument_lists e.definition) (lists_alike d.0.definition e.definition d.2) i arguments stands in
-    let r = are k names kept d.0 d.1 i n inside o.0 o.1 in
+pub names_of_each_stay : (d u : EntryOf) → erase_entry d ≡ erase_entry u → (names : List ArgumentNames) → AreNamesOfEach (argument_lists d.definition) names → AreNamesOfEach (argument_lists u.definition) names
+names_of_each_stay d u same names are i n inside arguments stands =
+    let o = got (map (place_input no_place)) (argument_lists d.definition) (argument_lists u.definition) (lists_alike d.definition u.definition same) i arguments stands in
+    let r = are i n inside o.0 o.1 in
     (r.0 ∙ weaken (place_input no_place) (λ a. a.name.text) (λ a b p. ap (λ z. z.name.text) p) o.0 arguments o.2, r.1 ∙ required_alike o.0 arguments o.2 [])
 
+pub argument_names_stay : (es us : List EntryOf) → map erase_entry es ≡ map erase_entry us → (lists : List (List ArgumentNames)) → AreArgumentNames es lists → AreArgumentNames us lists
+argument_names_stay es us same lists are k names kept e there =
+    let d = got erase_entry es us same k e there in
+    names_of_each_stay d.0 e d.2 names (are k names kept d.0 d.1)
+
 -- the locations of a directive
-locations_erased : (d : TypeSystemOf Span) → locations_in d ≡ locations_in (place_type_system back (place_type_system no_place d))
+locations_erased : (d : TypeSystemOf Span) → locations_in d ≡ locations_in (place_type_system back (outline_of d))
 locations_erased (schema extends description directives roots place) = refl
 locations_erased (type_definition extends description name directives body place) = refl
 locations_erased (directive_definition description name arguments repeatable locations place) = refl
 
-pub locations_stay : (es us : List EntryOf) → map erase_entry es ≡ map erase_entry us → (lists : List (List DirectiveLocation)) → AreLocations es lists → AreLocations us lists
+pub locations_stay : (es us : List EntryOf) → map outline es ≡ map outline us → (lists : List (List DirectiveLocation)) → AreLocations es lists → AreLocations us lists
 locations_stay es us same lists are = record {
-  count = are.count ∙ lengths erase_entry es us same;
+  count = are.count ∙ lengths outline es us same;
   each = (λ k kept here e there location.
-      let d = got erase_entry es us same k e there in
+      let d = got outline es us same k e there in
       are.each k kept here d.0 d.1 location ∙ ap (λ ls. list_any (same_locations location) ls) (blind locations_in locations_erased d.0 e d.2));
 }
 
 -- the names of definitions, and their numbers
-type_key_erased : (d : TypeSystemOf Span) → type_key d ≡ type_key (place_type_system back (place_type_system no_place d))
+type_key_erased : (d : TypeSystemOf Span) → type_key d ≡ type_key (place_type_system back (outline_of d))
 type_key_erased (schema extends description directives roots place) = refl
 type_key_erased (type_definition true description name directives body place) = refl
 type_key_erased (type_definition false description name directives body place) = refl
 type_key_erased (directive_definition description name arguments repeatable locations place) = refl
 
-directive_key_erased : (d : TypeSystemOf Span) → directive_key d ≡ directive_key (place_type_system back (place_type_system no_place d))
+directive_key_erased : (d : TypeSystemOf Span) → directive_key d ≡ directive_key (place_type_system back (outline_of d))
 directive_key_erased (schema extends description directives roots place) = refl
 directive_key_erased (type_definition extends description name directives body place) = refl
 directive_key_erased (directive_definition description name arguments repeatable locations place) = refl
 
-module _ (key : TypeSystemOf Span → Option Text) (erased : (d : TypeSystemOf Span) → key d ≡ key (place_type_system back (place_type_system no_place d))) where
-  names_alike : (es us : List EntryOf) → map erase_entry es ≡ map erase_entry us → names_in key es ≡ names_in key us
+module _ (key : TypeSystemOf Span → Option Text) (erased : (d : TypeSystemOf Span) → key d ≡ key (place_type_system back (outline_of d))) where
+  names_alike : (es us : List EntryOf) → map outline es ≡ map outline us → names_in key es ≡ names_in key us
   names_alike [] [] e = refl
   names_alike [] (u ∷ us) e = absurd (cc)
   names_alike (d ∷ es) [] e = absurd (cc)
   names_alike (d ∷ es) (u ∷ us) e =
-      let first : erase_entry d ≡ erase_entry u = cc in
-      let rest : map erase_entry es ≡ map erase_entry us = cc in
+      let first : outline d ≡ outline u = cc in
+      let rest : map outline es ≡ map outline us = cc in
       ap (λ o. at_most_one o ++ names_in key es) (blind key erased d u first) ∙ ap (λ z. at_most_one (key u.definition) ++ z) (names_alike es us rest)
 
-  numbers_alike : (k : ℕ) (es us : List EntryOf) → map erase_entry es ≡ map erase_entry us → numbers_in key k es ≡ numbers_in key k us
+  numbers_alike : (k : ℕ) (es us : List EntryOf) → map outline es ≡ map outline us → numbers_in key k es ≡ numbers_in key k us
   numbers_alike k [] [] e = refl
   numbers_alike k [] (u ∷ us) e = absurd (cc)
   numbers_alike k (d ∷ es) [] e = absurd (cc)
   numbers_alike k (d ∷ es) (u ∷ us) e =
-      let first : erase_entry d ≡ erase_entry u = cc in
-      let rest : map erase_entry es ≡ map erase_entry us = cc in
+      let first : outline d ≡ outline u = cc in
+      let rest : map outline es ≡ map outline us = cc in
       ap (λ o. at_most_one (option_map (λ text. k) o) ++ numbers_in key (k + 1) es) (blind key erased d u first)
       ∙ ap (λ z. at_most_one (option_map (λ text. k) (key u.definition)) ++ z) (numbers_alike (k + 1) es us rest)
 
-  names_stay : (es us : List EntryOf) → map erase_entry es ≡ map erase_entry us → (table : Table ℕ) → AreNames key es table → AreNames key us table
+  names_stay : (es us : List EntryOf) → map outline es ≡ map outline us → (table : Table ℕ) → AreNames key es table → AreNames key us table
   names_stay es us same table are = record { names = are.names ∙ names_alike es us same; numbers = are.numbers ∙ numbers_alike 0 es us same }
 
-pub definitions_stay : (es us : List EntryOf) → map erase_entry es ≡ map erase_entry us → (types directives : Table ℕ) (kinds : List (Option TypeKind)) (number : ℕ)
+pub definitions_stay : (es us : List EntryOf) → map outline es ≡ map outline us → (types directives : Table ℕ) (kinds : List (Option TypeKind)) (number : ℕ)
     → AreDefinitions es types directives kinds number → AreDefinitions us types directives kinds number
 definitions_stay es us same types directives kinds number are = record {
   types_are = names_stay type_key type_key_erased es us same types are.types_are;
   directives_are = names_stay directive_key directive_key_erased es us same directives are.directives_are;
-  kinds_are = are.kinds_are ∙ weaken erase_entry (λ e. kind_in e.definition) (blind kind_in kind_in_erased) es us same;
+  kinds_are = are.kinds_are ∙ weaken outline (λ e. kind_in e.definition) (blind kind_in kind_seen) es us same;
   schema_is = are.schema_is ∙ schema_numbers es us same;
 }

@@ -1,5 +1,5 @@
 -- The names that are kept of required input fields are those of type systems that are equal but for their places.
-use Rattle.std.proofs.Common.{◌≡◌, List, [], ◌∷◌, ◌++◌, Option, Some, None, map, refl, ap, ◌∙◌}
+use Rattle.std.proofs.Common.{◌≡◌, ℕ, List, [], ◌∷◌, ◌++◌, Option, Some, None, map, refl, ap, ◌∙◌}
 use Rattle.std.specs.Prelude.{not, ◌&&◌, if◌then◌else◌, is_none}
 use Rattle.std.specs.List.{list_any}
 use Rattle.std.specs.Option.{option_map}
@@ -8,13 +8,14 @@ use Rattle.gq_text.specs.declared.place.Span.{Span}
 use Rattle.gq_tree.specs.Plain.{TypeOf, named, list_of, non_null, Val, InputOf, place_value, place_type, place_input, no_place}
 use Rattle.gq_tree.specs.Wrapping.{is_non_null}
 use Rattle.gq_types.specs.Entries.{Text, EntryOf}
-use Rattle.gq_types.specs.ErasedEntries.{erase_entry}
-use Rattle.gq_types.specs.Joined.{In, inputs_in_body, inputs_of}
+use Rattle.gq_types.specs.Outlines.{outline}
+use Rattle.gq_types.specs.Joined.{In, body_in, inputs_in_body, inputs_of, joined, parts_in}
 use Rattle.gq_types.specs.Required.{is_required}
 use Rattle.gq_types.specs.Helping.RequiredNames.{AreRequired, required_after}
 use Rattle.gq_types.proofs.Placing.Alike.{back, seen}
-use Rattle.gq_types.proofs.Placing.Entries.{inputs_alike, parts_alike}
-use Rattle.gq_types.proofs.Placing.Lists.{lengths}
+use Rattle.gq_types.proofs.Placing.Entries.{put_alike}
+use Rattle.gq_types.proofs.Placing.Outlines.{body_alike, inputs_alike, joined_alike, outline_numbered}
+use Rattle.gq_types.proofs.Placing.Lists.{gathered, lengths}
 
 -- whether an input field or argument is required
 non_null_erased : (t : TypeOf Span) → is_non_null t ≡ is_non_null (place_type back (place_type no_place t))
@@ -59,10 +60,15 @@ each_alike (p ∷ ps) (q ∷ qs) e =
     let rest : map (λ p. place_input no_place p.it) ps ≡ map (λ p. place_input no_place p.it) qs = cc in
     ap (λ z. z ∷ map (place_input no_place) (map (λ p. p.it) ps)) first ∙ ap (λ z. place_input no_place q.it ∷ z) (each_alike ps qs rest)
 
-pub required_stays : (es us : List EntryOf) → map erase_entry es ≡ map erase_entry us → (lists : List (List Text)) → AreRequired es lists → AreRequired us lists
+inputs_stay : (es us : List EntryOf) → map outline es ≡ map outline us → (number : ℕ) → map (λ p. place_input no_place p.it) (inputs_of es number) ≡ map (λ p. place_input no_place p.it) (inputs_of us number)
+inputs_stay es us same number = gathered outline_numbered (λ (p : In (InputOf Span)). place_input no_place p.it) (λ n. parts_in inputs_in_body n.entry)
+    (λ n m e. put_alike (place_input no_place) n.entry.file m.entry.file (inputs_in_body (body_in n.entry.definition)) (inputs_in_body (body_in m.entry.definition))
+    (inputs_alike (body_in n.entry.definition) (body_in m.entry.definition) (body_alike n.entry.definition m.entry.definition (ap (λ z. z.1) e))))
+    (joined es number) (joined us number) (joined_alike es us same number)
+
+pub required_stays : (es us : List EntryOf) → map outline es ≡ map outline us → (lists : List (List Text)) → AreRequired es lists → AreRequired us lists
 required_stays es us same lists are = record {
-  count = are.count ∙ lengths erase_entry es us same;
+  count = are.count ∙ lengths outline es us same;
   each = λ i names at. are.each i names at
-      ∙ required_alike (map (λ p. p.it) (inputs_of es i)) (map (λ p. p.it) (inputs_of us i))
-      (each_alike (inputs_of es i) (inputs_of us i) (parts_alike es us same (place_input no_place) inputs_in_body inputs_alike is_required needed i)) [];
+      ∙ required_alike (map (λ p. p.it) (inputs_of es i)) (map (λ p. p.it) (inputs_of us i)) (each_alike (inputs_of es i) (inputs_of us i) (inputs_stay es us same i)) [];
 }

@@ -67,6 +67,7 @@ pub record AreTables (es : List EntryOf) (tables : EntryTables) : Type 0 where
   pub fields_are : AreFieldTables es tables.fields.items
   pub parts_are : AreParts es tables.parts.items
   pub required_are : AreRequired es tables.required.items
+  pub arguments_count : length tables.arguments.items ≡ length es
   pub arguments_are : AreArgumentNames es (lists_of tables.arguments.items)
   pub locations_are : AreLocations es (lists_of tables.locations.items)
 
@@ -86,6 +87,7 @@ pub record AreTablesBelow (es : List EntryOf) (number : ℕ) (tables : EntryTabl
 -- what is kept for the uses of definitions
 pub record AreUses (es : List EntryOf) (uses : Uses) : Type 0 where
   pub required_are : AreRequired es uses.required.items
+  pub arguments_count : length uses.arguments.items ≡ length es
   pub arguments_are : AreArgumentNames es (lists_of uses.arguments.items)
   pub locations_are : AreLocations es (lists_of uses.locations.items)
   pub roots_are : AreRoots es (joined_numbers es (schema_number es)) uses.roots
@@ -97,3 +99,8 @@ pub record IsIndex {Z : Type 0} (es : List EntryOf) (joined : List (Vec ℕ Z)) 
   pub declarers_are : (text : Text) → items_under declarers text ≡ declaring_from 0 (map (λ p. p.interfaces) parts) text
   pub uses_are : AreUses es uses
   pub typename_type_is : type_view of_typename ≡ typename_type
+
+-- what is kept of the fields of the entry with that number: the table of them, and the names of their arguments
+pub record AreFieldsAt (es : List EntryOf) (number : ℕ) (table : Option (Box (Table Place) Global)) (arguments : List ArgumentNames) : Type 0 where
+  pub table_is : IsKeptFor es number (joined_numbers es number) table
+  pub arguments_are : (e : EntryOf) → slice_get es number ≡ Some e → AreNamesOfEach (argument_lists e.definition) arguments

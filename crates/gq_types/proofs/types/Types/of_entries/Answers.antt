@@ -1,5 +1,5 @@
 use Rattle.gq_types.proofs.EntryTablesLemmas.{index_made}
-use Rattle.gq_types.proofs.types.Types.of.Goals as goal
+use Rattle.gq_types.proofs.types.Types.of_entries.Goals as goal
 
 pub invariant_of-result : goal.invariant_of-result
 invariant_of-result c =
