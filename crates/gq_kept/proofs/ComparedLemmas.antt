@@ -24,8 +24,7 @@ use Rattle.gq_schema.specs.SchemaOf.{HasNoFault}
 use Rattle.gq_laws.specs.Placing.ObjectTypes.{DifferInObjects, nowhere, not_here, here, OtherObjectsKeepTypes}
 use Rattle.gq_laws.specs.Placing.OtherFields.{is_one_of, fields_without, body_without, definition_without, erase_without}
 use Rattle.gq_kept.specs.Helping.Compared.{IsCompared, alike, objects, DiffersFrom}
-use Rattle.gq_kept.specs.Helping.Texts.{texts_at}
-use Rattle.gq_kept.specs.declared.differing.Differing.{Differing}
+use Rattle.gq_kept.specs.declared.beside.Beside.{Beside}
 use Rattle.gq_kept.proofs.GatheredLemmas.{at_place}
 
 -- definitions of types that are the same in each part
@@ -126,16 +125,7 @@ all_compared es us i numbers h same so_far =
     subst (λ z. Differ 0 es us z) (append-nil numbers) (so_far [] none_left)
 
 -- what comes of the numbers at which no rule is broken
-pub keeps : OtherObjectsKeepTypes → (es us : List EntryOf) (found : Differing) (given : List ℕ) → given ≡ found.numbers.items → found.are_objects ≡ true → DiffersFrom es us found →
+pub keeps : OtherObjectsKeepTypes → (es us : List EntryOf) (beside : Beside) (given : List ℕ) → given ≡ beside.numbers.items → beside.are_objects ≡ true → DiffersFrom es us beside →
     HasNoFault es → All (IsFaultlessAt us) given → HasNoFault us
-keeps law es us found given is are differs sound faultless =
-    law (texts_at found.names.items) es us found.numbers.items differs.names (differs.objects are) sound (subst (λ z. All (IsFaultlessAt us) z) is faultless)
-
--- what was found of entries that are lent
-pub differs_from : (es us given_es given_us : List EntryOf) (found : Differing) → given_es ≡ es → given_us ≡ us →
-    map (erase_without (texts_at found.names.items)) given_es ≡ map (erase_without (texts_at found.names.items)) given_us →
-    (found.are_objects ≡ true → DifferInObjects 0 given_es given_us found.numbers.items) → DiffersFrom es us found
-differs_from es us given_es given_us found are were names all = record {
-  names = ap (map (erase_without (texts_at found.names.items))) (sym are) ∙ names ∙ ap (map (erase_without (texts_at found.names.items))) were;
-  objects = λ only. subst (λ z. DifferInObjects 0 z us found.numbers.items) are (subst (λ z. DifferInObjects 0 given_es z found.numbers.items) were (all only));
-}
+keeps law es us beside given is are differs sound faultless =
+    law differs.names es us beside.numbers.items differs.others (differs.objects are) sound (subst (λ z. All (IsFaultlessAt us) z) is faultless)

@@ -1,6 +1,7 @@
 pub mod AlikeLemmas
 pub mod Brought
 pub mod ComparedLemmas
+pub mod BesideLemmas
 pub mod FieldLemmas
 pub mod FieldListsLemmas
 pub mod FieldNamesLemmas

@@ -20,11 +20,9 @@ use Rattle.gq_laws.specs.Placing.OtherFields.{OtherFieldsDoNotMatter, SelectNone
 use Rattle.gq_kept.specs.declared.by_document.ByDocument.{ByDocument}
 use Rattle.gq_kept.specs.declared.field_lists.FieldLists.{FieldLists}
 use Rattle.gq_kept.specs.declared.typed.Typed.{Typed}
-use Rattle.gq_kept.specs.declared.typed.Was.{Was}
-use Rattle.gq_kept.specs.declared.typed.Was.TheVariants as was
 use Rattle.gq_kept.specs.Helping.ByDocument.{AreByDocument}
 use Rattle.gq_kept.specs.Helping.Selected.{AreMarkedFor, AreSelected}
-use Rattle.gq_kept.specs.Helping.Unseen.{AreMarkedBy, IfWholly, IsIfWholly}
+use Rattle.gq_kept.specs.Helping.Unseen.{AreMarkedBy}
 
 or_parts : (a b : Bool) → (a || b) ≡ false → (a ≡ false) × (b ≡ false)
 or_parts true b e = absurd (cc)
@@ -70,12 +68,6 @@ marked_by es us old new rs found given marks were are is same told =
     let one : erase old ≡ erase new = subst (λ (ns : List (Bor Name)). map (erase_without (texts_at ns)) old ≡ map (erase_without (texts_at ns)) new) (sym is) same in
     record { names = texts_at given; same = ap erase (sym were) ∙ one ∙ ap erase are; are = told }
 
--- what holds of all of it, where something else follows
-wholly_on : (w : Option Was) (P Q : Typed → Type 0) → ((t : Typed) → P t → Q t) → IfWholly w P → IfWholly w Q
-wholly_on None P Q follows h = h
-wholly_on (Some (was.Typed typed)) P Q follows h = follows typed h
-wholly_on (Some (was.Entries entries)) P Q follows h = h
-
 -- what is known of documents, where more is known of the fields that are selected
 abbrev pub with_fields : ByDocument → FieldLists → ByDocument
 with_fields found fields = record { faults = found.faults; fields = fields; parts = found.parts }
@@ -85,16 +77,14 @@ pub fields_on : (found : ByDocument) (fields : FieldLists) (es : List EntryOf) (
 fields_on found fields es rs kept are = record { faults = are.faults; fields = kept are.fields; parts = are.parts }
 
 -- where documents are marked, what is known stays over the type system that is made
-pub unseen_on : (found middle : ByDocument) (fields : FieldLists) (made : Typed) (rs : List ParsedOf) (whole : Option Was) (marks : Option (Vec Bool Global)) (unseen : Bool) → unseen ≡ is_some marks →
+pub unseen_on : (found middle : ByDocument) (fields : FieldLists) (old made : Typed) (rs : List ParsedOf) (marks : Option (Vec Bool Global)) (unseen : Bool) → unseen ≡ is_some marks →
     (AreSelected rs found.fields.lists.items → AreSelected rs fields.lists.items) →
-    IfSome marks (λ some. IfWholly whole (λ old. AreSelected rs found.fields.lists.items → AreMarkedBy (types_view old.types) (types_view made.types) rs some.items)) →
+    IfSome marks (λ some. AreSelected rs found.fields.lists.items → AreMarkedBy (types_view old.types) (types_view made.types) rs some.items) →
     (unseen ≡ true → (es us : List EntryOf) (qs : List ParsedOf) → IfSome marks (λ some. AreMarkedBy es us qs some.items) → AreByDocument es qs (with_fields found fields) → AreByDocument us qs middle) →
-    unseen ≡ true → IfWholly whole (λ typed. AreByDocument (types_view typed.types) rs found → AreByDocument (types_view made.types) rs middle)
-unseen_on found middle fields made rs whole None is_unseen is kept marked keeps told = absurd (cc)
-unseen_on found middle fields made rs whole (Some some) is_unseen is kept marked keeps told =
-    wholly_on whole (λ old. AreSelected rs found.fields.lists.items → AreMarkedBy (types_view old.types) (types_view made.types) rs some.items)
-    (λ typed. AreByDocument (types_view typed.types) rs found → AreByDocument (types_view made.types) rs middle)
-    (λ typed sees are. keeps told (types_view typed.types) (types_view made.types) rs (sees are.fields) (fields_on found fields (types_view typed.types) rs kept are)) marked
+    unseen ≡ true → AreByDocument (types_view old.types) rs found → AreByDocument (types_view made.types) rs middle
+unseen_on found middle fields old made rs None is_unseen is kept marked keeps told are = absurd (cc)
+unseen_on found middle fields old made rs (Some some) is_unseen is kept marked keeps told are =
+    keeps told (types_view old.types) (types_view made.types) rs (marked are.fields) (fields_on found fields (types_view old.types) rs kept are)
 
 -- where none is marked, it stays over any
 pub seen_on : (found middle : ByDocument) (fields : FieldLists) (rs : List ParsedOf) (unseen : Bool) → (AreSelected rs found.fields.lists.items → AreSelected rs fields.lists.items) →
@@ -109,22 +99,14 @@ not_both true false e h = absurd (cc)
 not_both false b e h = refl
 
 -- what is known of documents, one of which is replaced: the type system is the old one to the rules, or what is known stays where it becomes the new one
-pub replaced_on : (found middle left : ByDocument) (old made : Typed) (rs : List ParsedOf) (at : ℕ) (r : ParsedOf) (whole : Option Was) (changes unseen : Bool) → IsIfWholly whole old
-    → (unseen ≡ true → IfWholly whole (λ typed. AreByDocument (types_view typed.types) rs found → AreByDocument (types_view made.types) rs middle))
+pub replaced_on : (found middle left : ByDocument) (old made : Typed) (rs : List ParsedOf) (at : ℕ) (r : ParsedOf) (changes unseen : Bool)
+    → (unseen ≡ true → AreByDocument (types_view old.types) rs found → AreByDocument (types_view made.types) rs middle)
     → (unseen ≡ false → (es : List EntryOf) → AreByDocument es rs found → AreByDocument es rs middle)
     → ((es us : List EntryOf) (qs : List ParsedOf) → ((changes && not unseen) ≡ false → AreAlikeToRules es us) → AreByDocument es qs middle → AreByDocument us (set qs at r) left)
     → (changes ≡ false → AreAlikeToRules (types_view old.types) (types_view made.types))
     → AreByDocument (types_view old.types) rs found → AreByDocument (types_view made.types) (set rs at r) left
-replaced_on found middle left old made rs at r whole changes unseen is kept same goes alike are = by unseen refl whole refl
+replaced_on found middle left old made rs at r changes unseen kept same goes alike are = by unseen refl
   where
-    by : (b : Bool) → unseen ≡ b → (w : Option Was) → whole ≡ w → AreByDocument (types_view made.types) (set rs at r) left
-    by true e None f = absurd (subst (λ (w : Option Was). IfWholly w (λ typed. AreByDocument (types_view typed.types) rs found → AreByDocument (types_view made.types) rs middle)) f (kept e))
-    by true e (Some (was.Entries entries)) f =
-        absurd (subst (λ (w : Option Was). IfWholly w (λ typed. AreByDocument (types_view typed.types) rs found → AreByDocument (types_view made.types) rs middle)) f (kept e))
-    by true e (Some (was.Typed typed)) f =
-        let stays = subst (λ (w : Option Was). IfWholly w (λ typed. AreByDocument (types_view typed.types) rs found → AreByDocument (types_view made.types) rs middle)) f (kept e) in
-        let one : typed ≡ old = subst (λ (w : Option Was). IsIfWholly w old) f is in
-        let there = stays (subst (λ (t : Typed). AreByDocument (types_view t.types) rs found) (sym one) are) in
-        goes (types_view made.types) (types_view made.types) rs (λ h os gs fault. (λ z. z, λ z. z)) there
-    by false e w f =
-        goes (types_view old.types) (types_view made.types) rs (λ h. alike (not_both changes unseen e h)) (same e (types_view old.types) are)
+    by : (b : Bool) → unseen ≡ b → AreByDocument (types_view made.types) (set rs at r) left
+    by true e = goes (types_view made.types) (types_view made.types) rs (λ h os gs fault. (λ z. z, λ z. z)) (kept e are)
+    by false e = goes (types_view old.types) (types_view made.types) rs (λ h. alike (not_both changes unseen e h)) (same e (types_view old.types) are)

@@ -2,6 +2,7 @@
 #![tactic(auto)]
 
 mod alike;
+mod beside;
 mod by_document;
 mod differing;
 mod field_lists;

@@ -1,27 +1,27 @@
 //! The type system of documents, made anew where one of them changes.
-ghost use Rattle.std.specs.Prelude.{◌≡◌, ◌<◌, ◌≤◌, ◌++◌, [], ◌∷◌, true, false, All, List, IfOk, IfSome, OnOk, OnErr, drop, length, map, remove, slice_index_or, slice_set, take};
+ghost use Rattle.std.specs.Prelude.{◌≡◌, ◌<◌, ◌≤◌, ◌++◌, [], ◌∷◌, true, false, All, None, IfOk, IfSome, OnOk, OnErr, drop, length, map, remove, slice_index_or, slice_set, take};
 ghost use Rattle.std.specs.Option.{unwrap_or};
 ghost use Rattle.std.specs.List.{insert};
 ghost use Rattle.gq_tree.specs.Readings.{shared_view, readings_view};
 ghost use Rattle.gq_types.specs.BuiltIn.{built_in};
-ghost use Rattle.gq_types.specs.Entries.{EntryOf};
+ghost use Rattle.gq_types.specs.Entries.{entries_view};
 ghost use Rattle.gq_types.specs.Look.{types_view};
+ghost use Rattle.gq_types.specs.Outlines.{DiffersAt};
 ghost use Rattle.gq_document.specs.Definitions.{entries_of};
 ghost use Rattle.gq_schema.specs.SchemaOf.{HasNoFault};
 ghost use Rattle.gq_kept.specs.Helping.TypesOf.{AreTypesOf, Tells, TellsOf, IsSameOf, IsOneTypeSystem, types_defined};
 ghost use Rattle.gq_kept.specs.Helping.Compared.{DiffersFrom};
 ghost use Rattle.gq_kept.specs.Helping.Selected.{AreSelected};
-ghost use Rattle.gq_kept.specs.Helping.Unseen.{AreMarkedBy, IfWholly, IsIfWholly};
+ghost use Rattle.gq_kept.specs.Helping.Unseen.{AreMarkedBy};
 ghost use Rattle.gq_kept.specs.declared.typed.Typed.{Typed};
 
-use crate::differing::{Differing, compare_types};
+use crate::beside::{Beside, holds, holds_beside, told_beside};
 use crate::field_lists::FieldLists;
 use gq_document::type_system_entries;
 use gq_known::learned::{defines_types, type_system};
-use gq_laws::places::{documents_of_types_do_not_matter_to_types, other_objects_keep_types};
+use gq_laws::places::documents_of_types_do_not_matter_to_types;
 use gq_text::NoMemory;
 use gq_tree::Parsed;
-use gq_type_system::{are_faultless, schema_faults};
 use gq_types::{Entry, Replacement, Types, with_built_in};
 use std::alloc::Global;
 use std::mem;
@@ -34,7 +34,7 @@ pub(crate) struct Typed {
     pub(crate) has_schema: bool,
 }
 
-/// What a type system was before a change, which takes a while to drop: all of it, or its definitions and extensions.
+/// What a type system was before a change, which takes a while to drop: all of it, its definitions and extensions, or these and what was kept of fields.
 #[derive(Drop)]
 pub(crate) enum Was {
     Typed(Typed),
@@ -47,15 +47,8 @@ pub(crate) fn made_of(alloc: Global, readings: &[Arc<Parsed>]) -> Result<Typed, 
     ensures { IfOk result (AreTypesOf (readings_view readings.now)) }
 {
     let types = type_system(alloc, readings)?;
-    let has_schema = schema_faults(alloc, &types)?.is_empty();
+    let has_schema = holds(alloc, &types)?;
     Ok(Typed { types, has_schema })
-}
-
-/// Whether no rule of a type system is broken.
-fn holds(alloc: Global, types: &Types) -> Result<bool, NoMemory>
-    ensures { IfOk result (λ holds. Tells holds (types_view types.now)) }
-{
-    Ok(schema_faults(alloc, types)?.is_empty())
 }
 
 /// The same, where it is known whether a rule of it is broken.
@@ -97,6 +90,15 @@ pub(crate) struct Retyped {
     pub(crate) marks: Option<Vec<bool>>,
 }
 
+impl Retyped {
+    /// It was this, and no document is marked.
+    fn unmarked(was: Option<Was>) -> Retyped
+        ensures { result.marks ≡ None }
+    {
+        Retyped { was, marks: None }
+    }
+}
+
 /// Makes the type system that of documents of which the one at that place is replaced by one that reads so, and
 /// answers what it was. Where neither of the two defines types, it stays as it is, and nothing is answered. Where it is the same but for places,
 /// no name and no rule is looked at.
@@ -113,77 +115,124 @@ pub(crate) fn retype(
     requires names { keeps_names ≡ true → ∥ IsSameOf typed.old (slice_set (readings_view readings.now) at (shared_view reading.now)) ∥₁ }
     ensures ok { IfOk result (λ made. (keeps_names ≡ true → TellsOf typed.old.has_schema (slice_set (readings_view readings.now) at (shared_view reading.now))) →
         AreTypesOf (readings_view readings.now) typed.old → AreTypesOf (slice_set (readings_view readings.now) at (shared_view reading.now)) typed.new) }
-    ensures was { IfOk result (λ made. IsIfWholly made.was typed.old) }
-    ensures marks { IfOk result (λ made. IfSome made.marks (λ some. IfWholly made.was (λ old. AreSelected (readings_view readings.now) fields.old.lists.items
-        → AreMarkedBy (types_view old.types) (types_view typed.new.types) (readings_view readings.now) some.items))) }
+    ensures marks { IfOk result (λ made. IfSome made.marks (λ some. AreSelected (readings_view readings.now) fields.old.lists.items
+        → AreMarkedBy (types_view typed.old.types) (types_view typed.new.types) (readings_view readings.now) some.items)) }
     ensures kept { AreSelected (readings_view readings.now) fields.old.lists.items → AreSelected (readings_view readings.now) fields.new.lists.items }
     ensures err { OnErr result (typed.new ≡ typed.old) }
 {
     if !is_retyped(readings, at, reading) {
-        return Ok(Retyped {
-            was: None,
-            marks: None,
-        });
+        return Ok(Retyped::unmarked(None));
     }
     let all = readings_around(alloc, readings, at, reading, at + 1)?;
     if keeps_names {
         let was = replace_entries(alloc, &all, typed)?;
-        return Ok(Retyped {
-            was: Some(Was::Entries(was)),
-            marks: None,
-        });
+        return Ok(Retyped::unmarked(Some(Was::Entries(was))));
     }
     let entries = with_built_in(alloc, type_system_entries(alloc, &all)?)?;
+    retype_by(alloc, readings, entries, typed, fields)
+}
+
+/// Makes the type system that of these definitions and extensions, those that are built in among them, and answers what it was. The documents are read so.
+fn retype_by(
+    alloc: Global,
+    readings: &[Arc<Parsed>],
+    entries: Vec<Entry>,
+    typed: &mut Typed,
+    fields: &mut FieldLists,
+) -> Result<Retyped, NoMemory>
+    ensures types { OnOk result (types_view typed.new.types ≡ entries_view entries.items) }
+    ensures tells { IfOk result (λ made. (typed.old.has_schema ≡ true → HasNoFault (types_view typed.old.types)) → Tells typed.new.has_schema (entries_view entries.items)) }
+    ensures marks { IfOk result (λ made. IfSome made.marks (λ some. AreSelected (readings_view readings.now) fields.old.lists.items
+        → AreMarkedBy (types_view typed.old.types) (types_view typed.new.types) (readings_view readings.now) some.items)) }
+    ensures kept { AreSelected (readings_view readings.now) fields.old.lists.items → AreSelected (readings_view readings.now) fields.new.lists.items }
+    ensures err { OnErr result (typed.new ≡ typed.old) }
+{
     let Some(beside) = told_beside(alloc, typed.types.entries(), &entries, readings, fields)? else {
-        let types = Types::of_entries(alloc, entries)?;
-        let has_schema = holds(alloc, &types)?;
-        let made = Typed { types, has_schema };
-        return Ok(Retyped { was: Some(Was::Typed(mem::replace(typed, made))), marks: None });
+        let was = make(alloc, entries, typed)?;
+        return Ok(Retyped::unmarked(Some(was)));
     };
-    let Beside { marks, numbers, are_objects } = beside;
-    let marks = Some(marks);
-    if are_objects && numbers.len() == 1 {
-        let mut other = Replacement::of(alloc, &typed.types, entries, numbers[0])?;
-        typed.types.exchange(alloc, &mut other);
-        match holds_at(alloc, typed, &numbers) {
-            Ok(has_schema) => {
-                typed.has_schema = has_schema;
-                return Ok(Retyped { was: Some(Was::Replaced(other)), marks });
-            }
-            Err(NoMemory) => {
-                typed.types.exchange(alloc, &mut other);
-                return Err(NoMemory);
-            }
+    let was = retype_beside(alloc, entries, &beside, typed)?;
+    let Beside { marks, .. } = beside;
+    Ok(Retyped {
+        was: Some(was),
+        marks: Some(marks),
+    })
+}
+
+/// The same, where this is told of them beside those of the type system.
+fn retype_beside(
+    alloc: Global,
+    entries: Vec<Entry>,
+    beside: &Beside,
+    typed: &mut Typed,
+) -> Result<Was, NoMemory>
+    requires { ∥ DiffersFrom (types_view typed.old.types) (entries_view entries.items) beside.now ∥₁ }
+    ensures types { OnOk result (types_view typed.new.types ≡ entries_view entries.items) }
+    ensures tells { IfOk result (λ was. (typed.old.has_schema ≡ true → HasNoFault (types_view typed.old.types)) → Tells typed.new.has_schema (entries_view entries.items)) }
+    ensures err { OnErr result (typed.new ≡ typed.old) }
+{
+    match beside.only() {
+        Some(number) => exchange(alloc, entries, number, beside, typed),
+        None => make_beside(alloc, entries, beside, typed),
+    }
+}
+
+/// Makes it anew of these, and answers what it was.
+fn make(alloc: Global, entries: Vec<Entry>, typed: &mut Typed) -> Result<Was, NoMemory>
+    ensures types { OnOk result (types_view typed.new.types ≡ entries_view entries.items) }
+    ensures tells { OnOk result (Tells typed.new.has_schema (entries_view entries.items)) }
+    ensures err { OnErr result (typed.new ≡ typed.old) }
+{
+    let types = Types::of_entries(alloc, entries)?;
+    let has_schema = holds(alloc, &types)?;
+    let made = Typed { types, has_schema };
+    Ok(Was::Typed(mem::replace(typed, made)))
+}
+
+/// The same, where this is told of them.
+fn make_beside(
+    alloc: Global,
+    entries: Vec<Entry>,
+    beside: &Beside,
+    typed: &mut Typed,
+) -> Result<Was, NoMemory>
+    requires { ∥ DiffersFrom (types_view typed.old.types) (entries_view entries.items) beside.now ∥₁ }
+    ensures types { OnOk result (types_view typed.new.types ≡ entries_view entries.items) }
+    ensures tells { IfOk result (λ was. (typed.old.has_schema ≡ true → HasNoFault (types_view typed.old.types)) → Tells typed.new.has_schema (entries_view entries.items)) }
+    ensures err { OnErr result (typed.new ≡ typed.old) }
+{
+    let types = Types::of_entries(alloc, entries)?;
+    let has_schema = holds_beside(alloc, typed.has_schema, &types, beside)?;
+    let made = Typed { types, has_schema };
+    Ok(Was::Typed(mem::replace(typed, made)))
+}
+
+/// Exchanges its definitions and extensions for these, where the one of that number alone differs, and answers what they were.
+fn exchange(
+    alloc: Global,
+    entries: Vec<Entry>,
+    number: usize,
+    beside: &Beside,
+    typed: &mut Typed,
+) -> Result<Was, NoMemory>
+    requires at { ∥ DiffersAt number (types_view typed.old.types) (entries_view entries.items) ∥₁ }
+    requires beside { ∥ DiffersFrom (types_view typed.old.types) (entries_view entries.items) beside.now ∥₁ }
+    ensures types { OnOk result (types_view typed.new.types ≡ entries_view entries.items) }
+    ensures tells { IfOk result (λ was. (typed.old.has_schema ≡ true → HasNoFault (types_view typed.old.types)) → Tells typed.new.has_schema (entries_view entries.items)) }
+    ensures err { OnErr result (typed.new ≡ typed.old) }
+{
+    let replacement = Replacement::of(alloc, &typed.types, entries, number)?;
+    let was = typed.types.exchange(replacement);
+    match holds_beside(alloc, typed.has_schema, &typed.types, beside) {
+        Ok(has_schema) => {
+            typed.has_schema = has_schema;
+            Ok(Was::Replaced(was))
+        }
+        Err(NoMemory) => {
+            let _ = typed.types.exchange(was);
+            Err(NoMemory)
         }
     }
-    let types = Types::of_entries(alloc, entries)?;
-    let has_schema = (typed.has_schema && are_objects && are_faultless(alloc, &types, &numbers)?) || holds(alloc, &types)?;
-    let made = Typed { types, has_schema };
-    Ok(Retyped { was: Some(Was::Typed(mem::replace(typed, made))), marks })
-}
-
-#[derive(Drop)]
-struct Beside {
-    marks: Vec<bool>,
-    numbers: Vec<usize>,
-    are_objects: bool,
-}
-
-fn told_beside(alloc: Global, was: &[Entry], entries: &[Entry], readings: &[Arc<Parsed>], fields: &mut FieldLists) -> Result<Option<Beside>, NoMemory> {
-    let Some(found) = compare_types(alloc, was, entries)? else {
-        return Ok(None);
-    };
-    let marks = fields.marks(alloc, readings, &found.names)?;
-    let Differing { names: _names, numbers, are_objects } = found;
-    Ok(Some(Beside { marks, numbers, are_objects }))
-}
-
-fn holds_at(alloc: Global, typed: &Typed, numbers: &[usize]) -> Result<bool, NoMemory>
-{
-    if typed.has_schema && are_faultless(alloc, &typed.types, numbers)? {
-        return Ok(true);
-    }
-    holds(alloc, &typed.types)
 }
 
 /// Makes the type system that of these documents, which is the same but for places, and answers the definitions and extensions that it had.

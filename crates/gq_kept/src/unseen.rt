@@ -18,7 +18,8 @@ pub(crate) fn is_forgotten(changes_types: bool, unseen: bool) -> bool
 /// Whether the type system is what it was but for fields in which it differs, so that documents are marked. What is known of documents stays then, where none
 /// of these fields is selected, and of others faults are forgotten; else all that is known stays.
 pub(crate) fn keep_unseen(marks: &Option<Vec<bool>>, found: &mut ByDocument) -> bool
-    ensures marked { result ≡ true → (es us : List EntryOf) (rs : List ParsedOf) → IfSome marks.now (λ some. AreMarkedBy es us rs some.items) → AreByDocument es rs found.old → AreByDocument us rs found.new }
+    ensures marked { result ≡ true → (es us : List EntryOf) (rs : List ParsedOf) → IfSome marks.now (λ some. AreMarkedBy es us rs some.items)
+        → AreByDocument es rs found.old → AreByDocument us rs found.new }
     ensures is { result ≡ is_some marks.now }
     ensures same { result ≡ false → found.new ≡ found.old }
 {

@@ -18,7 +18,6 @@ use Rattle.gq_kept.specs.Helping.Unindexed.{AddNothing}
 use Rattle.gq_kept.specs.KeptOf.{KeptOf, JudgedOf}
 use Rattle.gq_kept.proofs.AlikeLemmas.{replaced_alike, same_kept, told_kept, told_of_both}
 use Rattle.gq_kept.proofs.Brought.{place_found}
-use Rattle.gq_kept.specs.Helping.Unseen.{IfWholly}
 use Rattle.gq_kept.proofs.KeptLemmas.{both_known, given_in_range, kept_owned, kept_replaced}
 use Rattle.gq_kept.proofs.UnseenLemmas.{fields_on, replaced_on, seen_on, unseen_on}
 use Rattle.gq_kept.proofs.kept.Kept.replace_at.Goals as goal
@@ -101,10 +100,10 @@ invariant_of-self-2 c =
     (replaced_alike c.numbers_of_entries_are_unseen.ensures c.same_tokens_define_alike.ensures c.types_look_alike.ensures c.places_of_types_do_not_matter_to_rules.ensures c.args.self.now.documents (readings_view given) c.args.at
     c.args.doc.text (shared_view was) (shared_view c.args.reading) changes is_made c.requires.place.in_range there told c.is_retyped-is_made.ensures.stays)
     (λ alike. replaced_on c.self.inside.found c.keep_unseen-unseen.new.found c.replace.new.self c.self.inside.typed c.retype.new.typed (readings_view c.self.inside.readings.items) c.args.at (shared_view c.args.reading)
-    c.in_ok-made.made.was changes c.keep_unseen-unseen.result c.in_ok-made.ensures.was
-    (subst (λ (rs : List SharedParsed). c.keep_unseen-unseen.result ≡ true → IfWholly c.in_ok-made.made.was (λ old.
-    AreByDocument (types_view old.types) (readings_view rs) c.self.inside.found → AreByDocument (types_view c.retype.new.typed.types) (readings_view rs) c.keep_unseen-unseen.new.found)) is
-    (unseen_on c.self.inside.found c.keep_unseen-unseen.new.found c.retype.new.fields c.retype.new.typed (readings_view given) c.in_ok-made.made.was c.in_ok-made.made.marks c.keep_unseen-unseen.result
+    changes c.keep_unseen-unseen.result
+    (subst (λ (rs : List SharedParsed). c.keep_unseen-unseen.result ≡ true → AreByDocument (types_view c.self.inside.typed.types) (readings_view rs) c.self.inside.found
+    → AreByDocument (types_view c.retype.new.typed.types) (readings_view rs) c.keep_unseen-unseen.new.found) is
+    (unseen_on c.self.inside.found c.keep_unseen-unseen.new.found c.retype.new.fields c.self.inside.typed c.retype.new.typed (readings_view given) c.in_ok-made.made.marks c.keep_unseen-unseen.result
     c.keep_unseen-unseen.ensures.is c.in_ok-made.ensures.kept c.in_ok-made.ensures.marks c.keep_unseen-unseen.ensures.marked))
     (subst (λ (rs : List SharedParsed). c.keep_unseen-unseen.result ≡ false → (es : List EntryOf) →
     AreByDocument es (readings_view rs) c.self.inside.found → AreByDocument es (readings_view rs) c.keep_unseen-unseen.new.found) is

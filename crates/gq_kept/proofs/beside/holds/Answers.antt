@@ -4,7 +4,7 @@ use Rattle.std.proofs.lemmas.List.{nil_from_length}
 use Rattle.std.proofs.lemmas.Bool.Decides.{nat_tests}
 use Rattle.gq_types.specs.Look.{types_view}
 use Rattle.gq_known.proofs.LearnedLemmas.{none_found, some_found}
-use Rattle.gq_kept.proofs.typed.holds.Goals as goal
+use Rattle.gq_kept.proofs.beside.holds.Goals as goal
 
 pub returns : goal.returns
 returns c =
