@@ -15,6 +15,7 @@ pub mod part;
 pub mod parts;
 mod placed;
 mod places;
+mod placing;
 mod seats;
 mod spreads;
 mod standing;

@@ -1,14 +1,8 @@
-//! The operations and fragments of all documents, by what is kept of them.
-ghost use Rattle.std.specs.Prelude.{◌≡◌, ◌++◌, List, Some, IfOk, OnOk, map, slice_get};
-ghost use Rattle.gq_index.specs.Helping.PlacedParts.{placed_view, placed, placed_from};
-ghost use Rattle.gq_index.specs.Helping.Seats.{AreFound, parts_of_files};
-ghost use Rattle.gq_index.specs.declared.parts.Parts.{Parts};
-ghost use Rattle.gq_index.specs.Views.{parts_view, parts_kept};
+//! A part of a document, by what is kept of it.
+ghost use Rattle.std.specs.Prelude.{◌≡◌};
 
-use crate::files::File;
 use crate::part::Part;
-use gq_text::NoMemory;
-use std::alloc::Global;
+use gq_text::Span;
 
 /// What is kept of an operation or a fragment, and the document that it stands in.
 #[derive(Clone, Copy)]
@@ -17,27 +11,10 @@ pub(crate) struct Placed<'a> {
     pub(crate) file: usize,
     /// The number of the part in what is kept of that document, from 0.
     pub(crate) offset: usize,
+    /// Whether it is an operation, and the place of all its tokens: both as in the part, which need not be looked at for them.
+    pub(crate) is_operation: bool,
+    pub(crate) place: Span,
     pub(crate) part: &'a Part,
-}
-
-/// The parts of these documents, in their order.
-pub(crate) fn all_parts<'a>(alloc: Global, files: &[&'a File]) -> Result<Vec<Placed<'a>>, NoMemory>
-    ensures parts { IfOk result (λ all. placed_view all.items ≡ placed_from 0 (map (λ f. parts_kept f.now) files.now)) }
-    ensures found { IfOk result (λ all. AreFound (parts_of_files files.now) all.items) }
-{
-    let mut all = Vec::new(alloc);
-    for (number, file) in files.iter().enumerate() {
-        put_parts(number, &file.parts.parts, &mut all)?;
-    }
-    Ok(all)
-}
-
-fn put_parts<'a>(file: usize, parts: &'a [Part], all: &mut Vec<Placed<'a>>) -> Result<(), NoMemory>
-    ensures parts { OnOk result (placed_view all.new.items ≡ placed_view all.old.items ++ placed file (parts_view parts.now)) }
-    ensures found { OnOk result ((kept : List Parts) (one : Parts) → slice_get kept file ≡ Some one → one.parts.items ≡ parts.now → AreFound kept all.old.items → AreFound kept all.new.items) }
-{
-    for (offset, part) in parts.iter().enumerate() {
-        all.push(Placed { file, offset, part })?;
-    }
-    Ok(())
+    ghost is_operation_is: { is_operation ≡ part.now.is_operation },
+    ghost place_is: { place ≡ part.now.place },
 }

@@ -35,7 +35,7 @@ pub(crate) fn definition_places(
     for one in parts {
         all.push(Occurrence {
             file: one.file,
-            span: one.part.place,
+            span: one.place,
         })?;
     }
     Ok(all)

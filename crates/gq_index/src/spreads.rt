@@ -59,7 +59,7 @@ pub(crate) fn are_operations(alloc: Global, parts: &[Placed<'_>]) -> Result<Vec<
 {
     let mut marks = Vec::with_capacity(alloc, parts.len())?;
     for one in parts {
-        marks.push(one.part.is_operation)?;
+        marks.push(one.is_operation)?;
     }
     Ok(marks)
 }

@@ -4,7 +4,7 @@ use Rattle.gq_index.specs.declared.parts.Parts.{Parts}
 use Rattle.gq_index.specs.Helping.PlacedParts.{placed_view, placed}
 use Rattle.gq_index.specs.Helping.Seats.{AreFound}
 use Rattle.gq_index.specs.Views.{parts_view}
-use Rattle.gq_index.proofs.placed.put_parts.Given as goal
+use Rattle.gq_index.proofs.placing.put_parts.Given as goal
 
 abbrev pub invariant-loop-offset : goal.invariant-loop-offset
 invariant-loop-offset l =

@@ -5,7 +5,7 @@ use Rattle.gq_index.specs.declared.part.Part.{Part}
 use Rattle.gq_index.specs.declared.placed.Placed.{Placed}
 use Rattle.gq_index.specs.Helping.Seats.{AreFound}
 use Rattle.gq_index.proofs.VariableLemmas.{at_place, found_more, placed_more}
-use Rattle.gq_index.proofs.placed.put_parts.Goals as goal
+use Rattle.gq_index.proofs.placing.put_parts.Goals as goal
 
 pub loop-offset-preserved : goal.loop-offset-preserved
 loop-offset-preserved c =

@@ -2,7 +2,7 @@ use Rattle.std.proofs.Common.{◌≡◌, ◌++◌, drop, map}
 use Rattle.gq_index.specs.Helping.PlacedParts.{placed_view, placed_from}
 use Rattle.gq_index.specs.Helping.Seats.{AreFound, parts_of_files}
 use Rattle.gq_index.specs.Views.{parts_kept}
-use Rattle.gq_index.proofs.placed.all_parts.Given as goal
+use Rattle.gq_index.proofs.placing.all_parts.Given as goal
 
 abbrev pub invariant-loop-number : goal.invariant-loop-number
 invariant-loop-number l =

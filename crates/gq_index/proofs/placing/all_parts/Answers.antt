@@ -7,7 +7,7 @@ use Rattle.gq_index.specs.declared.part.Part.{Part}
 use Rattle.gq_index.specs.declared.parts.Parts.{Parts}
 use Rattle.gq_index.specs.Helping.Seats.{parts_of_files}
 use Rattle.gq_index.proofs.VariableLemmas.{files_more, seen_at}
-use Rattle.gq_index.proofs.placed.all_parts.Goals as goal
+use Rattle.gq_index.proofs.placing.all_parts.Goals as goal
 
 pub loop-number-preserved : goal.loop-number-preserved
 loop-number-preserved c =

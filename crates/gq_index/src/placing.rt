@@ -1,0 +1,40 @@
+//! The operations and fragments of all documents, by what is kept of them.
+ghost use Rattle.std.specs.Prelude.{◌≡◌, ◌++◌, List, Some, IfOk, OnOk, map, slice_get};
+ghost use Rattle.gq_index.specs.Helping.PlacedParts.{placed_view, placed, placed_from};
+ghost use Rattle.gq_index.specs.Helping.Seats.{AreFound, parts_of_files};
+ghost use Rattle.gq_index.specs.declared.parts.Parts.{Parts};
+ghost use Rattle.gq_index.specs.Views.{parts_view, parts_kept};
+
+use crate::files::File;
+use crate::part::Part;
+use crate::placed::Placed;
+use gq_text::NoMemory;
+use std::alloc::Global;
+
+/// The parts of these documents, in their order.
+pub(crate) fn all_parts<'a>(alloc: Global, files: &[&'a File]) -> Result<Vec<Placed<'a>>, NoMemory>
+    ensures parts { IfOk result (λ all. placed_view all.items ≡ placed_from 0 (map (λ f. parts_kept f.now) files.now)) }
+    ensures found { IfOk result (λ all. AreFound (parts_of_files files.now) all.items) }
+{
+    let mut all = Vec::new(alloc);
+    for (number, file) in files.iter().enumerate() {
+        put_parts(number, &file.parts.parts, &mut all)?;
+    }
+    Ok(all)
+}
+
+fn put_parts<'a>(file: usize, parts: &'a [Part], all: &mut Vec<Placed<'a>>) -> Result<(), NoMemory>
+    ensures parts { OnOk result (placed_view all.new.items ≡ placed_view all.old.items ++ placed file (parts_view parts.now)) }
+    ensures found { OnOk result ((kept : List Parts) (one : Parts) → slice_get kept file ≡ Some one → one.parts.items ≡ parts.now → AreFound kept all.old.items → AreFound kept all.new.items) }
+{
+    for (offset, part) in parts.iter().enumerate() {
+        all.push(Placed {
+            file,
+            offset,
+            is_operation: part.is_operation,
+            place: part.place,
+            part,
+        })?;
+    }
+    Ok(())
+}
