@@ -2,6 +2,7 @@ pub mod GroupLemmas
 pub mod PartLemmas
 pub mod VariableLemmas
 pub mod SpreadLemmas
+pub mod SpreadPlaceLemmas
 pub mod StandLemmas
 pub mod GroupMeaning
 pub mod SharedLemmas

@@ -6,4 +6,5 @@ pub mod PlacedParts
 pub mod Seats
 pub mod Shared
 pub mod SpreadNumbers
+pub mod SpreadPlaces
 pub mod StandingParts

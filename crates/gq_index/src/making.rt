@@ -58,8 +58,8 @@ fn made_of(alloc: Global, files: &[&File], parts: &[Placed<'_>]) -> Result<Table
     requires { AreFound (parts_of_files files.now) parts.now }
     ensures { IfOk result (λ tables. (ds : List DefinitionOf) → placed_view parts.now ≡ parts_at ds → AreTablesOf ds tables) }
 {
-    let fragments = fragments_of(alloc, parts)?;
-    let spread_in = spread_rows(alloc, parts, &fragments)?;
+    let (fragments, spread_places) = fragments_of(alloc, parts)?;
+    let spread_in = spread_rows(alloc, parts, &spread_places, &fragments)?;
     let spreading = transposed(alloc, &spread_in)?;
     Ok(Tables {
         fragments,

@@ -33,6 +33,7 @@ fn put_parts<'a>(file: usize, parts: &'a [Part], all: &mut Vec<Placed<'a>>) -> R
             offset,
             is_operation: part.is_operation,
             place: part.place,
+            spreads: &part.spreads,
             part,
         })?;
     }

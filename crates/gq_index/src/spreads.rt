@@ -1,54 +1,65 @@
 //! Which fragments each definition spreads, by the numbers of the definitions.
-ghost use Rattle.std.specs.Prelude.{◌≡◌, ◌++◌, IfOk, OnOk, map};
+ghost use Rattle.std.specs.Prelude.{◌≡◌, ◌++◌, IfOk, OnOk, flat_map, map};
 ghost use Rattle.gq_graph.specs.Reach.{InRange};
 ghost use Rattle.gq_types.specs.Entries.{Text};
 ghost use Rattle.gq_index.specs.Helping.PlacedParts.{placed_view, operations_at};
-ghost use Rattle.gq_index.specs.Helping.SpreadNumbers.{fragment_numbers, spread_numbers, rows_under, spread_rows};
+ghost use Rattle.gq_index.specs.Helping.SpreadNumbers.{fragment_numbers, rows_under, spread_rows};
+ghost use Rattle.gq_index.specs.Helping.SpreadPlaces.{ArePlaces, all_spreads, numbers_at};
 ghost use Rattle.gq_index.specs.Helping.StandingParts.{numbers_under_names};
 ghost use Rattle.gq_index.specs.Standing.{stands};
-ghost use Rattle.gq_index.specs.Views.{names_view};
 
 use crate::fragments::Fragments;
 use crate::placed::Placed;
 use gq_text::NoMemory;
-use gq_tree::Name;
 use std::alloc::Global;
 
-/// The numbers of the fragments of these names, one name after the other.
-fn numbers_of(alloc: Global, names: &[Name], fragments: &Fragments) -> Result<Vec<usize>, NoMemory>
-    ensures { IfOk result (λ row. row.items ≡ spread_numbers (numbers_under_names fragments.now) (names_view names.now)) }
+/// The numbers of the fragments of the names that have these places, one name after the other.
+fn numbers_of(
+    alloc: Global,
+    places: &[usize],
+    fragments: &Fragments,
+) -> Result<Vec<usize>, NoMemory>
+    ensures { IfOk result (λ row. row.items ≡ flat_map (numbers_at fragments.now) places.now) }
 {
-    let mut row = Vec::new(alloc);
-    for name in names {
-        row.extend_from_slice(fragments.numbers(name.text.as_str()))?;
+    let mut row = Vec::with_capacity(alloc, places.len())?;
+    for place in places {
+        row.extend_from_slice(fragments.numbers_at(*place))?;
     }
     Ok(row)
 }
 
-/// For each part the numbers of the fragments that it spreads, where the names of the parts stand so.
+/// For each part the numbers of the fragments that it spreads, where the names of the parts stand so, and those in spreads
+/// have these places.
 pub(crate) fn spread_rows(
     alloc: Global,
     parts: &[Placed<'_>],
+    places: &[usize],
     fragments: &Fragments,
 ) -> Result<Vec<Vec<usize>>, NoMemory>
-    requires { (text : Text) → (stands fragments.now text).numbers ≡ fragment_numbers 0 (placed_view parts.now) text }
+    requires places { ArePlaces fragments.now.names (all_spreads (placed_view parts.now)) places.now }
+    requires stand { (text : Text) → (stands fragments.now text).numbers ≡ fragment_numbers 0 (placed_view parts.now) text }
     ensures rows { IfOk result (λ rows. map (λ v. v.items) rows.items ≡ spread_rows (placed_view parts.now)) }
     ensures range { IfOk result (λ rows. InRange rows.items) }
 {
-    let rows = rows_of(alloc, parts, fragments)?;
+    let rows = rows_of(alloc, parts, places, fragments)?;
     Ok(rows)
 }
 
 fn rows_of(
     alloc: Global,
     parts: &[Placed<'_>],
+    places: &[usize],
     fragments: &Fragments,
 ) -> Result<Vec<Vec<usize>>, NoMemory>
+    requires { ArePlaces fragments.now.names (all_spreads (placed_view parts.now)) places.now }
     ensures { IfOk result (λ rows. map (λ v. v.items) rows.items ≡ rows_under (numbers_under_names fragments.now) (placed_view parts.now)) }
 {
     let mut rows = Vec::with_capacity(alloc, parts.len())?;
+    let mut rest = places;
     for one in parts {
-        rows.push(numbers_of(alloc, &one.part.spreads, fragments)?)?;
+        let (own, others) = rest.split_at(one.spreads.len());
+        rows.push(numbers_of(alloc, own, fragments)?)?;
+        rest = others;
     }
     Ok(rows)
 }

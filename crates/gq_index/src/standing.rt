@@ -1,9 +1,12 @@
 //! Where names of fragments stand, name by name.
-ghost use Rattle.std.specs.Prelude.{◌≡◌, Some, OnOk, IfOk, position};
+ghost use Rattle.std.specs.Prelude.{◌≡◌, ◌++◌, ℕ, List, Some, OnOk, IfOk, position};
 ghost use Rattle.std.specs.Option.{option_map_or};
 ghost use Rattle.std.specs.Str.{bytes_eq};
+ghost use Rattle.gq_text.specs.declared.place.Span.{Span};
+ghost use Rattle.gq_tree.specs.Plain.{NameOf};
 ghost use Rattle.gq_types.specs.Entries.{Text};
 ghost use Rattle.gq_index.specs.Helping.PlacedParts.{placed_part, placed_view};
+ghost use Rattle.gq_index.specs.Helping.SpreadPlaces.{ArePlaces, KeepPlaces, all_spreads, numbers_at};
 ghost use Rattle.gq_index.specs.Helping.StandingParts.{both, defined_at, if_so, spread_at, owns_stand, spreads_stand, part_stands, parts_stand};
 ghost use Rattle.gq_index.specs.Standing.{named_view, nowhere, stands};
 ghost use Rattle.gq_index.specs.Views.{names_view, own_names};
@@ -65,6 +68,7 @@ impl Fragments {
     fn place_of(&mut self, name: &str) -> Result<usize, NoMemory>
         ensures at { IfOk result (λ at. position (bytes_eq name.now) self.new.names ≡ Some at) }
         ensures same { OnOk result ((text : Text) → stands self.new text ≡ stands self.old text) }
+        ensures kept { OnOk result (KeepPlaces self.old.names self.new.names) }
     {
         if let Some(at) = self.names.place(name) {
             return Ok(at);
@@ -79,18 +83,22 @@ impl Fragments {
 
     /// The name stands at one more definition, of the fragment of that number.
     fn define(&mut self, name: &str, place: Occurrence, number: usize) -> Result<(), NoMemory>
-        ensures { OnOk result ((text : Text) → stands self.new text ≡ both (stands self.old text) (if_so (bytes_eq text name.now) (defined_at place number))) }
+        ensures stand { OnOk result ((text : Text) → stands self.new text ≡ both (stands self.old text) (if_so (bytes_eq text name.now) (defined_at place number))) }
+        ensures kept { OnOk result (KeepPlaces self.old.names self.new.names) }
     {
         let at = self.place_of(name)?;
         self.named[at].define(place, number)
     }
 
-    /// The name stands in one more spread.
-    fn spread(&mut self, name: &str, place: Occurrence) -> Result<(), NoMemory>
-        ensures { OnOk result ((text : Text) → stands self.new text ≡ both (stands self.old text) (if_so (bytes_eq text name.now) (spread_at place))) }
+    /// The name stands in one more spread. It answers the place of the name among the others.
+    fn spread(&mut self, name: &str, place: Occurrence) -> Result<usize, NoMemory>
+        ensures at { IfOk result (λ at. position (bytes_eq name.now) self.new.names ≡ Some at) }
+        ensures stand { OnOk result ((text : Text) → stands self.new text ≡ both (stands self.old text) (if_so (bytes_eq text name.now) (spread_at place))) }
+        ensures kept { OnOk result (KeepPlaces self.old.names self.new.names) }
     {
         let at = self.place_of(name)?;
-        self.named[at].spread(place)
+        self.named[at].spread(place)?;
+        Ok(at)
     }
 
     /// Where a name stands, if it stands somewhere. It takes no memory.
@@ -133,11 +141,11 @@ impl Fragments {
         }
     }
 
-    /// The numbers of the fragments that have it.
-    pub(crate) fn numbers(&self, name: &str) -> &[usize]
-        ensures { result.now ≡ (stands self.now name.now).numbers }
+    /// The numbers of the fragments of the name that has that place among the others.
+    pub(crate) fn numbers_at(&self, at: usize) -> &[usize]
+        ensures { result.now ≡ numbers_at self.now at }
     {
-        match self.get(name) {
+        match self.named.get(at) {
             Some(named) => named.numbers.as_slice(),
             None => &[],
         }
@@ -151,7 +159,8 @@ fn put_own(
     name: &Option<Name>,
     all: &mut Fragments,
 ) -> Result<(), NoMemory>
-    ensures { OnOk result ((text : Text) → stands all.new text ≡ both (stands all.old text) (owns_stand file number text (own_names name.now))) }
+    ensures stand { OnOk result ((text : Text) → stands all.new text ≡ both (stands all.old text) (owns_stand file number text (own_names name.now))) }
+    ensures kept { OnOk result (KeepPlaces all.old.names all.new.names) }
 {
     match name {
         Some(name) => {
@@ -162,32 +171,51 @@ fn put_own(
     }
 }
 
-/// Puts in where these names stand in spreads of a document.
-fn put_spreads(file: usize, names: &[Name], all: &mut Fragments) -> Result<(), NoMemory>
-    ensures { OnOk result ((text : Text) → stands all.new text ≡ both (stands all.old text) (spreads_stand file text (names_view names.now))) }
+/// Puts in where these names stand in spreads of a document, and their places behind those of the spreads before.
+fn put_spreads(
+    file: usize,
+    names: &[Name],
+    all: &mut Fragments,
+    places: &mut Vec<usize>,
+) -> Result<(), NoMemory>
+    ensures stand { OnOk result ((text : Text) → stands all.new text ≡ both (stands all.old text) (spreads_stand file text (names_view names.now))) }
+    ensures places { OnOk result ((ns : List (NameOf Span)) → ArePlaces all.old.names ns places.old.items → ArePlaces all.new.names (ns ++ names_view names.now) places.new.items) }
 {
     for name in names {
         let span = name.span;
-        all.spread(name.text.as_str(), Occurrence { file, span })?;
+        let at = all.spread(name.text.as_str(), Occurrence { file, span })?;
+        places.push(at)?;
     }
     Ok(())
 }
 
-/// Puts in what stands in the definition of that number.
-fn put_part(number: usize, one: &Placed<'_>, all: &mut Fragments) -> Result<(), NoMemory>
-    ensures { OnOk result ((text : Text) → stands all.new text ≡ both (stands all.old text) (part_stands number text (placed_part one.now))) }
+/// Puts in what stands in the definition of that number, and the places of the names in its spreads.
+fn put_part(
+    number: usize,
+    one: &Placed<'_>,
+    all: &mut Fragments,
+    places: &mut Vec<usize>,
+) -> Result<(), NoMemory>
+    ensures stand { OnOk result ((text : Text) → stands all.new text ≡ both (stands all.old text) (part_stands number text (placed_part one.now))) }
+    ensures places { OnOk result ((ns : List (NameOf Span)) → ArePlaces all.old.names ns places.old.items → ArePlaces all.new.names (ns ++ (placed_part one.now).part.spreads) places.new.items) }
 {
     put_own(one.file, number, &one.part.own_name, all)?;
-    put_spreads(one.file, &one.part.spreads, all)
+    put_spreads(one.file, one.spreads, all, places)
 }
 
-/// Where the names of fragments stand in these parts, of which the first has the number 0.
-pub(crate) fn fragments_of(alloc: Global, parts: &[Placed<'_>]) -> Result<Fragments, NoMemory>
-    ensures { IfOk result (λ all. (text : Text) → stands all text ≡ parts_stand 0 (placed_view parts.now) text) }
+/// Where the names of fragments stand in these parts, of which the first has the number 0, and the places of all names in
+/// spreads among these names, one part after the other.
+pub(crate) fn fragments_of(
+    alloc: Global,
+    parts: &[Placed<'_>],
+) -> Result<(Fragments, Vec<usize>), NoMemory>
+    ensures stand { IfOk result (λ made. (text : Text) → stands made.0 text ≡ parts_stand 0 (placed_view parts.now) text) }
+    ensures places { IfOk result (λ made. ArePlaces made.0.names (all_spreads (placed_view parts.now)) made.1.items) }
 {
     let mut all = Fragments::new(alloc);
+    let mut places = Vec::new(alloc);
     for (number, one) in parts.iter().enumerate() {
-        put_part(number, one, &mut all)?;
+        put_part(number, one, &mut all, &mut places)?;
     }
-    Ok(all)
+    Ok((all, places))
 }

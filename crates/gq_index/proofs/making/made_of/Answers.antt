@@ -15,13 +15,13 @@ use Rattle.gq_index.proofs.StandLemmas.{parts_are}
 use Rattle.gq_index.proofs.VariableLemmas.{variables_same}
 use Rattle.gq_index.proofs.making.made_of.Goals as goal
 
-pub spread_rows-requires : goal.spread_rows-requires
-spread_rows-requires c text = ap (λ (s : StandsOf). s.numbers) (c.in_ok-fragments.ensures text ∙ parts_are 0 (placed_view c.args.parts.now) text)
+pub spread_rows-requires-clause-stand : goal.spread_rows-requires-clause-stand
+spread_rows-requires-clause-stand c text = ap (λ (s : StandsOf). s.numbers) (c.in_ok-fragments.ensures.stand text ∙ parts_are 0 (placed_view c.args.parts.now) text)
 
 pub returns : goal.returns
 returns c ds are =
     let stand : (text : Text) → stands c.in_ok-fragments.fragments text ≡ record { definitions = definitions_at (parts_at ds) text; spreads = spreads_at (parts_at ds) text; occurrences = names_at_all (parts_at ds) text; numbers = fragment_numbers 0 (parts_at ds) text } =
-    λ text. c.in_ok-fragments.ensures text ∙ ap (λ (ps : List PartAt). parts_stand 0 ps text) are ∙ parts_are 0 (parts_at ds) text in
+    λ text. c.in_ok-fragments.ensures.stand text ∙ ap (λ (ps : List PartAt). parts_stand 0 ps text) are ∙ parts_are 0 (parts_at ds) text in
     let rows = c.in_ok-spread_in.spread_in.items in
     let rows_are : map (λ v. v.items) rows ≡ spread_rows (parts_at ds) = c.in_ok-spread_in.ensures.rows ∙ ap (λ (ps : List PartAt). spread_rows ps) are in
     record {
@@ -32,6 +32,6 @@ returns c ds are =
       variables = variables_same ds c.args.parts.now _ are (subst (λ (kept : List Parts). AreFound kept c.args.parts.now) (sym c.in_ok-kept_of.ensures) c.requires) c.in_ok-seats_of.ensures;
       count = rows_count (parts_at ds) rows rows_are ∙ length-map ds part_at;
       spread_in = rows_hold ds rows rows_are;
-      spreading = subst (λ (table : List (Vec ℕ Global)). Transposed table c.in_ok-spreading.spreading.items) c.deref.ensures.value c.in_ok-spreading.ensures;
+      spreading = subst (λ (table : List (Vec ℕ Global)). Transposed table c.in_ok-spreading.spreading.items) c.deref-2.ensures.value c.in_ok-spreading.ensures;
       operations = c.in_ok-are_operations.ensures ∙ ap (λ (ps : List PartAt). operations_at ps) are ∙ operations_same ds;
     }

@@ -1,8 +1,7 @@
 use Rattle.std.proofs.Common.{◌≡◌, ◌++◌, drop}
-use Rattle.gq_index.specs.Helping.SpreadNumbers.{spread_numbers}
-use Rattle.gq_index.specs.Helping.StandingParts.{numbers_under_names}
-use Rattle.gq_index.specs.Views.{names_view}
+use Rattle.std.specs.List.{flat_map}
+use Rattle.gq_index.specs.Helping.SpreadPlaces.{numbers_at}
 use Rattle.gq_index.proofs.spreads.numbers_of.Given as goal
 
-abbrev pub invariant-loop-name : goal.invariant-loop-name
-invariant-loop-name l = l.row.items ++ spread_numbers (numbers_under_names l.fragments) (names_view (drop l.name-index l.names)) ≡ spread_numbers (numbers_under_names l.fragments) (names_view l.names)
+abbrev pub invariant-loop-place : goal.invariant-loop-place
+invariant-loop-place l = l.row.items ++ flat_map (numbers_at l.fragments) (drop l.place-index l.places) ≡ flat_map (numbers_at l.fragments) l.places

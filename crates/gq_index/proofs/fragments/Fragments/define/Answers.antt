@@ -6,8 +6,8 @@ use Rattle.gq_index.specs.Helping.StandingParts.{both, if_so, defined_at}
 use Rattle.gq_index.proofs.StandLemmas.{grown_under}
 use Rattle.gq_index.proofs.fragments.Fragments.define.Goals as goal
 
-pub returns : goal.returns
-returns c =
+pub returns-clause-stand : goal.returns-clause-stand
+returns-clause-stand c =
     let there = c.place_of.new.self in
     let name = c.args.name.now in
     let one = (defined_at c.args.place c.args.number) in
