@@ -16,11 +16,20 @@ pub(crate) fn all_parts<'a>(alloc: Global, files: &[&'a File]) -> Result<Vec<Pla
     ensures parts { IfOk result (λ all. placed_view all.items ≡ placed_from 0 (map (λ f. parts_kept f.now) files.now)) }
     ensures found { IfOk result (λ all. AreFound (parts_of_files files.now) all.items) }
 {
-    let mut all = Vec::new(alloc);
+    let mut all = Vec::with_capacity(alloc, part_count(files))?;
     for (number, file) in files.iter().enumerate() {
         put_parts(number, &file.parts.parts, &mut all)?;
     }
     Ok(all)
+}
+
+/// How many parts these files have together, as far as a number goes.
+fn part_count(files: &[&File]) -> usize {
+    let mut count = 0usize;
+    for file in files {
+        count = count.saturating_add(file.parts.parts.len());
+    }
+    count
 }
 
 fn put_parts<'a>(file: usize, parts: &'a [Part], all: &mut Vec<Placed<'a>>) -> Result<(), NoMemory>

@@ -45,6 +45,7 @@ pub(crate) fn spread_rows(
     Ok(rows)
 }
 
+/// For each part the numbers of the fragments of the names that it spreads, which have these places.
 fn rows_of(
     alloc: Global,
     parts: &[Placed<'_>],

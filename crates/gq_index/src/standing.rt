@@ -90,7 +90,7 @@ impl Fragments {
         self.named[at].define(place, number)
     }
 
-    /// The name stands in one more spread. It answers the place of the name among the others.
+    /// The name stands in one more spread. The answer is its place among the others.
     fn spread(&mut self, name: &str, place: Occurrence) -> Result<usize, NoMemory>
         ensures at { IfOk result (λ at. position (bytes_eq name.now) self.new.names ≡ Some at) }
         ensures stand { OnOk result ((text : Text) → stands self.new text ≡ both (stands self.old text) (if_so (bytes_eq text name.now) (spread_at place))) }
