@@ -1,10 +1,10 @@
 -- The places of names in spreads, as the names grow at their end.
-use Rattle.std.proofs.Common.{◌≡◌, Vec, Global, ℕ, ◌+◌, ◌<◌, ◌≤◌, true, List, [], ◌∷◌, ◌++◌, Option, Some, length, map, get_or, take, drop, refl, sym, ◌∙◌, ap, subst, arith, append_assoc}
+use Rattle.std.proofs.Common.{◌≡◌, Vec, Global, ℕ, suc, ◌+◌, ◌<◌, ◌≤◌, true, List, [], ◌∷◌, ◌++◌, Option, Some, length, map, get_or, take, drop, refl, sym, ◌∙◌, ap, subst, arith, append_assoc}
 use Rattle.std.specs.Prelude.{slice_get}
-use Rattle.std.specs.List.{flat_map, list_any, position}
+use Rattle.std.specs.List.{flat_map, list_any, position, take-map}
 use Rattle.std.specs.Option.{option_map_or, is_some}
 use Rattle.std.specs.Str.{bytes_eq}
-use Rattle.std.proofs.lemmas.List.{drop_more, flat_map_more, length-map, map-append, map_more}
+use Rattle.std.proofs.lemmas.List.{drop_more, flat_map_more, length-append, length-map, length-take-le, map-append, map_more, take-append-le, take_all}
 use Rattle.std.proofs.lemmas.Option.{none-some, same_Some}
 use Rattle.gq_names.proofs.PlaceLemmas.{position_push_found, is_some_position}
 use Rattle.gq_text.specs.declared.place.Span.{Span}
@@ -16,9 +16,10 @@ use Rattle.gq_index.specs.declared.fragments.Fragments.{Fragments}
 use Rattle.gq_index.specs.declared.placed.Placed.{Placed}
 use Rattle.gq_index.specs.Helping.PlacedParts.{PartAt, placed_part, placed_view}
 use Rattle.gq_index.specs.Helping.SpreadNumbers.{spread_numbers, rows_under}
-use Rattle.gq_index.specs.Helping.SpreadPlaces.{ArePlaces, KeepPlaces, all_spreads, numbers_at}
-use Rattle.gq_index.specs.Helping.StandingParts.{numbers_under_names}
-use Rattle.gq_index.specs.Standing.{named_view, nowhere}
+use Rattle.gq_index.specs.Helping.SpreadPlaces.{ArePlaces, AreStanding, KeepPlaces, all_spreads, numbers_at}
+use Rattle.gq_index.specs.Helping.StandingParts.{both, numbers_under_names, part_stands, parts_stand}
+use Rattle.gq_index.specs.Standing.{named_view, nowhere, stands}
+use Rattle.gq_index.proofs.StandLemmas.{both_assoc, both_nowhere}
 use Rattle.gq_index.specs.Views.{names_view}
 
 -- a name more at the end
@@ -110,3 +111,44 @@ rows_next numbers parts i one rows next row whole inside is put row_is so_far =
     ap (λ (l : List (Vec ℕ Global)). map items l ++ rest) put ∙ ap (λ (l : List (List ℕ)). l ++ rest) (map-append items rows (row ∷ []))
     ∙ append_assoc (map items rows) (row.items ∷ []) rest ∙ ap (λ (l : List ℕ). map items rows ++ l ∷ rest) row_is
     ∙ sym (ap (λ (l : List Placed). map items rows ++ rows_under numbers (placed_view l)) left) ∙ so_far
+
+-- one part more at the end
+stand_push : (k : ℕ) (ps : List PartAt) (p : PartAt) (text : Text) → parts_stand k (ps ++ p ∷ []) text ≡ both (parts_stand k ps text) (part_stands (k + length ps) text p)
+stand_push k [] p text =
+    let same : k ≡ k + 0 = omega arith in
+    both_nowhere (part_stands k text p) ∙ ap (λ i. part_stands i text p) same
+stand_push k (q ∷ qs) p text =
+    let same : (k + 1) + length qs ≡ k + suc (length qs) = omega arith in
+    ap (λ s. both (part_stands k text q) s) (stand_push (k + 1) qs p text ∙ ap (λ i. both (parts_stand (k + 1) qs text) (part_stands i text p)) same)
+    ∙ sym (both_assoc (part_stands k text q) (parts_stand (k + 1) qs text) (part_stands (k + suc (length qs)) text p))
+
+pub standing_next : (parts : List Placed) (i : ℕ) (one : Placed) (old new : Fragments) (ks next : List ℕ) → i < length parts → one ≡ get_or parts i one
+    → ((text : Text) → stands new text ≡ both (stands old text) (part_stands i text (placed_part one))) → ((ns : List (NameOf Span)) → ArePlaces old.names ns ks → ArePlaces new.names (ns ++ (placed_part one).part.spreads) next)
+    → AreStanding (placed_view (take i parts)) old ks → AreStanding (placed_view (take (i + 1) parts)) new next
+standing_next parts i one old new ks next inside is put noted so_far =
+    let before : List PartAt = placed_view (take i parts) in
+    let more : before ++ placed_part one ∷ [] ≡ placed_view (take (i + 1) parts) = ap (λ (p : Placed). before ++ placed_part p ∷ []) is ∙ sym (map_more placed_part parts i one inside) in
+    let short : i ≤ length parts = omega (arith, inside) in
+    let long : length before ≡ i = length-map (take i parts) placed_part ∙ length-take-le i parts short in
+    let count : 0 + length before ≡ i = omega (arith, long) in (
+      λ text.
+          put text ∙ ap (λ s. both s (part_stands i text (placed_part one))) (so_far.0 text)
+          ∙ sym (stand_push 0 before (placed_part one) text ∙ ap (λ k. both (parts_stand 0 before text) (part_stands k text (placed_part one))) count)
+          ∙ ap (λ (ps : List PartAt). parts_stand 0 ps text) more,
+      subst (λ ns. ArePlaces new.names ns next) (spreads_next parts i one inside is) (noted (all_spreads before) so_far.1),
+    )
+
+-- parts that are put behind others leave these as they are
+pub first_kept : (old new : List Placed) (put : List PartAt) → placed_view new ≡ placed_view old ++ put → placed_view (take (length old) new) ≡ placed_view old
+first_kept old new put e =
+    let same : length (placed_view old) ≡ length old = length-map old placed_part in
+    let enough : length old ≤ length (placed_view old) = omega (arith, same) in
+    let all : length (placed_view old) ≤ length old = omega (arith, same) in
+    sym (take-map placed_part (length old) new) ∙ ap (take (length old)) e ∙ take-append-le (length old) (placed_view old) put enough ∙ take_all (length old) (placed_view old) all
+
+pub first_within : (old new : List Placed) (put : List PartAt) → placed_view new ≡ placed_view old ++ put → length old ≤ length new
+first_within old new put e =
+    let was : length (placed_view old) ≡ length old = length-map old placed_part in
+    let now : length (placed_view new) ≡ length new = length-map new placed_part in
+    let sum : length (placed_view new) ≡ length (placed_view old) + length put = ap length e ∙ length-append (placed_view old) put in
+    omega (arith, was, now, sum)

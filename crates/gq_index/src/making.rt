@@ -6,6 +6,7 @@ ghost use Rattle.gq_tree.specs.Readings.{ParsedOf, readings_view};
 ghost use Rattle.gq_index.specs.Helping.Made.{AreTablesFor};
 ghost use Rattle.gq_index.specs.Helping.PlacedParts.{placed_view, parts_at};
 ghost use Rattle.gq_index.specs.Helping.Seats.{AreFound, parts_of_files, seat_of};
+ghost use Rattle.gq_index.specs.Helping.SpreadPlaces.{AreStanding};
 ghost use Rattle.gq_index.specs.Indexed.{AreTablesOf, IsIndexOfProject};
 ghost use Rattle.gq_index.specs.Occurrences.{DefinitionOf};
 ghost use Rattle.gq_index.specs.Parts.{parts_in};
@@ -16,9 +17,8 @@ use crate::index::{Index, Seat, Tables};
 use crate::parts::{Parts, all_kept};
 use crate::placed::Placed;
 use crate::places::definition_places;
-use crate::placing::all_parts;
+use crate::placing::{Gathered, gather};
 use crate::spreads::{are_operations, spread_rows};
-use crate::standing::fragments_of;
 use gq_graph::transposed::transposed;
 use gq_parse::read_shared;
 use gq_project::{Doc, Project};
@@ -54,21 +54,26 @@ fn seats_of(alloc: Global, parts: &[Placed<'_>]) -> Result<Vec<Seat>, NoMemory>
 
 /// The tables that are made of the parts of these files.
 #[tactic(auto, using(gq_graph::proofs::Turning::turned_in_range))]
-fn made_of(alloc: Global, files: &[&File], parts: &[Placed<'_>]) -> Result<Tables, NoMemory>
-    requires { AreFound (parts_of_files files.now) parts.now }
-    ensures { IfOk result (λ tables. (ds : List DefinitionOf) → placed_view parts.now ≡ parts_at ds → AreTablesOf ds tables) }
+fn made_of(alloc: Global, files: &[&File], gathered: Gathered<'_>) -> Result<Tables, NoMemory>
+    requires found { AreFound (parts_of_files files.now) gathered.parts.items }
+    requires stand { AreStanding (placed_view gathered.parts.items) gathered.fragments gathered.spread_places.items }
+    ensures { IfOk result (λ tables. (ds : List DefinitionOf) → placed_view gathered.entry.parts.items ≡ parts_at ds → AreTablesOf ds tables) }
 {
-    let (fragments, spread_places) = fragments_of(alloc, parts)?;
-    let spread_in = spread_rows(alloc, parts, &spread_places, &fragments)?;
+    let Gathered {
+        parts,
+        fragments,
+        spread_places,
+    } = gathered;
+    let spread_in = spread_rows(alloc, &parts, &spread_places, &fragments)?;
     let spreading = transposed(alloc, &spread_in)?;
     Ok(Tables {
         fragments,
-        places: definition_places(alloc, parts)?,
+        places: definition_places(alloc, &parts)?,
         kept: kept_of(alloc, files)?,
-        seats: seats_of(alloc, parts)?,
+        seats: seats_of(alloc, &parts)?,
         spread_in,
         spreading,
-        operations: are_operations(alloc, parts)?,
+        operations: are_operations(alloc, &parts)?,
     })
 }
 
@@ -95,8 +100,8 @@ pub(crate) fn tables_of<'a>(
     lend(front, &mut files)?;
     files.extend_from_slice(between)?;
     lend(back, &mut files)?;
-    let parts = all_parts(alloc, &files)?;
-    let tables = made_of(alloc, &files, &parts)?;
+    let all = gather(alloc, &files)?;
+    let tables = made_of(alloc, &files, all)?;
     Ok(tables)
 }
 

@@ -1,13 +1,13 @@
 //! Where names of fragments stand, name by name.
-ghost use Rattle.std.specs.Prelude.{◌≡◌, ◌++◌, ℕ, List, Some, OnOk, IfOk, position};
+ghost use Rattle.std.specs.Prelude.{◌≡◌, ◌≤◌, ◌++◌, List, Some, OnOk, IfOk, length, position, take};
 ghost use Rattle.std.specs.Option.{option_map_or};
 ghost use Rattle.std.specs.Str.{bytes_eq};
 ghost use Rattle.gq_text.specs.declared.place.Span.{Span};
 ghost use Rattle.gq_tree.specs.Plain.{NameOf};
 ghost use Rattle.gq_types.specs.Entries.{Text};
 ghost use Rattle.gq_index.specs.Helping.PlacedParts.{placed_part, placed_view};
-ghost use Rattle.gq_index.specs.Helping.SpreadPlaces.{ArePlaces, KeepPlaces, all_spreads, numbers_at};
-ghost use Rattle.gq_index.specs.Helping.StandingParts.{both, defined_at, if_so, spread_at, owns_stand, spreads_stand, part_stands, parts_stand};
+ghost use Rattle.gq_index.specs.Helping.SpreadPlaces.{ArePlaces, AreStanding, KeepPlaces, numbers_at};
+ghost use Rattle.gq_index.specs.Helping.StandingParts.{both, defined_at, if_so, spread_at, owns_stand, spreads_stand, part_stands};
 ghost use Rattle.gq_index.specs.Standing.{named_view, nowhere, stands};
 ghost use Rattle.gq_index.specs.Views.{names_view, own_names};
 
@@ -54,7 +54,7 @@ impl Named {
 
 impl Fragments {
     /// No names. It takes no memory.
-    fn new(alloc: Global) -> Fragments
+    pub(crate) fn new(alloc: Global) -> Fragments
         ensures { (text : Text) → stands result text ≡ nowhere }
     {
         Fragments {
@@ -203,19 +203,18 @@ fn put_part(
     put_spreads(one.file, one.spreads, all, places)
 }
 
-/// Where the names of fragments stand in these parts, of which the first has the number 0, and the places of all names in
-/// spreads among these names, one part after the other.
-pub(crate) fn fragments_of(
-    alloc: Global,
+/// Puts in what stands in the parts from that number on, behind what stands in those before.
+pub(crate) fn put_from(
+    first: usize,
     parts: &[Placed<'_>],
-) -> Result<(Fragments, Vec<usize>), NoMemory>
-    ensures stand { IfOk result (λ made. (text : Text) → stands made.0 text ≡ parts_stand 0 (placed_view parts.now) text) }
-    ensures places { IfOk result (λ made. ArePlaces made.0.names (all_spreads (placed_view parts.now)) made.1.items) }
+    all: &mut Fragments,
+    places: &mut Vec<usize>,
+) -> Result<(), NoMemory>
+    requires { first ≤ length parts.now }
+    ensures { OnOk result (AreStanding (placed_view (take first parts.now)) all.old places.old.items → AreStanding (placed_view parts.now) all.new places.new.items) }
 {
-    let mut all = Fragments::new(alloc);
-    let mut places = Vec::new(alloc);
-    for (number, one) in parts.iter().enumerate() {
-        put_part(number, one, &mut all, &mut places)?;
+    for number in first..parts.len() {
+        put_part(number, &parts[number], all, places)?;
     }
-    Ok((all, places))
+    Ok(())
 }

@@ -7,7 +7,8 @@ use Rattle.gq_tree.specs.Plain.{NameOf}
 use Rattle.gq_types.specs.Entries.{Text}
 use Rattle.gq_index.specs.declared.fragments.Fragments.{Fragments}
 use Rattle.gq_index.specs.Helping.PlacedParts.{PartAt}
-use Rattle.gq_index.specs.Standing.{named_view, nowhere}
+use Rattle.gq_index.specs.Helping.StandingParts.{parts_stand}
+use Rattle.gq_index.specs.Standing.{named_view, nowhere, stands}
 
 -- the names in the spreads of all parts, one part after the other
 abbrev pub all_spreads : List PartAt → List (NameOf Span)
@@ -16,6 +17,10 @@ all_spreads ps = flat_map (λ p. p.part.spreads) ps
 -- each of the names has its place
 abbrev pub ArePlaces : List Text → List (NameOf Span) → List ℕ → Type 0
 ArePlaces names ns places = map (λ n. position (bytes_eq n.text) names) ns ≡ map Some places
+
+-- where names of fragments stand in these parts is there, and the places of the names in spreads are these
+abbrev pub AreStanding : List PartAt → Fragments → List ℕ → Type 0
+AreStanding ps all places = ((text : Text) → stands all text ≡ parts_stand 0 ps text) × ArePlaces all.names (all_spreads ps) places
 
 -- what has a place keeps it
 abbrev pub KeepPlaces : List Text → List Text → Type 0
