@@ -1,5 +1,5 @@
 -- What is kept of where names of fragments stand, as names and places come behind the others.
-use Rattle.std.proofs.Common.{◌≡◌, ◌≢◌, ℕ, zero, suc, ◌+◌, ◌<◌, Bool, true, false, List, [], ◌∷◌, ◌++◌, Option, Some, None, length, map, get_or, set, filter, sym, ◌∙◌, ap, subst, refl, append-nil, append_assoc, arith}
+use Rattle.std.proofs.Common.{◌≡◌, ◌≢◌, ℕ, zero, suc, ◌+◌, ◌<◌, Bool, true, false, List, [], ◌∷◌, ◌++◌, Option, Some, None, length, map, get_or, set, sym, ◌∙◌, ap, subst, refl, append-nil, append_assoc, arith}
 use Rattle.std.specs.List.{list_any, position}
 use Rattle.std.specs.Option.{option_map_or, is_some}
 use Rattle.std.specs.Str.{bytes_eq}
@@ -17,7 +17,7 @@ use Rattle.gq_index.specs.declared.occurrence.Occurrence.{Occurrence}
 use Rattle.gq_index.specs.Helping.PlacedParts.{PartAt, definitions_at, spreads_at, names_at_all}
 use Rattle.gq_index.specs.Helping.SpreadNumbers.{numbers_under, fragment_numbers}
 use Rattle.gq_index.specs.Helping.StandingParts.{both, defined_at, if_so, spread_at, owns_stand, spreads_stand, part_stands, parts_stand}
-use Rattle.gq_index.specs.Occurrences.{called, occurrences_of}
+use Rattle.gq_index.specs.Occurrences.{occurrences_of}
 use Rattle.gq_index.specs.Standing.{StandsOf, nowhere, named_view, under}
 
 -- ---- the ones behind the others

@@ -1,5 +1,5 @@
 //! Which fragments each definition spreads, by the numbers of the definitions.
-ghost use Rattle.std.specs.Prelude.{◌≡◌, ◌++◌, IfOk, OnOk, flat_map, map};
+ghost use Rattle.std.specs.Prelude.{◌≡◌, IfOk, flat_map, map};
 ghost use Rattle.gq_graph.specs.Reach.{InRange};
 ghost use Rattle.gq_types.specs.Entries.{Text};
 ghost use Rattle.gq_index.specs.Helping.PlacedParts.{placed_view, operations_at};

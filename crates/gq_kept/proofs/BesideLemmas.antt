@@ -1,5 +1,5 @@
 -- Type systems that differ in one definition of an object type.
-use Rattle.std.proofs.Common.{◌≡◌, ℕ, zero, suc, ◌+◌, ◌<◌, Bool, true, false, List, [], ◌∷◌, Some, map, length, get_or, refl, sym, ap, ◌∙◌, subst, Contains, slice_get, arith}
+use Rattle.std.proofs.Common.{◌≡◌, ℕ, zero, suc, ◌+◌, Bool, true, false, List, [], ◌∷◌, Some, map, length, get_or, refl, sym, ap, ◌∙◌, subst, Contains, slice_get, arith}
 use Rattle.std.specs.Option.{option_map, option_map_or}
 use Rattle.std.proofs.Math.Logic.{∥∥₁_elim}
 use Rattle.std.proofs.Props.{props}
@@ -85,7 +85,7 @@ pub told_of : (es us now : List EntryOf) (beside : Beside) (held holds : Bool) �
     → ((old : List EntryOf) → DiffersFrom old now beside → (held ≡ true → HasNoFault old) → Tells holds now) → (held ≡ true → HasNoFault es) → Tells holds us
 told_of es us now beside held holds is differs tells was =
     let told : DiffersFrom es us beside → Tells holds us = λ d.
-        subst (λ xs. Tells holds xs) is (tells es (subst (λ xs. DiffersFrom es xs beside) (sym is) d) was) in (
+    subst (λ xs. Tells holds xs) is (tells es (subst (λ xs. DiffersFrom es xs beside) (sym is) d) was) in (
       λ sound fault broken. ∥∥₁_elim differs (hlevel props) (λ d. (told d).0 sound fault broken),
       λ faulty none. ∥∥₁_elim differs (hlevel props) (λ d. (told d).1 faulty none),
     )

@@ -22,7 +22,7 @@ use Rattle.gq_types.proofs.Placing.Lists.{kept}
 use Rattle.gq_type_system.specs.FaultsAt.{IsFaultlessAt}
 use Rattle.gq_schema.specs.SchemaOf.{HasNoFault}
 use Rattle.gq_laws.specs.Placing.ObjectTypes.{DifferInObjects, nowhere, not_here, here, OtherObjectsKeepTypes}
-use Rattle.gq_laws.specs.Placing.OtherFields.{is_one_of, fields_without, body_without, definition_without, erase_without}
+use Rattle.gq_laws.specs.Placing.OtherFields.{is_one_of, fields_without, body_without, definition_without}
 use Rattle.gq_kept.specs.Helping.Compared.{IsCompared, alike, objects, DiffersFrom}
 use Rattle.gq_kept.specs.declared.beside.Beside.{Beside}
 use Rattle.gq_kept.proofs.GatheredLemmas.{at_place}

@@ -1,5 +1,5 @@
 -- One part more is put in.
-use Rattle.std.proofs.Common.{◌≡◌, ◌<◌, List, length, refl, sym, subst, ◌∙◌, ap}
+use Rattle.std.proofs.Common.{◌<◌, List, length, refl, sym, subst, ◌∙◌, ap}
 use Rattle.std.specs.Prelude.{slice_get}
 use Rattle.gq_index.specs.declared.part.Part.{Part}
 use Rattle.gq_index.specs.declared.placed.Placed.{Placed}

@@ -5,12 +5,9 @@ use Rattle.std.proofs.lemmas.List.{map-append}
 use Rattle.std.proofs.lemmas.Iterator.{YieldsList-from_slice, YieldsList-from_zip}
 use Rattle.std.proofs.lemmas.Iterator.Consumers.{YieldsList-end}
 use Rattle.gq_project.specs.declared.document.Doc.{Doc}
-use Rattle.gq_tree.specs.Readings.{ParsedOf}
-use Rattle.gq_parse.specs.Parsed.{AreParsed}
 use Rattle.gq_index.specs.declared.files.File.{File}
 use Rattle.gq_index.specs.declared.parts.Parts.{Parts}
-use Rattle.gq_index.specs.Parts.{parts_in}
-use Rattle.gq_index.specs.Views.{parts_held, parts_shared}
+use Rattle.gq_index.specs.Views.{parts_held}
 use Rattle.gq_index.proofs.FileLemmas.{AreKept, SharedParts, kept_none, kept_more, kept_all}
 use Rattle.gq_index.proofs.files.Files.of.Goals as goal
 
