@@ -55,7 +55,8 @@ fn part_count(files: &[&File]) -> usize {
 
 fn put_parts<'a>(file: usize, parts: &'a [Part], all: &mut Vec<Placed<'a>>) -> Result<(), NoMemory>
     ensures parts { OnOk result (placed_view all.new.items ≡ placed_view all.old.items ++ placed file (parts_view parts.now)) }
-    ensures found { OnOk result ((kept : List Parts) (one : Parts) → slice_get kept file ≡ Some one → one.parts.items ≡ parts.now → AreFound kept all.old.items → AreFound kept all.new.items) }
+    ensures found { OnOk result ((kept : List Parts) (one : Parts) → slice_get kept file ≡ Some one → one.parts.items ≡ parts.now
+        → AreFound kept all.old.items → AreFound kept all.new.items) }
 {
     for (offset, part) in parts.iter().enumerate() {
         all.push(Placed {
